@@ -1,0 +1,65 @@
+use super::{Lock, Memory, Word, decode, encode};
+use std::test::Fail;
+
+#[test]
+fn words_and_their_locks(rt: HostRuntime) {
+    let rows = [
+        (
+            0x7FFF_0000,
+            Lock::Thin {
+                index: 32_767,
+                count: 0,
+            },
+            0,
+        ),
+        (0xFFFF_FF00, Lock::Fat { monitor: 8_388_607 }, 0),
+        (0x0000_0000, Lock::Free, 0),
+        (0x0001_01A5, Lock::Thin { index: 1, count: 1 }, 0xA5),
+        (
+            0x0001_FFA5,
+            Lock::Thin {
+                index: 1,
+                count: 255,
+            },
+            0xA5,
+        ),
+        (0x8000_00A5, Lock::Fat { monitor: 0 }, 0xA5),
+        (0x0000_00A5, Lock::Free, 0xA5),
+    ];
+    for (bits, lock, low) in rows {
+        assert_eq!(rt; decode(Word(bits)), Some((lock, low)), "{bits:08X}");
+    }
+    assert_eq!(rt;
+        encode(
+            Lock::Thin {
+                index: 32_767,
+                count: 0
+            },
+            0
+        ),
+        Word(0x7FFF_0000)
+    );
+    assert_eq!(rt;
+        encode(Lock::Fat { monitor: 8_388_607 }, 0),
+        Word(0xFFFF_FF00)
+    );
+    assert_eq!(rt; encode(Lock::Free, 0xA5), Word(0x0000_00A5));
+}
+
+#[test]
+fn index_0_with_a_count_is_no_word(rt: HostRuntime) {
+    for bits in [0x0000_0100, 0x0000_FFFF, 0x0000_01A5] {
+        assert_eq!(rt; decode(Word(bits)), None, "{bits:08X}");
+    }
+}
+
+#[test]
+fn texts(rt: HostRuntime) -> Result<(), Fail> {
+    let word = Word(0x0001_00A5);
+    assert_eq!(rt; format!(in rt.alloc(); "{word}")?.as_str(), "000100A5");
+    assert_eq!(rt;
+        format!(in rt.alloc(); "{Memory}")?.as_str(),
+        "out of memory"
+    );
+    Ok(())
+}
