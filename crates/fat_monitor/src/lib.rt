@@ -1,0 +1,6 @@
+//! Fat monitors.
+#![tactic(auto)]
+
+mod receipt;
+
+pub use receipt::Receipt;
