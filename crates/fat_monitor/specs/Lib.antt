@@ -1,1 +1,4 @@
 pub mod Binding
+pub mod FatState
+pub mod Slots
+pub mod Fats

@@ -1,6 +1,13 @@
-//! Fat monitors.
+//! Fat monitors: the monitors of objects whose header word no longer has room for owner and holds.
+//!
+//! `docs/MACHINE.md` has the rules of Java monitors (JLS SE 8, 17.1) that the actions follow.
 #![tactic(auto)]
 
-mod receipt;
+mod actions;
+mod monitors;
+mod receipts;
 
-pub use receipt::Receipt;
+
+pub use actions::{ActFault, Action, Answer, Cause, Done, Post, Reply};
+pub use monitors::{AttachFault, Fats, Monitor};
+pub use receipts::Receipt;

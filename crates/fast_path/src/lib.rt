@@ -1,0 +1,87 @@
+//! What a call does next, once it has loaded the header word of its object.
+//!
+//! This is the fast path: a thin lock is taken, nested and left by one exchange or one store, and only
+//! a word that is fat, full or another thread's leads elsewhere.
+#![tactic(auto)]
+
+ghost use Rattle.std.specs.Prelude.{◌≡◌, ◌≤◌};
+ghost use Rattle.fast_path.specs.Table.{next_of, object_of};
+
+#[cfg(test)]
+mod tests;
+
+use fat_monitor::Reply;
+use lock_word::{Lock, ObjectId};
+
+/// What a thread asks of the service.
+#[derive(Clone, Copy, PartialEq, Eq, Hash, Debug)]
+pub enum Call {
+    /// Lock the object (`monitorenter`; JLS SE 8, 17.1).
+    Enter(ObjectId),
+    /// Unlock it once (`monitorexit`).
+    Exit(ObjectId),
+    /// Does the thread own the object (`Thread.holdsLock`)?
+    Holds(ObjectId),
+}
+
+impl Call {
+    /// The object that the call names.
+    pub fn object(self) -> ObjectId
+        ensures { result ≡ object_of self }
+    {
+        match self {
+            Call::Enter(object) | Call::Exit(object) | Call::Holds(object) => object,
+        }
+    }
+}
+
+/// What a loaded word calls for.
+#[derive(Clone, Copy, PartialEq, Eq, Hash, Debug)]
+pub enum Next {
+    /// The call has its reply.
+    Reply(Reply),
+    /// Exchange the free word for one with this lock.
+    Cas(Lock),
+    /// Store a word with this lock.
+    Store(Lock),
+    /// Bind a fat monitor to the object, which the thread owns thinly.
+    Bind,
+    /// Act on the fat monitor with this number.
+    Fat(u32),
+    /// Another thread owns the object thinly: load again.
+    Spin,
+}
+
+/// What a loaded lock calls for, where `me` is the index of the thread that calls.
+pub fn decide(call: Call, lock: Lock, me: u16) -> Next
+    ensures { result ≡ next_of call lock me }
+{
+    match lock {
+        Lock::Free => match call {
+            Call::Enter(_) => Next::Cas(Lock::Thin { index: me, count: 0 }),
+            Call::Exit(_) => Next::Reply(Reply::IllegalMonitorState),
+            Call::Holds(_) => Next::Reply(Reply::No),
+        },
+        Lock::Thin { index, count } if index == me => own(call, me, count),
+        Lock::Thin { .. } => match call {
+            Call::Enter(_) => Next::Spin,
+            Call::Exit(_) => Next::Reply(Reply::IllegalMonitorState),
+            Call::Holds(_) => Next::Reply(Reply::No),
+        },
+        Lock::Fat { monitor } => Next::Fat(monitor),
+    }
+}
+
+/// The same, where the thread itself holds the object `count + 1` times.
+fn own(call: Call, me: u16, count: u8) -> Next
+    ensures { result ≡ next_of call (Lock.Thin me count) me }
+{
+    let thin = |count| Lock::Thin { index: me, count };
+    match call {
+        Call::Enter(_) if count < 255 => Next::Store(thin(count + 1)),
+        Call::Enter(_) => Next::Bind,
+        Call::Exit(_) if count > 0 => Next::Store(thin(count - 1)),
+        Call::Exit(_) => Next::Store(Lock::Free),
+        Call::Holds(_) => Next::Reply(Reply::Yes),
+    }
+}

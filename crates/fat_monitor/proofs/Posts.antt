@@ -1,0 +1,90 @@
+-- The posts that slots and keys show.
+use Rattle.std.specs.Prelude.{◌≡◌, ◌⊎◌, ℕ, ◌==◌, List, [], ◌∷◌, Option, Some, None, nat_eq, map as list_map, Bool, true, false, if◌then◌else◌, IsSome, is_some}
+use Rattle.std.proofs.Common.{refl, ap, sym, ◌∙◌, inl, inr}
+use Rattle.std.proofs.lemmas.Option.{same_Some}
+use Rattle.std.specs.Map.{lookup}
+use Rattle.std.specs.Option.{option_map}
+use Rattle.std.specs.Ordering.{nat_cmp}
+use Rattle.std.specs.Cmp.{unsigned_tied, nat_cmp_total}
+use Rattle.std.specs.FinMap as map
+use Rattle.std.specs.FinMap.{get-from_entries, get-insert, get-empty, same_map, nat_cmp-IsAntisymmetric}
+use Rattle.std.specs.FinMap.Entries.{find}
+use Rattle.std.proofs.lemmas.Bool.{cases_eq, eq-eqb, ne_eqb, eqb-true}
+use Rattle.slab.specs.Slab.{Slab, get, Updates}
+use Rattle.lock_word.specs.declared.ThreadId.{ThreadId}
+use Rattle.fat_monitor.specs.declared.actions.Post.{Post}
+use Rattle.fat_monitor.specs.declared.actions.Post.TheVariants.{Out}
+use Rattle.fat_monitor.specs.declared.monitors.Record.{Record}
+use Rattle.fat_monitor.specs.Slots.{post_in, posts_of, LeadToRecords}
+
+found_by_test : {X Y : Type 0} (f : X → Y) (b : Bool) (v : X) (l : Option X) (r : Option Y) → r ≡ option_map f l
+    → (if b then Some (f v) else r) ≡ option_map f (if b then Some v else l)
+found_by_test f true v l r e = refl
+found_by_test f false v l r e = e
+
+find-mapped : {X Y : Type 0} (f : X → Y) (q : ℕ) (es : List (ℕ × X)) → find nat_cmp q (list_map (λ e. (e.0, f e.1)) es) ≡ option_map f (lookup (nat_eq q) es)
+find-mapped f q [] = refl
+find-mapped f q (e ∷ es) =
+    rw (unsigned_tied q e.0) (found_by_test f (q == e.0) e.1 (lookup (nat_eq q) es) (find nat_cmp q (list_map (λ x. (x.0, f x.1)) es)) (find-mapped f q es))
+
+-- the post of a thread is the one in the slot of its key
+pub get-posts_of : (records : Slab Record) (keys : List (ℕ × ℕ)) (q : ℕ) → map.get (posts_of records keys) q ≡ option_map (λ k. post_in (get records k)) (lookup (nat_eq q) keys)
+get-posts_of records keys q =
+    get-from_entries nat_cmp_total (list_map (λ e. (e.0, post_in (get records e.1))) keys) q ∙ find-mapped (λ k. post_in (get records k)) q keys
+
+-- a map at the key that was inserted, and at another
+pub get-insert_by : {X : Type 0} (m : map.FinMap nat_cmp X) (k : ℕ) (v : X) (q : ℕ) → map.get (map.insert m k v) q ≡ (if q == k then Some v else map.get m q)
+get-insert_by m k v q = get-insert nat_cmp_total m k v q ∙ ap (λ b. if b then Some v else map.get m q) (unsigned_tied q k)
+
+module _ (s s' : Slab Record) (ks ks' : List (ℕ × ℕ)) (t key : ℕ)
+    (keyed : LeadToRecords s ks)
+    (vacant : get s key ≡ None)
+    (put : Updates s s' key (Some (record { thread = record { 0 = t }; post = Out })))
+    (led : (q : ℕ) → lookup (nat_eq q) ks' ≡ (if t == q then Some key else lookup (nat_eq q) ks)) where
+  -- a stored key is not the vacant one
+  stored : (k q : ℕ) → lookup (nat_eq q) ks ≡ Some k → get s' k ≡ get s k
+  stored k q e = put.others k (λ same. absurd (let h : None ≡ Some (record { thread = record { 0 = q }; post = (keyed q k e).0 }) = sym vacant ∙ ap (λ (j : ℕ). get s j) (sym same) ∙ (keyed q k e).1 in cc))
+
+  other_post : (q : ℕ) (o : Option ℕ) → lookup (nat_eq q) ks ≡ o → option_map (λ k. post_in (get s' k)) o ≡ option_map (λ k. post_in (get s k)) o
+  other_post q None e = refl
+  other_post q (Some k) e = rw (stored k q e) refl
+
+  post_at : (q : ℕ) → (q ≡ t) ⊎ (q ≡ t → ⊥) → map.get (posts_of s' ks') q ≡ map.get (map.insert (posts_of s ks) t Out) q
+  post_at q (inl same) =
+      rw (get-posts_of s' ks' q, led q, eq-eqb t q (sym same), put.changed, get-insert_by (posts_of s ks) t Out q, eq-eqb q t same) refl
+  post_at q (inr other) =
+      rw (get-posts_of s' ks' q, led q, ne_eqb t q (λ e. other (sym e)), get-insert_by (posts_of s ks) t Out q, ne_eqb q t other, get-posts_of s ks q)
+      (other_post q (lookup (nat_eq q) ks) refl)
+
+  -- one thread more
+  pub posts_of-put : posts_of s' ks' ≡ map.insert (posts_of s ks) t Out
+  posts_of-put = same_map nat_cmp_total nat_cmp-IsAntisymmetric (posts_of s' ks') (map.insert (posts_of s ks) t Out) (λ q. post_at q (cases_eq q t))
+
+  leads_at : (q k : ℕ) → (q ≡ t) ⊎ (q ≡ t → ⊥) → lookup (nat_eq q) ks' ≡ Some k → (p : Post) × (get s' k ≡ Some (record { thread = record { 0 = q }; post = p }))
+  leads_at q k (inl same) e =
+      let at : key ≡ k = same_Some key k (rw (led q, eq-eqb t q (sym same)) at e) in
+      (Out, rw (← at, same) put.changed)
+  leads_at q k (inr other) e =
+      let was : lookup (nat_eq q) ks ≡ Some k = rw (led q, ne_eqb t q (λ e. other (sym e))) at e in
+      ((keyed q k was).0, stored k q was ∙ (keyed q k was).1)
+
+  pub LeadToRecords-put : LeadToRecords s' ks'
+  LeadToRecords-put q k e = leads_at q k (cases_eq q t) e
+
+-- a thread with a key has a post, and one without has none
+pub posted : (records : Slab Record) (keys : List (ℕ × ℕ)) (q : ℕ) → is_some (lookup (nat_eq q) keys) ≡ true → IsSome (map.get (posts_of records keys) q)
+posted records keys q h = rw (get-posts_of records keys q) (by_key (lookup (nat_eq q) keys) h)
+  where
+    by_key : (o : Option ℕ) → is_some o ≡ true → IsSome (option_map (λ k. post_in (get records k)) o)
+    by_key None h = absurd (cc)
+    by_key (Some k) h = refl
+
+pub unposted : (records : Slab Record) (keys : List (ℕ × ℕ)) (q : ℕ) → is_some (lookup (nat_eq q) keys) ≡ false → map.get (posts_of records keys) q ≡ None
+unposted records keys q h = rw (get-posts_of records keys q) (by_key (lookup (nat_eq q) keys) h)
+  where
+    by_key : (o : Option ℕ) → is_some o ≡ false → option_map (λ k. post_in (get records k)) o ≡ None
+    by_key None h = refl
+    by_key (Some k) h = absurd (cc)
+
+pub not_posted : (records : Slab Record) (keys : List (ℕ × ℕ)) (q : ℕ) → is_some (lookup (nat_eq q) keys) ≡ false → IsSome (map.get (posts_of records keys) q) → ⊥
+not_posted records keys q h some = let n : is_some {T = Post} None ≡ true = rw (unposted records keys q h) at some in absurd (cc)
