@@ -1,0 +1,103 @@
+-- What stays where a Go of one thread changes the world: shared facts about the thread at one seat.
+use Rattle.std.specs.Prelude.{◌≡◌, ◌⊎◌, ℕ, ◌+◌, ◌-◌, ◌<◌, ◌≤◌, Bool, true, false, if◌then◌else◌, ◌==◌, List, length, Option, Some, None, IsSome, slice_set, get_or, set}
+use Rattle.std.proofs.Common.{arith, refl, ap, sym, ◌∙◌, inl, inr, get_or-set_same, get_or-set_other, length-set}
+use Rattle.std.proofs.Math.Path.{fun_ext}
+use Rattle.std.proofs.lemmas.Bool.{cases_eq, cases_lt, eq-eqb, ne_eqb}
+use Rattle.std.proofs.lemmas.Option.{same_Some}
+use Rattle.std.proofs.lemmas.List.{get_or_past}
+use Rattle.lock_word.specs.declared.ThreadId.{ThreadId}
+use Rattle.lock_word.specs.declared.ObjectId.{ObjectId}
+use Rattle.lock_word.specs.declared.Word.{Word}
+use Rattle.lock_word.specs.declared.Lock.{Lock}
+use Rattle.lock_word.specs.declared.Lock.TheVariants.{Free, Thin, Fat}
+use Rattle.lock_word.specs.Layout.{lock_of, low_of, Fits}
+use Rattle.lock_word.proofs.Words.{lock_of-word_of}
+use Rattle.thread_index.specs.Indices.{seat_of, holder_at}
+use Rattle.thread_index.proofs.Seats.{seat_found}
+use Rattle.step_core.specs.declared.moves.Doing.{Doing}
+use Rattle.step_core.specs.declared.places.Place.{Place}
+use Rattle.step_core.specs.declared.places.Place.TheVariants.{Idle}
+use Rattle.step_core.specs.declared.events.Did.{Did}
+use Rattle.step_core.specs.Machine.{State, Thread, Monitor, held, with_monitor, Is, now_is, OwnedBy}
+use Rattle.step_core.specs.WorldState.{WorldState, IsSound, Stands, place_at, word_at, lock_at, low_word}
+use Rattle.step_core.specs.Going.{After, gone, stays, writes, new_word}
+use Rattle.step_core.specs.Shown.{shown, monitor_of, doing_of}
+use Rattle.step_core.proofs.Shows.{shown_changed, shown_kept}
+
+-- the state is as it was where a thread is written as it is
+pub now_is_same : (s : State) (t : ThreadId) (d : Doing) → Is s t false d → now_is s t false d ≡ s
+now_is_same s t d h =
+    ap (λ (f : ThreadId → Option Thread). record s { thread = f }) (fun_ext (λ u. at_one u (cases_eq u.0 t.0)))
+  where
+    at_one : (u : ThreadId) → (u.0 ≡ t.0) ⊎ (u.0 ≡ t.0 → ⊥) → (if u.0 == t.0 then Some (record { flag = false; act = d }) else s.thread u) ≡ s.thread u
+    at_one u (inl e) = rw (eq-eqb u.0 t.0 e) (sym (ap (λ (n : ℕ). s.thread (record { 0 = n })) e ∙ h))
+    at_one u (inr ne) = rw (ne_eqb u.0 t.0 ne) refl
+
+-- the lock that is written is the lock that is shown
+pub lock_of-new_word : (w : WorldState) (o : ObjectId) (l : Lock) → Fits l → lock_of (new_word w o l).0 ≡ l
+lock_of-new_word w o l fits = lock_of-word_of l (low_of (word_at w o.0).0) fits (omega arith)
+
+-- each object shows a lock of this world, and so does the free word past the end
+pub stands_at : (w : WorldState) → IsSound w → (p : ℕ) → Stands w p (lock_at w p)
+stands_at w sound p = by_place (cases_lt p (length w.words))
+  where
+    by_place : (p < length w.words) ⊎ (length w.words ≤ p) → Stands w p (lock_at w p)
+    by_place (inl h) = sound.words p h
+    by_place (inr h) = rw (get_or_past w.words p (low_word 0) h) tt
+
+module _ (w : WorldState) (sound : IsSound w) (k : ℕ) (t : ThreadId) (seat : seat_of w.seats t ≡ Some k) where
+  -- the thread has a place, and its index fits a word
+  pub within : k < length w.places
+  within = rw sound.seated ((seat_found w.seats t k seat).0)
+
+  pub index_fits : k + 1 ≤ 32767
+  index_fits = let l : k < length w.seats = (seat_found w.seats t k seat).0 in let b : length w.seats ≤ 32767 = sound.few in omega arith
+
+  pub thin_fits : (c : ℕ) → c ≤ 255 → Fits (Thin (k + 1) c)
+  thin_fits c h = (omega arith, index_fits, h)
+
+  pub thin_stands : (q c : ℕ) → c ≤ 255 → Stands w q (Thin (k + 1) c)
+  thin_stands q c h = let n : k + 1 - 1 ≡ k = omega arith in (omega arith, index_fits, h, rw (n, (seat_found w.seats t k seat).1) refl)
+
+  pub is_at : (p : Place) → place_at w k ≡ p → Is (shown w) t false (doing_of p)
+  is_at p e = rw (seat, e) refl
+
+  -- the owner that a thin word of one's own shows
+  pub mine : (c : ℕ) → monitor_of w (Thin (k + 1) c) ≡ held t (c + 1)
+  mine c = let n : k + 1 - 1 ≡ k = omega arith in rw (n, (seat_found w.seats t k seat).1) refl
+
+  -- another index is another owner
+  pub other : (i c : ℕ) → (i ≡ k + 1 → ⊥) → 1 ≤ i → (monitor_of w (Thin i c)).owner ≡ Some t → ⊥
+  other i c ne low e = let j : i - 1 ≡ k = same_Some (i - 1) k (sym (sound.one_to_one (i - 1) t e) ∙ seat) in ne (omega arith)
+
+  pub owned : (o : ObjectId) (l : Lock) → lock_at w o.0 ≡ l → (monitor_of w l).owner ≡ Some t → OwnedBy (shown w) o t
+  owned o l e h = rw e h
+
+  pub not_owned : (o : ObjectId) (l : Lock) → lock_at w o.0 ≡ l → ((monitor_of w l).owner ≡ Some t → ⊥) → OwnedBy (shown w) o t → ⊥
+  not_owned o l e h own = h (rw e at own)
+
+  -- the monitors that are shown after a write of a word
+  pub written : (o : ObjectId) (x : Word) (p : Place) (d : Did) (l : Lock) → o.0 < length w.words → lock_of x.0 ≡ l → (q : ObjectId)
+      → monitor_of (gone w k (writes w o x p d)) (lock_at (gone w k (writes w o x p d)) q.0) ≡ (if q.0 == o.0 then monitor_of w l else monitor_of w (lock_at w q.0))
+  written o x p d l h e q = at_object (cases_eq q.0 o.0)
+    where
+      at_object : (q.0 ≡ o.0) ⊎ (q.0 ≡ o.0 → ⊥)
+          → monitor_of (gone w k (writes w o x p d)) (lock_at (gone w k (writes w o x p d)) q.0) ≡ (if q.0 == o.0 then monitor_of w l else monitor_of w (lock_at w q.0))
+      at_object (inl same) = rw (eq-eqb q.0 o.0 same, same, get_or-set_same w.words o.0 x (low_word 0) h, e) refl
+      at_object (inr ne) = rw (ne_eqb q.0 o.0 ne, get_or-set_other w.words o.0 q.0 x (low_word 0) ne) refl
+
+  -- the state after a write of a lock that shows this monitor
+  pub shown_written : (o : ObjectId) (l : Lock) (m : Monitor) (p : Place) (d : Did) → o.0 < length w.words → Fits l → monitor_of w l ≡ m
+      → shown (gone w k (writes w o (new_word w o l) p d)) ≡ with_monitor (now_is (shown w) t false (doing_of p)) o m
+  shown_written o l m p d h f e =
+      rw (← e) (shown_changed w k t (writes w o (new_word w o l) p d) o (monitor_of w l) seat within (length-set w.words o.0 (new_word w o l))
+          (written o (new_word w o l) p d l h (lock_of-new_word w o l f)))
+
+  -- a monitor that is written as it was
+  pub as_it_was : (o : ObjectId) (x : Monitor) → x ≡ monitor_of w (lock_at w o.0) → (q : ObjectId)
+      → (if q.0 == o.0 then x else monitor_of w (lock_at w q.0)) ≡ monitor_of w (lock_at w q.0)
+  as_it_was o x e q = at_object (cases_eq q.0 o.0)
+    where
+      at_object : (q.0 ≡ o.0) ⊎ (q.0 ≡ o.0 → ⊥) → (if q.0 == o.0 then x else monitor_of w (lock_at w q.0)) ≡ monitor_of w (lock_at w q.0)
+      at_object (inl same) = rw (eq-eqb q.0 o.0 same, same) e
+      at_object (inr ne) = rw (ne_eqb q.0 o.0 ne) refl

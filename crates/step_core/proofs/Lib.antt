@@ -1,0 +1,10 @@
+pub mod Machines
+pub mod Shows
+pub mod Frames
+pub mod WordRuns
+pub mod ActRuns
+pub mod Runs
+pub mod Keeps
+pub mod Steps
+pub mod Opening
+pub mod Goings

@@ -1,0 +1,212 @@
+-- Each step is a run of the machine and keeps the world sound.
+use Rattle.std.specs.Prelude.{◌≡◌, ◌⊎◌, ℕ, ◌+◌, ◌-◌, ◌<◌, ◌≤◌, Bool, true, false, if◌then◌else◌, ◌==◌, nat_lt, List, [], ◌∷◌, ◌++◌, length, set, slice_set, get_or, Option, Some, None, IsSome, is_some, Result, Ok, Err}
+use Rattle.std.proofs.Common.{arith, refl, ap, sym, ◌∙◌, subst, inl, inr, get_or-set_same, get_or-set_other, length-set}
+use Rattle.std.proofs.Math.Path.{fun_ext}
+use Rattle.std.proofs.lemmas.Bool.{cases_eq, eq-eqb, ne_eqb, cond_both, ltb-true}
+use Rattle.std.specs.FinMap as map
+use Rattle.lock_word.specs.declared.ThreadId.{ThreadId}
+use Rattle.lock_word.specs.declared.ObjectId.{ObjectId}
+use Rattle.lock_word.specs.declared.Lock.{Lock}
+use Rattle.lock_word.specs.declared.Lock.TheVariants.{Free, Thin, Fat}
+use Rattle.thread_index.specs.Indices.{seat_of, free_seat, holder_at}
+use Rattle.thread_index.proofs.Seats.{seat_found, seat_same, free_found, seat_taken_same, seat_taken_other, IsOneToOne-taken}
+use Rattle.fat_monitor.specs.declared.actions.Post.{Post}
+use Rattle.fat_monitor.specs.declared.actions.Post.TheVariants.{Out}
+use Rattle.fat_monitor.specs.FatState.{IsAttached, with_thread, post_of}
+use Rattle.fat_monitor.specs.FatState as book
+use Rattle.fat_monitor.proofs.Posts.{get-insert_by}
+use Rattle.fast_path.specs.declared.Call.{Call}
+use Rattle.fast_path.specs.Table.{object_of}
+use Rattle.step_core.specs.declared.moves.Doing.TheVariants as doing
+use Rattle.step_core.specs.declared.places.Place.{Place}
+use Rattle.step_core.specs.declared.places.Place.TheVariants.{Idle, Begun, Taking, Storing, Binding, Acting, Won, Bound, Inflated}
+use Rattle.step_core.specs.declared.moves.Move.{Move}
+use Rattle.step_core.specs.declared.moves.Move.TheVariants as move
+use Rattle.step_core.specs.declared.events.Atomic.TheVariants.{Label}
+use Rattle.step_core.specs.declared.events.Step.{Step}
+use Rattle.step_core.specs.declared.events.Step.TheVariants as step
+use Rattle.step_core.specs.declared.events.Did.{Did}
+use Rattle.step_core.specs.declared.events.Fault.{Fault}
+use Rattle.step_core.specs.declared.events.Fault.TheVariants as fault
+use Rattle.step_core.specs.Machine.{State, Thread, Monitor, Run, now_is, Is}
+use Rattle.step_core.specs.WorldState.{WorldState, IsSound, Stands, Fitting, place_at, lock_at}
+use Rattle.step_core.specs.Going.{gone, stays, moved, after_go}
+use Rattle.step_core.specs.Stepping.{Outcome, refused, accepted, with_live, attached, begun, begun_at, went, went_at, step_of, moves_of, world_after, moves_after}
+use Rattle.step_core.specs.Shown.{shown, thread_of, monitor_of}
+use Rattle.step_core.proofs.Shows.{shown_kept}
+use Rattle.step_core.proofs.Frames.{stands_at, within, is_at}
+use Rattle.step_core.proofs.Runs.{go_run}
+use Rattle.step_core.proofs.Keeps.{go_sound, sound_stays}
+
+-- what a step is to show: a sound world, and a run to what it shows
+abbrev pub Right : WorldState → Outcome → Type 0
+Right w o = IsSound o.after × Run (shown w) (moves_of o.answer) (shown o.after)
+
+module _ (w : WorldState) (sound : IsSound w) (t : ThreadId) where
+  -- a Go from a place in a call
+  busy_right : (room : Bool) (k : ℕ) → seat_of w.seats t ≡ Some k → (p : Place) → place_at w k ≡ p → (p ≡ Idle → ⊥)
+      → Right w (accepted (gone w k (after_go room w k t p)) (after_go room w k t p).did)
+  busy_right room k seat p e busy =
+      subst (λ (x : Place). Right w (accepted (gone w k (after_go room w k t x)) (after_go room w k t x).did)) e
+      (go_sound w sound k t seat room, go_run w sound k t seat room (λ idle. busy (sym e ∙ idle)))
+
+  went_right_at : (room : Bool) (k : ℕ) → seat_of w.seats t ≡ Some k → (p : Place) → place_at w k ≡ p → Right w (went_at room w k t p)
+  went_right_at room k seat Idle e = (sound, refl)
+  went_right_at room k seat (Begun c b) e = busy_right room k seat (Begun c b) e (λ x. cc)
+  went_right_at room k seat (Taking c b) e = busy_right room k seat (Taking c b) e (λ x. cc)
+  went_right_at room k seat (Storing c l) e = busy_right room k seat (Storing c l) e (λ x. cc)
+  went_right_at room k seat (Binding c n) e = busy_right room k seat (Binding c n) e (λ x. cc)
+  went_right_at room k seat (Acting c m) e = busy_right room k seat (Acting c m) e (λ x. cc)
+  went_right_at room k seat (Won o) e = busy_right room k seat (Won o) e (λ x. cc)
+  went_right_at room k seat (Bound c won m) e = busy_right room k seat (Bound c won m) e (λ x. cc)
+  went_right_at room k seat (Inflated c m) e = busy_right room k seat (Inflated c m) e (λ x. cc)
+
+  went_right : (room : Bool) (o : Option ℕ) → seat_of w.seats t ≡ o → Right w (went room w t o)
+  went_right room None e = (sound, refl)
+  went_right room (Some k) e = went_right_at room k e (place_at w k) refl
+
+  begun_right_at : (c : Call) (k : ℕ) → seat_of w.seats t ≡ Some k → (object_of c).0 < length w.words → (p : Place) → place_at w k ≡ p → Right w (begun_at w k t c p)
+  begun_right_at c k seat h Idle e =
+      (sound_stays w sound k t seat (Begun c false) (moved Label (move.Call t c)) h,
+       (now_is (shown w) t false (doing.Wants c),
+        (false, is_at w sound k t seat Idle e, h, refl),
+        shown_kept w k t (stays w (Begun c false) (moved Label (move.Call t c))) seat (within w sound k t seat) refl (λ q. refl)))
+  begun_right_at c k seat h (Begun d b) e = (sound, refl)
+  begun_right_at c k seat h (Taking d b) e = (sound, refl)
+  begun_right_at c k seat h (Storing d l) e = (sound, refl)
+  begun_right_at c k seat h (Binding d n) e = (sound, refl)
+  begun_right_at c k seat h (Acting d m) e = (sound, refl)
+  begun_right_at c k seat h (Won o) e = (sound, refl)
+  begun_right_at c k seat h (Bound d won m) e = (sound, refl)
+  begun_right_at c k seat h (Inflated d m) e = (sound, refl)
+
+  begun_right : (c : Call) (o : Option ℕ) → seat_of w.seats t ≡ o → Right w (begun w t c o)
+  begun_right c None e = (sound, refl)
+  begun_right c (Some k) e =
+      cond_both (nat_lt (object_of c).0 (length w.words)) (begun_at w k t c (place_at w k)) (refused w fault.NoObject) (Right w)
+      (λ h. begun_right_at c k e (ltb-true (object_of c).0 (length w.words) h) (place_at w k) refl) (λ _. (sound, refl))
+
+  -- a new thread at the lowest free seat
+  module _ (none : seat_of w.seats t ≡ None) (k : ℕ) (free : free_seat w.seats ≡ Some k) where
+    abbrev now : WorldState
+    now = with_live w k t
+
+    has_place : k < length w.places
+    has_place = rw sound.seated ((free_found w.seats k free).0)
+
+    -- a seat that somebody has is another one
+    taken_elsewhere : (j : ℕ) → IsSome (holder_at w.seats j) → j ≡ k → ⊥
+    taken_elsewhere j h e = let never : is_some {T = ThreadId} None ≡ true = rw (e, (free_found w.seats k free).1) at h in absurd (cc)
+
+    holder_kept : (j : ℕ) → (j ≡ k → ⊥) → holder_at (set w.seats k (Some t)) j ≡ holder_at w.seats j
+    holder_kept j ne = get_or-set_other w.seats k j (Some t) None ne
+
+    -- the seat of the new thread, and of another
+    seat_now_same : (u : ThreadId) → u.0 ≡ t.0 → seat_of now.seats u ≡ Some k
+    seat_now_same u e = seat_same now.seats t u e ∙ seat_taken_same w.seats t k none free
+
+    seat_now_other : (u : ThreadId) → (u.0 ≡ t.0 → ⊥) → seat_of now.seats u ≡ seat_of w.seats u
+    seat_now_other u ne = seat_taken_other w.seats t u k free ne
+
+    thread_kept : (u : ThreadId) (o : Option ℕ) → seat_of w.seats u ≡ o → thread_of now o ≡ thread_of w o
+    thread_kept u None e = refl
+    thread_kept u (Some j) e =
+        let found : holder_at w.seats j ≡ Some u = (seat_found w.seats u j e).1 in
+        rw (get_or-set_other w.places k j Idle Idle (taken_elsewhere j (rw found refl))) refl
+
+    new_thread : (u : ThreadId) → (u.0 ≡ t.0) ⊎ (u.0 ≡ t.0 → ⊥)
+        → thread_of now (seat_of now.seats u) ≡ (if u.0 == t.0 then Some (record { flag = false; act = doing.Idle }) else thread_of w (seat_of w.seats u))
+    new_thread u (inl same) = rw (seat_now_same u same, eq-eqb u.0 t.0 same, get_or-set_same w.places k Idle Idle has_place) refl
+    new_thread u (inr ne) = rw (seat_now_other u ne, ne_eqb u.0 t.0 ne) (thread_kept u (seat_of w.seats u) refl)
+
+    old_monitor : (q : ℕ) (l : Lock) → Stands w q l → monitor_of now l ≡ monitor_of w l
+    old_monitor q Free st = refl
+    old_monitor q (Thin i c) st = rw (holder_kept (i - 1) (taken_elsewhere (i - 1) st.3)) refl
+    old_monitor q (Fat m) st = refl
+
+    old_stands : (q : ℕ) (l : Lock) → Stands w q l → Stands now q l
+    old_stands q Free st = st
+    old_stands q (Thin i c) st = (st.0, st.1, st.2, rw (holder_kept (i - 1) (taken_elsewhere (i - 1) st.3)) st.3)
+    old_stands q (Fat m) st = st
+
+    old_fits : (j : ℕ) → (j ≡ k → ⊥) → (p : Place) → Fitting w j p → Fitting now j p
+    old_fits j ne Idle fit = fit
+    old_fits j ne (Begun c b) fit = fit
+    old_fits j ne (Taking c b) fit = fit
+    old_fits j ne (Storing c l) fit = fit
+    old_fits j ne (Binding c n) fit = fit
+    old_fits j ne (Acting c m) fit = fit
+    old_fits j ne (Won o) fit = fit
+    old_fits j ne (Bound c won m) fit = (fit.0, fit.1, (fit.2.0, fit.2.1, rw (holder_kept j ne) fit.2.2))
+    old_fits j ne (Inflated c m) fit = fit
+
+    attached_now : (u : ThreadId) → (u.0 ≡ t.0) ⊎ (u.0 ≡ t.0 → ⊥) → IsSome (seat_of now.seats u) → IsAttached now.fats u
+    attached_now u (inl same) h = rw (get-insert_by w.fats.threads t.0 Out u.0, eq-eqb u.0 t.0 same) refl
+    attached_now u (inr ne) h = rw (get-insert_by w.fats.threads t.0 Out u.0, ne_eqb u.0 t.0 ne) (sound.attached u (rw (seat_now_other u ne) at h))
+
+    live_now : (u : ThreadId) → (u.0 ≡ t.0) ⊎ (u.0 ≡ t.0 → ⊥) → IsAttached now.fats u → IsSome (seat_of now.seats u)
+    live_now u (inl same) h = rw (seat_now_same u same) refl
+    live_now u (inr ne) h = rw (seat_now_other u ne) (sound.live u (rw (get-insert_by w.fats.threads t.0 Out u.0, ne_eqb u.0 t.0 ne) at h))
+
+    now_sound : IsSound now
+    now_sound = record {
+      many = sound.many;
+      seated = length-set w.places k Idle ∙ sound.seated ∙ sym (length-set w.seats k (Some t));
+      few = rw (length-set w.seats k (Some t)) sound.few;
+      one_to_one = IsOneToOne-taken w.seats t k sound.one_to_one none free;
+      formed = sound.formed;
+      words = λ p h. old_stands p (lock_at w p) (sound.words p h);
+      fats = record { few = sound.fats.few; limit = sound.fats.limit; fair = sound.fats.fair };
+      attached = λ u h. attached_now u (cases_eq u.0 t.0) h;
+      live = λ u h. live_now u (cases_eq u.0 t.0) h;
+      places = λ j h. at_seat j h (cases_eq j k);
+    } where
+      at_seat : (j : ℕ) → j < length (set w.places k Idle) → (j ≡ k) ⊎ (j ≡ k → ⊥) → Fitting now j (get_or (set w.places k Idle) j Idle)
+      at_seat j h (inl e) = rw (e, get_or-set_same w.places k Idle Idle has_place) tt
+      at_seat j h (inr ne) =
+          let l : j < length w.places = omega (arith, length-set w.places k Idle) in
+          rw (get_or-set_other w.places k j Idle Idle ne) (old_fits j ne (place_at w j) (sound.places j l))
+
+    attach_right : Right w (accepted now (moved Label (move.Attach t)))
+    attach_right =
+        let threads : (shown now).thread ≡ (now_is (shown w) t false doing.Idle).thread = fun_ext (λ u. new_thread u (cases_eq u.0 t.0)) in
+        let monitors : (shown now).monitor ≡ (shown w).monitor = fun_ext (λ q. old_monitor q.0 (lock_at w q.0) (stands_at w sound q.0)) in
+        (now_sound, (now_is (shown w) t false doing.Idle, (rw none refl, refl), (λ i. record { thread = threads i; objects = length w.words; monitor = monitors i; moment = 0 })))
+
+  attached_right : (room : Bool) (o f : Option ℕ) → seat_of w.seats t ≡ o → free_seat w.seats ≡ f → Right w (attached room w t o f)
+  attached_right room (Some k) f e free = (sound, refl)
+  attached_right room None None e free = (sound, refl)
+  attached_right true None (Some k) e free = attach_right e k free
+  attached_right false None (Some k) e free = (sound, refl)
+
+-- A step is a run, and keeps the world sound.
+pub step_right : (w : WorldState) → IsSound w → (room : Bool) (s : Step) → Right w (step_of room w s)
+step_right w sound room (step.Attach t) = attached_right w sound t room (seat_of w.seats t) (free_seat w.seats) refl refl
+step_right w sound room (step.Begin t c) = begun_right w sound t c (seat_of w.seats t) refl
+step_right w sound room (step.Go t) = went_right w sound t room (seat_of w.seats t) refl
+
+-- a run and then a run
+pub Run-append : (s : State) (ms : List Move) (mid : State) (ns : List Move) (s' : State) → Run s ms mid → Run mid ns s' → Run s (ms ++ ns) s'
+Run-append s [] mid ns s' a b = subst (λ (x : State). Run x ns s') a b
+Run-append s (m ∷ ms) mid ns s' a b = (a.0, a.1, Run-append a.0 ms mid ns s' a.2 b)
+
+-- Whatever steps come, their moves are a run.
+pub steps_run : (w : WorldState) → IsSound w → (ss : List (Step × Bool)) → Run (shown w) (moves_after w ss) (shown (world_after w ss))
+steps_run w sound [] = refl
+steps_run w sound (s ∷ ss) =
+    let h = step_right w sound s.1 s.0 in
+    Run-append (shown w) (moves_of (step_of s.1 w s.0).answer) (shown (step_of s.1 w s.0).after) (moves_after (step_of s.1 w s.0).after ss) (shown (world_after (step_of s.1 w s.0).after ss)) h.1
+    (steps_run (step_of s.1 w s.0).after h.0 ss)
+
+-- what a step of the code left is sound, and its moves are a run
+pub attach_kept : (w w' : WorldState) (t : ThreadId) (r : Result Did Fault) (room : Bool) → IsSound w
+    → ◌≡◌ {A = Outcome} (record { answer = r; after = w' }) (attached room w t (seat_of w.seats t) (free_seat w.seats)) → IsSound w'
+attach_kept w w' t r room sound e = subst (λ (o : Outcome). IsSound o.after) (sym e) (step_right w sound room (step.Attach t)).0
+
+pub begin_kept : (w w' : WorldState) (t : ThreadId) (c : Call) (r : Result Did Fault) → IsSound w
+    → ◌≡◌ {A = Outcome} (record { answer = r; after = w' }) (begun w t c (seat_of w.seats t)) → IsSound w'
+begin_kept w w' t c r sound e = subst (λ (o : Outcome). IsSound o.after) (sym e) (step_right w sound true (step.Begin t c)).0
+
+pub step_run : (w w' : WorldState) (s : Step) (r : Result Did Fault) (room : Bool) → IsSound w
+    → ◌≡◌ {A = Outcome} (record { answer = r; after = w' }) (step_of room w s) → Run (shown w) (moves_of r) (shown w')
+step_run w w' s r room sound e = subst (λ (o : Outcome). Run (shown w) (moves_of o.answer) (shown o.after)) (sym e) (step_right w sound room s).1

@@ -1,0 +1,6 @@
+use Rattle.std.proofs.Common.{◌≡◌, take, map}
+use Rattle.step_core.specs.WorldState.{low_word}
+use Rattle.step_core.proofs.worlds.World.new.Given as goal
+
+abbrev pub invariant-loop-low : goal.invariant-loop-low
+invariant-loop-low l = l.words.items ≡ map low_word (take l.low-index l.lows)

@@ -1,0 +1,174 @@
+-- What a Go does at each place in a call.
+use Rattle.std.specs.Prelude.{ℕ, ◌+◌, Bool, true, false, if◌then◌else◌, nat_lt, List, [], ◌∷◌, length, slice_set, Option, Some, None}
+use Rattle.lock_word.specs.declared.ThreadId.{ThreadId}
+use Rattle.lock_word.specs.declared.ObjectId.{ObjectId}
+use Rattle.lock_word.specs.declared.Word.{Word}
+use Rattle.lock_word.specs.declared.Lock.{Lock}
+use Rattle.lock_word.specs.declared.Lock.TheVariants.{Free, Thin, Fat}
+use Rattle.lock_word.specs.Layout.{with_lock, count_of}
+use Rattle.fat_monitor.specs.declared.actions.Cause.{Cause}
+use Rattle.fat_monitor.specs.declared.actions.Cause.TheVariants as cause
+use Rattle.fat_monitor.specs.declared.actions.Reply.{Reply}
+use Rattle.fat_monitor.specs.declared.actions.Reply.TheVariants as reply
+use Rattle.fat_monitor.specs.declared.actions.Action.{Action}
+use Rattle.fat_monitor.specs.declared.actions.Action.TheVariants as action
+use Rattle.fat_monitor.specs.declared.actions.Answer.{Answer}
+use Rattle.fat_monitor.specs.declared.actions.Answer.TheVariants as answer
+use Rattle.fat_monitor.specs.FatState.{FatState, bound_with, answered, acted}
+use Rattle.fast_path.specs.declared.Call.{Call}
+use Rattle.fast_path.specs.declared.Call.TheVariants as call
+use Rattle.fast_path.specs.declared.Next.{Next}
+use Rattle.fast_path.specs.declared.Next.TheVariants as next
+use Rattle.fast_path.specs.Table.{object_of, next_of}
+use Rattle.step_core.specs.declared.places.Place.{Place}
+use Rattle.step_core.specs.declared.places.Place.TheVariants.{Idle, Begun, Taking, Storing, Binding, Acting, Won, Bound, Inflated}
+use Rattle.step_core.specs.declared.moves.Move.{Move}
+use Rattle.step_core.specs.declared.moves.Move.TheVariants as move
+use Rattle.step_core.specs.declared.events.Atomic.{Atomic}
+use Rattle.step_core.specs.declared.events.Atomic.TheVariants as atomic
+use Rattle.step_core.specs.declared.events.Did.{Did}
+use Rattle.step_core.specs.WorldState.{WorldState, place_at, word_at, lock_at}
+
+-- What a Go leaves: the words, the fat state and the place of its thread; and what it did.
+pub record After : Type 0 where
+  pub words : List Word
+  pub fats : FatState
+  pub place : Place
+  pub did : Did
+
+-- the world with what a Go of the thread at seat k leaves
+abbrev pub gone : WorldState → ℕ → After → WorldState
+gone w k a = record w { words = a.words; fats = a.fats; places = slice_set w.places k a.place }
+
+-- the move by which a call gets this reply
+abbrev pub move_for : Reply → ThreadId → Move
+move_for reply.Entered t = move.Lock t
+move_for reply.Exited t = move.Unlock t
+move_for reply.Yes t = move.Ask t
+move_for reply.No t = move.Ask t
+move_for reply.IllegalMonitorState t = move.Illegal t
+move_for (reply.Refused c) t = move.Refuse t c
+
+-- no move is made
+abbrev pub silent : Atomic → Did
+silent a = record { atomic = a; moves = None ∷ None ∷ None ∷ []; reply = None }
+
+-- one move is made, and the call goes on
+abbrev pub moved : Atomic → Move → Did
+moved a m = record { atomic = a; moves = Some m ∷ None ∷ None ∷ []; reply = None }
+
+-- the call gets its reply and returns with it
+abbrev pub replied : Atomic → ThreadId → Reply → Did
+replied a t r = record { atomic = a; moves = Some (move_for r t) ∷ Some (move.Return t r) ∷ None ∷ []; reply = Some r }
+
+-- the call returns with the reply that it has
+abbrev pub returned : Atomic → ThreadId → Reply → Did
+returned a t r = record { atomic = a; moves = Some (move.Return t r) ∷ None ∷ None ∷ []; reply = Some r }
+
+-- nothing but the place changes
+abbrev pub stays : WorldState → Place → Did → After
+stays w p d = record { words = w.words; fats = w.fats; place = p; did = d }
+
+-- the word of o becomes x
+abbrev pub writes : WorldState → ObjectId → Word → Place → Did → After
+writes w o x p d = record { words = slice_set w.words o.0 x; fats = w.fats; place = p; did = d }
+
+-- the fat state becomes f
+abbrev pub turns : WorldState → FatState → Place → Did → After
+turns w f p d = record { words = w.words; fats = f; place = p; did = d }
+
+-- the word of o with this lock
+abbrev pub new_word : WorldState → ObjectId → Lock → Word
+new_word w o l = record { 0 = with_lock (word_at w o.0).0 l }
+
+-- the load of the word of o
+abbrev pub load_of : WorldState → ObjectId → Atomic
+load_of w o = atomic.Load o (word_at w o.0)
+
+-- the word of o is not the free one
+abbrev pub lost_at : WorldState → ObjectId → Atomic
+lost_at w o = atomic.Lost o (word_at w o.0)
+
+-- the word of o becomes one with this lock, by an exchange or by a store
+abbrev pub won_at : WorldState → ObjectId → Lock → Atomic
+won_at w o l = atomic.Won o (word_at w o.0) (new_word w o l)
+
+abbrev pub stored_at : WorldState → ObjectId → Lock → Atomic
+stored_at w o l = atomic.Stored o (word_at w o.0) (new_word w o l)
+
+-- a load of a word that calls for this
+abbrev pub after_load : WorldState → ThreadId → Call → Bool → Next → After
+after_load w t c contended (next.Reply r) = stays w Idle (replied (load_of w (object_of c)) t r)
+after_load w t c contended (next.Cas l) = stays w (Taking (object_of c) contended) (silent (load_of w (object_of c)))
+after_load w t c contended (next.Store l) = stays w (Storing c l) (silent (load_of w (object_of c)))
+after_load w t c contended next.Bind = stays w (Binding c (count_of (lock_at w (object_of c).0))) (silent (load_of w (object_of c)))
+after_load w t c contended (next.Fat m) = stays w (Acting c m) (silent (load_of w (object_of c)))
+after_load w t c contended next.Spin = stays w (Begun c true) (silent (load_of w (object_of c)))
+
+-- an exchange that finds this lock: only the free one is taken
+abbrev pub after_take : WorldState → ℕ → ThreadId → ObjectId → Bool → Lock → After
+after_take w k t o true Free =
+    writes w o (new_word w o (Thin (k + 1) 0)) (Won o) (moved (won_at w o (Thin (k + 1) 0)) (move.Lock t))
+after_take w k t o false Free =
+    writes w o (new_word w o (Thin (k + 1) 0)) Idle (replied (won_at w o (Thin (k + 1) 0)) t reply.Entered)
+after_take w k t o contended (Thin i c) = stays w (Begun (call.Enter o) true) (silent (lost_at w o))
+after_take w k t o contended (Fat m) = stays w (Begun (call.Enter o) true) (silent (lost_at w o))
+
+-- what a call replies when its word is stored; a Holds stores none
+abbrev pub stored_reply : Call → Reply
+stored_reply (call.Enter o) = reply.Entered
+stored_reply (call.Exit o) = reply.Exited
+stored_reply (call.Holds o) = reply.Yes
+
+-- the store of a thin or free word
+abbrev pub after_store : WorldState → ThreadId → Call → Lock → After
+after_store w t c l =
+    writes w (object_of c) (new_word w (object_of c) l) Idle (replied (stored_at w (object_of c) l) t (stored_reply c))
+
+-- A bind of an object that is held n times; refused for a cause, or not. A contended enter that has won
+-- has its reply, and drops the inflation where it is refused.
+abbrev pub after_bind : WorldState → ThreadId → Call → Bool → ℕ → Option Cause → After
+after_bind w t c won n None =
+    turns w (bound_with w.fats (object_of c) t n) (Bound c won (length w.fats.monitors)) (silent (atomic.Bound (object_of c) (length w.fats.monitors)))
+after_bind w t c true n (Some cause) = stays w Idle (returned (atomic.NotBound (object_of c) cause) t reply.Entered)
+after_bind w t c false n (Some cause) = stays w Idle (replied (atomic.NotBound (object_of c) cause) t (reply.Refused cause))
+
+-- the store of a fat word
+abbrev pub after_publish : WorldState → ThreadId → Call → Bool → ℕ → After
+after_publish w t c true m =
+    writes w (object_of c) (new_word w (object_of c) (Fat m)) Idle (returned (stored_at w (object_of c) (Fat m)) t reply.Entered)
+after_publish w t c false m =
+    writes w (object_of c) (new_word w (object_of c) (Fat m)) (Inflated c m) (silent (stored_at w (object_of c) (Fat m)))
+
+-- the fat action of a call's own name
+abbrev pub action_of : Call → ℕ → Action
+action_of (call.Enter o) m = action.Enter m
+action_of (call.Exit o) m = action.Exit m
+action_of (call.Holds o) m = action.Holds m
+
+-- a fat action that answers this; where it is Quiet the call is at its load again
+abbrev pub after_answer : WorldState → ThreadId → Call → ℕ → Answer → After
+after_answer w t c m (answer.Reply r) =
+    turns w (acted w.fats t (action_of c m)) Idle (replied (atomic.Acted (action_of c m) (answer.Reply r)) t r)
+after_answer w t c m answer.Quiet =
+    turns w (acted w.fats t (action_of c m)) (Begun c false) (silent (atomic.Acted (action_of c m) answer.Quiet))
+
+-- a fat action
+abbrev pub after_act : WorldState → ThreadId → Call → ℕ → After
+after_act w t c m = after_answer w t c m (answered w.fats t (action_of c m))
+
+-- why a bind is refused, if it is; room says whether the memory is granted
+abbrev pub bind_cause : Bool → FatState → Option Cause
+bind_cause room f = if nat_lt (length f.monitors) f.limit then (if room then None else Some cause.Memory) else Some cause.NoMonitor
+
+-- What a Go does at each place. At Idle no Go is made.
+abbrev pub after_go : Bool → WorldState → ℕ → ThreadId → Place → After
+after_go room w k t Idle = stays w Idle (silent atomic.Label)
+after_go room w k t (Begun c contended) = after_load w t c contended (next_of c (lock_at w (object_of c).0) (k + 1))
+after_go room w k t (Taking o contended) = after_take w k t o contended (lock_at w o.0)
+after_go room w k t (Storing c l) = after_store w t c l
+after_go room w k t (Binding c n) = after_bind w t c false (n + 1) (bind_cause room w.fats)
+after_go room w k t (Acting c m) = after_act w t c m
+after_go room w k t (Won o) = after_bind w t (call.Enter o) true 1 (bind_cause room w.fats)
+after_go room w k t (Bound c won m) = after_publish w t c won m
+after_go room w k t (Inflated c m) = after_act w t c m

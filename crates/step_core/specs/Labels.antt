@@ -1,0 +1,34 @@
+-- The labels of a run: what a user of the machine sees of it.
+use Rattle.std.specs.Prelude.{◌≡◌, Bool, true, false, List, [], ◌∷◌, ◌++◌, filter, Option, Some, None}
+use Rattle.lock_word.specs.declared.ThreadId.{ThreadId}
+use Rattle.fat_monitor.specs.declared.actions.Reply.{Reply}
+use Rattle.step_core.specs.declared.moves.Move.{Move}
+use Rattle.step_core.specs.declared.moves.Move.TheVariants.{Attach, Call, Return, Lock, Unlock, Illegal, Ask, Refuse}
+use Rattle.step_core.specs.declared.events.Did.{Did}
+use Rattle.step_core.specs.declared.events.Step.{Step}
+use Rattle.step_core.specs.declared.events.Step.TheVariants as step
+use Rattle.step_core.specs.Stepping.{given}
+
+abbrev pub is_label : Move → Bool
+is_label (Attach t) = true
+is_label (Call t c) = true
+is_label (Return t r) = true
+is_label (Lock t) = false
+is_label (Unlock t) = false
+is_label (Illegal t) = false
+is_label (Ask t) = false
+is_label (Refuse t c) = false
+
+abbrev pub labels_of : List Move → List Move
+labels_of ms = filter is_label ms
+
+-- These moves of a Go of t end with the return of its reply, if it has one, and have no other label.
+abbrev pub EndsWith : ThreadId → List Move → Option Reply → Type 0
+EndsWith t ms None = labels_of ms ≡ []
+EndsWith t ms (Some r) = (inner : List Move) × (ms ≡ inner ++ Return t r ∷ []) × (labels_of inner ≡ [])
+
+-- What an accepted step did has just the labels of that step.
+abbrev pub HasLabels : Step → Did → Type 0
+HasLabels (step.Attach t) d = (given d.moves ≡ Attach t ∷ []) × (d.reply ≡ None)
+HasLabels (step.Begin t c) d = (given d.moves ≡ Call t c ∷ []) × (d.reply ≡ None)
+HasLabels (step.Go t) d = EndsWith t (given d.moves) d.reply

@@ -1,0 +1,9 @@
+pub mod Machine
+pub mod WorldState
+pub mod Going
+pub mod Stepping
+pub mod Shown
+pub mod Labels
+pub mod Refusals
+pub mod Parts
+pub mod View

@@ -1,0 +1,119 @@
+-- The abstract machine of object monitors (JLS SE 8, 17.1): its states, its moves and its runs. It knows
+-- no header word, thread index, inflation, place in a call or number of a monitor.
+use Rattle.std.specs.Prelude.{◌≡◌, ◌⊎◌, ◌↔◌, ℕ, ◌+◌, ◌<◌, Bool, true, false, if◌then◌else◌, ◌==◌, List, [], ◌∷◌, Option, Some, None}
+use Rattle.lock_word.specs.declared.ThreadId.{ThreadId}
+use Rattle.lock_word.specs.declared.ObjectId.{ObjectId}
+use Rattle.fat_monitor.specs.declared.actions.Cause.{Cause}
+use Rattle.fat_monitor.specs.declared.actions.Cause.TheVariants.{NoMonitor, Memory, TooDeep}
+use Rattle.fat_monitor.specs.declared.actions.Reply.{Reply}
+use Rattle.fat_monitor.specs.declared.actions.Reply.TheVariants as reply
+use Rattle.fast_path.specs.declared.Call.{Call}
+use Rattle.fast_path.specs.declared.Call.TheVariants as call
+use Rattle.fast_path.specs.Table.{object_of}
+use Rattle.step_core.specs.declared.moves.Doing.{Doing}
+use Rattle.step_core.specs.declared.moves.Doing.TheVariants.{Idle, Wants, Has}
+use Rattle.step_core.specs.declared.moves.Move.{Move}
+use Rattle.step_core.specs.declared.moves.Move.TheVariants as move
+
+-- a live thread: whether it is interrupted (JLS 17.2.3), and what it is doing
+pub record Thread : Type 0 where
+  pub flag : Bool
+  pub act : Doing
+
+-- an object's monitor: who owns it, and how many times it is locked (JLS 17.1)
+pub record Monitor : Type 0 where
+  pub owner : Option ThreadId
+  pub count : ℕ
+
+-- the live threads, how many objects there are, the monitor of each, and the moment
+pub record State : Type 0 where
+  pub thread : ThreadId → Option Thread
+  pub objects : ℕ
+  pub monitor : ObjectId → Monitor
+  pub moment : ℕ
+
+-- nobody owns the monitor
+abbrev pub free : Monitor
+free = record { owner = None; count = 0 }
+
+-- t owns the monitor, which is locked n times
+abbrev pub held : ThreadId → ℕ → Monitor
+held t n = record { owner = Some t; count = n }
+
+-- no thread, every monitor free
+abbrev pub opening : ℕ → State
+opening n = record { thread = λ _. None; objects = n; monitor = λ _. free; moment = 0 }
+
+-- the state with this thread in it
+abbrev pub with_thread : State → ThreadId → Option Thread → State
+with_thread s t x = record s { thread = λ u. if u.0 == t.0 then x else s.thread u }
+
+-- the state with this monitor at this object
+abbrev pub with_monitor : State → ObjectId → Monitor → State
+with_monitor s o m = record s { monitor = λ p. if p.0 == o.0 then m else s.monitor p }
+
+-- thread t is live, with this flag and this act
+abbrev pub Is : State → ThreadId → Bool → Doing → Type 0
+Is s t flag act = s.thread t ≡ Some (record { flag = flag; act = act })
+
+-- the same state, with t's flag and act
+abbrev pub now_is : State → ThreadId → Bool → Doing → State
+now_is s t flag act = with_thread s t (Some (record { flag = flag; act = act }))
+
+abbrev pub OwnedBy : State → ObjectId → ThreadId → Type 0
+OwnedBy s o t = (s.monitor o).owner ≡ Some t
+
+abbrev pub Unowned : State → ObjectId → Type 0
+Unowned s o = (s.monitor o).owner ≡ None
+
+-- t has made call c, which has no answer yet
+abbrev pub Calls : State → ThreadId → Bool → Call → Type 0
+Calls s t flag c = Is s t flag (Wants c)
+
+-- the same state, but t has this reply
+abbrev pub answered : State → ThreadId → Bool → Reply → State
+answered s t flag r = now_is s t flag (Has r)
+
+abbrev pub yes_or_no : Bool → Reply
+yes_or_no true = reply.Yes
+yes_or_no false = reply.No
+
+-- the object whose owner alone may make this call
+abbrev pub owner_only : Call → Option ObjectId
+owner_only (call.Exit o) = Some o
+owner_only (call.Enter o) = None
+owner_only (call.Holds o) = None
+
+-- t may be refused for this cause
+abbrev pub MayRefuse : State → ThreadId → Call → Cause → Type 0
+MayRefuse s t (call.Enter o) NoMonitor = OwnedBy s o t
+MayRefuse s t (call.Enter o) Memory = OwnedBy s o t
+MayRefuse s t (call.Enter o) TooDeep = OwnedBy s o t × ((s.monitor o).count ≡ 65535)
+MayRefuse s t (call.Exit o) cause = ⊥
+MayRefuse s t (call.Holds o) cause = ⊥
+
+-- From s the machine may make this move, which leads to s'. Whatever a row does not name stays.
+abbrev pub Steps : State → Move → State → Type 0
+Steps s (move.Attach t) s' = (s.thread t ≡ None) × (s' ≡ now_is s t false Idle)
+Steps s (move.Call t c) s' = (flag : Bool) × Is s t flag Idle × ((object_of c).0 < s.objects) × (s' ≡ now_is s t flag (Wants c))
+Steps s (move.Return t r) s' = (flag : Bool) × Is s t flag (Has r) × (s' ≡ now_is s t flag Idle)
+Steps s (move.Lock t) s' =
+    (flag : Bool) × (o : ObjectId) × Calls s t flag (call.Enter o)
+    × (Unowned s o ⊎ OwnedBy s o t) × ((s.monitor o).count < 65535)
+    × (s' ≡ with_monitor (answered s t flag reply.Entered) o (held t ((s.monitor o).count + 1)))
+Steps s (move.Unlock t) s' =
+    (flag : Bool) × (o : ObjectId) × (n : ℕ) × Calls s t flag (call.Exit o) × (s.monitor o ≡ held t (n + 1))
+    × (s' ≡ with_monitor (answered s t flag reply.Exited) o (if n == 0 then free else held t n))
+Steps s (move.Illegal t) s' =
+    (flag : Bool) × (c : Call) × (o : ObjectId) × Calls s t flag c × (owner_only c ≡ Some o) × (OwnedBy s o t → ⊥)
+    × (s' ≡ answered s t flag reply.IllegalMonitorState)
+Steps s (move.Ask t) s' =
+    (flag answer : Bool) × (o : ObjectId) × Calls s t flag (call.Holds o) × ((answer ≡ true) ↔ OwnedBy s o t)
+    × (s' ≡ answered s t flag (yes_or_no answer))
+Steps s (move.Refuse t cause) s' =
+    (flag : Bool) × (c : Call) × Calls s t flag c × MayRefuse s t c cause × (s' ≡ answered s t flag (reply.Refused cause))
+
+-- one move after another
+abbrev pub Run : State → List Move → State → Type 0
+Run s [] s' = s' ≡ s
+Run s (m ∷ ms) s' = (mid : State) × Steps s m mid × Run mid ms s'

@@ -1,0 +1,61 @@
+-- When a step is refused, in the words of the machine.
+use Rattle.std.specs.Prelude.{◌≡◌, ◌≢◌, ℕ, ◌<◌, ◌≤◌, length, Option, Some, None, IsSome}
+use Rattle.lock_word.specs.declared.ThreadId.{ThreadId}
+use Rattle.thread_index.specs.Indices.{holder_at}
+use Rattle.fast_path.specs.Table.{object_of}
+use Rattle.step_core.specs.declared.moves.Doing.TheVariants.{Idle}
+use Rattle.step_core.specs.declared.events.Step.{Step}
+use Rattle.step_core.specs.declared.events.Step.TheVariants as step
+use Rattle.step_core.specs.declared.events.Fault.{Fault}
+use Rattle.step_core.specs.declared.events.Fault.TheVariants.{NoIndex, Memory, Known, NoThread, NoObject, InCall, NotCalling}
+use Rattle.step_core.specs.Machine.{State, Thread}
+use Rattle.step_core.specs.WorldState.{WorldState}
+use Rattle.step_core.specs.Shown.{shown}
+
+abbrev pub IsLive : WorldState → ThreadId → Type 0
+IsLive w t = IsSome ((shown w).thread t)
+
+abbrev pub IsNotLive : WorldState → ThreadId → Type 0
+IsNotLive w t = (shown w).thread t ≡ None
+
+-- t is live and in a call, or live and in none
+abbrev pub IsBusy : WorldState → ThreadId → Type 0
+IsBusy w t = (x : Thread) × ((shown w).thread t ≡ Some x) × (x.act ≢ Idle)
+
+abbrev pub IsIdle : WorldState → ThreadId → Type 0
+IsIdle w t = (x : Thread) × ((shown w).thread t ≡ Some x) × (x.act ≡ Idle)
+
+-- every index is a live thread's
+abbrev pub IsFull : WorldState → Type 0
+IsFull w = (k : ℕ) → k < length w.seats → IsSome (holder_at w.seats k)
+
+abbrev pub HasFreeIndex : WorldState → Type 0
+HasFreeIndex w = (k : ℕ) × (k < length w.seats) × (holder_at w.seats k ≡ None)
+
+-- the step is refused with this fault: it is the first of the step's faults whose cause holds
+abbrev pub IsRefused : WorldState → Step → Fault → Type 0
+IsRefused w (step.Attach t) Known = IsLive w t
+IsRefused w (step.Attach t) NoIndex = IsNotLive w t × IsFull w
+IsRefused w (step.Attach t) Memory = IsNotLive w t × HasFreeIndex w
+IsRefused w (step.Attach t) NoThread = ⊥
+IsRefused w (step.Attach t) NoObject = ⊥
+IsRefused w (step.Attach t) InCall = ⊥
+IsRefused w (step.Attach t) NotCalling = ⊥
+IsRefused w (step.Begin t c) NoThread = IsNotLive w t
+IsRefused w (step.Begin t c) NoObject = IsLive w t × ((shown w).objects ≤ (object_of c).0)
+IsRefused w (step.Begin t c) InCall = IsBusy w t × ((object_of c).0 < (shown w).objects)
+IsRefused w (step.Begin t c) Known = ⊥
+IsRefused w (step.Begin t c) NoIndex = ⊥
+IsRefused w (step.Begin t c) Memory = ⊥
+IsRefused w (step.Begin t c) NotCalling = ⊥
+IsRefused w (step.Go t) NoThread = IsNotLive w t
+IsRefused w (step.Go t) NotCalling = IsIdle w t
+IsRefused w (step.Go t) Known = ⊥
+IsRefused w (step.Go t) NoIndex = ⊥
+IsRefused w (step.Go t) Memory = ⊥
+IsRefused w (step.Go t) NoObject = ⊥
+IsRefused w (step.Go t) InCall = ⊥
+
+-- no fault of the step holds, want of memory apart
+abbrev pub IsAcceptable : WorldState → Step → Type 0
+IsAcceptable w s = (f : Fault) → IsRefused w s f → f ≡ Memory

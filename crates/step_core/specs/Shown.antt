@@ -1,0 +1,48 @@
+-- The state of the abstract machine that a world shows.
+use Rattle.std.specs.Prelude.{◌≡◌, ℕ, ◌+◌, ◌-◌, Bool, true, false, if◌then◌else◌, Option, Some, None, length}
+use Rattle.lock_word.specs.declared.ThreadId.{ThreadId}
+use Rattle.lock_word.specs.declared.ObjectId.{ObjectId}
+use Rattle.lock_word.specs.declared.Lock.{Lock}
+use Rattle.lock_word.specs.declared.Lock.TheVariants.{Free, Thin, Fat}
+use Rattle.thread_index.specs.Indices.{seat_of, holder_at}
+use Rattle.fat_monitor.specs.FatState.{monitor_at}
+use Rattle.fat_monitor.specs.declared.actions.Reply.TheVariants.{Entered}
+use Rattle.fast_path.specs.declared.Call.TheVariants.{Enter}
+use Rattle.step_core.specs.declared.moves.Doing.{Doing}
+use Rattle.step_core.specs.declared.moves.Doing.TheVariants as doing
+use Rattle.step_core.specs.declared.places.Place.{Place}
+use Rattle.step_core.specs.declared.places.Place.TheVariants.{Idle, Begun, Taking, Storing, Binding, Acting, Won, Bound, Inflated}
+use Rattle.step_core.specs.Machine.{State, Thread, Monitor, free}
+use Rattle.step_core.specs.WorldState.{WorldState, place_at, lock_at}
+
+-- what a thread at this place is doing: a contended enter that has won has its reply
+abbrev pub doing_of : Place → Doing
+doing_of Idle = doing.Idle
+doing_of (Begun c contended) = doing.Wants c
+doing_of (Taking o contended) = doing.Wants (Enter o)
+doing_of (Storing c l) = doing.Wants c
+doing_of (Binding c n) = doing.Wants c
+doing_of (Acting c m) = doing.Wants c
+doing_of (Won o) = doing.Has Entered
+doing_of (Bound c won m) = if won then doing.Has Entered else doing.Wants c
+doing_of (Inflated c m) = doing.Wants c
+
+-- the thread at a seat: nobody is interrupted yet
+abbrev pub thread_of : WorldState → Option ℕ → Option Thread
+thread_of w None = None
+thread_of w (Some k) = Some (record { flag = false; act = doing_of (place_at w k) })
+
+-- who owns an object with this lock, and how often: its word says it alone
+abbrev pub monitor_of : WorldState → Lock → Monitor
+monitor_of w Free = free
+monitor_of w (Thin i c) = record { owner = holder_at w.seats (i - 1); count = c + 1 }
+monitor_of w (Fat m) = record { owner = (monitor_at w.fats m).owner; count = (monitor_at w.fats m).holds }
+
+-- the shown state
+abbrev pub shown : WorldState → State
+shown w = record {
+  thread = λ t. thread_of w (seat_of w.seats t);
+  objects = length w.words;
+  monitor = λ o. monitor_of w (lock_at w o.0);
+  moment = 0;
+}

@@ -1,0 +1,86 @@
+-- What a step answers and leaves: the step relation, and lists of steps.
+use Rattle.std.specs.Prelude.{ℕ, Bool, true, false, if◌then◌else◌, nat_lt, List, [], ◌∷◌, ◌++◌, length, slice_set, Option, Some, None, Result, Ok, Err}
+use Rattle.lock_word.specs.declared.ThreadId.{ThreadId}
+use Rattle.thread_index.specs.Indices.{seat_of, free_seat}
+use Rattle.fat_monitor.specs.FatState.{with_thread}
+use Rattle.fast_path.specs.declared.Call.{Call}
+use Rattle.fast_path.specs.Table.{object_of}
+use Rattle.step_core.specs.declared.places.Place.{Place}
+use Rattle.step_core.specs.declared.places.Place.TheVariants.{Idle, Begun, Taking, Storing, Binding, Acting, Won, Bound, Inflated}
+use Rattle.step_core.specs.declared.moves.Move.{Move}
+use Rattle.step_core.specs.declared.moves.Move.TheVariants as move
+use Rattle.step_core.specs.declared.events.Atomic.TheVariants.{Label}
+use Rattle.step_core.specs.declared.events.Did.{Did}
+use Rattle.step_core.specs.declared.events.Step.{Step}
+use Rattle.step_core.specs.declared.events.Step.TheVariants as step
+use Rattle.step_core.specs.declared.events.Fault.{Fault}
+use Rattle.step_core.specs.declared.events.Fault.TheVariants.{NoIndex, Memory, Known, NoThread, NoObject, InCall, NotCalling}
+use Rattle.step_core.specs.WorldState.{WorldState, place_at}
+use Rattle.step_core.specs.Going.{moved, after_go, gone}
+
+-- the answer of a step, and the world after it
+pub record Outcome : Type 0 where
+  pub answer : Result Did Fault
+  pub after : WorldState
+
+abbrev pub refused : WorldState → Fault → Outcome
+refused w f = record { answer = Err f; after = w }
+
+abbrev pub accepted : WorldState → Did → Outcome
+accepted w d = record { answer = Ok d; after = w }
+
+-- the world with thread t at seat k, in no call
+abbrev pub with_live : WorldState → ℕ → ThreadId → WorldState
+with_live w k t = record w { seats = slice_set w.seats k (Some t); places = slice_set w.places k Idle; fats = with_thread w.fats t }
+
+-- an attach of a thread with this seat, if it has one, where this seat is the lowest free one, if one is
+abbrev pub attached : Bool → WorldState → ThreadId → Option ℕ → Option ℕ → Outcome
+attached room w t (Some k) free = refused w Known
+attached room w t None None = refused w NoIndex
+attached true w t None (Some k) = accepted (with_live w k t) (moved Label (move.Attach t))
+attached false w t None (Some k) = refused w Memory
+
+-- the begin of a call by the thread at seat k, which stands at this place
+abbrev pub begun_at : WorldState → ℕ → ThreadId → Call → Place → Outcome
+begun_at w k t c Idle = accepted (record w { places = slice_set w.places k (Begun c false) }) (moved Label (move.Call t c))
+begun_at w k t c p = refused w InCall
+
+abbrev pub begun : WorldState → ThreadId → Call → Option ℕ → Outcome
+begun w t c None = refused w NoThread
+begun w t c (Some k) = if nat_lt (object_of c).0 (length w.words) then begun_at w k t c (place_at w k) else refused w NoObject
+
+-- a Go of the thread at seat k, which stands at this place
+abbrev pub went_at : Bool → WorldState → ℕ → ThreadId → Place → Outcome
+went_at room w k t Idle = refused w NotCalling
+went_at room w k t p = accepted (gone w k (after_go room w k t p)) (after_go room w k t p).did
+
+abbrev pub went : Bool → WorldState → ThreadId → Option ℕ → Outcome
+went room w t None = refused w NoThread
+went room w t (Some k) = went_at room w k t (place_at w k)
+
+-- One step. It is a function but for memory: room says whether a growth that the step asks for is granted.
+abbrev pub step_of : Bool → WorldState → Step → Outcome
+step_of room w (step.Attach t) = attached room w t (seat_of w.seats t) (free_seat w.seats)
+step_of room w (step.Begin t c) = begun w t c (seat_of w.seats t)
+step_of room w (step.Go t) = went room w t (seat_of w.seats t)
+
+-- the moves that are there
+abbrev pub given : List (Option Move) → List Move
+given [] = []
+given (None ∷ ms) = given ms
+given (Some m ∷ ms) = m ∷ given ms
+
+-- the moves of an answer: a refused step has none
+abbrev pub moves_of : Result Did Fault → List Move
+moves_of (Ok d) = given d.moves
+moves_of (Err f) = []
+
+-- the world after a list of steps, each with whether its growth is granted
+abbrev pub world_after : WorldState → List (Step × Bool) → WorldState
+world_after w [] = w
+world_after w (s ∷ ss) = world_after (step_of s.1 w s.0).after ss
+
+-- the moves that the steps hand out
+abbrev pub moves_after : WorldState → List (Step × Bool) → List Move
+moves_after w [] = []
+moves_after w (s ∷ ss) = moves_of (step_of s.1 w s.0).answer ++ moves_after (step_of s.1 w s.0).after ss

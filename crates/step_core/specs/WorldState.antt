@@ -1,0 +1,84 @@
+-- What a world is: header words, the threads by index, the place of each in its call, and the fat state.
+use Rattle.std.specs.Prelude.{◌≡◌, ℕ, ◌+◌, ◌-◌, ◌<◌, ◌≤◌, List, [], length, slice_index_or, Option, Some, None, IsSome, map, replicate}
+use Rattle.lock_word.specs.declared.ThreadId.{ThreadId}
+use Rattle.lock_word.specs.declared.ObjectId.{ObjectId}
+use Rattle.lock_word.specs.declared.Word.{Word}
+use Rattle.lock_word.specs.declared.Lock.{Lock}
+use Rattle.lock_word.specs.declared.Lock.TheVariants.{Free, Thin, Fat}
+use Rattle.lock_word.specs.Layout.{lock_of, IsMalformed}
+use Rattle.thread_index.specs.Indices.{seat_of, holder_at, IsOneToOne}
+use Rattle.fat_monitor.specs.FatState.{FatState, monitor_at, IsAttached}
+use Rattle.fat_monitor.specs.FatState as fat
+use Rattle.fast_path.specs.declared.Call.{Call}
+use Rattle.fast_path.specs.declared.Next.TheVariants as next
+use Rattle.fast_path.specs.Table.{object_of, next_of}
+use Rattle.step_core.specs.declared.places.Place.{Place}
+use Rattle.step_core.specs.declared.places.Place.TheVariants.{Idle, Begun, Taking, Storing, Binding, Acting, Won, Bound, Inflated}
+
+-- the word of each object; who has each index, by seat, which is the index less one; the place of the
+-- thread at each seat; and the fat state
+pub record WorldState : Type 0 where
+  pub words : List Word
+  pub seats : List (Option ThreadId)
+  pub places : List Place
+  pub fats : FatState
+
+-- the free word of a low byte
+abbrev pub low_word : ℕ → Word
+low_word n = record { 0 = n }
+
+-- the world in which nothing has happened
+abbrev pub opened : List ℕ → ℕ → ℕ → WorldState
+opened lows monitors indices =
+    record { words = map low_word lows; seats = replicate indices None; places = replicate indices Idle; fats = fat.opened monitors }
+
+abbrev pub place_at : WorldState → ℕ → Place
+place_at w k = slice_index_or w.places k Idle
+
+-- past the last object stands the free word
+abbrev pub word_at : WorldState → ℕ → Word
+word_at w p = slice_index_or w.words p (low_word 0)
+
+abbrev pub lock_at : WorldState → ℕ → Lock
+lock_at w p = lock_of (word_at w p).0
+
+-- the object that the call names exists
+abbrev pub Exists : WorldState → Call → Type 0
+Exists w c = (object_of c).0 < length w.words
+
+-- a lock that object p may show: a thin one is a live thread's, and a fat one is of a monitor that is bound to p
+abbrev pub Stands : WorldState → ℕ → Lock → Type 0
+Stands w p Free = Unit {0}
+Stands w p (Thin i c) = (1 ≤ i) × (i ≤ 32767) × (c ≤ 255) × IsSome (holder_at w.seats (i - 1))
+Stands w p (Fat m) = (m < length w.fats.monitors) × ((monitor_at w.fats m).object.0 ≡ p)
+
+-- The thread at seat k may stand at this place: what it found when it loaded still stands, since a thin
+-- word is its owner's, a fat word stays fat, and a monitor that is bound and not stored is nobody else's.
+abbrev pub Fitting : WorldState → ℕ → Place → Type 0
+Fitting w k Idle = Unit {0}
+Fitting w k (Begun c contended) = Exists w c
+Fitting w k (Taking o contended) = o.0 < length w.words
+Fitting w k (Storing c l) =
+    Exists w c × ((n : ℕ) × (lock_at w (object_of c).0 ≡ Thin (k + 1) n) × (next_of c (Thin (k + 1) n) (k + 1) ≡ next.Store l))
+Fitting w k (Binding c n) = Exists w c × (lock_at w (object_of c).0 ≡ Thin (k + 1) n) × (next_of c (Thin (k + 1) n) (k + 1) ≡ next.Bind)
+Fitting w k (Acting c m) = Exists w c × (lock_at w (object_of c).0 ≡ Fat m)
+Fitting w k (Won o) = (o.0 < length w.words) × (lock_at w o.0 ≡ Thin (k + 1) 0)
+Fitting w k (Bound c won m) =
+    Exists w c × (m < length w.fats.monitors)
+    × ((n : ℕ) × (lock_at w (object_of c).0 ≡ Thin (k + 1) n)
+        × (monitor_at w.fats m ≡ record { object = object_of c; owner = holder_at w.seats k; holds = n + 1 }))
+Fitting w k (Inflated c m) = Exists w c × (lock_at w (object_of c).0 ≡ Fat m)
+
+-- what every world keeps
+pub record IsSound (w : WorldState) : Type 0 where
+  pub many : length w.words ≤ 65535
+  pub seated : length w.places ≡ length w.seats
+  pub few : length w.seats ≤ 32767
+  pub one_to_one : IsOneToOne w.seats
+  pub formed : (p : ℕ) → IsMalformed (word_at w p).0 → ⊥
+  pub words : (p : ℕ) → p < length w.words → Stands w p (lock_at w p)
+  pub fats : fat.IsSound w.fats
+  -- the attached threads are the live ones
+  pub attached : (t : ThreadId) → IsSome (seat_of w.seats t) → IsAttached w.fats t
+  pub live : (t : ThreadId) → IsAttached w.fats t → IsSome (seat_of w.seats t)
+  pub places : (k : ℕ) → k < length w.places → Fitting w k (place_at w k)

@@ -1,0 +1,25 @@
+//! The monitor service of a Java virtual machine, one atomic step at a time.
+//!
+//! A [`World`] has the header words of its objects, its threads with an index each, the place of each
+//! thread in its call, and the fat monitors. [`World::step`] does one atomic step: one load, exchange
+//! or store of one header word, or one action on the fat monitors; to attach a thread and to begin a
+//! call are steps too. Each step hands out the moves of the abstract machine of `docs/MACHINE.md`
+//! (JLS SE 8, 17.1) that it made.
+#![tactic(auto)]
+
+mod events;
+mod laws;
+mod moves;
+mod places;
+mod stepping;
+mod turns;
+mod worlds;
+
+#[cfg(test)]
+mod tests;
+
+pub use events::{Atomic, Did, Fault, Step};
+pub use laws::every_list_of_steps_is_a_run;
+pub use moves::{Doing, Move};
+pub use places::Place;
+pub use worlds::World;

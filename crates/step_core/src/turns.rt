@@ -1,0 +1,259 @@
+//! What a Go does at each place in a call: one function for each kind of atomic step.
+
+ghost use Rattle.std.specs.Prelude.{◌≡◌, ℕ, ◌+◌, ◌-◌, ◌<◌, ◌≤◌, List, length, Bool, true, false};
+ghost use Rattle.lock_word.specs.declared.Word.{Word};
+ghost use Rattle.lock_word.specs.Layout.{Fits, IsMalformed, lock_of, low_of, with_lock, count_of};
+ghost use Rattle.fat_monitor.specs.FatState.{FatState, IsAttached};
+ghost use Rattle.fast_path.specs.Table.{next_of, object_of};
+ghost use Rattle.step_core.specs.WorldState.{lock_at};
+ghost use Rattle.step_core.specs.Going.{move_for, silent, moved, replied, returned, after_load, after_take, after_store, after_bind, after_publish, after_act, after_go, action_of, bind_cause};
+ghost use Rattle.step_core.specs.Parts.{bare, AreFormed, IsReady};
+
+use crate::{Atomic, Did, Move, Place};
+use fast_path::{Call, Next, decide};
+use fat_monitor::{Action, Answer, Done, Fats, Reply};
+use lock_word::{Lock, ObjectId, ThreadId, Word, decode, encode};
+
+/// One Go of the thread with index `me` from a place in its call: where it stands then, and what it did.
+pub fn go_from(words: &mut [Word], fats: &mut Fats, me: u16, thread: ThreadId, place: Place) -> (Place, Did)
+    requires ready { IsReady words.old fats.old place }
+    requires formed { AreFormed words.old }
+    requires attached { IsAttached fats.old thread }
+    requires low { 1 ≤ me }
+    requires high { me ≤ 32767 }
+    ensures { (room : Bool) × (record { words = words.new; fats = fats.new; place = result.0; did = result.1 } ≡ after_go room (bare words.old fats.old) (me - 1) thread place) }
+{
+    match place {
+        Place::Idle => unreachable!(),
+        Place::Begun { call, contended } => load(words, me, thread, call, contended),
+        Place::Taking { object, contended } => take(words, me, thread, object, contended),
+        Place::Storing { call, lock } => store(words, thread, call, lock),
+        Place::Binding { call, count } => bind(fats, thread, call, false, u16::from(count) + 1),
+        Place::Acting { call, monitor } => act(fats, thread, call, monitor),
+        Place::Won { object } => bind(fats, thread, Call::Enter(object), true, 1),
+        Place::Bound { call, won, monitor } => publish(words, thread, call, won, monitor),
+        Place::Inflated { call, monitor } => act(fats, thread, call, monitor),
+    }
+}
+
+/// Loads the word of the call's object, and answers where the word says enough.
+fn load(words: &[Word], me: u16, thread: ThreadId, call: Call, contended: bool) -> (Place, Did)
+    requires within { (object_of call).0 < length words.now }
+    requires formed { AreFormed words.now }
+    ensures { (f : FatState) → record { words = words.now; fats = f; place = result.0; did = result.1 } ≡ after_load (bare words.now f) thread call contended (next_of call (lock_at (bare words.now f) (object_of call).0) me) }
+{
+    let object = call.object();
+    let word = words[object.0 as usize];
+    let lock = lock_in(word);
+    let atomic = Atomic::Load { object, word };
+    match decide(call, lock, me) {
+        Next::Reply(reply) => (Place::Idle, reply_to(atomic, thread, reply)),
+        Next::Cas(_) => (Place::Taking { object, contended }, quietly(atomic)),
+        Next::Store(lock) => (Place::Storing { call, lock }, quietly(atomic)),
+        Next::Bind => {
+            let count = count_in(lock);
+            (Place::Binding { call, count }, quietly(atomic))
+        }
+        Next::Fat(monitor) => (Place::Acting { call, monitor }, quietly(atomic)),
+        Next::Spin => {
+            let contended = true;
+            (Place::Begun { call, contended }, quietly(atomic))
+        }
+    }
+}
+
+/// Exchanges the free word for the thread's own, if it is still free.
+fn take(words: &mut [Word], me: u16, thread: ThreadId, object: ObjectId, contended: bool) -> (Place, Did)
+    requires within { object.0 < length words.old }
+    requires formed { AreFormed words.old }
+    requires low { 1 ≤ me }
+    requires high { me ≤ 32767 }
+    ensures { (f : FatState) → record { words = words.new; fats = f; place = result.0; did = result.1 } ≡ after_take (bare words.old f) (me - 1) thread object contended (lock_at (bare words.old f) object.0) }
+{
+    let at = object.0 as usize;
+    let old = words[at];
+    let Lock::Free = lock_in(old) else {
+        let call = Call::Enter(object);
+        let atomic = Atomic::Lost { object, word: old };
+        return (Place::Begun { call, contended: true }, quietly(atomic));
+    };
+    let new = changed(old, Lock::Thin { index: me, count: 0 });
+    words[at] = new;
+    let atomic = Atomic::Won { object, old, new };
+    if contended {
+        (Place::Won { object }, move_on(atomic, Move::Lock { thread }))
+    } else {
+        (Place::Idle, reply_to(atomic, thread, Reply::Entered))
+    }
+}
+
+/// Stores a free or thin word over the thread's own thin one.
+fn store(words: &mut [Word], thread: ThreadId, call: Call, lock: Lock) -> (Place, Did)
+    requires within { (object_of call).0 < length words.old }
+    requires fits { Fits lock }
+    ensures { (f : FatState) → record { words = words.new; fats = f; place = result.0; did = result.1 } ≡ after_store (bare words.old f) thread call lock }
+{
+    let object = call.object();
+    let at = object.0 as usize;
+    let old = words[at];
+    let new = changed(old, lock);
+    words[at] = new;
+    let reply = match call {
+        Call::Enter(_) => Reply::Entered,
+        Call::Exit(_) => Reply::Exited,
+        Call::Holds(_) => Reply::Yes,
+    };
+    (Place::Idle, reply_to(Atomic::Stored { object, old, new }, thread, reply))
+}
+
+/// Binds a fat monitor to the call's object, which the thread holds this often. Where none can be had,
+/// an enter that has won already drops the inflation, and any other call is refused.
+fn bind(fats: &mut Fats, thread: ThreadId, call: Call, won: bool, holds: u16) -> (Place, Did)
+    requires attached { IsAttached fats.old thread }
+    requires low { 1 ≤ holds }
+    requires high { holds ≤ 256 }
+    ensures { (ws : List Word) → (room : Bool) × (record { words = ws; fats = fats.new; place = result.0; did = result.1 } ≡ after_bind (bare ws fats.old) thread call won holds (bind_cause room fats.old)) }
+{
+    let object = call.object();
+    match fats.bind(object, thread, holds) {
+        Ok(receipt) => {
+            let monitor = receipt.monitor();
+            (Place::Bound { call, won, monitor }, quietly(Atomic::Bound { object, monitor }))
+        }
+        Err(cause) => {
+            let atomic = Atomic::NotBound { object, cause };
+            if won {
+                (Place::Idle, hand_out(atomic, thread, Reply::Entered))
+            } else {
+                (Place::Idle, reply_to(atomic, thread, Reply::Refused(cause)))
+            }
+        }
+    }
+}
+
+/// Stores the fat word over the thread's own thin one.
+fn publish(words: &mut [Word], thread: ThreadId, call: Call, won: bool, monitor: u32) -> (Place, Did)
+    requires within { (object_of call).0 < length words.old }
+    requires fits { monitor ≤ 8388607 }
+    ensures { (f : FatState) → record { words = words.new; fats = f; place = result.0; did = result.1 } ≡ after_publish (bare words.old f) thread call won monitor }
+{
+    let object = call.object();
+    let at = object.0 as usize;
+    let old = words[at];
+    let new = changed(old, Lock::Fat { monitor });
+    words[at] = new;
+    let atomic = Atomic::Stored { object, old, new };
+    if won {
+        (Place::Idle, hand_out(atomic, thread, Reply::Entered))
+    } else {
+        (Place::Inflated { call, monitor }, quietly(atomic))
+    }
+}
+
+/// Makes the call's own action on a fat monitor.
+fn act(fats: &mut Fats, thread: ThreadId, call: Call, monitor: u32) -> (Place, Did)
+    requires attached { IsAttached fats.old thread }
+    requires bound { monitor < length fats.old.monitors }
+    ensures { (ws : List Word) → record { words = ws; fats = fats.new; place = result.0; did = result.1 } ≡ after_act (bare ws fats.old) thread call monitor }
+{
+    let action = match call {
+        Call::Enter(_) => Action::Enter { monitor },
+        Call::Exit(_) => Action::Exit { monitor },
+        Call::Holds(_) => Action::Holds { monitor },
+    };
+    let Ok(Done { answer, .. }) = fats.act(thread, action);
+    let atomic = Atomic::Acted { action, answer };
+    match answer {
+        Answer::Reply(reply) => (Place::Idle, reply_to(atomic, thread, reply)),
+        Answer::Quiet => {
+            let contended = false;
+            (Place::Begun { call, contended }, quietly(atomic))
+        }
+    }
+}
+
+/// The lock of a word that decodes.
+fn lock_in(word: Word) -> Lock
+    requires { IsMalformed word.0 → ⊥ }
+    ensures { result ≡ lock_of word.0 }
+{
+    match decode(word) {
+        Some((lock, _)) => lock,
+        None => unreachable!(),
+    }
+}
+
+/// The count of a thin lock; 0 for another.
+fn count_in(lock: Lock) -> u8
+    ensures { result ≡ count_of lock }
+{
+    match lock {
+        Lock::Thin { count, .. } => count,
+        Lock::Free | Lock::Fat { .. } => 0,
+    }
+}
+
+/// The word with another lock, and the low byte that it has.
+fn changed(word: Word, lock: Lock) -> Word
+    requires { Fits lock }
+    ensures { result.0 ≡ with_lock word.0 lock }
+{
+    encode(lock, (word.0 % 256) as u8)
+}
+
+/// The move by which a call gets this reply.
+fn move_to(reply: Reply, thread: ThreadId) -> Move
+    ensures { result ≡ move_for reply thread }
+{
+    match reply {
+        Reply::Entered => Move::Lock { thread },
+        Reply::Exited => Move::Unlock { thread },
+        Reply::Yes | Reply::No => Move::Ask { thread },
+        Reply::IllegalMonitorState => Move::Illegal { thread },
+        Reply::Refused(cause) => Move::Refuse { thread, cause },
+    }
+}
+
+/// No move is made.
+fn quietly(atomic: Atomic) -> Did
+    ensures { result ≡ silent atomic }
+{
+    Did {
+        atomic,
+        moves: [None, None, None],
+        reply: None,
+    }
+}
+
+/// One move is made, and the call goes on.
+pub fn move_on(atomic: Atomic, made: Move) -> Did
+    ensures { result ≡ moved atomic made }
+{
+    Did {
+        atomic,
+        moves: [Some(made), None, None],
+        reply: None,
+    }
+}
+
+/// The call gets its reply and returns with it.
+fn reply_to(atomic: Atomic, thread: ThreadId, reply: Reply) -> Did
+    ensures { result ≡ replied atomic thread reply }
+{
+    Did {
+        atomic,
+        moves: [Some(move_to(reply, thread)), Some(Move::Return { thread, reply }), None],
+        reply: Some(reply),
+    }
+}
+
+/// The call returns with the reply that it has.
+fn hand_out(atomic: Atomic, thread: ThreadId, reply: Reply) -> Did
+    ensures { result ≡ returned atomic thread reply }
+{
+    Did {
+        atomic,
+        moves: [Some(Move::Return { thread, reply }), None, None],
+        reply: Some(reply),
+    }
+}

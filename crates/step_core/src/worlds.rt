@@ -1,0 +1,193 @@
+//! The world, and its steps.
+
+ghost use Rattle.std.specs.Prelude.{◌≡◌, ℕ, ◌+◌, ◌<◌, ◌≤◌, List, length, Bool, Option, IfOk, IfErr, OnErr, slice_index_or, Some, None};
+ghost use Rattle.std.specs.Option.{option_map};
+ghost use Rattle.thread_index.specs.Indices.{seat_of, free_seat, index_of, holder_of};
+ghost use Rattle.step_core.specs.Machine.{Run, opening, Thread};
+ghost use Rattle.step_core.specs.WorldState.{IsSound, opened, word_at, lock_at};
+ghost use Rattle.step_core.specs.Stepping.{Outcome, attached, begun, went, step_of, moves_of};
+ghost use Rattle.step_core.specs.Shown.{shown};
+ghost use Rattle.step_core.specs.Labels.{HasLabels};
+ghost use Rattle.step_core.specs.Refusals.{IsRefused, IsAcceptable};
+
+use crate::stepping;
+use crate::{Did, Doing, Fault, Place, Step};
+use fast_path::Call;
+use fat_monitor::{Fats, Reply};
+use lock_word::{Lock, Memory, ObjectId, ThreadId, Word, decode};
+use std::alloc::Global;
+use std::marker::Model;
+use thread_index::Indices;
+
+/// Objects with a header word each, live threads with an index each, the place of each thread in its
+/// call, and the fat monitors.
+#[derive(Drop)]
+pub struct World {
+    words: Vec<Word>,
+    indices: Indices,
+    // By seat, which is the index less one.
+    places: Vec<Place>,
+    fats: Fats,
+}
+
+impl Model for World {
+    ghost use Rattle.std.specs.Coded.{codes};
+    ghost use Rattle.std.specs.FinMap as map;
+    ghost use Rattle.step_core.specs.WorldState.{WorldState, IsSound};
+
+    ghost Value = { WorldState };
+
+    ghost coded = { Prim.hlevel (codes, map.code) };
+
+    ghost use Rattle.step_core.specs.View.{world_in};
+
+    ghost view = { world_in };
+
+    ghost invariant = { λ a. IsSound (world_in a) };
+}
+
+impl World {
+    /// A world with one free object for each low byte, 0 to 65,535 of them; with at most `monitors`
+    /// fat monitors, 0 to 8,388,608; and without threads, of which at most `indices`, 1 to 32,767, are
+    /// live at once.
+    pub fn new(alloc: Global, lows: &[u8], monitors: u32, indices: u16) -> Result<World, Memory>
+        requires objects { length lows.now ≤ 65535 }
+        requires monitors { monitors ≤ 8388608 }
+        requires low { 1 ≤ indices }
+        requires high { indices ≤ 32767 }
+        ensures world { IfOk result (λ w. w ≡ opened lows.now monitors indices) }
+        ensures shows { IfOk result (λ w. shown w ≡ opening (length lows.now)) }
+    {
+        let mut words = Vec::with_capacity(alloc, lows.len())?;
+        for low in lows {
+            words.push(Word(u32::from(*low)))?;
+        }
+        let places = vec![in alloc; Place::Idle; usize::from(indices)]?;
+        Ok(World {
+            words,
+            indices: Indices::new(alloc, indices)?,
+            places,
+            fats: Fats::new(alloc, monitors),
+        })
+    }
+
+    /// Does one step. A step that is refused leaves the world as it is.
+    ///
+    /// The moves that it hands out lead the abstract machine from the state that the world showed to the
+    /// one that it shows then. Only an Attach may be refused for want of memory; a Go that finds no
+    /// memory for a fat monitor is accepted, and says so in its atomic step.
+    #[tactic(auto, using(crate::proofs::Steps::step_run))]
+    pub fn step(&mut self, step: Step) -> Result<Did, Fault>
+        ensures exact { (room : Bool) × (record { answer = result; after = self.new } ≡ step_of room self.old step) }
+        ensures run { Run (shown self.old) (moves_of result) (shown self.new) }
+    {
+        match step {
+            Step::Attach { thread } => self.attach(thread),
+            Step::Begin { thread, call } => self.begin(thread, call),
+            Step::Go { thread } => self.go(thread),
+        }
+    }
+
+    #[tactic(auto, using(crate::proofs::Steps::attach_kept))]
+    fn attach(&mut self, thread: ThreadId) -> Result<Did, Fault>
+        ensures was { IsSound self.old }
+        ensures exact { (room : Bool) × (record { answer = result; after = self.new } ≡ attached room self.old thread (seat_of self.old.seats thread) (free_seat self.old.seats)) }
+    {
+        stepping::attach(&mut self.indices, &mut self.places, &mut self.fats, thread)
+    }
+
+    #[tactic(auto, using(crate::proofs::Steps::begin_kept))]
+    fn begin(&mut self, thread: ThreadId, call: Call) -> Result<Did, Fault>
+        ensures was { IsSound self.old }
+        ensures exact { record { answer = result; after = self.new } ≡ begun self.old thread call (seat_of self.old.seats thread) }
+    {
+        stepping::begin(&self.words, &self.indices, &mut self.places, thread, call)
+    }
+
+    fn go(&mut self, thread: ThreadId) -> Result<Did, Fault>
+        ensures was { IsSound self.old }
+        ensures exact { (room : Bool) × (record { answer = result; after = self.new } ≡ went room self.old thread (seat_of self.old.seats thread)) }
+    {
+        stepping::go(&mut self.words, &self.indices, &mut self.places, &mut self.fats, thread)
+    }
+
+    /// How many objects there are: they are numbered from 0.
+    pub fn objects(&self) -> u32
+        ensures { result ≡ (shown self.now).objects }
+    {
+        self.words.len() as u32
+    }
+
+    /// The header word of an object.
+    pub fn word(&self, object: ObjectId) -> Word
+        requires { object.0 < length self.now.words }
+        ensures { result ≡ word_at self.now object.0 }
+    {
+        self.words[object.0 as usize]
+    }
+
+    /// Who owns an object, as its word shows it.
+    pub fn owner(&self, object: ObjectId) -> Option<ThreadId>
+        requires { object.0 < length self.now.words }
+        ensures { result ≡ ((shown self.now).monitor object).owner }
+    {
+        match self.lock(object) {
+            Lock::Free => None,
+            Lock::Thin { index, .. } => self.indices.id_of(index),
+            Lock::Fat { monitor } => self.fats.owner(monitor),
+        }
+    }
+
+    /// How often the owner of an object holds it, 0 to 65,535, as its word shows it.
+    pub fn holds(&self, object: ObjectId) -> u16
+        requires { object.0 < length self.now.words }
+        ensures { result ≡ ((shown self.now).monitor object).count }
+    {
+        match self.lock(object) {
+            Lock::Free => 0,
+            Lock::Thin { count, .. } => u16::from(count) + 1,
+            Lock::Fat { monitor } => self.fats.holds(monitor),
+        }
+    }
+
+    /// The index of a live thread.
+    pub fn index(&self, thread: ThreadId) -> Option<u16>
+        ensures { result ≡ index_of self.now.seats thread }
+    {
+        self.indices.index_of(thread)
+    }
+
+    /// The thread that has an index.
+    pub fn thread_at(&self, index: u16) -> Option<ThreadId>
+        ensures { result ≡ holder_of self.now.seats index }
+    {
+        self.indices.id_of(index)
+    }
+
+    /// What a live thread is doing; None where it is not live.
+    pub fn doing(&self, thread: ThreadId) -> Option<Doing>
+        ensures { result ≡ option_map (λ (x : Thread). x.act) ((shown self.now).thread thread) }
+    {
+        let index = self.indices.index_of(thread)?;
+        let doing = match self.places[index as usize - 1] {
+            Place::Idle => Doing::Idle,
+            Place::Begun { call, .. } | Place::Storing { call, .. } | Place::Binding { call, .. } => Doing::Wants(call),
+            Place::Acting { call, .. } | Place::Inflated { call, .. } => Doing::Wants(call),
+            Place::Taking { object, .. } => Doing::Wants(Call::Enter(object)),
+            Place::Won { .. } | Place::Bound { won: true, .. } => Doing::Has(Reply::Entered),
+            Place::Bound { call, won: false, .. } => Doing::Wants(call),
+        };
+        Some(doing)
+    }
+
+    /// The lock that an object's word shows.
+    fn lock(&self, object: ObjectId) -> Lock
+        requires { object.0 < length self.now.words }
+        ensures { result ≡ lock_at self.now object.0 }
+    {
+        match decode(self.words[object.0 as usize]) {
+            Some((lock, _)) => lock,
+            None => unreachable!(),
+        }
+    }
+}

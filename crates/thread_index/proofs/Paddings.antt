@@ -1,0 +1,177 @@
+-- Seats of which only the first are written down.
+use Rattle.std.specs.Prelude.{◌≡◌, ℕ, ◌+◌, ◌-◌, ◌<◌, ◌≤◌, ◌⊎◌, Bool, true, false, List, [], ◌∷◌, ◌++◌, length, replicate, zero, suc, Option, Some, None, is_none, slice_set, nat_lt}
+use Rattle.std.specs.List.{position_from}
+use Rattle.std.specs.Bool.{then_some}
+use Rattle.std.specs.Option.{option_or}
+use Rattle.std.proofs.Common.{arith, refl, ap, sym, ◌∙◌, inl, inr, length-append, append_assoc, zero-add, subst}
+use Rattle.std.proofs.lemmas.Bool.{cases_lt, ltb-true, ltb-false}
+use Rattle.std.proofs.lemmas.Option.{same_Some}
+use Rattle.std.proofs.lemmas.List.{length-replicate, length-set, set-append_left, set_at, append-nil}
+use Rattle.lock_word.specs.declared.ThreadId.{ThreadId}
+use Rattle.thread_index.specs.Indices.{is_held_by, seat_of, free_seat, IsOneToOne}
+use Rattle.thread_index.specs.Padding.{padded, IsKept}
+use Rattle.thread_index.proofs.Seats.{seat_found, free_found, IsOneToOne-taken, IsOneToOne-given, seat_of-within, free_seat-within}
+
+found_by_test : (test : Option ThreadId → Bool) (i k : ℕ) (x : Option ThreadId) (xs ys : List (Option ThreadId)) (b : Bool) → test x ≡ b
+    → (position_from test (i + 1) xs ≡ Some k → position_from test (i + 1) ys ≡ Some k)
+    → position_from test i (x ∷ xs) ≡ Some k → position_from test i (x ∷ ys) ≡ Some k
+found_by_test test i k x xs ys true b again e = rw b (rw b at e)
+found_by_test test i k x xs ys false b again e = rw b (again (rw b at e))
+
+-- what is found stays where the list grows
+found_before : (test : Option ThreadId → Bool) (i : ℕ) (xs ys : List (Option ThreadId)) (k : ℕ) → position_from test i xs ≡ Some k → position_from test i (xs ++ ys) ≡ Some k
+found_before test i [] ys k e = absurd (cc)
+found_before test i (x ∷ xs) ys k e = found_by_test test i k x xs (xs ++ ys) (test x) refl (found_before test (i + 1) xs ys k) e
+
+beyond_by_test : (test : Option ThreadId → Bool) (i : ℕ) (x : Option ThreadId) (xs ys : List (Option ThreadId)) (b : Bool) → test x ≡ b
+    → (position_from test (i + 1) xs ≡ None → position_from test (i + 1) (xs ++ ys) ≡ position_from test (i + 1 + length xs) ys)
+    → position_from test i (x ∷ xs) ≡ None → position_from test i (x ∷ (xs ++ ys)) ≡ position_from test (i + suc (length xs)) ys
+beyond_by_test test i x xs ys true b again e = let h : Some i ≡ None = rw b at e in absurd (cc)
+beyond_by_test test i x xs ys false b again e =
+    let n : i + 1 + length xs ≡ i + suc (length xs) = omega arith in rw (b, ← n) (again (rw b at e))
+
+-- what is not found in the first part is looked for in the rest
+found_beyond : (test : Option ThreadId → Bool) (i : ℕ) (xs ys : List (Option ThreadId)) → position_from test i xs ≡ None
+    → position_from test i (xs ++ ys) ≡ position_from test (i + length xs) ys
+found_beyond test i [] ys e = let n : i + 0 ≡ i = omega arith in rw n refl
+found_beyond test i (x ∷ xs) ys e = beyond_by_test test i x xs ys (test x) refl (found_beyond test (i + 1) xs ys) e
+
+seat_by_found : (holders : List (Option ThreadId)) (n : ℕ) (t : ThreadId) (found : Option ℕ) → seat_of holders t ≡ found → seat_of (holders ++ replicate n None) t ≡ found
+seat_by_found holders n t None e = found_beyond (λ u. is_held_by u t) 0 holders (replicate n None) e ∙ never (0 + length holders) n
+  where
+    never : (i m : ℕ) → position_from (λ u. is_held_by u t) i (replicate m None) ≡ None
+    never i zero = refl
+    never i (suc m) = never (i + 1) m
+seat_by_found holders n t (Some k) e = found_before (λ u. is_held_by u t) 0 holders (replicate n None) k e
+
+-- a thread has its seat among those that are written down
+pub seat_of-padded : (holders : List (Option ThreadId)) (limit : ℕ) (t : ThreadId) → seat_of (padded holders limit) t ≡ seat_of holders t
+seat_of-padded holders limit t = seat_by_found holders (limit - length holders) t (seat_of holders t) refl
+
+-- a seat that is free among those that are written down is the lowest
+free_seat-padded_some : (holders : List (Option ThreadId)) (limit k : ℕ) → free_seat holders ≡ Some k → free_seat (padded holders limit) ≡ Some k
+free_seat-padded_some holders limit k e = found_before is_none 0 holders (replicate (limit - length holders) None) k e
+
+first_free : (i n m : ℕ) → n ≡ suc m → position_from (is_none {T = ThreadId}) i (replicate n None) ≡ Some i
+first_free i n m e = rw e refl
+
+-- where none of them is, it is the next
+free_seat-padded_next : (holders : List (Option ThreadId)) (limit : ℕ) → free_seat holders ≡ None → length holders < limit
+    → free_seat (padded holders limit) ≡ Some (length holders)
+free_seat-padded_next holders limit e below =
+    found_beyond is_none 0 holders (replicate (limit - length holders) None) e
+    ∙ (first_free (0 + length holders) (limit - length holders) (limit - length holders - 1) (omega arith) ∙ ap (λ (n : ℕ). Some n) (zero-add (length holders)))
+
+-- and where there is no next, there is none
+free_seat-padded_none : (holders : List (Option ThreadId)) (limit : ℕ) → free_seat holders ≡ None → limit ≤ length holders
+    → free_seat (padded holders limit) ≡ None
+free_seat-padded_none holders limit e full =
+    let none : limit - length holders ≡ 0 = omega arith in rw (none, append-nil holders) e
+
+-- the lowest free seat: of those that are written down, else the next, if there is one
+pub free_seat-padded : (holders : List (Option ThreadId)) (limit : ℕ)
+    → option_or (free_seat holders) (then_some (nat_lt (length holders) limit) (length holders)) ≡ free_seat (padded holders limit)
+free_seat-padded holders limit = by_found (free_seat holders) refl
+  where
+    by_next : (room : Bool) → nat_lt (length holders) limit ≡ room → free_seat holders ≡ None → then_some room (length holders) ≡ free_seat (padded holders limit)
+    by_next true room none = sym (free_seat-padded_next holders limit none (ltb-true (length holders) limit room))
+    by_next false full none = sym (free_seat-padded_none holders limit none (ltb-false (length holders) limit full))
+
+    by_found : (found : Option ℕ) → free_seat holders ≡ found → option_or found (then_some (nat_lt (length holders) limit) (length holders)) ≡ free_seat (padded holders limit)
+    by_found None none = by_next (nat_lt (length holders) limit) refl none
+    by_found (Some k) some = sym (free_seat-padded_some holders limit k some)
+
+-- there are as many seats as the limit says
+length-padded : (holders : List (Option ThreadId)) (limit : ℕ) → length holders ≤ limit → length (padded holders limit) ≡ limit
+length-padded holders limit within =
+    simp (length-append, length-replicate) (omega arith)
+
+at_next : (holders : List (Option ThreadId)) (n m : ℕ) (x : Option ThreadId) → n ≡ suc m
+    → (holders ++ x ∷ []) ++ replicate m None ≡ slice_set (holders ++ replicate n None) (length holders) x
+at_next holders n m x e =
+    rw e (append_assoc holders (x ∷ []) (replicate m None) ∙ sym (set_at holders None (replicate m None) x (length holders) refl))
+
+-- the lowest free seat is one of those that are written down, or the next
+free_seat-written : (holders : List (Option ThreadId)) (limit k : ℕ) → length holders ≤ limit → free_seat (padded holders limit) ≡ Some k
+    → (k ≤ length holders) × (k < limit)
+free_seat-written holders limit k within e = by_found (free_seat holders) refl
+  where
+    below : k < limit
+    below = let long = length-padded holders limit within in let h = (free_found (padded holders limit) k e).0 in rw long at h
+
+    by_next : (length holders < limit) ⊎ (limit ≤ length holders) → free_seat holders ≡ None → (k ≤ length holders) × (k < limit)
+    by_next (inl room) none =
+        let same : length holders ≡ k = same_Some (length holders) k (sym (free_seat-padded_next holders limit none room) ∙ e) in (omega arith, below)
+    by_next (inr full) none = let h = free_seat-padded_none holders limit none full in absurd (cc)
+
+    by_found : (found : Option ℕ) → free_seat holders ≡ found → (k ≤ length holders) × (k < limit)
+    by_found None none = by_next (cases_lt (length holders) limit) none
+    by_found (Some j) some =
+        let same : j ≡ k = same_Some j k (sym (free_seat-padded_some holders limit j some) ∙ e) in
+        let h : j < length holders = (free_found holders j some).0 in (omega arith, below)
+
+-- what is found among the seats that are shown
+pub ruleset lookups = (seat_of-padded, free_seat-padded, seat_of-within, free_seat-within)
+
+-- a write at a seat that is written down
+pub padded-slice_set : (holders seats : List (Option ThreadId)) (limit k : ℕ) (x : Option ThreadId) → padded holders limit ≡ seats → k < length holders
+    → padded (slice_set holders k x) limit ≡ slice_set seats k x
+padded-slice_set holders seats limit k x shown written =
+    rw (length-set holders k x)
+    (sym (set-append_left holders (replicate (limit - length holders) None) k x written) ∙ ap (λ (xs : List (Option ThreadId)). slice_set xs k x) shown)
+
+-- the lowest free seat, where it is written down next
+pub padded_push : (holders new seats : List (Option ThreadId)) (limit k : ℕ) (x : Option ThreadId) → new ≡ holders ++ x ∷ [] → padded holders limit ≡ seats
+    → IsKept holders limit → length holders ≤ k → free_seat seats ≡ Some k → padded new limit ≡ slice_set seats k x
+padded_push holders new seats limit k x longer shown was beyond free =
+    let place = free_seat-written holders limit k was.within (ap (λ (xs : List (Option ThreadId)). free_seat xs) shown ∙ free) in
+    let last : length holders ≡ k = omega (arith, place.0) in
+    let one_more : length (holders ++ x ∷ []) ≡ length holders + 1 = length-append holders (x ∷ []) in
+    let room : limit - length holders ≡ suc (limit - (length holders + 1)) = omega (arith, place.1) in
+    rw (longer, one_more, ← last)
+    (at_next holders (limit - length holders) (limit - (length holders + 1)) x room ∙ ap (λ (xs : List (Option ThreadId)). slice_set xs (length holders) x) shown)
+
+-- who has a seat has one of those that are written down
+pub seat_of-written : (holders seats : List (Option ThreadId)) (limit k : ℕ) (t : ThreadId) → padded holders limit ≡ seats → seat_of seats t ≡ Some k → k < length holders
+seat_of-written holders seats limit k t shown seat =
+    (seat_found holders t k (sym (seat_of-padded holders limit t) ∙ (ap (λ (xs : List (Option ThreadId)). seat_of xs t) shown ∙ seat))).0
+
+-- what holds of each list holds of one that shows a sound change of its seats
+still_kept : (old new : List (Option ThreadId)) (limit : ℕ) (seats : List (Option ThreadId)) → IsKept old limit → length new ≤ limit
+    → padded new limit ≡ seats → IsOneToOne seats → IsKept new limit
+still_kept old new limit seats was within shown one =
+    record {
+      within = within;
+      some = was.some;
+      few = was.few;
+      one_to_one = subst (λ (xs : List (Option ThreadId)). IsOneToOne xs) (sym shown) one;
+    }
+
+-- a seat that is given back keeps what holds of each list
+pub IsKept-given : (holders seats : List (Option ThreadId)) (limit k : ℕ) (t : ThreadId) → padded holders limit ≡ seats → IsKept holders limit
+    → seat_of seats t ≡ Some k → IsKept (slice_set holders k None) limit
+IsKept-given holders seats limit k t shown was seat =
+    still_kept holders (slice_set holders k None) limit (slice_set seats k None) was (rw (length-set holders k None) was.within)
+    (padded-slice_set holders seats limit k None shown (seat_of-written holders seats limit k t shown seat))
+    (IsOneToOne-given seats t k (subst (λ (xs : List (Option ThreadId)). IsOneToOne xs) shown was.one_to_one) seat)
+
+-- so does a seat that is taken, of those that are written down
+pub IsKept-taken : (holders seats : List (Option ThreadId)) (limit k : ℕ) (t : ThreadId) → padded holders limit ≡ seats → IsKept holders limit
+    → k < length holders → seat_of seats t ≡ None → free_seat seats ≡ Some k → IsKept (slice_set holders k (Some t)) limit
+IsKept-taken holders seats limit k t shown was written unknown free =
+    still_kept holders (slice_set holders k (Some t)) limit (slice_set seats k (Some t)) was (rw (length-set holders k (Some t)) was.within)
+    (padded-slice_set holders seats limit k (Some t) shown written)
+    (IsOneToOne-taken seats t k (subst (λ (xs : List (Option ThreadId)). IsOneToOne xs) shown was.one_to_one) unknown free)
+
+-- and the next
+pub IsKept_push : (holders new seats : List (Option ThreadId)) (limit k : ℕ) (t : ThreadId) → new ≡ holders ++ Some t ∷ [] → padded holders limit ≡ seats → IsKept holders limit
+    → length holders ≤ k → seat_of seats t ≡ None → free_seat seats ≡ Some k → IsKept new limit
+IsKept_push holders new seats limit k t longer shown was beyond unknown free =
+    let place = free_seat-written holders limit k was.within (ap (λ (xs : List (Option ThreadId)). free_seat xs) shown ∙ free) in
+    let fits : length holders + 1 ≤ limit = omega (arith, place.0, place.1) in
+    still_kept holders new limit (slice_set seats k (Some t)) was (rw (longer, length-append holders (Some t ∷ [])) fits)
+    (padded_push holders new seats limit k (Some t) longer shown was beyond free)
+    (IsOneToOne-taken seats t k (subst (λ (xs : List (Option ThreadId)). IsOneToOne xs) shown was.one_to_one) unknown free)
+
+-- the seats that are shown, after each change
+pub ruleset changes = (IsKept-given, IsKept-taken, IsKept_push, padded-slice_set, padded_push, seat_of-written)

@@ -1,0 +1,202 @@
+//! Which live thread has which index.
+//!
+//! A thin lock shows its owner by an index of 15 bits: 1 to 32,767, and 0 for nobody. A thread
+//! takes the lowest index that is free, keeps it while it lives, and gives it back. A seat is an
+//! index less one.
+#![tactic(auto)]
+
+ghost use Rattle.std.specs.Prelude.{◌≡◌, ◌↔◌, ◌-◌, ◌<◌, ◌≤◌, length, replicate, slice_set, is_ok, if◌then◌else◌, IsOk, IsSome, IfOk, IfErr, IfSome, OnErr, Some, None};
+ghost use Rattle.thread_index.specs.Indices.{seat_of, free_seat, holder_of, index_of, given_back, IsOneToOne};
+
+#[cfg(test)]
+mod tests;
+
+use lock_word::{Memory, ThreadId};
+use std::alloc::{AllocFailed, Global};
+use std::error::Error;
+use std::fmt;
+use std::marker::Model;
+
+/// Why a thread got no index.
+#[derive(Clone, Copy, PartialEq, Eq, Hash, Debug)]
+pub enum TakeFault {
+    /// The thread has an index already.
+    Known,
+    /// Each index has a thread.
+    NoIndex,
+    /// The system refused the memory to write a further index down.
+    Memory,
+}
+
+impl fmt::Display for TakeFault {
+    fn fmt<W: fmt::Write>(&self, f: &mut fmt::Formatter<W>) -> fmt::Result {
+        f.write_str(match self {
+            TakeFault::Known => "the thread has an index",
+            TakeFault::NoIndex => "every index is taken",
+            TakeFault::Memory => "out of memory",
+        })
+    }
+}
+
+impl Error for TakeFault {}
+
+impl<T: Drop> From<AllocFailed<T>> for TakeFault {
+    ghost use Rattle.thread_index.specs.declared.TakeFault.{TakeFault};
+
+    ghost from_gives = { λ _ fault. fault ≡ TakeFault.Memory };
+
+    fn from(_: AllocFailed<T>) -> Self {
+        TakeFault::Memory
+    }
+}
+
+/// The indices of the live threads.
+#[derive(Debug, Drop)]
+pub struct Indices {
+    /// Who has the seats up to the highest that was ever taken.
+    holders: Vec<Option<ThreadId>>,
+    /// How many seats there are.
+    limit: u16,
+}
+
+impl Model for Indices {
+    ghost use Rattle.std.specs.Prelude.{List, Option};
+    ghost use Rattle.lock_word.specs.declared.ThreadId.{ThreadId};
+    ghost use Rattle.thread_index.specs.Padding.{padded, IsKept};
+
+    ghost Value = { List (Option ThreadId) };
+
+    ghost view = { λ a. padded a.holders.items a.limit };
+
+    ghost invariant = { λ a. IsKept a.holders.items a.limit };
+}
+
+impl Indices {
+    /// Indices 1 to `k`, of which no thread has one. No memory is asked for until one is taken.
+    pub fn new(alloc: Global, k: u16) -> Result<Indices, Memory>
+        requires some { 1 ≤ k }
+        requires few { k ≤ 32767 }
+        ensures made { IsOk result }
+        ensures free { IfOk result (λ indices. indices ≡ replicate k None) }
+        ensures length { IfOk result (λ indices. length indices ≤ 32767) }
+    {
+        Ok(Indices {
+            holders: Vec::new(alloc),
+            limit: k,
+        })
+    }
+
+    /// Gives a thread the lowest index that is free.
+    ///
+    /// Memory is asked for only where that index is beyond all that were ever taken, and
+    /// `Err(TakeFault::Memory)` comes only where the system refused it: another call may succeed.
+    #[tactic(auto, using(crate::proofs::Seats::taken))]
+    pub fn take(&mut self, id: ThreadId) -> Result<u16, TakeFault>
+        ensures low { IfOk result (λ i. 1 ≤ i) }
+        ensures high { IfOk result (λ i. i ≤ length self.old) }
+        ensures free { IfOk result (λ i. free_seat self.old ≡ Some (i - 1)) }
+        ensures unknown { IfOk result (λ _. seat_of self.old id ≡ None) }
+        ensures taken { IfOk result (λ i. self.new ≡ slice_set self.old (i - 1) (Some id)) }
+
+        // The faults, in the order in which they are looked for.
+        ensures known { (result ≡ Err TakeFault.Known) ↔ IsSome (seat_of self.old id) }
+        ensures no_index { (result ≡ Err TakeFault.NoIndex) ↔ ((seat_of self.old id ≡ None) × (free_seat self.old ≡ None)) }
+        ensures memory { result ≡ Err TakeFault.Memory → (seat_of self.old id ≡ None) × IsSome (free_seat self.old) }
+        ensures err { OnErr result (self.new ≡ self.old) }
+
+        ensures one_to_one { IsOneToOne self.new }
+        ensures length { length self.new ≡ length self.old }
+    {
+        if self.seat_of(id).is_some() {
+            return Err(TakeFault::Known);
+        }
+        let seat = self.free_seat().ok_or(TakeFault::NoIndex)?;
+        self.put(seat, id)?;
+        Ok(seat as u16 + 1)
+    }
+
+    /// Takes a thread's index back, if it has one, and says which it was.
+    #[tactic(auto, using(crate::proofs::Paddings::changes))]
+    pub fn give(&mut self, id: ThreadId) -> Option<u16>
+        ensures index { result ≡ index_of self.old id }
+        ensures given { self.new ≡ given_back self.old (seat_of self.old id) }
+        ensures one_to_one { IsOneToOne self.new }
+        ensures length { length self.new ≡ length self.old }
+    {
+        let index = self.index_of(id)?;
+        self.holders[usize::from(index) - 1] = None;
+        Some(index)
+    }
+
+    /// The index of a thread, if it has one.
+    pub fn index_of(&self, id: ThreadId) -> Option<u16>
+        ensures index { result ≡ index_of self.now id }
+        ensures low { IfSome result (λ i. 1 ≤ i) }
+        ensures high { IfSome result (λ i. i ≤ length self.now) }
+        ensures one_to_one { IsOneToOne self.now }
+        ensures length { length self.now ≤ 32767 }
+    {
+        let seat = self.seat_of(id)?;
+        Some(seat as u16 + 1)
+    }
+
+    /// The thread that has an index. Nobody has index 0, or one beyond the last.
+    pub fn id_of(&self, index: u16) -> Option<ThreadId>
+        ensures holder { result ≡ holder_of self.now index }
+        ensures one_to_one { IsOneToOne self.now }
+        ensures length { length self.now ≤ 32767 }
+    {
+        *self.holders.get(usize::from(index.checked_sub(1)?))?
+    }
+
+    /// The seat of a thread.
+    #[tactic(auto, using(crate::proofs::Paddings::lookups))]
+    fn seat_of(&self, id: ThreadId) -> Option<usize>
+        ensures seat { result ≡ seat_of self.now id }
+        ensures within { IfSome result (λ k. k < length self.now) }
+        ensures one_to_one { IsOneToOne self.now }
+        ensures length { length self.now ≤ 32767 }
+    {
+        seat_in(&self.holders, id)
+    }
+
+    /// The lowest seat that nobody has.
+    #[tactic(auto, using(crate::proofs::Paddings::lookups))]
+    fn free_seat(&self) -> Option<usize>
+        ensures seat { result ≡ free_seat self.now }
+        ensures within { IfSome result (λ k. k < length self.now) }
+    {
+        let next = self.holders.len();
+        let unwritten = (next < usize::from(self.limit)).then_some(next);
+        free_seat_in(&self.holders).or(unwritten)
+    }
+
+    /// Puts a thread that has no seat at the lowest free one.
+    #[tactic(auto, using(crate::proofs::Paddings::changes))]
+    fn put(&mut self, seat: usize, id: ThreadId) -> Result<(), TakeFault>
+        requires unknown { seat_of self.old id ≡ None }
+        requires free { free_seat self.old ≡ Some seat }
+        ensures value { self.new ≡ (if is_ok result then slice_set self.old seat (Some id) else self.old) }
+        ensures memory { IfErr result (λ fault. fault ≡ TakeFault.Memory) }
+    {
+        match self.holders.get_mut(seat) {
+            Some(holder) => *holder = Some(id),
+            None => self.holders.push(Some(id))?,
+        }
+        Ok(())
+    }
+}
+
+/// The first place at which a thread stands.
+fn seat_in(holders: &[Option<ThreadId>], id: ThreadId) -> Option<usize>
+    ensures { result ≡ seat_of holders.now id }
+{
+    holders.iter().position(|&holder| holder == Some(id))
+}
+
+/// The first place at which nobody stands.
+fn free_seat_in(holders: &[Option<ThreadId>]) -> Option<usize>
+    ensures { result ≡ free_seat holders.now }
+{
+    holders.iter().position(Option::is_none)
+}
