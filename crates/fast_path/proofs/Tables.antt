@@ -1,13 +1,12 @@
 -- What the table tells of the lock that was loaded, by what it calls for.
-use Rattle.std.specs.Prelude.{◌≡◌, ℕ, ◌+◌, ◌-◌, ◌<◌, ◌≤◌, Bool, true, false, if◌then◌else◌, ◌==◌, nat_lt}
-use Rattle.std.proofs.Common.{ap, refl}
+use Rattle.std.specs.Prelude.{◌≡◌, ℕ, ◌+◌, ◌-◌, ◌<◌, ◌≤◌, if◌then◌else◌, ◌==◌, nat_lt}
+use Rattle.std.proofs.Common.{ap}
 use Rattle.std.proofs.lemmas.Bool.{cond_both, eqb-true, ltb-true, ltb-false}
 use Rattle.lock_word.specs.declared.Lock.{Lock}
 use Rattle.lock_word.specs.declared.Lock.TheVariants.{Free, Thin, Fat}
 use Rattle.fat_monitor.specs.declared.actions.Reply.TheVariants as reply
 use Rattle.fast_path.specs.declared.Call.{Call}
 use Rattle.fast_path.specs.declared.Call.TheVariants as call
-use Rattle.fast_path.specs.declared.Next.{Next}
 use Rattle.fast_path.specs.declared.Next.TheVariants as next
 use Rattle.fast_path.specs.Table.{next_of}
 
@@ -30,14 +29,14 @@ store_own (call.Holds o) Free l me e = absurd (cc)
 store_own (call.Enter o) (Thin i n) l me e =
     cond_both (i == me) _ _ (λ x. x ≡ next.Store l → StoresOwn me (Thin i n) l (call.Enter o))
     (λ same. cond_both (nat_lt n 255) _ _ (λ x. x ≡ next.Store l → StoresOwn me (Thin i n) l (call.Enter o))
-        (λ below (h : next.Store (Thin me (n + 1)) ≡ next.Store l). (n, ap (λ (j : ℕ). Thin j n) (eqb-true i me same), ltb-true n 255 below, cc))
-        (λ above h. absurd (cc)))
+    (λ below (h : next.Store (Thin me (n + 1)) ≡ next.Store l). (n, ap (λ (j : ℕ). Thin j n) (eqb-true i me same), ltb-true n 255 below, cc))
+    (λ above h. absurd (cc)))
     (λ ne h. absurd (cc)) e
 store_own (call.Exit o) (Thin i n) l me e =
     cond_both (i == me) _ _ (λ x. x ≡ next.Store l → StoresOwn me (Thin i n) l (call.Exit o))
     (λ same. cond_both (nat_lt 0 n) _ _ (λ x. x ≡ next.Store l → StoresOwn me (Thin i n) l (call.Exit o))
-        (λ above (h : next.Store (Thin me (n - 1)) ≡ next.Store l). (n, ap (λ (j : ℕ). Thin j n) (eqb-true i me same), rw above (cc)))
-        (λ zero (h : next.Store Free ≡ next.Store l). (n, ap (λ (j : ℕ). Thin j n) (eqb-true i me same), rw zero (cc))))
+    (λ above (h : next.Store (Thin me (n - 1)) ≡ next.Store l). (n, ap (λ (j : ℕ). Thin j n) (eqb-true i me same), rw above (cc)))
+    (λ zero (h : next.Store Free ≡ next.Store l). (n, ap (λ (j : ℕ). Thin j n) (eqb-true i me same), rw zero (cc))))
     (λ ne h. absurd (cc)) e
 store_own (call.Holds o) (Thin i n) l me e =
     cond_both (i == me) _ _ (λ x. x ≡ next.Store l → StoresOwn me (Thin i n) l (call.Holds o))
@@ -54,14 +53,14 @@ bind_own (call.Holds o) Free me e = absurd (cc)
 bind_own (call.Enter o) (Thin i n) me e =
     cond_both (i == me) _ _ (λ x. x ≡ next.Bind → Unit {0} × ((j : ℕ) × (Thin i n ≡ Thin me j) × (255 ≤ j)))
     (λ same. cond_both (nat_lt n 255) _ _ (λ x. x ≡ next.Bind → Unit {0} × ((j : ℕ) × (Thin i n ≡ Thin me j) × (255 ≤ j)))
-        (λ below (h : next.Store (Thin me (n + 1)) ≡ next.Bind). absurd (cc))
-        (λ above (h : next.Bind ≡ next.Bind). (tt, (n, ap (λ (j : ℕ). Thin j n) (eqb-true i me same), ltb-false n 255 above))))
+    (λ below (h : next.Store (Thin me (n + 1)) ≡ next.Bind). absurd (cc))
+    (λ above (h : next.Bind ≡ next.Bind). (tt, (n, ap (λ (j : ℕ). Thin j n) (eqb-true i me same), ltb-false n 255 above))))
     (λ ne (h : next.Spin ≡ next.Bind). absurd (cc)) e
 bind_own (call.Exit o) (Thin i n) me e =
     cond_both (i == me) _ _ (λ x. x ≡ next.Bind → ⊥ × ((j : ℕ) × (Thin i n ≡ Thin me j) × (255 ≤ j)))
     (λ same. cond_both (nat_lt 0 n) _ _ (λ x. x ≡ next.Bind → ⊥ × ((j : ℕ) × (Thin i n ≡ Thin me j) × (255 ≤ j)))
-        (λ above (h : next.Store (Thin me (n - 1)) ≡ next.Bind). absurd (cc))
-        (λ zero (h : next.Store Free ≡ next.Bind). absurd (cc)))
+    (λ above (h : next.Store (Thin me (n - 1)) ≡ next.Bind). absurd (cc))
+    (λ zero (h : next.Store Free ≡ next.Bind). absurd (cc)))
     (λ ne (h : next.Reply reply.IllegalMonitorState ≡ next.Bind). absurd (cc)) e
 bind_own (call.Holds o) (Thin i n) me e =
     cond_both (i == me) _ _ (λ x. x ≡ next.Bind → ⊥ × ((j : ℕ) × (Thin i n ≡ Thin me j) × (255 ≤ j)))
@@ -78,14 +77,14 @@ fat_fact (call.Holds o) Free me m e = absurd (cc)
 fat_fact (call.Enter o) (Thin i n) me m e =
     cond_both (i == me) _ _ (λ x. x ≡ next.Fat m → Thin i n ≡ Fat m)
     (λ same. cond_both (nat_lt n 255) _ _ (λ x. x ≡ next.Fat m → Thin i n ≡ Fat m)
-        (λ below (h : next.Store (Thin me (n + 1)) ≡ next.Fat m). absurd (cc))
-        (λ above (h : next.Bind ≡ next.Fat m). absurd (cc)))
+    (λ below (h : next.Store (Thin me (n + 1)) ≡ next.Fat m). absurd (cc))
+    (λ above (h : next.Bind ≡ next.Fat m). absurd (cc)))
     (λ ne (h : next.Spin ≡ next.Fat m). absurd (cc)) e
 fat_fact (call.Exit o) (Thin i n) me m e =
     cond_both (i == me) _ _ (λ x. x ≡ next.Fat m → Thin i n ≡ Fat m)
     (λ same. cond_both (nat_lt 0 n) _ _ (λ x. x ≡ next.Fat m → Thin i n ≡ Fat m)
-        (λ above (h : next.Store (Thin me (n - 1)) ≡ next.Fat m). absurd (cc))
-        (λ zero (h : next.Store Free ≡ next.Fat m). absurd (cc)))
+    (λ above (h : next.Store (Thin me (n - 1)) ≡ next.Fat m). absurd (cc))
+    (λ zero (h : next.Store Free ≡ next.Fat m). absurd (cc)))
     (λ ne (h : next.Reply reply.IllegalMonitorState ≡ next.Fat m). absurd (cc)) e
 fat_fact (call.Holds o) (Thin i n) me m e =
     cond_both (i == me) _ _ (λ x. x ≡ next.Fat m → Thin i n ≡ Fat m)

@@ -58,7 +58,10 @@ pub fn decide(call: Call, lock: Lock, me: u16) -> Next
 {
     match lock {
         Lock::Free => match call {
-            Call::Enter(_) => Next::Cas(Lock::Thin { index: me, count: 0 }),
+            Call::Enter(_) => Next::Cas(Lock::Thin {
+                index: me,
+                count: 0,
+            }),
             Call::Exit(_) => Next::Reply(Reply::IllegalMonitorState),
             Call::Holds(_) => Next::Reply(Reply::No),
         },

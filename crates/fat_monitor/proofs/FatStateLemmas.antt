@@ -2,16 +2,15 @@
 use Rattle.std.proofs.Common.{◌≡◌, ℕ, ◌<◌, ◌≤◌, length, get_or, set, arith, refl, length-set, get_or-set_same, get_or-set_other, ◌++◌, [], ◌∷◌, length-append}
 use Rattle.std.proofs.lemmas.List.{get_or_default, get_or_at, get_or_append_left}
 use Rattle.std.specs.Prelude.{◌⊎◌, List}
-use Rattle.std.proofs.Common.{inl, inr, subst, Option, Some, None, ◌↔◌}
+use Rattle.std.proofs.Common.{inl, inr, Some, None, ◌↔◌}
 use Rattle.std.proofs.lemmas.Bool.{cases_eq, cond_both, ltb-true, eqb-true, eqb-false}
-use Rattle.std.proofs.lemmas.Grind.{common_steps, elements}
 use Rattle.lock_word.specs.declared.ThreadId.{ThreadId}
 use Rattle.lock_word.specs.declared.ObjectId.{ObjectId}
 use Rattle.fat_monitor.specs.declared.monitors.Monitor.{Monitor}
 use Rattle.fat_monitor.specs.FatState.{FatState, IsSound, IsFair, with_monitor, monitor_at, bound_with, unbound, monitor_after, is_owned_by}
 use Rattle.fat_monitor.specs.declared.actions.Action.{Action}
 use Rattle.fat_monitor.specs.declared.actions.Action.TheVariants.{Enter, Exit, Holds}
-use Rattle.std.specs.Prelude.{nat_lt, is_none, if◌then◌else◌, Bool, true, false, ◌==◌, ◌+◌, ◌-◌}
+use Rattle.std.specs.Prelude.{nat_lt, is_none, if◌then◌else◌, true, false, ◌==◌, ◌+◌, ◌-◌}
 
 pub monitor_at-set_same : (f : FatState) (m : ℕ) (b : Monitor) → m < length f.monitors → monitor_at (with_monitor f m b) m ≡ b
 monitor_at-set_same f m b h = get_or-set_same f.monitors m b unbound h
@@ -34,6 +33,7 @@ IsSound-bound_with f o t n s room low high = record {
 } where
   b : Monitor
   b = record { object = o; owner = Some t; holds = n }
+
   fair_at : (k : ℕ) → k < length (f.monitors ++ b ∷ []) → (k ≡ length f.monitors) ⊎ (k ≡ length f.monitors → ⊥) → IsFair (get_or (f.monitors ++ b ∷ []) k unbound)
   fair_at k h (inl e) = rw (e, get_or_at f.monitors b [] unbound (length f.monitors) refl) (high, ((λ e. cc), (λ e. absurd (omega arith))))
   fair_at k h (inr ne) = let l : k < length f.monitors = omega (arith, length-append f.monitors (b ∷ [])) in rw (get_or_append_left f.monitors (b ∷ []) unbound k l) (s.fair k l)
@@ -54,14 +54,14 @@ IsFair-monitor_after b t (Holds m) f = f
 IsFair-monitor_after b t (Enter m) f =
     cond_both (is_none b.owner) (record b { owner = Some t; holds = 1 }) (monitor_kept b t) IsFair (λ e. (omega arith, ((λ x. cc), (λ x. absurd (omega arith)))))
     (λ e. cond_both (is_owned_by b.owner t) (if nat_lt b.holds 65535 then record b { holds = b.holds + 1 } else b) b IsFair (λ o. cond_both (nat_lt b.holds 65535) (record b { holds = b.holds + 1 }) b IsFair
-        (λ h. (omega (arith, ltb-true b.holds 65535 h), ((λ x. absurd (let y : is_none {T = ThreadId} None ≡ false = rw x at e in cc)), (λ x. absurd (omega arith)))))
-        (λ h. f)) (λ o. f))
+    (λ h. (omega (arith, ltb-true b.holds 65535 h), ((λ x. absurd (let y : is_none {T = ThreadId} None ≡ false = rw x at e in cc)), (λ x. absurd (omega arith)))))
+    (λ h. f)) (λ o. f))
 IsFair-monitor_after b t (Exit m) f =
     cond_both (is_owned_by b.owner t) (record b { owner = if b.holds == 1 then None else b.owner; holds = b.holds - 1 }) b IsFair
     (λ o. cond_both (b.holds == 1) None b.owner (λ x. (b.holds - 1 ≤ 65535) × ((x ≡ None) ↔ (b.holds - 1 ≡ 0)))
-        (λ e. let one : b.holds ≡ 1 = eqb-true b.holds 1 e in (omega arith, ((λ x. omega arith), (λ x. refl))))
-        (λ e. let most : b.holds ≤ 65535 = f.0 in let more : b.holds ≡ 1 → ⊥ = eqb-false b.holds 1 e in
-            (omega arith, ((λ x. absurd (let y : is_owned_by None t ≡ true = rw x at o in cc)), (λ x. f.1.1 (omega arith))))))
+    (λ e. let one : b.holds ≡ 1 = eqb-true b.holds 1 e in (omega arith, ((λ x. omega arith), (λ x. refl))))
+    (λ e. let most : b.holds ≤ 65535 = f.0 in let more : b.holds ≡ 1 → ⊥ = eqb-false b.holds 1 e in
+    (omega arith, ((λ x. absurd (let y : is_owned_by None t ≡ true = rw x at o in cc)), (λ x. f.1.1 (omega arith))))))
     (λ o. f)
 
 -- an action keeps the monitor's object

@@ -1,9 +1,8 @@
 -- The fat monitors and the attached threads: what they are, and what an action does.
-use Rattle.std.specs.Prelude.{◌≡◌, ℕ, ◌+◌, ◌-◌, ◌<◌, ◌≤◌, ◌↔◌, Bool, true, false, if◌then◌else◌, ◌==◌, nat_lt, List, [], ◌∷◌, ◌++◌, length, slice_index_or, slice_get, slice_set, Option, Some, None, is_none, IsSome, refl}
+use Rattle.std.specs.Prelude.{◌≡◌, ℕ, ◌+◌, ◌-◌, ◌<◌, ◌≤◌, ◌↔◌, Bool, false, if◌then◌else◌, ◌==◌, nat_lt, List, [], ◌∷◌, ◌++◌, length, slice_index_or, slice_get, slice_set, Option, Some, None, is_none, IsSome}
 use Rattle.std.specs.Option.{option_map}
 use Rattle.std.specs.Ordering.{nat_cmp}
 use Rattle.std.specs.FinMap as map
-use Rattle.std.specs.Coded.{Coded, code_by, coded×, coded_ℕ, coded_list, coded_option}
 use Rattle.lock_word.specs.declared.ThreadId.{ThreadId}
 use Rattle.lock_word.specs.declared.ObjectId.{ObjectId}
 use Rattle.fat_monitor.specs.declared.actions.Cause.{Cause}
@@ -23,7 +22,6 @@ pub record FatState : Type 0 where
   pub monitors : List Monitor
   pub threads : map.FinMap nat_cmp Post
   pub limit : ℕ
-
 
 -- no monitor is bound, no thread is attached
 abbrev pub opened : ℕ → FatState

@@ -7,7 +7,6 @@ mod actions;
 mod monitors;
 mod receipts;
 
-
 pub use actions::{ActFault, Action, Answer, Cause, Done, Post, Reply};
 pub use monitors::{AttachFault, Fats, Monitor};
 pub use receipts::Receipt;

@@ -51,7 +51,6 @@ struct Record {
     post: Post,
 }
 
-
 /// The fat monitors of a world, numbered 0, 1, 2 and so on in the order of binding, and the attached threads.
 #[derive(Drop)]
 pub struct Fats {
@@ -166,21 +165,27 @@ impl Fats {
     pub fn object(&self, monitor: u32) -> Option<ObjectId>
         ensures { result ≡ object_at self.now monitor }
     {
-        self.monitors.get(monitor as usize).map(|found| found.object)
+        self.monitors
+            .get(monitor as usize)
+            .map(|found| found.object)
     }
 
     /// The owner of a monitor; None where nobody owns it or it is not bound.
     pub fn owner(&self, monitor: u32) -> Option<ThreadId>
         ensures { result ≡ (monitor_at self.now monitor).owner }
     {
-        self.monitors.get(monitor as usize).and_then(|found| found.owner)
+        self.monitors
+            .get(monitor as usize)
+            .and_then(|found| found.owner)
     }
 
     /// How often the owner of a monitor holds it, 0 to 65,535; 0 where nobody owns it or it is not bound.
     pub fn holds(&self, monitor: u32) -> u16
         ensures { result ≡ (monitor_at self.now monitor).holds }
     {
-        self.monitors.get(monitor as usize).map_or(0, |found| found.holds)
+        self.monitors
+            .get(monitor as usize)
+            .map_or(0, |found| found.holds)
     }
 
     /// How many monitors are bound: the number of the next one.
@@ -193,7 +198,11 @@ impl Fats {
 }
 
 /// Keeps a record of a thread, where it has none and there is room.
-fn add_record(records: &mut Slab<Record>, keys: &mut HashMap<u32, usize>, thread: ThreadId) -> Result<(), AttachFault>
+fn add_record(
+    records: &mut Slab<Record>,
+    keys: &mut HashMap<u32, usize>,
+    thread: ThreadId,
+) -> Result<(), AttachFault>
     requires { LeadToRecords records.old keys.old.entries }
     ensures keyed { LeadToRecords records.new keys.new.entries }
     ensures ok { OnOk result (posts_of records.new keys.new.entries ≡ map.insert (posts_of records.old keys.old.entries) thread.0 Post.Out) }

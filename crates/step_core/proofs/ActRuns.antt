@@ -1,5 +1,5 @@
 -- Each Go that acts on a fat monitor is a run of the machine on the shown states.
-use Rattle.std.specs.Prelude.{zero, suc, ◌≡◌, ◌⊎◌, ℕ, ◌+◌, ◌-◌, ◌<◌, ◌≤◌, Bool, true, false, if◌then◌else◌, ◌==◌, List, [], ◌∷◌, length, Option, Some, None}
+use Rattle.std.specs.Prelude.{zero, suc, ◌≡◌, ◌⊎◌, ℕ, ◌+◌, ◌-◌, ◌<◌, ◌≤◌, Bool, true, false, if◌then◌else◌, ◌==◌, [], ◌∷◌, Option, Some, None}
 use Rattle.std.proofs.Common.{arith, refl, ap, sym, ◌∙◌, subst, inl, inr, get_or-set_same, get_or-set_other}
 use Rattle.std.proofs.Math.Path.{fun_ext}
 use Rattle.std.proofs.lemmas.Bool.{cases_eq, cases_lt, eq-eqb, ne_eqb, eqb-true, eqb-false, lt-ltb, le-ltb}
@@ -27,11 +27,11 @@ use Rattle.step_core.specs.declared.events.Atomic.TheVariants as atomic
 use Rattle.step_core.specs.declared.events.Did.{Did}
 use Rattle.step_core.specs.Machine.{State, Monitor, Run, free, held, with_monitor, Is, now_is, OwnedBy}
 use Rattle.step_core.specs.WorldState.{WorldState, IsSound, Stands, place_at, lock_at}
-use Rattle.step_core.specs.Going.{gone, turns, silent, replied, move_for, after_act, after_answer, action_of}
+use Rattle.step_core.specs.Going.{gone, turns, silent, replied, move_for, after_act, action_of}
 use Rattle.step_core.specs.Stepping.{given}
 use Rattle.step_core.specs.Shown.{shown, monitor_of, doing_of}
 use Rattle.step_core.proofs.Machines.{run_entered, run_exited, run_illegal, run_yes, run_no, run_refused, over}
-use Rattle.step_core.proofs.Shows.{shown_changed, shown_kept}
+use Rattle.step_core.proofs.Shows.{shown_changed}
 use Rattle.step_core.proofs.Frames.{now_is_same, stands_at, within, is_at, as_it_was}
 
 -- a call's own action names the monitor that the call has found
@@ -88,7 +88,7 @@ module _ (w : WorldState) (sound : IsSound w) (k : ℕ) (t : ThreadId) (seat : s
     replies r b answers leaving run =
         rw answers
         (subst (λ (s : State). Run (shown w) (move_for r t ∷ move.Return t r ∷ []) s)
-            (sym (shown_acted Idle (replied (atomic.Acted (action_of c m) (answer.Reply r)) t r)) ) (rw leaving run))
+        (sym (shown_acted Idle (replied (atomic.Acted (action_of c m) (answer.Reply r)) t r))) (rw leaving run))
 
     -- a state where the monitor is written as it is
     over_same : with_monitor (shown w) (object_of c) (seen found) ≡ shown w
@@ -111,7 +111,7 @@ module _ (w : WorldState) (sound : IsSound w) (k : ℕ) (t : ThreadId) (seat : s
     keeps_quiet answers leaving =
         rw answers
         (shown_acted (Begun c false) (silent (atomic.Acted (action_of c m) answer.Quiet))
-            ∙ rw leaving (ap (λ (s : State). now_is s t false (doing.Wants c)) over_same ∙ now_is_same (shown w) t (doing.Wants c) is_calling))
+        ∙ rw leaving (ap (λ (s : State). now_is s t false (doing.Wants c)) over_same ∙ now_is_same (shown w) t (doing.Wants c) is_calling))
 
   -- fat actions, call by call, by the owner that is found
   enter_run : (o : ObjectId) (m : ℕ) (p : Place) → place_at w k ≡ p → doing_of p ≡ doing.Wants (call.Enter o) → lock_at w o.0 ≡ Fat m
@@ -175,9 +175,9 @@ module _ (w : WorldState) (sound : IsSound w) (k : ℕ) (t : ThreadId) (seat : s
       (record (monitor_at w.fats m) { owner = if (monitor_at w.fats m).holds == 1 then None else (monitor_at w.fats m).owner; holds = (monitor_at w.fats m).holds - 1 })
       (rw (e, b) refl) (rw (e, b) refl)
       (subst (λ (x : Monitor). Run (shown w) (move.Unlock t ∷ move.Return t reply.Exited ∷ []) (over (shown w) t false o x))
-        (sym (rw e (exit_leaves u ((monitor_at w.fats m).holds - 1) (monitor_at w.fats m).holds number b)))
-        (run_exited (shown w) t false o ((monitor_at w.fats m).holds - 1) (is_calling (call.Exit o) m p at wants shows)
-            (rw (shows, e, ← number) (ap (λ (x : ThreadId). let y : Monitor = record { owner = Some x; count = (monitor_at w.fats m).holds } in y) (same_thread u t b)))))
+      (sym (rw e (exit_leaves u ((monitor_at w.fats m).holds - 1) (monitor_at w.fats m).holds number b)))
+      (run_exited (shown w) t false o ((monitor_at w.fats m).holds - 1) (is_calling (call.Exit o) m p at wants shows)
+      (rw (shows, e, ← number) (ap (λ (x : ThreadId). let y : Monitor = record { owner = Some x; count = (monitor_at w.fats m).holds } in y) (same_thread u t b)))))
 
   -- a Go that makes the call's own action
   pub act_run : (c : Call) (m : ℕ) (p : Place) → place_at w k ≡ p → doing_of p ≡ doing.Wants c → lock_at w (object_of c).0 ≡ Fat m

@@ -1,5 +1,5 @@
 -- What stays where a Go of one thread changes the world: shared facts about the thread at one seat.
-use Rattle.std.specs.Prelude.{◌≡◌, ◌⊎◌, ℕ, ◌+◌, ◌-◌, ◌<◌, ◌≤◌, Bool, true, false, if◌then◌else◌, ◌==◌, List, length, Option, Some, None, IsSome, slice_set, get_or, set}
+use Rattle.std.specs.Prelude.{◌≡◌, ◌⊎◌, ℕ, ◌+◌, ◌-◌, ◌<◌, ◌≤◌, false, if◌then◌else◌, ◌==◌, length, Option, Some}
 use Rattle.std.proofs.Common.{arith, refl, ap, sym, ◌∙◌, inl, inr, get_or-set_same, get_or-set_other, length-set}
 use Rattle.std.proofs.Math.Path.{fun_ext}
 use Rattle.std.proofs.lemmas.Bool.{cases_eq, cases_lt, eq-eqb, ne_eqb}
@@ -9,20 +9,19 @@ use Rattle.lock_word.specs.declared.ThreadId.{ThreadId}
 use Rattle.lock_word.specs.declared.ObjectId.{ObjectId}
 use Rattle.lock_word.specs.declared.Word.{Word}
 use Rattle.lock_word.specs.declared.Lock.{Lock}
-use Rattle.lock_word.specs.declared.Lock.TheVariants.{Free, Thin, Fat}
+use Rattle.lock_word.specs.declared.Lock.TheVariants.{Thin}
 use Rattle.lock_word.specs.Layout.{lock_of, low_of, Fits}
 use Rattle.lock_word.proofs.Words.{lock_of-word_of}
-use Rattle.thread_index.specs.Indices.{seat_of, holder_at}
+use Rattle.thread_index.specs.Indices.{seat_of}
 use Rattle.thread_index.proofs.Seats.{seat_found}
 use Rattle.step_core.specs.declared.moves.Doing.{Doing}
 use Rattle.step_core.specs.declared.places.Place.{Place}
-use Rattle.step_core.specs.declared.places.Place.TheVariants.{Idle}
 use Rattle.step_core.specs.declared.events.Did.{Did}
 use Rattle.step_core.specs.Machine.{State, Thread, Monitor, held, with_monitor, Is, now_is, OwnedBy}
 use Rattle.step_core.specs.WorldState.{WorldState, IsSound, Stands, place_at, word_at, lock_at, low_word}
-use Rattle.step_core.specs.Going.{After, gone, stays, writes, new_word}
+use Rattle.step_core.specs.Going.{gone, writes, new_word}
 use Rattle.step_core.specs.Shown.{shown, monitor_of, doing_of}
-use Rattle.step_core.proofs.Shows.{shown_changed, shown_kept}
+use Rattle.step_core.proofs.Shows.{shown_changed}
 
 -- the state is as it was where a thread is written as it is
 pub now_is_same : (s : State) (t : ThreadId) (d : Doing) → Is s t false d → now_is s t false d ≡ s
@@ -91,7 +90,7 @@ module _ (w : WorldState) (sound : IsSound w) (k : ℕ) (t : ThreadId) (seat : s
       → shown (gone w k (writes w o (new_word w o l) p d)) ≡ with_monitor (now_is (shown w) t false (doing_of p)) o m
   shown_written o l m p d h f e =
       rw (← e) (shown_changed w k t (writes w o (new_word w o l) p d) o (monitor_of w l) seat within (length-set w.words o.0 (new_word w o l))
-          (written o (new_word w o l) p d l h (lock_of-new_word w o l f)))
+      (written o (new_word w o l) p d l h (lock_of-new_word w o l f)))
 
   -- a monitor that is written as it was
   pub as_it_was : (o : ObjectId) (x : Monitor) → x ≡ monitor_of w (lock_at w o.0) → (q : ObjectId)

@@ -1,21 +1,21 @@
 -- What the code of a Go has to show.
-use Rattle.std.specs.Prelude.{◌≡◌, ℕ, ◌+◌, ◌-◌, ◌<◌, ◌≤◌, Bool, List, length, get_or, Option, Some, None, slice_set}
+use Rattle.std.specs.Prelude.{◌≡◌, ℕ, ◌+◌, ◌-◌, Bool, List, get_or, Option, Some, None, slice_set}
 use Rattle.std.specs.Option.{option_map}
 use Rattle.std.proofs.lemmas.Option.{same_Some}
 use Rattle.std.proofs.Common.{arith, refl, ap, sym, ◌∙◌, subst}
 use Rattle.std.proofs.lemmas.List.{get_or_default}
 use Rattle.lock_word.specs.declared.ThreadId.{ThreadId}
 use Rattle.thread_index.specs.Indices.{seat_of, free_seat, index_of, given_back}
-use Rattle.thread_index.proofs.Seats.{seat_found, seat_taken_same, taken_given}
+use Rattle.thread_index.proofs.Seats.{seat_taken_same, taken_given}
 use Rattle.fat_monitor.specs.FatState.{IsAttached}
 use Rattle.fast_path.specs.Table.{object_of}
 use Rattle.step_core.specs.declared.places.Place.{Place}
 use Rattle.step_core.specs.declared.places.Place.TheVariants.{Idle, Begun, Taking, Storing, Binding, Acting, Won, Bound, Inflated}
-use Rattle.step_core.specs.WorldState.{WorldState, IsSound, Fitting, place_at, lock_at}
+use Rattle.step_core.specs.WorldState.{WorldState, IsSound, Fitting, place_at}
 use Rattle.step_core.specs.Going.{After, gone, after_go}
 use Rattle.step_core.specs.Parts.{bare, IsReady}
-use Rattle.step_core.specs.Stepping.{Outcome, accepted, went, went_at}
-use Rattle.step_core.proofs.Frames.{stands_at, within, index_fits}
+use Rattle.step_core.specs.Stepping.{accepted, went, went_at}
+use Rattle.step_core.proofs.Frames.{stands_at, within}
 use Rattle.step_core.proofs.Runs.{storing}
 use Rattle.step_core.proofs.Keeps.{go_sound, store_fits, number_fits}
 

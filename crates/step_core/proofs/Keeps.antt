@@ -1,5 +1,5 @@
 -- Each Go keeps the world sound.
-use Rattle.std.specs.Prelude.{zero, suc, ◌≡◌, ◌⊎◌, ℕ, ◌+◌, ◌-◌, ◌<◌, ◌≤◌, Bool, true, false, if◌then◌else◌, ◌==◌, nat_lt, List, [], ◌∷◌, length, set, get_or, Option, Some, None, IsSome}
+use Rattle.std.specs.Prelude.{◌≡◌, ◌⊎◌, ℕ, ◌+◌, ◌-◌, ◌<◌, ◌≤◌, Bool, true, false, nat_lt, [], ◌∷◌, length, set, get_or, Option, Some, None}
 use Rattle.std.proofs.Common.{arith, refl, ap, sym, ◌∙◌, subst, inl, inr, get_or-set_same, get_or-set_other, length-set, length-append}
 use Rattle.std.proofs.lemmas.Bool.{cases_eq, cond_both, ltb-true}
 use Rattle.std.proofs.lemmas.List.{get_or_append_left, get_or_at}
@@ -9,7 +9,7 @@ use Rattle.lock_word.specs.declared.Lock.{Lock}
 use Rattle.lock_word.specs.declared.Lock.TheVariants.{Free, Thin, Fat}
 use Rattle.lock_word.specs.Layout.{Fits, IsMalformed, low_of, count_of}
 use Rattle.lock_word.proofs.Words.{formed-word_of}
-use Rattle.thread_index.specs.Indices.{seat_of, holder_at}
+use Rattle.thread_index.specs.Indices.{seat_of}
 use Rattle.thread_index.proofs.Seats.{seat_found}
 use Rattle.fat_monitor.specs.declared.monitors.Monitor as fat
 use Rattle.fat_monitor.specs.declared.actions.Answer.{Answer}
@@ -122,6 +122,7 @@ module _ (w : WorldState) (sound : IsSound w) (k : ℕ) (t : ThreadId) (seat : s
             by_object : (q ≡ o.0) ⊎ (q ≡ o.0 → ⊥) → IsMalformed (get_or (set w.words o.0 (new_word w o l)) q (low_word 0)).0 → ⊥
             by_object (inl e) = rw (e, get_or-set_same w.words o.0 (new_word w o l) (low_word 0) inside) (formed-word_of l (low_of (word_at w o.0).0) fits (omega arith))
             by_object (inr ne) = rw (get_or-set_other w.words o.0 q (new_word w o l) (low_word 0) ne) (sound.formed q)
+
         words : (q : ℕ) → Stands (gone w k (after p d)) q (lock_at (gone w k (after p d)) q)
         words q = by_object (cases_eq q o.0)
           where
@@ -192,10 +193,10 @@ module _ (w : WorldState) (sound : IsSound w) (k : ℕ) (t : ThreadId) (seat : s
     fits_changed p d j (Won q) fit = fit
     fits_changed p d j (Bound q won i) fit =
         let apart : i ≡ m → ⊥ = λ e.
-            let own : (monitor_at w.fats i).object.0 ≡ (object_of q).0 = ap (λ (x : fat.Monitor). x.object.0) fit.2.2 in
-            let one : (object_of q).0 ≡ (object_of c).0 = sym own ∙ (rw e here.1) in
-            let both : Thin (j + 1) fit.2.0 ≡ Fat m = sym fit.2.1 ∙ (rw one shows) in
-            absurd (cc) in
+        let own : (monitor_at w.fats i).object.0 ≡ (object_of q).0 = ap (λ (x : fat.Monitor). x.object.0) fit.2.2 in
+        let one : (object_of q).0 ≡ (object_of c).0 = sym own ∙ (rw e here.1) in
+        let both : Thin (j + 1) fit.2.0 ≡ Fat m = sym fit.2.1 ∙ (rw one shows) in
+        absurd (cc) in
         (fit.0, rw (length-set w.fats.monitors m leaves) fit.1, (fit.2.0, fit.2.1, rw (get_or-set_other w.fats.monitors m i leaves unbound apart) fit.2.2))
     fits_changed p d j (Inflated q i) fit = fit
 
@@ -259,9 +260,11 @@ module _ (w : WorldState) (sound : IsSound w) (k : ℕ) (t : ThreadId) (seat : s
       → IsSound (gone w k (after_bind w t c won (n + 1) refused))
   bind_sound c won n None h shows room =
       let few : n ≤ 255 = (rw shows at (stands_at w sound (object_of c).0)).2 in
-      sound_bound (object_of c) (n + 1) (omega arith) (omega arith) (room refl) (Bound c won (length w.fats.monitors)) (silent (atomic.Bound (object_of c) (length w.fats.monitors)))
-      (h, omega (arith, length-append w.fats.monitors (record { object = object_of c; owner = Some t; holds = n + 1 } ∷ [])),
-       (n, shows, rw ((seat_found w.seats t k seat).1) (get_or_at w.fats.monitors (record { object = object_of c; owner = Some t; holds = n + 1 }) [] unbound (length w.fats.monitors) refl)))
+      sound_bound (object_of c) (n + 1) (omega arith) (omega arith) (room refl) (Bound c won (length w.fats.monitors)) (silent (atomic.Bound (object_of c) (length w.fats.monitors))) (
+        h,
+        omega (arith, length-append w.fats.monitors (record { object = object_of c; owner = Some t; holds = n + 1 } ∷ [])),
+        (n, shows, rw ((seat_found w.seats t k seat).1) (get_or_at w.fats.monitors (record { object = object_of c; owner = Some t; holds = n + 1 }) [] unbound (length w.fats.monitors) refl)),
+      )
   bind_sound c true n (Some x) h shows room = sound_stays Idle (returned (atomic.NotBound (object_of c) x) t reply.Entered) tt
   bind_sound c false n (Some x) h shows room = sound_stays Idle (replied (atomic.NotBound (object_of c) x) t (reply.Refused x)) tt
 
@@ -273,9 +276,10 @@ module _ (w : WorldState) (sound : IsSound w) (k : ℕ) (t : ThreadId) (seat : s
   publish_sound c true m fit = sound_writes (object_of c) (Fat m) fit.0 (number_fits m fit.1) (rw fit.2.1 refl) Idle (returned (stored_at w (object_of c) (Fat m)) t reply.Entered)
       (fit.1, ap (λ (x : fat.Monitor). x.object.0) fit.2.2) tt
   publish_sound c false m fit = sound_writes (object_of c) (Fat m) fit.0 (number_fits m fit.1) (rw fit.2.1 refl) (Inflated c m) (silent (stored_at w (object_of c) (Fat m)))
-      (fit.1, ap (λ (x : fat.Monitor). x.object.0) fit.2.2)
-      (rw (length-set w.words (object_of c).0 (new_word w (object_of c) (Fat m))) fit.0,
-       lock_there (object_of c) (Fat m) fit.0 (number_fits m fit.1) (rw fit.2.1 refl) (Inflated c m) (silent (stored_at w (object_of c) (Fat m))))
+      (fit.1, ap (λ (x : fat.Monitor). x.object.0) fit.2.2) (
+        rw (length-set w.words (object_of c).0 (new_word w (object_of c) (Fat m))) fit.0,
+        lock_there (object_of c) (Fat m) fit.0 (number_fits m fit.1) (rw fit.2.1 refl) (Inflated c m) (silent (stored_at w (object_of c) (Fat m))),
+      )
 
   act_sound : (c : Call) (m : ℕ) → (object_of c).0 < length w.words → lock_at w (object_of c).0 ≡ Fat m → (a : Answer)
       → IsSound (gone w k (after_answer w t c m a))

@@ -8,3 +8,6 @@ pub mod Keeps
 pub mod Steps
 pub mod Opening
 pub mod Goings
+pub mod Labelings
+pub mod Refusing
+pub mod Outcomes

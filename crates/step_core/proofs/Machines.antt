@@ -1,6 +1,6 @@
 -- Runs of the machine that answer a call.
-use Rattle.std.specs.Prelude.{◌≡◌, ◌≢◌, ◌⊎◌, ◌↔◌, ℕ, ◌+◌, ◌<◌, Bool, true, false, if◌then◌else◌, ◌==◌, List, [], ◌∷◌, Option, Some, None}
-use Rattle.std.proofs.Common.{arith, refl, ap, sym, ◌∙◌, inl, inr}
+use Rattle.std.specs.Prelude.{◌≡◌, ◌⊎◌, ℕ, ◌+◌, ◌<◌, Bool, true, false, if◌then◌else◌, ◌==◌, [], ◌∷◌, Option, Some}
+use Rattle.std.proofs.Common.{arith, refl, ap}
 use Rattle.std.proofs.Math.Path.{fun_ext}
 use Rattle.lock_word.specs.declared.ThreadId.{ThreadId}
 use Rattle.lock_word.specs.declared.ObjectId.{ObjectId}
@@ -10,10 +10,10 @@ use Rattle.fat_monitor.specs.declared.actions.Reply.TheVariants as reply
 use Rattle.fast_path.specs.declared.Call.{Call}
 use Rattle.fast_path.specs.declared.Call.TheVariants as call
 use Rattle.step_core.specs.declared.moves.Doing.{Doing}
-use Rattle.step_core.specs.declared.moves.Doing.TheVariants.{Idle, Wants, Has}
+use Rattle.step_core.specs.declared.moves.Doing.TheVariants.{Idle, Has}
 use Rattle.step_core.specs.declared.moves.Move.{Move}
 use Rattle.step_core.specs.declared.moves.Move.TheVariants as move
-use Rattle.step_core.specs.Machine.{State, Thread, Monitor, Steps, Run, free, held, with_thread, with_monitor, Is, now_is, answered, OwnedBy, Unowned, Calls, MayRefuse, yes_or_no}
+use Rattle.step_core.specs.Machine.{State, Thread, Monitor, Steps, Run, free, held, with_thread, with_monitor, Is, now_is, answered, OwnedBy, Unowned, Calls, MayRefuse}
 
 if_same : {A : Type 0} (b : Bool) (x : A) → (if b then x else x) ≡ x
 if_same true x = refl
@@ -47,18 +47,28 @@ over s t flag o m = with_monitor (now_is s t flag Idle) o m
 -- one move that answers, and the return
 pub run_replied : (s : State) (t : ThreadId) (flag : Bool) (r : Reply) (m : Move)
     → Steps s m (answered s t flag r) → Run s (m ∷ move.Return t r ∷ []) (now_is s t flag Idle)
-run_replied s t flag r m step =
-    (answered s t flag r, step, (now_is s t flag Idle,
-     rw (← with_thread-with_thread s t (Some (record { flag = flag; act = Has r })) (Some (record { flag = flag; act = Idle }))) (flag, now_is-Is s t flag (Has r), refl),
-     refl))
+run_replied s t flag r m step = (
+  answered s t flag r,
+  step,
+  (
+    now_is s t flag Idle,
+    rw (← with_thread-with_thread s t (Some (record { flag = flag; act = Has r })) (Some (record { flag = flag; act = Idle }))) (flag, now_is-Is s t flag (Has r), refl),
+    refl,
+  ),
+)
 
 -- the same, where the move changes a monitor
 pub run_changed : (s : State) (t : ThreadId) (flag : Bool) (r : Reply) (m : Move) (o : ObjectId) (x : Monitor)
     → Steps s m (with_monitor (answered s t flag r) o x) → Run s (m ∷ move.Return t r ∷ []) (over s t flag o x)
-run_changed s t flag r m o x step =
-    (with_monitor (answered s t flag r) o x, step, (over s t flag o x,
-     rw (← with_thread-with_thread s t (Some (record { flag = flag; act = Has r })) (Some (record { flag = flag; act = Idle }))) (flag, now_is-Is s t flag (Has r), refl),
-     refl))
+run_changed s t flag r m o x step = (
+  with_monitor (answered s t flag r) o x,
+  step,
+  (
+    over s t flag o x,
+    rw (← with_thread-with_thread s t (Some (record { flag = flag; act = Has r })) (Some (record { flag = flag; act = Idle }))) (flag, now_is-Is s t flag (Has r), refl),
+    refl,
+  ),
+)
 
 -- a first or nested lock
 pub run_entered : (s : State) (t : ThreadId) (flag : Bool) (o : ObjectId) (n : ℕ) → Calls s t flag (call.Enter o)

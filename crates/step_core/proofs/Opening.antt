@@ -1,5 +1,5 @@
 -- The opening world is sound, and shows the opening state.
-use Rattle.std.specs.Prelude.{◌≡◌, ℕ, ◌+◌, ◌<◌, ◌≤◌, List, [], ◌∷◌, length, map, get_or, replicate, None, Some, IsSome, is_some, true, Bool}
+use Rattle.std.specs.Prelude.{◌≡◌, ℕ, ◌<◌, ◌≤◌, List, [], ◌∷◌, length, map, get_or, replicate, None, IsSome, is_some, true, Bool}
 use Rattle.std.proofs.Common.{arith, refl, sym, ap, ◌∙◌, zero, suc, subst}
 use Rattle.std.proofs.Math.Path.{fun_ext}
 use Rattle.std.proofs.lemmas.Bool.{lt-ltb}
@@ -13,13 +13,12 @@ use Rattle.thread_index.specs.Indices.{seat_of}
 use Rattle.thread_index.proofs.Seats.{seat_of-replicate, IsOneToOne-replicate}
 use Rattle.fat_monitor.specs.declared.actions.Post.{Post}
 use Rattle.fat_monitor.specs.FatState.{IsAttached}
-use Rattle.step_core.specs.declared.places.Place.{Place}
 use Rattle.step_core.specs.declared.places.Place.TheVariants.{Idle}
 use Rattle.step_core.specs.declared.events.Step.{Step}
 use Rattle.step_core.specs.Machine.{State, Run, opening}
-use Rattle.step_core.specs.WorldState.{WorldState, IsSound, opened, low_word, lock_at, Fitting}
+use Rattle.step_core.specs.WorldState.{WorldState, IsSound, opened, low_word, lock_at}
 use Rattle.step_core.specs.Stepping.{moves_after, world_after}
-use Rattle.step_core.specs.Shown.{shown, thread_of}
+use Rattle.step_core.specs.Shown.{shown}
 use Rattle.step_core.proofs.Steps.{steps_run}
 
 -- a word of a low byte alone

@@ -1,9 +1,9 @@
 -- Each Go is a run of the machine on the shown states.
-use Rattle.std.specs.Prelude.{◌≡◌, ℕ, ◌+◌, ◌<◌, ◌≤◌, Bool, true, false, List, length, Option, Some}
-use Rattle.std.proofs.Common.{arith, refl, ap, sym, ◌∙◌, subst}
+use Rattle.std.specs.Prelude.{◌≡◌, ℕ, ◌+◌, ◌<◌, ◌≤◌, Bool, true, false, length, Some}
+use Rattle.std.proofs.Common.{arith, refl, ap, sym, subst}
 use Rattle.lock_word.specs.declared.ThreadId.{ThreadId}
 use Rattle.lock_word.specs.declared.Lock.{Lock}
-use Rattle.lock_word.specs.declared.Lock.TheVariants.{Thin, Fat}
+use Rattle.lock_word.specs.declared.Lock.TheVariants.{Thin}
 use Rattle.thread_index.specs.Indices.{seat_of}
 use Rattle.fast_path.specs.declared.Call.{Call}
 use Rattle.fast_path.specs.declared.Call.TheVariants as call

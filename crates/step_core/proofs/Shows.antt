@@ -1,23 +1,18 @@
 -- What a Go changes of the shown state.
-use Rattle.std.specs.Prelude.{◌≡◌, ◌≢◌, ◌⊎◌, ◌↔◌, ℕ, ◌+◌, ◌<◌, ◌≤◌, Bool, true, false, if◌then◌else◌, ◌==◌, List, [], ◌∷◌, length, set, get_or, Option, Some, None}
-use Rattle.std.proofs.Common.{arith, refl, ap, sym, ◌∙◌, inl, inr, get_or-set_same, get_or-set_other, length-set}
+use Rattle.std.specs.Prelude.{◌≡◌, ◌⊎◌, ℕ, ◌<◌, false, if◌then◌else◌, ◌==◌, length, Option, Some, None}
+use Rattle.std.proofs.Common.{refl, sym, ◌∙◌, inl, inr, get_or-set_same, get_or-set_other}
 use Rattle.std.proofs.Math.Path.{fun_ext}
 use Rattle.std.proofs.lemmas.Bool.{cases_eq, eq-eqb, ne_eqb}
 use Rattle.std.proofs.lemmas.Option.{same_Some}
 use Rattle.lock_word.specs.declared.ThreadId.{ThreadId}
 use Rattle.lock_word.specs.declared.ObjectId.{ObjectId}
-use Rattle.lock_word.specs.declared.Word.{Word}
-use Rattle.lock_word.specs.declared.Lock.{Lock}
-use Rattle.lock_word.specs.declared.Lock.TheVariants.{Free, Thin, Fat}
-use Rattle.step_core.specs.declared.moves.Doing.{Doing}
-use Rattle.step_core.specs.declared.places.Place.{Place}
 use Rattle.step_core.specs.declared.places.Place.TheVariants.{Idle}
-use Rattle.step_core.specs.Machine.{State, Thread, Monitor, free, held, with_thread, with_monitor, Is, now_is}
-use Rattle.step_core.specs.WorldState.{WorldState, place_at, lock_at}
+use Rattle.step_core.specs.Machine.{Monitor, with_monitor, now_is}
+use Rattle.step_core.specs.WorldState.{WorldState, lock_at}
 use Rattle.thread_index.specs.Indices.{seat_of}
 use Rattle.step_core.specs.Going.{After, gone}
 use Rattle.step_core.specs.Shown.{shown, thread_of, monitor_of, doing_of}
-use Rattle.thread_index.proofs.Seats.{seat_found, seat_thread, seat_same}
+use Rattle.thread_index.proofs.Seats.{seat_thread, seat_same}
 
 -- a seat that is written shows what was written, and another seat what it showed
 thread_at_seat : (w : WorldState) (k : ℕ) (t : ThreadId) (a : After) → seat_of w.seats t ≡ Some k → k < length w.places
@@ -39,7 +34,7 @@ pub shown_changed : (w : WorldState) (k : ℕ) (t : ThreadId) (a : After) (o : O
     → shown (gone w k a) ≡ with_monitor (now_is (shown w) t false (doing_of a.place)) o m
 shown_changed w k t a o m seat within size monitors =
     let threads : (shown (gone w k a)).thread ≡ (now_is (shown w) t false (doing_of a.place)).thread =
-        fun_ext (λ u. thread_at_seat w k t a seat within u (seat_of w.seats u) refl (cases_eq u.0 t.0)) in
+    fun_ext (λ u. thread_at_seat w k t a seat within u (seat_of w.seats u) refl (cases_eq u.0 t.0)) in
     let all : (shown (gone w k a)).monitor ≡ (with_monitor (shown w) o m).monitor = fun_ext monitors in
     λ i. record { thread = threads i; objects = size i; monitor = all i; moment = 0 }
 
@@ -50,6 +45,6 @@ pub shown_kept : (w : WorldState) (k : ℕ) (t : ThreadId) (a : After)
     → shown (gone w k a) ≡ now_is (shown w) t false (doing_of a.place)
 shown_kept w k t a seat within size monitors =
     let threads : (shown (gone w k a)).thread ≡ (now_is (shown w) t false (doing_of a.place)).thread =
-        fun_ext (λ u. thread_at_seat w k t a seat within u (seat_of w.seats u) refl (cases_eq u.0 t.0)) in
+    fun_ext (λ u. thread_at_seat w k t a seat within u (seat_of w.seats u) refl (cases_eq u.0 t.0)) in
     let all : (shown (gone w k a)).monitor ≡ (shown w).monitor = fun_ext monitors in
     λ i. record { thread = threads i; objects = size i; monitor = all i; moment = 0 }

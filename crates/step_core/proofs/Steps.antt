@@ -1,19 +1,15 @@
 -- Each step is a run of the machine and keeps the world sound.
-use Rattle.std.specs.Prelude.{◌≡◌, ◌⊎◌, ℕ, ◌+◌, ◌-◌, ◌<◌, ◌≤◌, Bool, true, false, if◌then◌else◌, ◌==◌, nat_lt, List, [], ◌∷◌, ◌++◌, length, set, slice_set, get_or, Option, Some, None, IsSome, is_some, Result, Ok, Err}
-use Rattle.std.proofs.Common.{arith, refl, ap, sym, ◌∙◌, subst, inl, inr, get_or-set_same, get_or-set_other, length-set}
+use Rattle.std.specs.Prelude.{◌≡◌, ◌⊎◌, ℕ, ◌-◌, ◌<◌, Bool, true, false, if◌then◌else◌, ◌==◌, nat_lt, List, [], ◌∷◌, ◌++◌, length, set, get_or, Option, Some, None, IsSome, is_some, Result}
+use Rattle.std.proofs.Common.{arith, refl, sym, ◌∙◌, subst, inl, inr, get_or-set_same, get_or-set_other, length-set}
 use Rattle.std.proofs.Math.Path.{fun_ext}
 use Rattle.std.proofs.lemmas.Bool.{cases_eq, eq-eqb, ne_eqb, cond_both, ltb-true}
-use Rattle.std.specs.FinMap as map
 use Rattle.lock_word.specs.declared.ThreadId.{ThreadId}
-use Rattle.lock_word.specs.declared.ObjectId.{ObjectId}
 use Rattle.lock_word.specs.declared.Lock.{Lock}
 use Rattle.lock_word.specs.declared.Lock.TheVariants.{Free, Thin, Fat}
 use Rattle.thread_index.specs.Indices.{seat_of, free_seat, holder_at}
 use Rattle.thread_index.proofs.Seats.{seat_found, seat_same, free_found, seat_taken_same, seat_taken_other, IsOneToOne-taken}
-use Rattle.fat_monitor.specs.declared.actions.Post.{Post}
 use Rattle.fat_monitor.specs.declared.actions.Post.TheVariants.{Out}
-use Rattle.fat_monitor.specs.FatState.{IsAttached, with_thread, post_of}
-use Rattle.fat_monitor.specs.FatState as book
+use Rattle.fat_monitor.specs.FatState.{IsAttached}
 use Rattle.fat_monitor.proofs.Posts.{get-insert_by}
 use Rattle.fast_path.specs.declared.Call.{Call}
 use Rattle.fast_path.specs.Table.{object_of}
@@ -28,7 +24,7 @@ use Rattle.step_core.specs.declared.events.Step.TheVariants as step
 use Rattle.step_core.specs.declared.events.Did.{Did}
 use Rattle.step_core.specs.declared.events.Fault.{Fault}
 use Rattle.step_core.specs.declared.events.Fault.TheVariants as fault
-use Rattle.step_core.specs.Machine.{State, Thread, Monitor, Run, now_is, Is}
+use Rattle.step_core.specs.Machine.{State, Run, now_is}
 use Rattle.step_core.specs.WorldState.{WorldState, IsSound, Stands, Fitting, place_at, lock_at}
 use Rattle.step_core.specs.Going.{gone, stays, moved, after_go}
 use Rattle.step_core.specs.Stepping.{Outcome, refused, accepted, with_live, attached, begun, begun_at, went, went_at, step_of, moves_of, world_after, moves_after}
@@ -66,11 +62,14 @@ module _ (w : WorldState) (sound : IsSound w) (t : ThreadId) where
   went_right room (Some k) e = went_right_at room k e (place_at w k) refl
 
   begun_right_at : (c : Call) (k : ℕ) → seat_of w.seats t ≡ Some k → (object_of c).0 < length w.words → (p : Place) → place_at w k ≡ p → Right w (begun_at w k t c p)
-  begun_right_at c k seat h Idle e =
-      (sound_stays w sound k t seat (Begun c false) (moved Label (move.Call t c)) h,
-       (now_is (shown w) t false (doing.Wants c),
-        (false, is_at w sound k t seat Idle e, h, refl),
-        shown_kept w k t (stays w (Begun c false) (moved Label (move.Call t c))) seat (within w sound k t seat) refl (λ q. refl)))
+  begun_right_at c k seat h Idle e = (
+    sound_stays w sound k t seat (Begun c false) (moved Label (move.Call t c)) h,
+    (
+      now_is (shown w) t false (doing.Wants c),
+      (false, is_at w sound k t seat Idle e, h, refl),
+      shown_kept w k t (stays w (Begun c false) (moved Label (move.Call t c))) seat (within w sound k t seat) refl (λ q. refl),
+    ),
+  )
   begun_right_at c k seat h (Begun d b) e = (sound, refl)
   begun_right_at c k seat h (Taking d b) e = (sound, refl)
   begun_right_at c k seat h (Storing d l) e = (sound, refl)
@@ -206,7 +205,3 @@ attach_kept w w' t r room sound e = subst (λ (o : Outcome). IsSound o.after) (s
 pub begin_kept : (w w' : WorldState) (t : ThreadId) (c : Call) (r : Result Did Fault) → IsSound w
     → ◌≡◌ {A = Outcome} (record { answer = r; after = w' }) (begun w t c (seat_of w.seats t)) → IsSound w'
 begin_kept w w' t c r sound e = subst (λ (o : Outcome). IsSound o.after) (sym e) (step_right w sound true (step.Begin t c)).0
-
-pub step_run : (w w' : WorldState) (s : Step) (r : Result Did Fault) (room : Bool) → IsSound w
-    → ◌≡◌ {A = Outcome} (record { answer = r; after = w' }) (step_of room w s) → Run (shown w) (moves_of r) (shown w')
-step_run w w' s r room sound e = subst (λ (o : Outcome). Run (shown w) (moves_of o.answer) (shown o.after)) (sym e) (step_right w sound room s).1

@@ -1,5 +1,5 @@
 -- Each Go on a word, and each bind, is a run of the machine on the shown states.
-use Rattle.std.specs.Prelude.{zero, suc, ◌≡◌, ◌⊎◌, ℕ, ◌+◌, ◌-◌, ◌<◌, ◌≤◌, Bool, true, false, if◌then◌else◌, ◌==◌, nat_lt, List, [], ◌∷◌, length, Option, Some, None, MatchOption}
+use Rattle.std.specs.Prelude.{zero, suc, ◌≡◌, ℕ, ◌+◌, ◌-◌, ◌<◌, ◌≤◌, Bool, true, false, if◌then◌else◌, ◌==◌, nat_lt, [], ◌∷◌, length, Option, Some, None, MatchOption}
 use Rattle.std.proofs.Common.{arith, refl, ap, sym, ◌∙◌, subst, inl, inr, length-set}
 use Rattle.std.proofs.lemmas.Bool.{cond_both, eqb-true, eqb-false, ne_eqb, lt-ltb}
 use Rattle.std.proofs.lemmas.List.{get_or_append_left}
@@ -8,13 +8,12 @@ use Rattle.lock_word.specs.declared.ObjectId.{ObjectId}
 use Rattle.lock_word.specs.declared.Lock.{Lock}
 use Rattle.lock_word.specs.declared.Lock.TheVariants.{Free, Thin, Fat}
 use Rattle.lock_word.specs.Layout.{Fits, count_of}
-use Rattle.thread_index.specs.Indices.{seat_of, holder_at}
-use Rattle.thread_index.proofs.Seats.{seat_found}
+use Rattle.thread_index.specs.Indices.{seat_of}
 use Rattle.fat_monitor.specs.declared.actions.Cause.{Cause}
 use Rattle.fat_monitor.specs.declared.actions.Cause.TheVariants as cause
 use Rattle.fat_monitor.specs.declared.actions.Reply.{Reply}
 use Rattle.fat_monitor.specs.declared.actions.Reply.TheVariants as reply
-use Rattle.fat_monitor.specs.FatState.{monitor_at, bound_with, unbound}
+use Rattle.fat_monitor.specs.FatState.{bound_with, unbound}
 use Rattle.fast_path.specs.declared.Call.{Call}
 use Rattle.fast_path.specs.declared.Call.TheVariants as call
 use Rattle.fast_path.specs.declared.Next.{Next}
@@ -24,7 +23,6 @@ use Rattle.fast_path.proofs.Tables.{IsEnter, StoresOwn}
 use Rattle.step_core.specs.declared.moves.Doing.TheVariants as doing
 use Rattle.step_core.specs.declared.places.Place.{Place}
 use Rattle.step_core.specs.declared.places.Place.TheVariants.{Idle, Begun, Taking, Storing, Binding, Acting, Won, Bound, Inflated}
-use Rattle.step_core.specs.declared.moves.Move.{Move}
 use Rattle.step_core.specs.declared.moves.Move.TheVariants as move
 use Rattle.step_core.specs.declared.events.Atomic.{Atomic}
 use Rattle.step_core.specs.declared.events.Atomic.TheVariants as atomic
@@ -116,7 +114,7 @@ module _ (w : WorldState) (sound : IsSound w) (k : ℕ) (t : ThreadId) (seat : s
       subst (λ (s : State). Run (shown w) (move.Lock t ∷ move.Return t reply.Entered ∷ []) s)
       (sym (shown_written w sound k t seat o l (held t (n + 1 + 1)) Idle (replied (stored_at w o l) t reply.Entered) h (rw new (thin_fits w sound k t seat (n + 1) (omega arith))) (rw new (mine w sound k t seat (n + 1)))))
       (run_entered (shown w) t false o (n + 1) (is_at w sound k t seat (Storing (call.Enter o) l) e)
-          (inr (owned w sound k t seat o (Thin (k + 1) n) old (ap (λ (m : Monitor). m.owner) (mine w sound k t seat n)))) (rw old refl) (omega arith))
+      (inr (owned w sound k t seat o (Thin (k + 1) n) old (ap (λ (m : Monitor). m.owner) (mine w sound k t seat n)))) (rw old refl) (omega arith))
   store_run (call.Exit o) l e h (n, old, new) =
       subst (λ (s : State). Run (shown w) (move.Unlock t ∷ move.Return t reply.Exited ∷ []) s)
       (sym (shown_written w sound k t seat o l (if n == 0 then free else held t n) Idle (replied (stored_at w o l) t reply.Exited) h (rw new (less_fits n (rw old at (stands_at w sound o.0)).2)) (rw new (less n))))
@@ -129,6 +127,7 @@ module _ (w : WorldState) (sound : IsSound w) (k : ℕ) (t : ThreadId) (seat : s
           let held_still : (suc m == 0) ≡ false = ne_eqb (suc m) 0 (λ z. absurd (omega arith)) in
           let n : suc m - 1 + 1 ≡ suc m = omega arith in
           rw (above, held_still) (mine w sound k t seat (suc m - 1) ∙ ap (λ (j : ℕ). held t j) n)
+
       less_fits : (n : ℕ) → n ≤ 255 → Fits (if nat_lt 0 n then Thin (k + 1) (n - 1) else Free)
       less_fits zero b = tt
       less_fits (suc m) b = rw (lt-ltb 0 (suc m) (omega arith)) (thin_fits w sound k t seat (suc m - 1) (omega arith))
@@ -142,11 +141,13 @@ module _ (w : WorldState) (sound : IsSound w) (k : ℕ) (t : ThreadId) (seat : s
       -- the monitor holds what the word held
       same : (won : Bool) → Fitting w k (Bound c won m) → monitor_of w (Fat m) ≡ monitor_of w (lock_at w (object_of c).0)
       same won fit = let n : k + 1 - 1 ≡ k = omega arith in rw (fit.2.1, fit.2.2, n) refl
+
       kept : (won : Bool) (p : Place) (d : Did) → Fitting w k (Bound c won m)
           → shown (gone w k (writes w (object_of c) (new_word w (object_of c) (Fat m)) p d)) ≡ now_is (shown w) t false (doing_of p)
       kept won p d fit = shown_kept w k t (writes w (object_of c) (new_word w (object_of c) (Fat m)) p d) seat (within w sound k t seat) (length-set w.words (object_of c).0 (new_word w (object_of c) (Fat m)))
           (λ q. written w sound k t seat (object_of c) (new_word w (object_of c) (Fat m)) p d (Fat m) fit.0 (lock_of-new_word w (object_of c) (Fat m) few) q
-              ∙ as_it_was w sound k t seat (object_of c) (monitor_of w (Fat m)) (same won fit) q)
+          ∙ as_it_was w sound k t seat (object_of c) (monitor_of w (Fat m)) (same won fit) q)
+
       by_win : (won : Bool) → place_at w k ≡ Bound c won m → Fitting w k (Bound c won m)
           → Run (shown w) (given (after_publish w t c won m).did.moves) (shown (gone w k (after_publish w t c won m)))
       by_win true e fit = subst (λ (s : State). Run (shown w) (move.Return t reply.Entered ∷ []) s)
@@ -168,7 +169,7 @@ module _ (w : WorldState) (sound : IsSound w) (k : ℕ) (t : ThreadId) (seat : s
       → Run (shown w) (given (after_bind w t c won n refused).did.moves) (shown (gone w k (after_bind w t c won n refused)))
   bind_run c won n p None e same enter own h =
       shown_kept w k t (after_bind w t c won n None) seat (within w sound k t seat) refl
-          (λ q. after_bound (object_of c) n (Bound c won (length w.fats.monitors)) (silent (atomic.Bound (object_of c) (length w.fats.monitors))) (lock_at w q.0) q.0 (stands_at w sound q.0))
+      (λ q. after_bound (object_of c) n (Bound c won (length w.fats.monitors)) (silent (atomic.Bound (object_of c) (length w.fats.monitors))) (lock_at w q.0) q.0 (stands_at w sound q.0))
       ∙ (rw (← same) (now_is_same (shown w) t (doing_of p) (is_at w sound k t seat p e)))
   bind_run c true n p (Some x) e same enter own h =
       subst (λ (s : State). Run (shown w) (move.Return t reply.Entered ∷ []) s)

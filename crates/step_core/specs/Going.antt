@@ -27,7 +27,7 @@ use Rattle.step_core.specs.declared.moves.Move.TheVariants as move
 use Rattle.step_core.specs.declared.events.Atomic.{Atomic}
 use Rattle.step_core.specs.declared.events.Atomic.TheVariants as atomic
 use Rattle.step_core.specs.declared.events.Did.{Did}
-use Rattle.step_core.specs.WorldState.{WorldState, place_at, word_at, lock_at}
+use Rattle.step_core.specs.WorldState.{WorldState, word_at, lock_at}
 
 -- What a Go leaves: the words, the fat state and the place of its thread; and what it did.
 pub record After : Type 0 where

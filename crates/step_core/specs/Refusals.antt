@@ -1,5 +1,5 @@
 -- When a step is refused, in the words of the machine.
-use Rattle.std.specs.Prelude.{◌≡◌, ◌≢◌, ℕ, ◌<◌, ◌≤◌, length, Option, Some, None, IsSome}
+use Rattle.std.specs.Prelude.{◌≡◌, ◌≢◌, ℕ, ◌<◌, ◌≤◌, length, Some, None, IsSome}
 use Rattle.lock_word.specs.declared.ThreadId.{ThreadId}
 use Rattle.thread_index.specs.Indices.{holder_at}
 use Rattle.fast_path.specs.Table.{object_of}
@@ -8,7 +8,7 @@ use Rattle.step_core.specs.declared.events.Step.{Step}
 use Rattle.step_core.specs.declared.events.Step.TheVariants as step
 use Rattle.step_core.specs.declared.events.Fault.{Fault}
 use Rattle.step_core.specs.declared.events.Fault.TheVariants.{NoIndex, Memory, Known, NoThread, NoObject, InCall, NotCalling}
-use Rattle.step_core.specs.Machine.{State, Thread}
+use Rattle.step_core.specs.Machine.{Thread}
 use Rattle.step_core.specs.WorldState.{WorldState}
 use Rattle.step_core.specs.Shown.{shown}
 

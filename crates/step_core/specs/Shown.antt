@@ -1,7 +1,5 @@
 -- The state of the abstract machine that a world shows.
-use Rattle.std.specs.Prelude.{◌≡◌, ℕ, ◌+◌, ◌-◌, Bool, true, false, if◌then◌else◌, Option, Some, None, length}
-use Rattle.lock_word.specs.declared.ThreadId.{ThreadId}
-use Rattle.lock_word.specs.declared.ObjectId.{ObjectId}
+use Rattle.std.specs.Prelude.{ℕ, ◌+◌, ◌-◌, false, if◌then◌else◌, Option, Some, None, length}
 use Rattle.lock_word.specs.declared.Lock.{Lock}
 use Rattle.lock_word.specs.declared.Lock.TheVariants.{Free, Thin, Fat}
 use Rattle.thread_index.specs.Indices.{seat_of, holder_at}

@@ -6,7 +6,7 @@ use Rattle.fat_monitor.specs.FatState.{with_thread}
 use Rattle.fast_path.specs.declared.Call.{Call}
 use Rattle.fast_path.specs.Table.{object_of}
 use Rattle.step_core.specs.declared.places.Place.{Place}
-use Rattle.step_core.specs.declared.places.Place.TheVariants.{Idle, Begun, Taking, Storing, Binding, Acting, Won, Bound, Inflated}
+use Rattle.step_core.specs.declared.places.Place.TheVariants.{Idle, Begun}
 use Rattle.step_core.specs.declared.moves.Move.{Move}
 use Rattle.step_core.specs.declared.moves.Move.TheVariants as move
 use Rattle.step_core.specs.declared.events.Atomic.TheVariants.{Label}

@@ -1,7 +1,6 @@
 -- What a world is: header words, the threads by index, the place of each in its call, and the fat state.
-use Rattle.std.specs.Prelude.{◌≡◌, ℕ, ◌+◌, ◌-◌, ◌<◌, ◌≤◌, List, [], length, slice_index_or, Option, Some, None, IsSome, map, replicate}
+use Rattle.std.specs.Prelude.{◌≡◌, ℕ, ◌+◌, ◌-◌, ◌<◌, ◌≤◌, List, length, slice_index_or, Option, None, IsSome, map, replicate}
 use Rattle.lock_word.specs.declared.ThreadId.{ThreadId}
-use Rattle.lock_word.specs.declared.ObjectId.{ObjectId}
 use Rattle.lock_word.specs.declared.Word.{Word}
 use Rattle.lock_word.specs.declared.Lock.{Lock}
 use Rattle.lock_word.specs.declared.Lock.TheVariants.{Free, Thin, Fat}
@@ -66,7 +65,7 @@ Fitting w k (Won o) = (o.0 < length w.words) × (lock_at w o.0 ≡ Thin (k + 1) 
 Fitting w k (Bound c won m) =
     Exists w c × (m < length w.fats.monitors)
     × ((n : ℕ) × (lock_at w (object_of c).0 ≡ Thin (k + 1) n)
-        × (monitor_at w.fats m ≡ record { object = object_of c; owner = holder_at w.seats k; holds = n + 1 }))
+    × (monitor_at w.fats m ≡ record { object = object_of c; owner = holder_at w.seats k; holds = n + 1 }))
 Fitting w k (Inflated c m) = Exists w c × (lock_at w (object_of c).0 ≡ Fat m)
 
 -- what every world keeps

@@ -24,19 +24,42 @@ pub enum Atomic {
     /// Nothing: a thread was attached, or a call began.
     Label,
     /// The object's word was loaded.
-    Load { object: ObjectId, word: Word },
+    Load {
+        object: ObjectId,
+        word: Word,
+    },
     /// The free word was exchanged for the thread's own.
-    Won { object: ObjectId, old: Word, new: Word },
+    Won {
+        object: ObjectId,
+        old: Word,
+        new: Word,
+    },
     /// The word was not the free one any more, and stays.
-    Lost { object: ObjectId, word: Word },
+    Lost {
+        object: ObjectId,
+        word: Word,
+    },
     /// The thread's own thin word was overwritten.
-    Stored { object: ObjectId, old: Word, new: Word },
+    Stored {
+        object: ObjectId,
+        old: Word,
+        new: Word,
+    },
     /// A fat monitor was bound to the object.
-    Bound { object: ObjectId, monitor: u32 },
+    Bound {
+        object: ObjectId,
+        monitor: u32,
+    },
     /// None could be bound, for this cause.
-    NotBound { object: ObjectId, cause: Cause },
+    NotBound {
+        object: ObjectId,
+        cause: Cause,
+    },
     /// An action on a fat monitor was made.
-    Acted { action: Action, answer: Answer },
+    Acted {
+        action: Action,
+        answer: Answer,
+    },
 }
 
 /// What an accepted step did.

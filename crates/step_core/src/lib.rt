@@ -12,11 +12,10 @@ mod laws;
 mod moves;
 mod places;
 mod stepping;
-mod turns;
-mod worlds;
-
 #[cfg(test)]
 mod tests;
+mod turns;
+mod worlds;
 
 pub use events::{Atomic, Did, Fault, Step};
 pub use laws::every_list_of_steps_is_a_run;

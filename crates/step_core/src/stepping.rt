@@ -16,7 +16,12 @@ use lock_word::{ThreadId, Word};
 use thread_index::{Indices, TakeFault};
 
 /// Attaches a thread, which takes the lowest free index.
-pub fn attach(indices: &mut Indices, places: &mut Vec<Place>, fats: &mut Fats, thread: ThreadId) -> Result<Did, Fault>
+pub fn attach(
+    indices: &mut Indices,
+    places: &mut Vec<Place>,
+    fats: &mut Fats,
+    thread: ThreadId,
+) -> Result<Did, Fault>
     requires seated { length places.old.items ≡ length indices.old }
     requires live { IsAttached fats.old thread → IsSome (seat_of indices.old thread) }
     ensures { (words : List Word) → (room : Bool) × (record { answer = result; after = world_of words indices.new places.new.items fats.new } ≡ attached room (world_of words indices.old places.old.items fats.old) thread (seat_of indices.old thread) (free_seat indices.old)) }
@@ -40,7 +45,13 @@ pub fn attach(indices: &mut Indices, places: &mut Vec<Place>, fats: &mut Fats, t
 }
 
 /// Begins a call of a thread that is in none.
-pub fn begin(words: &[Word], indices: &Indices, places: &mut Vec<Place>, thread: ThreadId, call: Call) -> Result<Did, Fault>
+pub fn begin(
+    words: &[Word],
+    indices: &Indices,
+    places: &mut Vec<Place>,
+    thread: ThreadId,
+    call: Call,
+) -> Result<Did, Fault>
     requires { length places.old.items ≡ length indices.now }
     ensures { (fats : FatState) → record { answer = result; after = world_of words.now indices.now places.new.items fats } ≡ begun (world_of words.now indices.now places.old.items fats) thread call (seat_of indices.now thread) }
 {
@@ -54,12 +65,21 @@ pub fn begin(words: &[Word], indices: &Indices, places: &mut Vec<Place>, thread:
     let Place::Idle = places[seat] else {
         return Err(Fault::InCall);
     };
-    places[seat] = Place::Begun { call, contended: false };
+    places[seat] = Place::Begun {
+        call,
+        contended: false,
+    };
     Ok(move_on(Atomic::Label, Move::Call { thread, call }))
 }
 
 /// Does the next atomic step of a thread's call.
-pub fn go(words: &mut [Word], indices: &Indices, places: &mut [Place], fats: &mut Fats, thread: ThreadId) -> Result<Did, Fault>
+pub fn go(
+    words: &mut [Word],
+    indices: &Indices,
+    places: &mut [Place],
+    fats: &mut Fats,
+    thread: ThreadId,
+) -> Result<Did, Fault>
     requires { IsSound (world_of words.old indices.now places.old fats.old) }
     ensures sound { IsSound (world_of words.new indices.now places.new fats.new) }
     ensures exact { (room : Bool) × (record { answer = result; after = world_of words.new indices.now places.new fats.new } ≡ went room (world_of words.old indices.now places.old fats.old) thread (seat_of indices.now thread)) }

@@ -15,7 +15,13 @@ use fat_monitor::{Action, Answer, Done, Fats, Reply};
 use lock_word::{Lock, ObjectId, ThreadId, Word, decode, encode};
 
 /// One Go of the thread with index `me` from a place in its call: where it stands then, and what it did.
-pub fn go_from(words: &mut [Word], fats: &mut Fats, me: u16, thread: ThreadId, place: Place) -> (Place, Did)
+pub fn go_from(
+    words: &mut [Word],
+    fats: &mut Fats,
+    me: u16,
+    thread: ThreadId,
+    place: Place,
+) -> (Place, Did)
     requires ready { IsReady words.old fats.old place }
     requires formed { AreFormed words.old }
     requires attached { IsAttached fats.old thread }
@@ -63,7 +69,13 @@ fn load(words: &[Word], me: u16, thread: ThreadId, call: Call, contended: bool) 
 }
 
 /// Exchanges the free word for the thread's own, if it is still free.
-fn take(words: &mut [Word], me: u16, thread: ThreadId, object: ObjectId, contended: bool) -> (Place, Did)
+fn take(
+    words: &mut [Word],
+    me: u16,
+    thread: ThreadId,
+    object: ObjectId,
+    contended: bool,
+) -> (Place, Did)
     requires within { object.0 < length words.old }
     requires formed { AreFormed words.old }
     requires low { 1 ≤ me }
@@ -75,13 +87,28 @@ fn take(words: &mut [Word], me: u16, thread: ThreadId, object: ObjectId, contend
     let Lock::Free = lock_in(old) else {
         let call = Call::Enter(object);
         let atomic = Atomic::Lost { object, word: old };
-        return (Place::Begun { call, contended: true }, quietly(atomic));
+        return (
+            Place::Begun {
+                call,
+                contended: true,
+            },
+            quietly(atomic),
+        );
     };
-    let new = changed(old, Lock::Thin { index: me, count: 0 });
+    let new = changed(
+        old,
+        Lock::Thin {
+            index: me,
+            count: 0,
+        },
+    );
     words[at] = new;
     let atomic = Atomic::Won { object, old, new };
     if contended {
-        (Place::Won { object }, move_on(atomic, Move::Lock { thread }))
+        (
+            Place::Won { object },
+            move_on(atomic, Move::Lock { thread }),
+        )
     } else {
         (Place::Idle, reply_to(atomic, thread, Reply::Entered))
     }
@@ -103,7 +130,10 @@ fn store(words: &mut [Word], thread: ThreadId, call: Call, lock: Lock) -> (Place
         Call::Exit(_) => Reply::Exited,
         Call::Holds(_) => Reply::Yes,
     };
-    (Place::Idle, reply_to(Atomic::Stored { object, old, new }, thread, reply))
+    (
+        Place::Idle,
+        reply_to(Atomic::Stored { object, old, new }, thread, reply),
+    )
 }
 
 /// Binds a fat monitor to the call's object, which the thread holds this often. Where none can be had,
@@ -118,7 +148,10 @@ fn bind(fats: &mut Fats, thread: ThreadId, call: Call, won: bool, holds: u16) ->
     match fats.bind(object, thread, holds) {
         Ok(receipt) => {
             let monitor = receipt.monitor();
-            (Place::Bound { call, won, monitor }, quietly(Atomic::Bound { object, monitor }))
+            (
+                Place::Bound { call, won, monitor },
+                quietly(Atomic::Bound { object, monitor }),
+            )
         }
         Err(cause) => {
             let atomic = Atomic::NotBound { object, cause };
@@ -132,7 +165,13 @@ fn bind(fats: &mut Fats, thread: ThreadId, call: Call, won: bool, holds: u16) ->
 }
 
 /// Stores the fat word over the thread's own thin one.
-fn publish(words: &mut [Word], thread: ThreadId, call: Call, won: bool, monitor: u32) -> (Place, Did)
+fn publish(
+    words: &mut [Word],
+    thread: ThreadId,
+    call: Call,
+    won: bool,
+    monitor: u32,
+) -> (Place, Did)
     requires within { (object_of call).0 < length words.old }
     requires fits { monitor ≤ 8388607 }
     ensures { (f : FatState) → record { words = words.new; fats = f; place = result.0; did = result.1 } ≡ after_publish (bare words.old f) thread call won monitor }
@@ -242,7 +281,11 @@ fn reply_to(atomic: Atomic, thread: ThreadId, reply: Reply) -> Did
 {
     Did {
         atomic,
-        moves: [Some(move_to(reply, thread)), Some(Move::Return { thread, reply }), None],
+        moves: [
+            Some(move_to(reply, thread)),
+            Some(Move::Return { thread, reply }),
+            None,
+        ],
         reply: Some(reply),
     }
 }

@@ -1,6 +1,6 @@
 //! The world, and its steps.
 
-ghost use Rattle.std.specs.Prelude.{◌≡◌, ℕ, ◌+◌, ◌<◌, ◌≤◌, List, length, Bool, Option, IfOk, IfErr, OnErr, slice_index_or, Some, None};
+ghost use Rattle.std.specs.Prelude.{◌≡◌, ℕ, ◌+◌, ◌<◌, ◌≤◌, List, length, Bool, Option, IfOk, IfErr, OnOk, OnErr, slice_index_or, Some, None};
 ghost use Rattle.std.specs.Option.{option_map};
 ghost use Rattle.thread_index.specs.Indices.{seat_of, free_seat, index_of, holder_of};
 ghost use Rattle.step_core.specs.Machine.{Run, opening, Thread};
@@ -10,8 +10,7 @@ ghost use Rattle.step_core.specs.Shown.{shown};
 ghost use Rattle.step_core.specs.Labels.{HasLabels};
 ghost use Rattle.step_core.specs.Refusals.{IsRefused, IsAcceptable};
 
-use crate::stepping;
-use crate::{Did, Doing, Fault, Place, Step};
+use crate::{Did, Doing, Fault, Place, Step, stepping};
 use fast_path::Call;
 use fat_monitor::{Fats, Reply};
 use lock_word::{Lock, Memory, ObjectId, ThreadId, Word, decode};
@@ -76,10 +75,25 @@ impl World {
     /// The moves that it hands out lead the abstract machine from the state that the world showed to the
     /// one that it shows then. Only an Attach may be refused for want of memory; a Go that finds no
     /// memory for a fat monitor is accepted, and says so in its atomic step.
-    #[tactic(auto, using(crate::proofs::Steps::step_run))]
     pub fn step(&mut self, step: Step) -> Result<Did, Fault>
+        // The answer and the new world are those of the step relation; room is whether memory is granted.
         ensures exact { (room : Bool) × (record { answer = result; after = self.new } ≡ step_of room self.old step) }
+
+        // The moves are a run of the machine, and have the labels of the step.
         ensures run { Run (shown self.old) (moves_of result) (shown self.new) }
+        ensures labels { IfOk result (HasLabels step) }
+
+        // A fault is answered where it is the first of the step's faults whose cause holds, and only there.
+        ensures refused { IfErr result (IsRefused self.old step) }
+        ensures accepted { OnOk result (IsAcceptable self.old step) }
+        ensures unchanged { OnErr result (self.new ≡ self.old) }
+    {
+        self.advance(step)
+    }
+
+    fn advance(&mut self, step: Step) -> Result<Did, Fault>
+        ensures was { IsSound self.old }
+        ensures exact { (room : Bool) × (record { answer = result; after = self.new } ≡ step_of room self.old step) }
     {
         match step {
             Step::Attach { thread } => self.attach(thread),
@@ -108,7 +122,13 @@ impl World {
         ensures was { IsSound self.old }
         ensures exact { (room : Bool) × (record { answer = result; after = self.new } ≡ went room self.old thread (seat_of self.old.seats thread)) }
     {
-        stepping::go(&mut self.words, &self.indices, &mut self.places, &mut self.fats, thread)
+        stepping::go(
+            &mut self.words,
+            &self.indices,
+            &mut self.places,
+            &mut self.fats,
+            thread,
+        )
     }
 
     /// How many objects there are: they are numbered from 0.
@@ -171,11 +191,16 @@ impl World {
         let index = self.indices.index_of(thread)?;
         let doing = match self.places[index as usize - 1] {
             Place::Idle => Doing::Idle,
-            Place::Begun { call, .. } | Place::Storing { call, .. } | Place::Binding { call, .. } => Doing::Wants(call),
+            Place::Begun { call, .. } | Place::Storing { call, .. } | Place::Binding { call, .. } =>
+                Doing::Wants(call),
             Place::Acting { call, .. } | Place::Inflated { call, .. } => Doing::Wants(call),
             Place::Taking { object, .. } => Doing::Wants(Call::Enter(object)),
             Place::Won { .. } | Place::Bound { won: true, .. } => Doing::Has(Reply::Entered),
-            Place::Bound { call, won: false, .. } => Doing::Wants(call),
+            Place::Bound {
+                call,
+                won: false,
+                ..
+            } => Doing::Wants(call),
         };
         Some(doing)
     }

@@ -1,8 +1,6 @@
-use Rattle.std.specs.Prelude.{◌≡◌, ℕ, Option, Some, if◌then◌else◌, nat_eq}
+use Rattle.std.specs.Prelude.{◌≡◌, ℕ, Some, if◌then◌else◌, nat_eq}
 use Rattle.std.proofs.Common.{refl, sym, ◌∙◌, subst}
 use Rattle.std.specs.Map.{lookup}
-use Rattle.slab.specs.Slab.{Slab}
-use Rattle.fat_monitor.specs.Slots.{posts_of, LeadToRecords}
 use Rattle.fat_monitor.proofs.Posts.{posted, unposted, not_posted, posts_of-put}
 use Rattle.fat_monitor.proofs.monitors.add_record.Goals as goal
 
@@ -22,9 +20,9 @@ pub returns-clause-ok : goal.returns-clause-ok
 returns-clause-ok c =
     let key : c.vacant_key-key.result ≡ c.insert_reserved.result = c.vacant_key-key.ensures.value ∙ sym c.insert_reserved.ensures.key in
     let led : (q : ℕ) → lookup (nat_eq q) c.insert.new.self.entries ≡ (if nat_eq c.args.thread.0 q then Some c.insert_reserved.result else lookup (nat_eq q) c.args.keys.now.entries) =
-        subst (λ (k : ℕ). (q : ℕ) → lookup (nat_eq q) c.insert.new.self.entries ≡ (if nat_eq c.args.thread.0 q then Some k else lookup (nat_eq q) c.args.keys.now.entries)) key c.in-Ok-insert.ensures.updates.0 in
+    subst (λ (k : ℕ). (q : ℕ) → lookup (nat_eq q) c.insert.new.self.entries ≡ (if nat_eq c.args.thread.0 q then Some k else lookup (nat_eq q) c.args.keys.now.entries)) key c.in-Ok-insert.ensures.updates.0 in
     posts_of-put c.reserve.new.self c.insert_reserved.new.self c.args.keys.now.entries c.insert.new.self.entries c.args.thread.0 c.insert_reserved.result
-        (rw (c.in-Ok.ensures.rest_kept) c.requires) c.insert_reserved.ensures.was_vacant c.insert_reserved.ensures.updates led
+    (rw (c.in-Ok.ensures.rest_kept) c.requires) c.insert_reserved.ensures.was_vacant c.insert_reserved.ensures.updates led
     ∙ rw (c.in-Ok.ensures.rest_kept) refl
 
 pub returns-clause-fresh : goal.returns-clause-fresh

@@ -12,6 +12,6 @@ returns c =
     let e = c.go_from-next.ensures in
     let same = left w c.requires (c.in-Some.index - 1) c.args.thread seat e.0 _ _ refl e.1 in
     record {
-        sound = left_sound w c.requires (c.in-Some.index - 1) c.args.thread seat e.0 _ same;
-        exact = (e.0, left_answer w c.requires (c.in-Some.index - 1) c.args.thread seat e.0 _ same c.in_default-place.not-Idle);
+      sound = left_sound w c.requires (c.in-Some.index - 1) c.args.thread seat e.0 _ same;
+      exact = (e.0, left_answer w c.requires (c.in-Some.index - 1) c.args.thread seat e.0 _ same c.in_default-place.not-Idle);
     }

@@ -2,7 +2,7 @@ use Rattle.std.proofs.Common.{ap, refl, Ok, Result}
 use Rattle.fat_monitor.specs.declared.actions.ActFault.{ActFault}
 use Rattle.fat_monitor.specs.declared.actions.Answer.{Answer}
 use Rattle.fat_monitor.specs.declared.actions.Done.{Done}
-use Rattle.fat_monitor.specs.FatState.{done, answered, acted, monitor_at}
+use Rattle.fat_monitor.specs.FatState.{done}
 use Rattle.fat_monitor.proofs.FatStateLemmas.{monitor_at_read}
 use Rattle.fat_monitor.proofs.monitors.Fats.act.Goals as goal
 

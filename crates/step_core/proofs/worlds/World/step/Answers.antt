@@ -1,13 +1,21 @@
-use Rattle.std.proofs.Common.{true}
-use Rattle.step_core.specs.declared.events.Step.TheVariants.{Attach, Begin, Go}
-use Rattle.step_core.proofs.Steps.{step_run}
+use Rattle.step_core.proofs.Outcomes.{tells, if_refused, if_accepted}
 use Rattle.step_core.proofs.worlds.World.step.Goals as goal
 
-pub returns-in-Attach-clause-run : goal.returns-in-Attach-clause-run
-returns-in-Attach-clause-run c = let e = c.attach.ensures.exact in step_run c.args.self.now c.attach.new.self (Attach c.in-Attach.thread) c.attach.result e.0 c.attach.ensures.was e.1
+pub returns-clause-run : goal.returns-clause-run
+returns-clause-run c = let e = c.advance.ensures.exact in (tells c.args.self.now c.advance.new.self c.args.step c.advance.result e.0 c.advance.ensures.was e.1).run
 
-pub returns-in-Begin-clause-run : goal.returns-in-Begin-clause-run
-returns-in-Begin-clause-run c = step_run c.args.self.now c.begin.new.self (Begin c.in-Begin.thread c.in-Begin.call) c.begin.result true c.begin.ensures.was c.begin.ensures.exact
+pub returns-clause-labels : goal.returns-clause-labels
+returns-clause-labels c = let e = c.advance.ensures.exact in (tells c.args.self.now c.advance.new.self c.args.step c.advance.result e.0 c.advance.ensures.was e.1).labels
 
-pub returns-in-Go-clause-run : goal.returns-in-Go-clause-run
-returns-in-Go-clause-run c = let e = c.go.ensures.exact in step_run c.args.self.now c.go.new.self (Go c.in-Go.thread) c.go.result e.0 c.go.ensures.was e.1
+pub returns-clause-refused : goal.returns-clause-refused
+returns-clause-refused c =
+    let e = c.advance.ensures.exact in
+    if_refused c.args.self.now c.args.step c.advance.result (tells c.args.self.now c.advance.new.self c.args.step c.advance.result e.0 c.advance.ensures.was e.1).judged
+
+pub returns-clause-accepted : goal.returns-clause-accepted
+returns-clause-accepted c =
+    let e = c.advance.ensures.exact in
+    if_accepted c.args.self.now c.args.step c.advance.result (tells c.args.self.now c.advance.new.self c.args.step c.advance.result e.0 c.advance.ensures.was e.1).judged
+
+pub returns-clause-unchanged : goal.returns-clause-unchanged
+returns-clause-unchanged c = let e = c.advance.ensures.exact in (tells c.args.self.now c.advance.new.self c.args.step c.advance.result e.0 c.advance.ensures.was e.1).unchanged

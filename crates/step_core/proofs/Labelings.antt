@@ -1,0 +1,139 @@
+-- What a step did has just the labels of the step.
+use Rattle.std.specs.Prelude.{◌≡◌, ℕ, ◌+◌, Bool, true, false, nat_lt, [], ◌∷◌, length, Option, Some, None, IfOk}
+use Rattle.std.proofs.Common.{refl}
+use Rattle.std.proofs.lemmas.Bool.{cond_both}
+use Rattle.lock_word.specs.declared.ThreadId.{ThreadId}
+use Rattle.lock_word.specs.declared.ObjectId.{ObjectId}
+use Rattle.lock_word.specs.declared.Lock.{Lock}
+use Rattle.lock_word.specs.declared.Lock.TheVariants.{Free, Thin, Fat}
+use Rattle.thread_index.specs.Indices.{seat_of, free_seat}
+use Rattle.fat_monitor.specs.declared.actions.Cause.{Cause}
+use Rattle.fat_monitor.specs.declared.actions.Reply.{Reply}
+use Rattle.fat_monitor.specs.declared.actions.Reply.TheVariants as reply
+use Rattle.fat_monitor.specs.declared.actions.Answer.{Answer}
+use Rattle.fat_monitor.specs.declared.actions.Answer.TheVariants as answer
+use Rattle.fat_monitor.specs.FatState.{answered}
+use Rattle.fast_path.specs.declared.Call.{Call}
+use Rattle.fast_path.specs.declared.Call.TheVariants as call
+use Rattle.fast_path.specs.declared.Next.{Next}
+use Rattle.fast_path.specs.declared.Next.TheVariants as next
+use Rattle.fast_path.specs.Table.{object_of, next_of}
+use Rattle.step_core.specs.declared.places.Place.{Place}
+use Rattle.step_core.specs.declared.places.Place.TheVariants.{Idle, Begun, Taking, Storing, Binding, Acting, Won, Bound, Inflated}
+use Rattle.step_core.specs.declared.moves.Move.TheVariants as move
+use Rattle.step_core.specs.declared.events.Atomic.{Atomic}
+use Rattle.step_core.specs.declared.events.Did.{Did}
+use Rattle.step_core.specs.declared.events.Step.{Step}
+use Rattle.step_core.specs.declared.events.Step.TheVariants as step
+use Rattle.step_core.specs.WorldState.{WorldState, place_at, lock_at}
+use Rattle.step_core.specs.Going.{replied, move_for, after_load, after_take, after_bind, after_publish, after_answer, after_go, action_of, bind_cause}
+use Rattle.step_core.specs.Stepping.{Outcome, attached, begun, begun_at, refused, went, went_at, step_of, given}
+use Rattle.step_core.specs.Labels.{labels_of, EndsWith, HasLabels}
+use Rattle.step_core.specs.declared.events.Fault.TheVariants as fault
+
+-- a Go of t has the labels of its reply
+abbrev Ends : ThreadId → Did → Type 0
+Ends t d = EndsWith t (given d.moves) d.reply
+
+-- the move by which a call gets its reply is no label
+no_label : (t : ThreadId) (r : Reply) → labels_of (move_for r t ∷ []) ≡ []
+no_label t reply.Entered = refl
+no_label t reply.Exited = refl
+no_label t reply.Yes = refl
+no_label t reply.No = refl
+no_label t reply.IllegalMonitorState = refl
+no_label t (reply.Refused c) = refl
+
+replied_ends : (a : Atomic) (t : ThreadId) (r : Reply) → Ends t (replied a t r)
+replied_ends a t r = (move_for r t ∷ [], refl, no_label t r)
+
+loads : (w : WorldState) (t : ThreadId) (c : Call) (b : Bool) (n : Next) → Ends t (after_load w t c b n).did
+loads w t c b (next.Reply r) = (move_for r t ∷ [], refl, no_label t r)
+loads w t c b (next.Cas l) = refl
+loads w t c b (next.Store l) = refl
+loads w t c b next.Bind = refl
+loads w t c b (next.Fat m) = refl
+loads w t c b next.Spin = refl
+
+takes : (w : WorldState) (k : ℕ) (t : ThreadId) (o : ObjectId) (b : Bool) (l : Lock) → Ends t (after_take w k t o b l).did
+takes w k t o true Free = refl
+takes w k t o false Free = (move.Lock t ∷ [], refl, refl)
+takes w k t o b (Thin i c) = refl
+takes w k t o b (Fat m) = refl
+
+binds : (w : WorldState) (t : ThreadId) (c : Call) (won : Bool) (n : ℕ) (refusal : Option Cause) → Ends t (after_bind w t c won n refusal).did
+binds w t c won n None = refl
+binds w t c true n (Some x) = ([], refl, refl)
+binds w t c false n (Some x) = (move.Refuse t x ∷ [], refl, refl)
+
+publishes : (w : WorldState) (t : ThreadId) (c : Call) (won : Bool) (m : ℕ) → Ends t (after_publish w t c won m).did
+publishes w t c true m = ([], refl, refl)
+publishes w t c false m = refl
+
+acts : (w : WorldState) (t : ThreadId) (c : Call) (m : ℕ) (a : Answer) → Ends t (after_answer w t c m a).did
+acts w t c m (answer.Reply r) = (move_for r t ∷ [], refl, no_label t r)
+acts w t c m answer.Quiet = refl
+
+stores : (w : WorldState) (t : ThreadId) (c : Call) (l : Lock) → Ends t (after_go true w 0 t (Storing c l)).did
+stores w t (call.Enter o) l = (move.Lock t ∷ [], refl, refl)
+stores w t (call.Exit o) l = (move.Unlock t ∷ [], refl, refl)
+stores w t (call.Holds o) l = (move.Ask t ∷ [], refl, refl)
+
+goes : (room : Bool) (w : WorldState) (k : ℕ) (t : ThreadId) (p : Place) → Ends t (after_go room w k t p).did
+goes room w k t Idle = refl
+goes room w k t (Begun c b) = loads w t c b (next_of c (lock_at w (object_of c).0) (k + 1))
+goes room w k t (Taking o b) = takes w k t o b (lock_at w o.0)
+goes room w k t (Storing c l) = stores w t c l
+goes room w k t (Binding c n) = binds w t c false (n + 1) (bind_cause room w.fats)
+goes room w k t (Acting c m) = acts w t c m (answered w.fats t (action_of c m))
+goes room w k t (Won o) = binds w t (call.Enter o) true 1 (bind_cause room w.fats)
+goes room w k t (Bound c won m) = publishes w t c won m
+goes room w k t (Inflated c m) = acts w t c m (answered w.fats t (action_of c m))
+
+-- an accepted step has its labels
+abbrev Labeled : Step → Outcome → Type 0
+Labeled s o = IfOk o.answer (HasLabels s)
+
+attaches : (room : Bool) (w : WorldState) (t : ThreadId) (o f : Option ℕ) → Labeled (step.Attach t) (attached room w t o f)
+attaches room w t (Some k) f = tt
+attaches room w t None None = tt
+attaches true w t None (Some k) = (refl, refl)
+attaches false w t None (Some k) = tt
+
+begins_at : (w : WorldState) (k : ℕ) (t : ThreadId) (c : Call) (p : Place) → Labeled (step.Begin t c) (begun_at w k t c p)
+begins_at w k t c Idle = (refl, refl)
+begins_at w k t c (Begun d b) = tt
+begins_at w k t c (Taking d b) = tt
+begins_at w k t c (Storing d l) = tt
+begins_at w k t c (Binding d n) = tt
+begins_at w k t c (Acting d m) = tt
+begins_at w k t c (Won o) = tt
+begins_at w k t c (Bound d won m) = tt
+begins_at w k t c (Inflated d m) = tt
+
+begins : (w : WorldState) (t : ThreadId) (c : Call) (o : Option ℕ) → Labeled (step.Begin t c) (begun w t c o)
+begins w t c None = tt
+begins w t c (Some k) =
+    cond_both (nat_lt (object_of c).0 (length w.words)) (begun_at w k t c (place_at w k)) (refused w fault.NoObject) (Labeled (step.Begin t c))
+    (λ _. begins_at w k t c (place_at w k)) (λ _. tt)
+
+wents_at : (room : Bool) (w : WorldState) (k : ℕ) (t : ThreadId) (p : Place) → Labeled (step.Go t) (went_at room w k t p)
+wents_at room w k t Idle = tt
+wents_at room w k t (Begun c b) = goes room w k t (Begun c b)
+wents_at room w k t (Taking o b) = goes room w k t (Taking o b)
+wents_at room w k t (Storing c l) = goes room w k t (Storing c l)
+wents_at room w k t (Binding c n) = goes room w k t (Binding c n)
+wents_at room w k t (Acting c m) = goes room w k t (Acting c m)
+wents_at room w k t (Won o) = goes room w k t (Won o)
+wents_at room w k t (Bound c won m) = goes room w k t (Bound c won m)
+wents_at room w k t (Inflated c m) = goes room w k t (Inflated c m)
+
+wents : (room : Bool) (w : WorldState) (t : ThreadId) (o : Option ℕ) → Labeled (step.Go t) (went room w t o)
+wents room w t None = tt
+wents room w t (Some k) = wents_at room w k t (place_at w k)
+
+-- An accepted step has just its labels.
+pub step_labels : (room : Bool) (w : WorldState) (s : Step) → IfOk (step_of room w s).answer (HasLabels s)
+step_labels room w (step.Attach t) = attaches room w t (seat_of w.seats t) (free_seat w.seats)
+step_labels room w (step.Begin t c) = begins w t c (seat_of w.seats t)
+step_labels room w (step.Go t) = wents room w t (seat_of w.seats t)

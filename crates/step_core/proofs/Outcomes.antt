@@ -1,0 +1,42 @@
+-- What the answer of a step tells, and the world that it leaves.
+use Rattle.std.specs.Prelude.{◌≡◌, Bool, IfOk, IfErr, OnOk, OnErr, MatchResult, Result, Ok, Err}
+use Rattle.std.proofs.Common.{sym, subst}
+use Rattle.step_core.specs.declared.events.Did.{Did}
+use Rattle.step_core.specs.declared.events.Fault.{Fault}
+use Rattle.step_core.specs.declared.events.Step.{Step}
+use Rattle.step_core.specs.Machine.{Run}
+use Rattle.step_core.specs.WorldState.{WorldState, IsSound}
+use Rattle.step_core.specs.Stepping.{Outcome, step_of, moves_of}
+use Rattle.step_core.specs.Shown.{shown}
+use Rattle.step_core.specs.Labels.{HasLabels}
+use Rattle.step_core.specs.Refusals.{IsRefused, IsAcceptable}
+use Rattle.step_core.proofs.Steps.{step_right}
+use Rattle.step_core.proofs.Labelings.{step_labels}
+use Rattle.step_core.proofs.Refusing.{step_judged}
+
+pub record Tells (w : WorldState) (s : Step) (o : Outcome) : Type 0 where
+  pub sound : IsSound o.after
+  pub run : Run (shown w) (moves_of o.answer) (shown o.after)
+  pub labels : IfOk o.answer (HasLabels s)
+  pub judged : MatchResult o.answer (λ d. IsAcceptable w s) (λ f. IsRefused w s f)
+  pub unchanged : OnErr o.answer (o.after ≡ w)
+
+step_tells : (w : WorldState) → IsSound w → (room : Bool) (s : Step) → Tells w s (step_of room w s)
+step_tells w sound room s =
+    let right = step_right w sound room s in
+    let judged = step_judged room w s in
+    record { sound = right.0; run = right.1; labels = step_labels room w s; judged = judged.0; unchanged = judged.1 }
+
+-- what a step of the code answers and leaves
+pub tells : (w w' : WorldState) (s : Step) (r : Result Did Fault) (room : Bool) → IsSound w
+    → ◌≡◌ {A = Outcome} (record { answer = r; after = w' }) (step_of room w s) → Tells w s (record { answer = r; after = w' })
+tells w w' s r room sound e = subst (Tells w s) (sym e) (step_tells w sound room s)
+
+-- the two sides of a judgement
+pub if_refused : (w : WorldState) (s : Step) (r : Result Did Fault) → MatchResult r (λ d. IsAcceptable w s) (λ f. IsRefused w s f) → IfErr r (IsRefused w s)
+if_refused w s (Ok d) h = tt
+if_refused w s (Err f) h = h
+
+pub if_accepted : (w : WorldState) (s : Step) (r : Result Did Fault) → MatchResult r (λ d. IsAcceptable w s) (λ f. IsRefused w s f) → OnOk r (IsAcceptable w s)
+if_accepted w s (Ok d) h = h
+if_accepted w s (Err f) h = tt

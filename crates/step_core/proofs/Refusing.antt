@@ -1,0 +1,152 @@
+-- A step is refused with the first of its faults whose cause holds, and only then; and a refused step changes nothing.
+use Rattle.std.specs.Prelude.{zero, suc, ◌≡◌, ℕ, ◌+◌, ◌<◌, ◌≤◌, Bool, true, false, nat_lt, List, [], ◌∷◌, length, Option, Some, None, IsSome, is_some, is_none, MatchResult, OnErr}
+use Rattle.std.specs.List.{position_from}
+use Rattle.std.proofs.Common.{refl, arith, sym, ◌∙◌, ap}
+use Rattle.std.proofs.lemmas.Bool.{cond_both, ltb-true, ltb-false}
+use Rattle.std.proofs.lemmas.Option.{same_Some}
+use Rattle.lock_word.specs.declared.ThreadId.{ThreadId}
+use Rattle.thread_index.specs.Indices.{seat_of, free_seat, holder_at}
+use Rattle.thread_index.proofs.Seats.{free_found}
+use Rattle.fast_path.specs.declared.Call.{Call}
+use Rattle.fast_path.specs.Table.{object_of}
+use Rattle.step_core.specs.declared.moves.Doing.TheVariants as doing
+use Rattle.step_core.specs.declared.places.Place.{Place}
+use Rattle.step_core.specs.declared.places.Place.TheVariants.{Idle, Begun, Taking, Storing, Binding, Acting, Won, Bound, Inflated}
+use Rattle.step_core.specs.declared.events.Step.{Step}
+use Rattle.step_core.specs.declared.events.Step.TheVariants as step
+use Rattle.step_core.specs.declared.events.Fault.{Fault}
+use Rattle.step_core.specs.declared.events.Fault.TheVariants.{NoIndex, Memory, Known, NoThread, NoObject, InCall, NotCalling}
+use Rattle.step_core.specs.Machine.{Thread}
+use Rattle.step_core.specs.WorldState.{WorldState, place_at}
+use Rattle.step_core.specs.Stepping.{Outcome, attached, begun, begun_at, refused, went, went_at, step_of}
+use Rattle.step_core.specs.Shown.{shown, doing_of}
+use Rattle.step_core.specs.Refusals.{IsLive, IsNotLive, IsBusy, IsIdle, IsRefused, IsAcceptable}
+
+-- what the answer of a step says, and what a refused step leaves
+abbrev Judged : WorldState → Step → Outcome → Type 0
+Judged w s o = MatchResult o.answer (λ d. IsAcceptable w s) (λ f. IsRefused w s f) × OnErr o.answer (o.after ≡ w)
+
+-- where no seat is free, each has a thread
+full_by_test : (i : ℕ) (x : Option ThreadId) (xs : List (Option ThreadId)) (b : Bool) → is_none x ≡ b
+    → (position_from is_none (i + 1) xs ≡ None → (k : ℕ) → k < length xs → IsSome (holder_at xs k))
+    → position_from is_none i (x ∷ xs) ≡ None → (k : ℕ) → k < length (x ∷ xs) → IsSome (holder_at (x ∷ xs) k)
+full_by_test i x xs true b rest e k h = let never : Some i ≡ None = rw b at e in absurd (cc)
+full_by_test i None xs false b rest e zero h = absurd (cc)
+full_by_test i (Some t) xs false b rest e zero h = refl
+full_by_test i x xs false b rest e (suc k) h = rest (rw b at e) k (omega arith)
+
+full_from : (i : ℕ) (seats : List (Option ThreadId)) → position_from is_none i seats ≡ None → (k : ℕ) → k < length seats → IsSome (holder_at seats k)
+full_from i [] e k h = absurd (omega arith)
+full_from i (x ∷ xs) e k h = full_by_test i x xs (is_none x) refl (full_from (i + 1) xs) e k h
+
+-- a thread in a call is not idle
+not_idle : (p : Place) → (p ≡ Idle → ⊥) → doing_of p ≡ doing.Idle → ⊥
+not_idle Idle busy e = busy refl
+not_idle (Begun c b) busy e = cc
+not_idle (Taking o b) busy e = cc
+not_idle (Storing c l) busy e = cc
+not_idle (Binding c n) busy e = cc
+not_idle (Acting c m) busy e = cc
+not_idle (Won o) busy e = cc
+not_idle (Bound c true m) busy e = cc
+not_idle (Bound c false m) busy e = cc
+not_idle (Inflated c m) busy e = cc
+
+module _ (w : WorldState) (t : ThreadId) where
+  live : (k : ℕ) → seat_of w.seats t ≡ Some k → IsLive w t
+  live k e = rw e refl
+
+  not_live : seat_of w.seats t ≡ None → IsNotLive w t
+  not_live e = rw e refl
+
+  -- the two exclude each other
+  apart : seat_of w.seats t ≡ None → IsLive w t → ⊥
+  apart e h = let never : is_some {T = Thread} None ≡ true = rw e at h in absurd (cc)
+
+  apart_too : (k : ℕ) → seat_of w.seats t ≡ Some k → IsNotLive w t → ⊥
+  apart_too k e h = let never : ◌≡◌ {A = Option Thread} (Some (record { flag = false; act = doing_of (place_at w k) })) None = rw e at h in absurd (cc)
+
+  act_of : (k : ℕ) → seat_of w.seats t ≡ Some k → (x : Thread) → (shown w).thread t ≡ Some x → doing_of (place_at w k) ≡ x.act
+  act_of k e x h = ap (λ (y : Thread). y.act) (same_Some (record { flag = false; act = doing_of (place_at w k) }) x (rw e at h))
+
+  busy : (k : ℕ) → seat_of w.seats t ≡ Some k → (place_at w k ≡ Idle → ⊥) → IsBusy w t
+  busy k e h = (record { flag = false; act = doing_of (place_at w k) }, rw e refl, not_idle (place_at w k) h)
+
+  idle : (k : ℕ) → seat_of w.seats t ≡ Some k → place_at w k ≡ Idle → IsIdle w t
+  idle k e h = (record { flag = false; act = doing_of (place_at w k) }, rw e refl, rw h refl)
+
+  attaches : (room : Bool) (o f : Option ℕ) → seat_of w.seats t ≡ o → free_seat w.seats ≡ f → Judged w (step.Attach t) (attached room w t o f)
+  attaches room (Some k) f e free = (live k e, refl)
+  attaches room None None e free = ((not_live e, full_from 0 w.seats free), refl)
+  attaches true None (Some k) e free = (accepted_only, tt)
+    where
+      accepted_only : (f : Fault) → IsRefused w (step.Attach t) f → f ≡ Memory
+      accepted_only Known h = absurd (apart e h)
+      accepted_only NoIndex h =
+          let there = free_found w.seats k free in
+          let never : is_some {T = ThreadId} None ≡ true = rw there.1 at (h.1 k there.0) in absurd (cc)
+      accepted_only Memory h = refl
+      accepted_only NoThread h = absurd h
+      accepted_only NoObject h = absurd h
+      accepted_only InCall h = absurd h
+      accepted_only NotCalling h = absurd h
+  attaches false None (Some k) e free = let there = free_found w.seats k free in ((not_live e, (k, there.0, there.1)), refl)
+
+  begins_at : (c : Call) (k : ℕ) → seat_of w.seats t ≡ Some k → (object_of c).0 < length w.words → (p : Place) → place_at w k ≡ p
+      → Judged w (step.Begin t c) (begun_at w k t c p)
+  begins_at c k e h Idle at = (accepted_only, tt)
+    where
+      accepted_only : (f : Fault) → IsRefused w (step.Begin t c) f → f ≡ Memory
+      accepted_only NoThread r = absurd (apart_too k e r)
+      accepted_only NoObject r = let past : length w.words ≤ (object_of c).0 = r.1 in absurd (omega arith)
+      accepted_only InCall r = let x = r.0 in absurd (x.2 (sym (act_of k e x.0 x.1) ∙ rw at refl))
+      accepted_only Known r = absurd r
+      accepted_only NoIndex r = absurd r
+      accepted_only Memory r = refl
+      accepted_only NotCalling r = absurd r
+  begins_at c k e h (Begun d b) at = ((busy k e (λ i. let x = sym at ∙ i in cc), h), refl)
+  begins_at c k e h (Taking d b) at = ((busy k e (λ i. let x = sym at ∙ i in cc), h), refl)
+  begins_at c k e h (Storing d l) at = ((busy k e (λ i. let x = sym at ∙ i in cc), h), refl)
+  begins_at c k e h (Binding d n) at = ((busy k e (λ i. let x = sym at ∙ i in cc), h), refl)
+  begins_at c k e h (Acting d m) at = ((busy k e (λ i. let x = sym at ∙ i in cc), h), refl)
+  begins_at c k e h (Won o) at = ((busy k e (λ i. let x = sym at ∙ i in cc), h), refl)
+  begins_at c k e h (Bound d won m) at = ((busy k e (λ i. let x = sym at ∙ i in cc), h), refl)
+  begins_at c k e h (Inflated d m) at = ((busy k e (λ i. let x = sym at ∙ i in cc), h), refl)
+
+  begins : (c : Call) (o : Option ℕ) → seat_of w.seats t ≡ o → Judged w (step.Begin t c) (begun w t c o)
+  begins c None e = (not_live e, refl)
+  begins c (Some k) e =
+      cond_both (nat_lt (object_of c).0 (length w.words)) (begun_at w k t c (place_at w k)) (refused w NoObject) (Judged w (step.Begin t c))
+      (λ h. begins_at c k e (ltb-true (object_of c).0 (length w.words) h) (place_at w k) refl)
+      (λ h. ((live k e, ltb-false (object_of c).0 (length w.words) h), refl))
+
+  -- a Go of a thread in a call is accepted
+  goes : (k : ℕ) → seat_of w.seats t ≡ Some k → (place_at w k ≡ Idle → ⊥) → (f : Fault) → IsRefused w (step.Go t) f → f ≡ Memory
+  goes k e h NoThread r = absurd (apart_too k e r)
+  goes k e h NotCalling r = absurd (not_idle (place_at w k) h (act_of k e r.0 r.1 ∙ r.2))
+  goes k e h Known r = absurd r
+  goes k e h NoIndex r = absurd r
+  goes k e h Memory r = refl
+  goes k e h NoObject r = absurd r
+  goes k e h InCall r = absurd r
+
+  wents_at : (room : Bool) (k : ℕ) → seat_of w.seats t ≡ Some k → (p : Place) → place_at w k ≡ p → Judged w (step.Go t) (went_at room w k t p)
+  wents_at room k e Idle at = (idle k e at, refl)
+  wents_at room k e (Begun d b) at = (goes k e (λ i. let x = sym at ∙ i in cc), tt)
+  wents_at room k e (Taking d b) at = (goes k e (λ i. let x = sym at ∙ i in cc), tt)
+  wents_at room k e (Storing d l) at = (goes k e (λ i. let x = sym at ∙ i in cc), tt)
+  wents_at room k e (Binding d n) at = (goes k e (λ i. let x = sym at ∙ i in cc), tt)
+  wents_at room k e (Acting d m) at = (goes k e (λ i. let x = sym at ∙ i in cc), tt)
+  wents_at room k e (Won o) at = (goes k e (λ i. let x = sym at ∙ i in cc), tt)
+  wents_at room k e (Bound d won m) at = (goes k e (λ i. let x = sym at ∙ i in cc), tt)
+  wents_at room k e (Inflated d m) at = (goes k e (λ i. let x = sym at ∙ i in cc), tt)
+
+  wents : (room : Bool) (o : Option ℕ) → seat_of w.seats t ≡ o → Judged w (step.Go t) (went room w t o)
+  wents room None e = (not_live e, refl)
+  wents room (Some k) e = wents_at room k e (place_at w k) refl
+
+-- Each answer is the right one, and a refused step changes nothing.
+pub step_judged : (room : Bool) (w : WorldState) (s : Step) → MatchResult (step_of room w s).answer (λ d. IsAcceptable w s) (λ f. IsRefused w s f) × OnErr (step_of room w s).answer ((step_of room w s).after ≡ w)
+step_judged room w (step.Attach t) = attaches w t room (seat_of w.seats t) (free_seat w.seats) refl refl
+step_judged room w (step.Begin t c) = begins w t c (seat_of w.seats t) refl
+step_judged room w (step.Go t) = wents w t room (seat_of w.seats t) refl
