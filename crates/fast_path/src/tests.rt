@@ -1,0 +1,37 @@
+use crate::{Call, Next, decide};
+use fat_monitor::Reply;
+use lock_word::{Lock, ObjectId};
+
+const ENTER: Call = Call::Enter(ObjectId(3));
+
+const EXIT: Call = Call::Exit(ObjectId(3));
+
+const HOLDS: Call = Call::Holds(ObjectId(3));
+
+#[test]
+fn a_loaded_lock_calls_for_this(rt: HostRuntime) {
+    let thin = |index, count| Lock::Thin { index, count };
+    let fat = Lock::Fat { monitor: 9 };
+    let rows = [
+        (ENTER, Lock::Free, Next::Cas(thin(2, 0))),
+        (ENTER, thin(2, 0), Next::Store(thin(2, 1))),
+        (ENTER, thin(2, 254), Next::Store(thin(2, 255))),
+        (ENTER, thin(2, 255), Next::Bind),
+        (ENTER, thin(1, 0), Next::Spin),
+        (ENTER, fat, Next::Fat(9)),
+        (EXIT, Lock::Free, Next::Reply(Reply::IllegalMonitorState)),
+        (EXIT, thin(2, 1), Next::Store(thin(2, 0))),
+        (EXIT, thin(2, 0), Next::Store(Lock::Free)),
+        (EXIT, thin(3, 0), Next::Reply(Reply::IllegalMonitorState)),
+        (EXIT, fat, Next::Fat(9)),
+        (HOLDS, Lock::Free, Next::Reply(Reply::No)),
+        (HOLDS, thin(2, 7), Next::Reply(Reply::Yes)),
+        (HOLDS, thin(1, 7), Next::Reply(Reply::No)),
+        (HOLDS, fat, Next::Fat(9)),
+    ];
+    for (call, lock, next) in rows {
+        assert_eq!(rt; decide(call, lock, 2), next, "{call:?} {lock:?}");
+    }
+    assert_eq!(rt; ENTER.object(), ObjectId(3));
+    assert_eq!(rt; HOLDS.object(), ObjectId(3));
+}

@@ -1,5 +1,5 @@
 -- The posts that slots and keys show.
-use Rattle.std.specs.Prelude.{◌≡◌, ◌⊎◌, ℕ, ◌==◌, List, [], ◌∷◌, Option, Some, None, nat_eq, map as list_map, Bool, true, false, if◌then◌else◌, IsSome, is_some}
+use Rattle.std.specs.Prelude.{◌≡◌, ◌⊎◌, ℕ, ◌==◌, List, [], ◌∷◌, Option, Some, None, nat_eq, map as list_map, Bool, true, false, if◌then◌else◌, IsSome, is_some, OnOk, Result, Ok, Err}
 use Rattle.std.proofs.Common.{refl, ap, sym, ◌∙◌, inl, inr}
 use Rattle.std.proofs.lemmas.Option.{same_Some}
 use Rattle.std.specs.Map.{lookup}
@@ -14,6 +14,8 @@ use Rattle.slab.specs.Slab.{Slab, get, Updates}
 use Rattle.fat_monitor.specs.declared.actions.Post.{Post}
 use Rattle.fat_monitor.specs.declared.actions.Post.TheVariants.{Out}
 use Rattle.fat_monitor.specs.declared.monitors.Record.{Record}
+use Rattle.lock_word.specs.declared.ThreadId.{ThreadId}
+use Rattle.fat_monitor.specs.FatState.{FatState, with_thread, IsAttached}
 use Rattle.fat_monitor.specs.Slots.{post_in, posts_of, LeadToRecords}
 
 found_by_test : {X Y : Type 0} (f : X → Y) (b : Bool) (v : X) (l : Option X) (r : Option Y) → r ≡ option_map f l
@@ -87,3 +89,18 @@ unposted records keys q h = rw (get-posts_of records keys q) (by_key (lookup (na
 
 pub not_posted : (records : Slab Record) (keys : List (ℕ × ℕ)) (q : ℕ) → is_some (lookup (nat_eq q) keys) ≡ false → IsSome (map.get (posts_of records keys) q) → ⊥
 not_posted records keys q h some = let n : is_some {T = Post} None ≡ true = rw (unposted records keys q h) at some in absurd (cc)
+
+-- a thread that was attached has a post
+pub posted_here : {E : Type 0} (r : Result (Unit {0}) E) (p p' : map.FinMap nat_cmp Post) (t : ℕ) → OnOk r (p' ≡ map.insert p t Out) → OnOk r (IsSome (map.get p' t))
+posted_here (Ok u) p p' t e = rw (e, get-insert_by p t Out t, eq-eqb t t refl) refl
+posted_here (Err f) p p' t e = tt
+
+-- and those that were attached stay so
+pub attached_still : (f : FatState) (t u : ThreadId) → IsAttached f u → IsAttached (with_thread f t) u
+attached_still f t u h = rw (get-insert_by f.threads t.0 Out u.0) (by_test (u.0 == t.0) h)
+  where
+    by_test : (b : Bool) → IsAttached f u → IsSome (if b then Some Out else map.get f.threads u.0)
+    by_test true h = refl
+    by_test false h = h
+
+pub ruleset attach_steps = (attached_still)

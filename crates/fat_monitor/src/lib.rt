@@ -6,6 +6,8 @@
 mod actions;
 mod monitors;
 mod receipts;
+#[cfg(test)]
+mod tests;
 
 pub use actions::{ActFault, Action, Answer, Cause, Done, Post, Reply};
 pub use monitors::{AttachFault, Fats, Monitor};

@@ -3,6 +3,7 @@
 ghost use Rattle.std.specs.Prelude.{◌≡◌, ℕ, ◌+◌, ◌-◌, ◌<◌, ◌≤◌, ◌↔◌, IfOk, IfErr, OnErr, IsErrOf, OnOk, length, [], Some, None, IsSome, Ok, if◌then◌else◌, nat_lt};
 ghost use Rattle.std.specs.Ordering.{nat_cmp};
 ghost use Rattle.std.specs.FinMap as map;
+ghost use Rattle.lock_word.specs.declared.ThreadId.{ThreadId};
 ghost use Rattle.fat_monitor.specs.declared.actions.Post.{Post};
 ghost use Rattle.fat_monitor.specs.FatState.{opened, post_of, IsAttached, with_thread, bound_with, refusal, monitor_named, monitor_at, object_at, answered, acted, done, is_owned_by, answer_of, monitor_after, IsFair};
 ghost use Rattle.fat_monitor.specs.Slots.{posts_of, LeadToRecords};
@@ -92,8 +93,11 @@ impl Fats {
     }
 
     /// Attaches a thread, which stands [`Out`](Post::Out).
+    #[tactic(auto, using(crate::proofs::Posts::attach_steps))]
     pub fn attach(&mut self, thread: ThreadId) -> Result<(), AttachFault>
         ensures attached { OnOk result (self.new ≡ with_thread self.old thread) }
+        ensures here { OnOk result (IsAttached self.new thread) }
+        ensures others { (u : ThreadId) → IsAttached self.old u → IsAttached self.new u }
         ensures fresh { OnOk result (post_of self.old thread ≡ None) }
         ensures known { IsErrOf result AttachFault.Known ↔ IsAttached self.old thread }
         ensures err { OnErr result (self.new ≡ self.old) }

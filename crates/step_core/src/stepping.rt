@@ -16,7 +16,7 @@ use lock_word::{ThreadId, Word};
 use thread_index::{Indices, TakeFault};
 
 /// Attaches a thread, which takes the lowest free index.
-pub fn attach(
+pub(crate) fn attach(
     indices: &mut Indices,
     places: &mut Vec<Place>,
     fats: &mut Fats,
@@ -45,7 +45,7 @@ pub fn attach(
 }
 
 /// Begins a call of a thread that is in none.
-pub fn begin(
+pub(crate) fn begin(
     words: &[Word],
     indices: &Indices,
     places: &mut Vec<Place>,
@@ -73,7 +73,7 @@ pub fn begin(
 }
 
 /// Does the next atomic step of a thread's call.
-pub fn go(
+pub(crate) fn go(
     words: &mut [Word],
     indices: &Indices,
     places: &mut [Place],

@@ -15,7 +15,7 @@ use fat_monitor::{Action, Answer, Done, Fats, Reply};
 use lock_word::{Lock, ObjectId, ThreadId, Word, decode, encode};
 
 /// One Go of the thread with index `me` from a place in its call: where it stands then, and what it did.
-pub fn go_from(
+pub(crate) fn go_from(
     words: &mut [Word],
     fats: &mut Fats,
     me: u16,
@@ -265,7 +265,7 @@ fn quietly(atomic: Atomic) -> Did
 }
 
 /// One move is made, and the call goes on.
-pub fn move_on(atomic: Atomic, made: Move) -> Did
+pub(crate) fn move_on(atomic: Atomic, made: Move) -> Did
     ensures { result ≡ moved atomic made }
 {
     Did {
