@@ -15,12 +15,14 @@ abbrev pub IsEnter : Call → Type 0
 IsEnter (call.Enter o) = Unit {0}
 IsEnter (call.Exit o) = ⊥
 IsEnter (call.Holds o) = ⊥
+IsEnter call.End = ⊥
 
 -- what a plain store means: one lock more, or one less
 abbrev pub StoresOwn : ℕ → Lock → Lock → Call → Type 0
 StoresOwn me old l (call.Enter o) = (n : ℕ) × (old ≡ Thin me n) × (n < 255) × (l ≡ Thin me (n + 1))
 StoresOwn me old l (call.Exit o) = (n : ℕ) × (old ≡ Thin me n) × (l ≡ (if nat_lt 0 n then Thin me (n - 1) else Free))
 StoresOwn me old l (call.Holds o) = ⊥
+StoresOwn me old l call.End = ⊥
 
 pub store_own : (c : Call) (old l : Lock) (me : ℕ) → next_of c old me ≡ next.Store l → StoresOwn me old l c
 store_own (call.Enter o) Free l me e = absurd (cc)
@@ -44,6 +46,7 @@ store_own (call.Holds o) (Thin i n) l me e =
 store_own (call.Enter o) (Fat m) l me e = absurd (cc)
 store_own (call.Exit o) (Fat m) l me e = absurd (cc)
 store_own (call.Holds o) (Fat m) l me e = absurd (cc)
+store_own call.End old l me e = absurd (cc)
 
 -- a bind is called for where a thin word is full
 pub bind_own : (c : Call) (old : Lock) (me : ℕ) → next_of c old me ≡ next.Bind → IsEnter c × ((n : ℕ) × (old ≡ Thin me n) × (255 ≤ n))
@@ -68,6 +71,7 @@ bind_own (call.Holds o) (Thin i n) me e =
 bind_own (call.Enter o) (Fat m) me e = absurd (cc)
 bind_own (call.Exit o) (Fat m) me e = absurd (cc)
 bind_own (call.Holds o) (Fat m) me e = absurd (cc)
+bind_own call.End old me e = absurd (cc)
 
 -- a fat action is called for where the word is fat
 pub fat_fact : (c : Call) (old : Lock) (me m : ℕ) → next_of c old me ≡ next.Fat m → old ≡ Fat m
@@ -92,9 +96,11 @@ fat_fact (call.Holds o) (Thin i n) me m e =
 fat_fact (call.Enter o) (Fat j) me m e = cc
 fat_fact (call.Exit o) (Fat j) me m e = cc
 fat_fact (call.Holds o) (Fat j) me m e = cc
+fat_fact call.End old me m e = absurd (cc)
 
 -- a store is called for where the lock is the caller's own thin one
 pub own_of_store : (c : Call) (old l : Lock) (me : ℕ) → StoresOwn me old l c → (n : ℕ) × (old ≡ Thin me n)
 own_of_store (call.Enter o) old l me (n, is, few, new) = (n, is)
 own_of_store (call.Exit o) old l me (n, is, new) = (n, is)
 own_of_store (call.Holds o) old l me h = absurd h
+own_of_store call.End old l me h = absurd h

@@ -4,7 +4,7 @@
 //! a word that is fat, full or another thread's leads elsewhere.
 #![tactic(auto)]
 
-ghost use Rattle.std.specs.Prelude.{◌≡◌, ◌≤◌};
+ghost use Rattle.std.specs.Prelude.{◌≡◌, IsSome};
 ghost use Rattle.fast_path.specs.Table.{next_of, object_of};
 
 #[cfg(test)]
@@ -22,15 +22,18 @@ pub enum Call {
     Exit(ObjectId),
     /// Does the thread own the object (`Thread.holdsLock`)?
     Holds(ObjectId),
+    /// Be live no longer.
+    End,
 }
 
 impl Call {
-    /// The object that the call names.
-    pub fn object(self) -> ObjectId
+    /// The object that the call names; None for [`End`](Call::End).
+    pub fn object(self) -> Option<ObjectId>
         ensures { result ≡ object_of self }
     {
         match self {
-            Call::Enter(object) | Call::Exit(object) | Call::Holds(object) => object,
+            Call::Enter(object) | Call::Exit(object) | Call::Holds(object) => Some(object),
+            Call::End => None,
         }
     }
 }
@@ -54,6 +57,7 @@ pub enum Next {
 
 /// What a loaded lock calls for, where `me` is the index of the thread that calls.
 pub fn decide(call: Call, lock: Lock, me: u16) -> Next
+    requires { IsSome (object_of call) }
     ensures { result ≡ next_of call lock me }
 {
     match lock {
@@ -64,12 +68,14 @@ pub fn decide(call: Call, lock: Lock, me: u16) -> Next
             }),
             Call::Exit(_) => Next::Reply(Reply::IllegalMonitorState),
             Call::Holds(_) => Next::Reply(Reply::No),
+            Call::End => unreachable!(),
         },
         Lock::Thin { index, count } if index == me => own(call, me, count),
         Lock::Thin { .. } => match call {
             Call::Enter(_) => Next::Spin,
             Call::Exit(_) => Next::Reply(Reply::IllegalMonitorState),
             Call::Holds(_) => Next::Reply(Reply::No),
+            Call::End => unreachable!(),
         },
         Lock::Fat { monitor } => Next::Fat(monitor),
     }
@@ -77,6 +83,7 @@ pub fn decide(call: Call, lock: Lock, me: u16) -> Next
 
 /// The same, where the thread itself holds the object `count + 1` times.
 fn own(call: Call, me: u16, count: u8) -> Next
+    requires { IsSome (object_of call) }
     ensures { result ≡ next_of call (Lock.Thin me count) me }
 {
     let thin = |count| Lock::Thin { index: me, count };
@@ -86,5 +93,6 @@ fn own(call: Call, me: u16, count: u8) -> Next
         Call::Exit(_) if count > 0 => Next::Store(thin(count - 1)),
         Call::Exit(_) => Next::Store(Lock::Free),
         Call::Holds(_) => Next::Reply(Reply::Yes),
+        Call::End => unreachable!(),
     }
 }

@@ -32,6 +32,7 @@ fn a_loaded_lock_calls_for_this(rt: HostRuntime) {
     for (call, lock, next) in rows {
         assert_eq!(rt; decide(call, lock, 2), next, "{call:?} {lock:?}");
     }
-    assert_eq!(rt; ENTER.object(), ObjectId(3));
-    assert_eq!(rt; HOLDS.object(), ObjectId(3));
+    assert_eq!(rt; ENTER.object(), Some(ObjectId(3)));
+    assert_eq!(rt; HOLDS.object(), Some(ObjectId(3)));
+    assert_eq!(rt; Call::End.object(), None);
 }

@@ -9,7 +9,7 @@ use Rattle.lock_word.specs.declared.ObjectId.{ObjectId}
 use Rattle.fat_monitor.specs.declared.monitors.Monitor.{Monitor}
 use Rattle.fat_monitor.specs.FatState.{FatState, IsSound, IsFair, with_monitor, monitor_at, bound_with, unbound, monitor_after, is_owned_by}
 use Rattle.fat_monitor.specs.declared.actions.Action.{Action}
-use Rattle.fat_monitor.specs.declared.actions.Action.TheVariants.{Enter, Exit, Holds}
+use Rattle.fat_monitor.specs.declared.actions.Action.TheVariants.{Enter, Exit, Holds, End}
 use Rattle.std.specs.Prelude.{nat_lt, is_none, if◌then◌else◌, true, false, ◌==◌, ◌+◌, ◌-◌}
 
 pub monitor_at-set_same : (f : FatState) (m : ℕ) (b : Monitor) → m < length f.monitors → monitor_at (with_monitor f m b) m ≡ b
@@ -51,6 +51,7 @@ monitor_kept b t = if is_owned_by b.owner t then (if nat_lt b.holds 65535 then r
 -- an action keeps a monitor fair
 pub IsFair-monitor_after : (b : Monitor) (t : ThreadId) (a : Action) → IsFair b → IsFair (monitor_after b t a)
 IsFair-monitor_after b t (Holds m) f = f
+IsFair-monitor_after b t End f = f
 IsFair-monitor_after b t (Enter m) f =
     cond_both (is_none b.owner) (record b { owner = Some t; holds = 1 }) (monitor_kept b t) IsFair (λ e. (omega arith, ((λ x. cc), (λ x. absurd (omega arith)))))
     (λ e. cond_both (is_owned_by b.owner t) (if nat_lt b.holds 65535 then record b { holds = b.holds + 1 } else b) b IsFair (λ o. cond_both (nat_lt b.holds 65535) (record b { holds = b.holds + 1 }) b IsFair
@@ -67,5 +68,6 @@ IsFair-monitor_after b t (Exit m) f =
 -- an action keeps the monitor's object
 pub object-monitor_after : (b : Monitor) (t : ThreadId) (a : Action) → (monitor_after b t a).object.0 ≡ b.object.0
 object-monitor_after b t (Holds m) = refl
+object-monitor_after b t End = refl
 object-monitor_after b t (Enter m) = grind arith
 object-monitor_after b t (Exit m) = grind arith

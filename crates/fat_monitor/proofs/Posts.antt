@@ -7,7 +7,7 @@ use Rattle.std.specs.Option.{option_map}
 use Rattle.std.specs.Ordering.{nat_cmp}
 use Rattle.std.specs.Cmp.{unsigned_tied, nat_cmp_total}
 use Rattle.std.specs.FinMap as map
-use Rattle.std.specs.FinMap.{get-from_entries, get-insert, same_map, nat_cmp-IsAntisymmetric}
+use Rattle.std.specs.FinMap.{get-from_entries, get-insert, get-remove, same_map, nat_cmp-IsAntisymmetric}
 use Rattle.std.specs.FinMap.Entries.{find}
 use Rattle.std.proofs.lemmas.Bool.{cases_eq, eq-eqb, ne_eqb}
 use Rattle.slab.specs.Slab.{Slab, get, Updates}
@@ -36,6 +36,9 @@ get-posts_of records keys q =
 -- a map at the key that was inserted, and at another
 pub get-insert_by : {X : Type 0} (m : map.FinMap nat_cmp X) (k : ℕ) (v : X) (q : ℕ) → map.get (map.insert m k v) q ≡ (if q == k then Some v else map.get m q)
 get-insert_by m k v q = get-insert nat_cmp_total m k v q ∙ ap (λ b. if b then Some v else map.get m q) (unsigned_tied q k)
+
+pub get-remove_by : {X : Type 0} (m : map.FinMap nat_cmp X) (k q : ℕ) → map.get (map.remove m k) q ≡ (if q == k then None else map.get m q)
+get-remove_by m k q = get-remove nat_cmp_total m k q ∙ ap (λ b. if b then None else map.get m q) (unsigned_tied q k)
 
 module _ (s s' : Slab Record) (ks ks' : List (ℕ × ℕ)) (t key : ℕ)
     (keyed : LeadToRecords s ks)
@@ -71,6 +74,42 @@ module _ (s s' : Slab Record) (ks ks' : List (ℕ × ℕ)) (t key : ℕ)
 
   pub LeadToRecords-put : LeadToRecords s' ks'
   LeadToRecords-put q k e = leads_at q k (cases_eq q t) e
+
+module _ (s s' : Slab Record) (ks ks' : List (ℕ × ℕ)) (t key : ℕ)
+    (keyed : LeadToRecords s ks)
+    (found : lookup (nat_eq t) ks ≡ Some key)
+    (dropped : Updates s s' key None)
+    (led : (q : ℕ) → lookup (nat_eq q) ks' ≡ (if t == q then None else lookup (nat_eq q) ks)) where
+  -- another thread's key is another one
+  kept : (k q : ℕ) → (q ≡ t → ⊥) → lookup (nat_eq q) ks ≡ Some k → get s' k ≡ get s k
+  kept k q other e = dropped.others k (λ same.
+      let here : Some (record { thread = record { 0 = q }; post = (keyed q k e).0 }) ≡ Some (record { thread = record { 0 = t }; post = (keyed t key found).0 }) =
+          sym (keyed q k e).1 ∙ ap (λ (j : ℕ). get s j) same ∙ (keyed t key found).1 in
+      other (ap (λ (r : Record). r.thread.0) (same_Some _ _ here)))
+
+  post_kept : (q : ℕ) → (q ≡ t → ⊥) → (o : Option ℕ) → lookup (nat_eq q) ks ≡ o → option_map (λ k. post_in (get s' k)) o ≡ option_map (λ k. post_in (get s k)) o
+  post_kept q other None e = refl
+  post_kept q other (Some k) e = rw (kept k q other e) refl
+
+  post_after : (q : ℕ) → (q ≡ t) ⊎ (q ≡ t → ⊥) → map.get (posts_of s' ks') q ≡ map.get (map.remove (posts_of s ks) t) q
+  post_after q (inl same) =
+      rw (get-posts_of s' ks' q, led q, eq-eqb t q (sym same), get-remove_by (posts_of s ks) t q, eq-eqb q t same) refl
+  post_after q (inr other) =
+      rw (get-posts_of s' ks' q, led q, ne_eqb t q (λ e. other (sym e)), get-remove_by (posts_of s ks) t q, ne_eqb q t other, get-posts_of s ks q)
+      (post_kept q other (lookup (nat_eq q) ks) refl)
+
+  -- one thread less
+  pub posts_of-drop : posts_of s' ks' ≡ map.remove (posts_of s ks) t
+  posts_of-drop = same_map nat_cmp_total nat_cmp-IsAntisymmetric (posts_of s' ks') (map.remove (posts_of s ks) t) (λ q. post_after q (cases_eq q t))
+
+  leads_after : (q k : ℕ) → (q ≡ t) ⊎ (q ≡ t → ⊥) → lookup (nat_eq q) ks' ≡ Some k → (p : Post) × (get s' k ≡ Some (record { thread = record { 0 = q }; post = p }))
+  leads_after q k (inl same) e = let never : None ≡ Some k = rw (led q, eq-eqb t q (sym same)) at e in absurd (cc)
+  leads_after q k (inr other) e =
+      let was : lookup (nat_eq q) ks ≡ Some k = rw (led q, ne_eqb t q (λ e. other (sym e))) at e in
+      ((keyed q k was).0, kept k q other was ∙ (keyed q k was).1)
+
+  pub LeadToRecords-drop : LeadToRecords s' ks'
+  LeadToRecords-drop q k e = leads_after q k (cases_eq q t) e
 
 -- a thread with a key has a post, and one without has none
 pub posted : (records : Slab Record) (keys : List (ℕ × ℕ)) (q : ℕ) → is_some (lookup (nat_eq q) keys) ≡ true → IsSome (map.get (posts_of records keys) q)

@@ -12,6 +12,8 @@ pub enum Cause {
     Memory,
     /// The thread holds the object 65,535 times already.
     TooDeep,
+    /// The thread that is to end owns an object.
+    StillOwner,
 }
 
 /// What a call answers.
@@ -25,6 +27,8 @@ pub enum Reply {
     Yes,
     /// No, it does not.
     No,
+    /// The thread is not live any more.
+    Ended,
     /// The thread does not own the object: `IllegalMonitorStateException`.
     IllegalMonitorState,
     /// The call was refused, and nothing was changed.
@@ -38,7 +42,7 @@ pub enum Post {
     Out,
 }
 
-/// One action on the fat monitors, named by the monitor's number.
+/// One action on the fat monitors.
 #[derive(Clone, Copy, PartialEq, Eq, Hash, Debug)]
 pub enum Action {
     /// Own the monitor, or hold it once more.
@@ -47,6 +51,8 @@ pub enum Action {
     Exit { monitor: u32 },
     /// Does the thread own the monitor?
     Holds { monitor: u32 },
+    /// Be attached no longer, where the thread owns no monitor.
+    End,
 }
 
 /// What an action answers.
@@ -79,6 +85,7 @@ impl fmt::Display for Cause {
             Cause::NoMonitor => "NoMonitor",
             Cause::Memory => "Memory",
             Cause::TooDeep => "TooDeep",
+            Cause::StillOwner => "StillOwner",
         })
     }
 }
@@ -90,6 +97,7 @@ impl fmt::Display for Reply {
             Reply::Exited => f.write_str("Exited"),
             Reply::Yes => f.write_str("Yes"),
             Reply::No => f.write_str("No"),
+            Reply::Ended => f.write_str("Ended"),
             Reply::IllegalMonitorState => f.write_str("IllegalMonitorState"),
             Reply::Refused(cause) => write!(f, "Refused {cause}"),
         }
@@ -103,6 +111,7 @@ impl fmt::Display for Action {
             Action::Enter { .. } => "Enter",
             Action::Exit { .. } => "Exit",
             Action::Holds { .. } => "Holds",
+            Action::End => "End",
         })
     }
 }

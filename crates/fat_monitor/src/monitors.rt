@@ -1,11 +1,11 @@
 //! The fat monitors and the threads that may use them.
 
-ghost use Rattle.std.specs.Prelude.{◌≡◌, ℕ, ◌+◌, ◌-◌, ◌<◌, ◌≤◌, ◌↔◌, IfOk, IfErr, OnErr, IsErrOf, OnOk, length, [], Some, None, IsSome, Ok, if◌then◌else◌, nat_lt};
+ghost use Rattle.std.specs.Prelude.{false, ◌≡◌, ℕ, ◌+◌, ◌-◌, ◌<◌, ◌≤◌, ◌↔◌, IfOk, IfErr, OnErr, IsErrOf, OnOk, length, [], Some, None, IsSome, Ok, if◌then◌else◌, nat_lt};
 ghost use Rattle.std.specs.Ordering.{nat_cmp};
 ghost use Rattle.std.specs.FinMap as map;
 ghost use Rattle.lock_word.specs.declared.ThreadId.{ThreadId};
 ghost use Rattle.fat_monitor.specs.declared.actions.Post.{Post};
-ghost use Rattle.fat_monitor.specs.FatState.{opened, post_of, IsAttached, with_thread, bound_with, refusal, monitor_named, monitor_at, object_at, answered, acted, done, is_owned_by, answer_of, monitor_after, IsFair};
+ghost use Rattle.fat_monitor.specs.FatState.{opened, post_of, IsAttached, with_thread, bound_with, refusal, NamesBound, owns_one, without_thread, monitor_at, object_at, answered, acted, done, is_owned_by, answer_of, monitor_after, IsFair};
 ghost use Rattle.fat_monitor.specs.Slots.{posts_of, LeadToRecords};
 
 use crate::{ActFault, Action, Answer, Cause, Done, Post, Receipt, Reply};
@@ -105,6 +105,15 @@ impl Fats {
         add_record(&mut self.records, &mut self.keys, thread)
     }
 
+    /// Removes an attached thread that owns no monitor.
+    pub fn remove(&mut self, thread: ThreadId)
+        requires attached { IsAttached self.old thread }
+        requires owns_none { owns_one self.old.monitors thread ≡ false }
+        ensures { self.new ≡ without_thread self.old thread }
+    {
+        drop_record(&mut self.records, &mut self.keys, thread);
+    }
+
     /// Binds the next monitor to an object that its owner holds this often.
     #[tactic(auto, using(crate::proofs::FatStateLemmas::act_steps))]
     pub fn bind(&mut self, object: ObjectId, owner: ThreadId, holds: u16) -> Result<Receipt, Cause>
@@ -132,11 +141,11 @@ impl Fats {
         }
     }
 
-    /// One action of an attached thread on a bound monitor.
+    /// One action of an attached thread, on a bound monitor where the action names one.
     #[tactic(auto, using(crate::proofs::FatStateLemmas::act_steps))]
     pub fn act(&mut self, thread: ThreadId, action: Action) -> Result<Done, ActFault>
         requires attached { IsAttached self.old thread }
-        requires bound { monitor_named action < length self.old.monitors }
+        requires bound { NamesBound self.old action }
         ensures told { result ≡ Ok (done (answered self.old thread action)) }
         ensures after { self.new ≡ acted self.old thread action }
     {
@@ -157,12 +166,33 @@ impl Fats {
                     Answer::Reply(Reply::No)
                 }
             }
+            Action::End => self.end(thread),
         };
         Ok(Done {
             answer,
             granted: None,
             chosen: None,
         })
+    }
+
+    /// Removes an attached thread, unless it owns a monitor.
+    fn end(&mut self, thread: ThreadId) -> Answer
+        requires { IsAttached self.old thread }
+        ensures answer { result ≡ answered self.old thread Action.End }
+        ensures after { self.new ≡ acted self.old thread Action.End }
+    {
+        if self.owns_one(thread) {
+            return Answer::Reply(Reply::Refused(Cause::StillOwner));
+        }
+        self.remove(thread);
+        Answer::Reply(Reply::Ended)
+    }
+
+    /// Whether a thread owns a monitor. This looks at every bound monitor.
+    fn owns_one(&self, thread: ThreadId) -> bool
+        ensures { result ≡ owns_one self.now.monitors thread }
+    {
+        self.monitors.iter().any(|monitor| is_owner(monitor.owner, thread))
     }
 
     /// The object whose monitor has this number; None where it is not bound.
@@ -230,6 +260,19 @@ fn add_record(
     };
     let _ = records.insert_reserved(record);
     Ok(())
+}
+
+/// Drops the record of a thread that has one.
+fn drop_record(records: &mut Slab<Record>, keys: &mut HashMap<u32, usize>, thread: ThreadId)
+    requires keyed { LeadToRecords records.old keys.old.entries }
+    requires here { IsSome (map.get (posts_of records.old keys.old.entries) thread.0) }
+    ensures keyed { LeadToRecords records.new keys.new.entries }
+    ensures dropped { posts_of records.new keys.new.entries ≡ map.remove (posts_of records.old keys.old.entries) thread.0 }
+{
+    let Some(key) = keys.remove(&thread.0) else {
+        unreachable!();
+    };
+    let _ = records.try_remove(key);
 }
 
 /// Whether this thread is the owner.

@@ -1,7 +1,9 @@
 -- Each Go keeps the world sound.
+use Rattle.step_core.specs.Parts.{IsBusyAt}
+use Rattle.std.proofs.lemmas.Option.{same_Some}
 use Rattle.std.specs.Prelude.{◌≡◌, ◌⊎◌, ℕ, ◌+◌, ◌-◌, ◌<◌, ◌≤◌, Bool, true, false, nat_lt, [], ◌∷◌, length, set, get_or, Option, Some, None}
 use Rattle.std.proofs.Common.{arith, refl, ap, sym, ◌∙◌, subst, inl, inr, get_or-set_same, get_or-set_other, length-set, length-append}
-use Rattle.std.proofs.lemmas.Bool.{cases_eq, cond_both, ltb-true}
+use Rattle.std.proofs.lemmas.Bool.{cases_eq, cond_both, ltb-true, ne_eqb}
 use Rattle.std.proofs.lemmas.List.{get_or_append_left, get_or_at}
 use Rattle.lock_word.specs.declared.ThreadId.{ThreadId}
 use Rattle.lock_word.specs.declared.ObjectId.{ObjectId}
@@ -23,17 +25,18 @@ use Rattle.fast_path.specs.declared.Call.{Call}
 use Rattle.fast_path.specs.declared.Call.TheVariants as call
 use Rattle.fast_path.specs.declared.Next.{Next}
 use Rattle.fast_path.specs.declared.Next.TheVariants as next
-use Rattle.fast_path.specs.Table.{object_of, next_of}
+use Rattle.fast_path.specs.Table.{target, next_of}
 use Rattle.fast_path.proofs.Tables.{StoresOwn, store_own, own_of_store, bind_own, fat_fact}
 use Rattle.step_core.specs.declared.places.Place.{Place}
-use Rattle.step_core.specs.declared.places.Place.TheVariants.{Idle, Begun, Taking, Storing, Binding, Acting, Won, Bound, Inflated}
+use Rattle.step_core.specs.declared.places.Place.TheVariants.{Idle, Begun, Taking, Storing, Binding, Acting, Won, Bound, Inflated, Ending}
 use Rattle.step_core.specs.declared.moves.Move.TheVariants as move
 use Rattle.step_core.specs.declared.events.Atomic.TheVariants as atomic
 use Rattle.step_core.specs.declared.events.Did.{Did}
-use Rattle.step_core.specs.WorldState.{WorldState, IsSound, Stands, Fitting, place_at, word_at, lock_at, low_word}
-use Rattle.step_core.specs.Going.{After, gone, stays, writes, turns, new_word, silent, moved, replied, returned, load_of, lost_at, won_at, stored_at, after_load, after_take, after_store, after_bind, after_publish, after_answer, after_go, action_of, stored_reply, bind_cause}
+use Rattle.step_core.specs.WorldState.{WorldState, IsSound, Stands, Fitting, place_at, word_at, lock_at, low_word, is_own, Reaches, bound_by, IsPublished}
+use Rattle.step_core.specs.Going.{After, gone, stays, writes, turns, new_word, silent, moved, replied, returned, load_of, lost_at, won_at, stored_at, after_load, after_take, after_store, after_bind, after_publish, after_answer, after_go, action_of, stored_reply, bind_cause, after_look}
 use Rattle.step_core.proofs.Frames.{lock_of-new_word, stands_at, within, thin_fits, thin_stands}
-use Rattle.step_core.proofs.ActRuns.{named}
+use Rattle.step_core.proofs.ActRuns.{acted_at}
+use Rattle.fat_monitor.specs.declared.actions.Cause.TheVariants as cause
 use Rattle.step_core.proofs.Runs.{storing}
 
 module _ (w : WorldState) (sound : IsSound w) (k : ℕ) (t : ThreadId) (seat : seat_of w.seats t ≡ Some k) where
@@ -44,8 +47,9 @@ module _ (w : WorldState) (sound : IsSound w) (k : ℕ) (t : ThreadId) (seat : s
       → book.IsSound a.fats → a.fats.threads ≡ w.fats.threads
       → Fitting (gone w k a) k a.place
       → ((j : ℕ) → (j ≡ k → ⊥) → Fitting w j (place_at w j) → Fitting (gone w k a) j (place_at w j))
+      → ((m : ℕ) → m < length a.fats.monitors → IsPublished (gone w k a) m)
       → IsSound (gone w k a)
-  sound_gone a size formed words fats threads own others = record {
+  sound_gone a size formed words fats threads own others published = record {
     many = rw size sound.many;
     seated = length-set w.places k a.place ∙ sound.seated;
     few = sound.few;
@@ -53,6 +57,7 @@ module _ (w : WorldState) (sound : IsSound w) (k : ℕ) (t : ThreadId) (seat : s
     formed = formed;
     words = λ p h. words p;
     fats = fats;
+    published = published;
     attached = λ u h. rw threads (sound.attached u h);
     live = λ u h. sound.live u (rw threads at h);
     places = λ j h. at_seat j h (cases_eq j k);
@@ -65,9 +70,28 @@ module _ (w : WorldState) (sound : IsSound w) (k : ℕ) (t : ThreadId) (seat : s
         let l : j < length w.places = omega (arith, length-set w.places k a.place) in
         rw (get_or-set_other w.places k j a.place Idle ne) (others j ne (sound.places j l))
 
+  -- a bound monitor stays published where fat words stay, its object stays, and its own thread stores it
+  still_published : (a : After) (m : ℕ) → IsPublished w m
+      → ((q : ℕ) → lock_at w q ≡ Fat m → lock_at (gone w k a) q ≡ Fat m)
+      → (monitor_at a.fats m).object.0 ≡ (monitor_at w.fats m).object.0
+      → (bound_by (place_at w k) ≡ Some m → IsPublished (gone w k a) m)
+      → IsPublished (gone w k a) m
+  still_published a m (inl shows) fat object own = inl (rw object (fat (monitor_at w.fats m).object.0 shows))
+  still_published a m (inr (j, there, bound)) fat object own = by_seat (cases_eq j k)
+    where
+      by_seat : (j ≡ k) ⊎ (j ≡ k → ⊥) → IsPublished (gone w k a) m
+      by_seat (inl e) = own (rw e at bound)
+      by_seat (inr ne) = inr (j, rw (length-set w.places k a.place) there, rw (get_or-set_other w.places k j a.place Idle ne) bound)
+
+  -- a thread that has bound nothing leaves nothing unpublished
+  no_own : (a : After) (m : ℕ) → bound_by (place_at w k) ≡ None → bound_by (place_at w k) ≡ Some m → IsPublished (gone w k a) m
+  no_own a m none some = let never : None ≡ Some m = sym none ∙ some in absurd (cc)
+
   -- where only the place changes
-  pub sound_stays : (p : Place) (d : Did) → Fitting w k p → IsSound (gone w k (stays w p d))
-  sound_stays p d fit = sound_gone (stays w p d) refl sound.formed (stands_at w sound) sound.fats refl fit (λ j ne h. h)
+  pub sound_stays : (p : Place) (d : Did) → bound_by (place_at w k) ≡ None → Fitting w k p → IsSound (gone w k (stays w p d))
+  sound_stays p d none fit =
+      sound_gone (stays w p d) refl sound.formed (stands_at w sound) sound.fats refl fit (λ j ne h. h)
+      (λ m h. still_published (stays w p d) m (sound.published m h) (λ q e. e) refl (no_own (stays w p d) m none))
 
   -- a lock that this thread may overwrite
   abbrev Mine : Lock → Type 0
@@ -75,8 +99,19 @@ module _ (w : WorldState) (sound : IsSound w) (k : ℕ) (t : ThreadId) (seat : s
   Mine (Thin i n) = i ≡ k + 1
   Mine (Fat m) = ⊥
 
+  -- no lock of another thread's
+  abbrev NotAnothers : Lock → Type 0
+  NotAnothers Free = Unit {0}
+  NotAnothers (Thin i n) = i ≡ k + 1
+  NotAnothers (Fat m) = Unit {0}
+
+  not_own : (l : Lock) → NotAnothers l → (j : ℕ) → (j ≡ k → ⊥) → is_own l (j + 1) ≡ false
+  not_own Free h j ne = refl
+  not_own (Thin i n) h j ne = ne_eqb i (j + 1) (λ e. ne (omega arith))
+  not_own (Fat m) h j ne = refl
+
   -- a write of a word that was free or one's own
-  module _ (o : ObjectId) (l : Lock) (inside : o.0 < length w.words) (fits : Fits l) (old : Mine (lock_at w o.0)) where
+  module _ (o : ObjectId) (l : Lock) (inside : o.0 < length w.words) (fits : Fits l) (old : Mine (lock_at w o.0)) (new : NotAnothers l) where
     abbrev after : Place → Did → After
     after p d = writes w o (new_word w o l) p d
 
@@ -100,21 +135,33 @@ module _ (w : WorldState) (sound : IsSound w) (k : ℕ) (t : ThreadId) (seat : s
     fat_kept : (p : Place) (d : Did) (q m : ℕ) → lock_at w q ≡ Fat m → lock_at (gone w k (after p d)) q ≡ Fat m
     fat_kept p d q m e = lock_kept p d q (λ h. let never : ⊥ = rw e at h in never) ∙ e
 
+    -- a word that another thread may end beside stays so
+    ending_kept : (p : Place) (d : Did) (j : ℕ) → (j ≡ k → ⊥) → (q : ℕ) → is_own (lock_at w q) (j + 1) ≡ false → (q ≡ o.0) ⊎ (q ≡ o.0 → ⊥)
+        → is_own (lock_at (gone w k (after p d)) q) (j + 1) ≡ false
+    ending_kept p d j ne q h (inl e) = subst (λ (x : ℕ). is_own (lock_at (gone w k (after p d)) x) (j + 1) ≡ false) (sym e) (rw (lock_there p d) (not_own l new j ne))
+    ending_kept p d j ne q h (inr other) = rw (lock_elsewhere p d q other) h
+
+    reaches_still : (p : Place) (d : Did) (c : Call) → Reaches w c → Reaches (gone w k (after p d)) c
+    reaches_still p d c h = (h.0, inside_still (target c).0 h.1)
+
     others_kept : (p : Place) (d : Did) (j : ℕ) → (j ≡ k → ⊥) → (x : Place) → Fitting w j x → Fitting (gone w k (after p d)) j x
     others_kept p d j ne Idle fit = tt
-    others_kept p d j ne (Begun c b) fit = inside_still (object_of c).0 fit
+    others_kept p d j ne (Begun c b) fit = reaches_still p d c fit
     others_kept p d j ne (Taking q b) fit = inside_still q.0 fit
-    others_kept p d j ne (Storing c n) fit = (inside_still (object_of c).0 fit.0, (fit.1.0, thin_kept p d j ne (object_of c).0 fit.1.0 fit.1.1, fit.1.2))
-    others_kept p d j ne (Binding c n) fit = (inside_still (object_of c).0 fit.0, thin_kept p d j ne (object_of c).0 n fit.1, fit.2)
-    others_kept p d j ne (Acting c m) fit = (inside_still (object_of c).0 fit.0, fat_kept p d (object_of c).0 m fit.1)
+    others_kept p d j ne (Storing c n) fit = (reaches_still p d c fit.0, (fit.1.0, thin_kept p d j ne (target c).0 fit.1.0 fit.1.1, fit.1.2))
+    others_kept p d j ne (Binding c n) fit = (reaches_still p d c fit.0, thin_kept p d j ne (target c).0 n fit.1, fit.2)
+    others_kept p d j ne (Acting c m) fit = (reaches_still p d c fit.0, fat_kept p d (target c).0 m fit.1)
     others_kept p d j ne (Won q) fit = (inside_still q.0 fit.0, thin_kept p d j ne q.0 0 fit.1)
-    others_kept p d j ne (Bound c won m) fit = (inside_still (object_of c).0 fit.0, fit.1, (fit.2.0, thin_kept p d j ne (object_of c).0 fit.2.0 fit.2.1, fit.2.2))
-    others_kept p d j ne (Inflated c m) fit = (inside_still (object_of c).0 fit.0, fat_kept p d (object_of c).0 m fit.1)
+    others_kept p d j ne (Bound c won m) fit = (reaches_still p d c fit.0, fit.1, (fit.2.0, thin_kept p d j ne (target c).0 fit.2.0 fit.2.1, fit.2.2))
+    others_kept p d j ne (Inflated c m) fit = (reaches_still p d c fit.0, fat_kept p d (target c).0 m fit.1)
+    others_kept p d j ne (Ending n) fit = (rw (length-set w.words o.0 (new_word w o l)) fit.0, λ q h. ending_kept p d j ne q (fit.1 q h) (cases_eq q o.0))
 
-    -- a write keeps the world sound
-    sound_writes : (p : Place) (d : Did) → Stands w o.0 l → Fitting (gone w k (after p d)) k p → IsSound (gone w k (after p d))
-    sound_writes p d stands fit =
+    -- a write keeps the world sound, where it publishes what the thread has bound
+    sound_writes : (p : Place) (d : Did) → ((m : ℕ) → bound_by (place_at w k) ≡ Some m → IsPublished (gone w k (after p d)) m)
+        → Stands w o.0 l → Fitting (gone w k (after p d)) k p → IsSound (gone w k (after p d))
+    sound_writes p d own stands fit =
         sound_gone (after p d) (length-set w.words o.0 (new_word w o l)) formed words sound.fats refl fit (λ j ne h. others_kept p d j ne (place_at w j) h)
+        (λ m h. still_published (after p d) m (sound.published m h) (λ q e. fat_kept p d q m e) refl (own m))
       where
         formed : (q : ℕ) → IsMalformed (get_or (set w.words o.0 (new_word w o l)) q (low_word 0)).0 → ⊥
         formed q = by_object (cases_eq q o.0)
@@ -129,6 +176,10 @@ module _ (w : WorldState) (sound : IsSound w) (k : ℕ) (t : ThreadId) (seat : s
             by_object : (q ≡ o.0) ⊎ (q ≡ o.0 → ⊥) → Stands (gone w k (after p d)) q (lock_at (gone w k (after p d)) q)
             by_object (inl e) = subst (λ (x : ℕ). Stands w x (lock_at (gone w k (after p d)) x)) (sym e) (subst (λ (x : Lock). Stands w o.0 x) (sym (lock_there p d)) stands)
             by_object (inr ne) = subst (λ (x : Lock). Stands w q x) (sym (lock_elsewhere p d q ne)) (stands_at w sound q)
+
+    -- and a thread that has bound nothing publishes nothing
+    sound_stores : (p : Place) (d : Did) → bound_by (place_at w k) ≡ None → Stands w o.0 l → Fitting (gone w k (after p d)) k p → IsSound (gone w k (after p d))
+    sound_stores p d none stands fit = sound_writes p d (λ m some. no_own (after p d) m none some) stands fit
 
   -- one monitor more
   module _ (o : ObjectId) (n : ℕ) (low : 1 ≤ n) (high : n ≤ 65535) (room : length w.fats.monitors < w.fats.limit) where
@@ -156,14 +207,28 @@ module _ (w : WorldState) (sound : IsSound w) (k : ℕ) (t : ThreadId) (seat : s
     fits_bound p d j (Won q) fit = fit
     fits_bound p d j (Bound c won m) fit = (fit.0, more m fit.1, (fit.2.0, fit.2.1, monitor_kept m fit.1 ∙ fit.2.2))
     fits_bound p d j (Inflated c m) fit = fit
+    fits_bound p d j (Ending n) fit = fit
 
-    sound_bound : (p : Place) (d : Did) → Fitting (gone w k (bound p d)) k p → IsSound (gone w k (bound p d))
-    sound_bound p d fit =
+    -- the new monitor is the thread's to publish
+    bound_published : (p : Place) (d : Did) → bound_by (place_at w k) ≡ None → bound_by p ≡ Some (length w.fats.monitors)
+        → (m : ℕ) → m < length (bound_with w.fats o t n).monitors → (m ≡ length w.fats.monitors) ⊎ (m ≡ length w.fats.monitors → ⊥)
+        → IsPublished (gone w k (bound p d)) m
+    bound_published p d none own m h (inl e) =
+        let there : k < length w.places = within w sound k t seat in
+        inr (k, rw (length-set w.places k p) there, rw (get_or-set_same w.places k p Idle there, e) own)
+    bound_published p d none own m h (inr ne) =
+        let l : m < length w.fats.monitors = omega (arith, length-append w.fats.monitors (record { object = o; owner = Some t; holds = n } ∷ [])) in
+        still_published (bound p d) m (sound.published m l) (λ q e. e) (ap (λ (b : fat.Monitor). b.object.0) (monitor_kept m l)) (no_own (bound p d) m none)
+
+    sound_bound : (p : Place) (d : Did) → bound_by (place_at w k) ≡ None → bound_by p ≡ Some (length w.fats.monitors)
+        → Fitting (gone w k (bound p d)) k p → IsSound (gone w k (bound p d))
+    sound_bound p d none own fit =
         sound_gone (bound p d) refl sound.formed (λ q. stands_bound p d q (lock_at w q) (stands_at w sound q))
         (IsSound-bound_with w.fats o t n sound.fats room low high) refl fit (λ j ne h. fits_bound p d j (place_at w j) h)
+        (λ m h. bound_published p d none own m h (cases_eq m (length w.fats.monitors)))
 
   -- an action on the monitor of a fat word
-  module _ (c : Call) (m : ℕ) (shows : lock_at w (object_of c).0 ≡ Fat m) where
+  module _ (c : Call) (m : ℕ) (shows : lock_at w (target c).0 ≡ Fat m) where
     -- what it leaves of the monitor
     abbrev leaves : fat.Monitor
     leaves = monitor_after (monitor_at w.fats m) t (action_of c m)
@@ -171,8 +236,8 @@ module _ (w : WorldState) (sound : IsSound w) (k : ℕ) (t : ThreadId) (seat : s
     abbrev changed : Place → Did → After
     changed p d = turns w (book.with_monitor w.fats m leaves) p d
 
-    here : (m < length w.fats.monitors) × ((monitor_at w.fats m).object.0 ≡ (object_of c).0)
-    here = rw shows at (stands_at w sound (object_of c).0)
+    here : (m < length w.fats.monitors) × ((monitor_at w.fats m).object.0 ≡ (target c).0)
+    here = rw shows at (stands_at w sound (target c).0)
 
     stands_changed : (p : Place) (d : Did) (q : ℕ) (l : Lock) → Stands w q l → Stands (gone w k (changed p d)) q l
     stands_changed p d q Free h = h
@@ -193,61 +258,76 @@ module _ (w : WorldState) (sound : IsSound w) (k : ℕ) (t : ThreadId) (seat : s
     fits_changed p d j (Won q) fit = fit
     fits_changed p d j (Bound q won i) fit =
         let apart : i ≡ m → ⊥ = λ e.
-        let own : (monitor_at w.fats i).object.0 ≡ (object_of q).0 = ap (λ (x : fat.Monitor). x.object.0) fit.2.2 in
-        let one : (object_of q).0 ≡ (object_of c).0 = sym own ∙ (rw e here.1) in
+        let own : (monitor_at w.fats i).object.0 ≡ (target q).0 = ap (λ (x : fat.Monitor). x.object.0) fit.2.2 in
+        let one : (target q).0 ≡ (target c).0 = sym own ∙ (rw e here.1) in
         let both : Thin (j + 1) fit.2.0 ≡ Fat m = sym fit.2.1 ∙ (rw one shows) in
         absurd (cc) in
         (fit.0, rw (length-set w.fats.monitors m leaves) fit.1, (fit.2.0, fit.2.1, rw (get_or-set_other w.fats.monitors m i leaves unbound apart) fit.2.2))
     fits_changed p d j (Inflated q i) fit = fit
+    fits_changed p d j (Ending n) fit = fit
 
-    sound_changed : (p : Place) (d : Did) → Fitting (gone w k (changed p d)) k p → IsSound (gone w k (changed p d))
-    sound_changed p d fit =
+    object_kept : (j : ℕ) → (j ≡ m) ⊎ (j ≡ m → ⊥) → (get_or (set w.fats.monitors m leaves) j unbound).object.0 ≡ (monitor_at w.fats j).object.0
+    object_kept j (inl e) = rw (e, get_or-set_same w.fats.monitors m leaves unbound here.0) (object-monitor_after (monitor_at w.fats m) t (action_of c m))
+    object_kept j (inr ne) = rw (get_or-set_other w.fats.monitors m j leaves unbound ne) refl
+
+    sound_changed : (p : Place) (d : Did) → bound_by (place_at w k) ≡ None → Fitting (gone w k (changed p d)) k p → IsSound (gone w k (changed p d))
+    sound_changed p d none fit =
         sound_gone (changed p d) refl sound.formed (λ q. stands_changed p d q (lock_at w q) (stands_at w sound q))
         (IsSound-with_monitor w.fats m leaves sound.fats (IsFair-monitor_after (monitor_at w.fats m) t (action_of c m) (sound.fats.fair m here.0))) refl fit
         (λ j ne h. fits_changed p d j (place_at w j) h)
+        (λ j h. let l : j < length w.fats.monitors = omega (arith, length-set w.fats.monitors m leaves) in
+        still_published (changed p d) j (sound.published j l) (λ q e. e) (object_kept j (cases_eq j m)) (no_own (changed p d) j none))
 
-  load_sound : (c : Call) (contended : Bool) (n : Next) → (object_of c).0 < length w.words
-      → next_of c (lock_at w (object_of c).0) (k + 1) ≡ n → IsSound (gone w k (after_load w t c contended n))
-  load_sound c b (next.Reply r) h e = sound_stays Idle (replied (load_of w (object_of c)) t r) tt
-  load_sound c b (next.Cas l) h e = sound_stays (Taking (object_of c) b) (silent (load_of w (object_of c))) h
-  load_sound c b (next.Store l) h e =
-      let own = own_of_store c (lock_at w (object_of c).0) l (k + 1) (store_own c (lock_at w (object_of c).0) l (k + 1) e) in
-      sound_stays (Storing c l) (silent (load_of w (object_of c))) (h, (own.0, own.1, rw own.1 at e))
-  load_sound c b next.Bind h e =
-      let own = (bind_own c (lock_at w (object_of c).0) (k + 1) e).1 in
-      let count : lock_at w (object_of c).0 ≡ Thin (k + 1) (count_of (lock_at w (object_of c).0)) = own.1 ∙ ap (λ (x : Lock). Thin (k + 1) (count_of x)) (sym own.1) in
-      sound_stays (Binding c (count_of (lock_at w (object_of c).0))) (silent (load_of w (object_of c)))
+  load_sound : (c : Call) (contended : Bool) (n : Next) → bound_by (place_at w k) ≡ None → Reaches w c
+      → next_of c (lock_at w (target c).0) (k + 1) ≡ n → IsSound (gone w k (after_load w t c contended n))
+  load_sound c b (next.Reply r) none h e = sound_stays Idle (replied (load_of w (target c)) t r) none tt
+  load_sound c b (next.Cas l) none h e = sound_stays (Taking (target c) b) (silent (load_of w (target c))) none h.1
+  load_sound c b (next.Store l) none h e =
+      let own = own_of_store c (lock_at w (target c).0) l (k + 1) (store_own c (lock_at w (target c).0) l (k + 1) e) in
+      sound_stays (Storing c l) (silent (load_of w (target c))) none (h, (own.0, own.1, rw own.1 at e))
+  load_sound c b next.Bind none h e =
+      let own = (bind_own c (lock_at w (target c).0) (k + 1) e).1 in
+      let count : lock_at w (target c).0 ≡ Thin (k + 1) (count_of (lock_at w (target c).0)) = own.1 ∙ ap (λ (x : Lock). Thin (k + 1) (count_of x)) (sym own.1) in
+      sound_stays (Binding c (count_of (lock_at w (target c).0))) (silent (load_of w (target c))) none
       (h, count, subst (λ (x : Lock). next_of c x (k + 1) ≡ next.Bind) count e)
-  load_sound c b (next.Fat m) h e = sound_stays (Acting c m) (silent (load_of w (object_of c))) (h, fat_fact c (lock_at w (object_of c).0) (k + 1) m e)
-  load_sound c b next.Spin h e = sound_stays (Begun c true) (silent (load_of w (object_of c))) h
+  load_sound c b (next.Fat m) none h e = sound_stays (Acting c m) (silent (load_of w (target c))) none (h, fat_fact c (lock_at w (target c).0) (k + 1) m e)
+  load_sound c b next.Spin none h e = sound_stays (Begun c true) (silent (load_of w (target c))) none h
 
-  take_sound : (o : ObjectId) (contended : Bool) (l : Lock) → o.0 < length w.words → lock_at w o.0 ≡ l → IsSound (gone w k (after_take w k t o contended l))
-  take_sound o true Free h e =
-      sound_writes o (Thin (k + 1) 0) h (thin_fits w sound k t seat 0 (omega arith)) (rw e tt) (Won o) (moved (won_at w o (Thin (k + 1) 0)) (move.Lock t)) (thin_stands w sound k t seat o.0 0 (omega arith))
-      (rw (length-set w.words o.0 (new_word w o (Thin (k + 1) 0))) h, lock_there o (Thin (k + 1) 0) h (thin_fits w sound k t seat 0 (omega arith)) (rw e tt) (Won o) (moved (won_at w o (Thin (k + 1) 0)) (move.Lock t)))
-  take_sound o false Free h e =
-      sound_writes o (Thin (k + 1) 0) h (thin_fits w sound k t seat 0 (omega arith)) (rw e tt) Idle (replied (won_at w o (Thin (k + 1) 0)) t reply.Entered) (thin_stands w sound k t seat o.0 0 (omega arith)) tt
-  take_sound o b (Thin i n) h e = sound_stays (Begun (call.Enter o) true) (silent (lost_at w o)) h
-  take_sound o b (Fat m) h e = sound_stays (Begun (call.Enter o) true) (silent (lost_at w o)) h
+  take_sound : (o : ObjectId) (contended : Bool) (l : Lock) → bound_by (place_at w k) ≡ None → o.0 < length w.words → lock_at w o.0 ≡ l → IsSound (gone w k (after_take w k t o contended l))
+  take_sound o true Free none h e =
+      sound_stores o (Thin (k + 1) 0) h (thin_fits w sound k t seat 0 (omega arith)) (rw e tt) refl (Won o) (moved (won_at w o (Thin (k + 1) 0)) (move.Lock t)) none (thin_stands w sound k t seat o.0 0 (omega arith))
+      (rw (length-set w.words o.0 (new_word w o (Thin (k + 1) 0))) h, lock_there o (Thin (k + 1) 0) h (thin_fits w sound k t seat 0 (omega arith)) (rw e tt) refl (Won o) (moved (won_at w o (Thin (k + 1) 0)) (move.Lock t)))
+  take_sound o false Free none h e =
+      sound_stores o (Thin (k + 1) 0) h (thin_fits w sound k t seat 0 (omega arith)) (rw e tt) refl Idle (replied (won_at w o (Thin (k + 1) 0)) t reply.Entered) none (thin_stands w sound k t seat o.0 0 (omega arith)) tt
+  take_sound o b (Thin i n) none h e = sound_stays (Begun (call.Enter o) true) (silent (lost_at w o)) none (refl, h)
+  take_sound o b (Fat m) none h e = sound_stays (Begun (call.Enter o) true) (silent (lost_at w o)) none (refl, h)
 
   -- the lock of a plain store fits a word
-  pub store_fits : (c : Call) (l : Lock) → StoresOwn (k + 1) (lock_at w (object_of c).0) l c → Fits l
+  pub store_fits : (c : Call) (l : Lock) → StoresOwn (k + 1) (lock_at w (target c).0) l c → Fits l
   store_fits (call.Enter o) l (n, old, few, new) = rw new (thin_fits w sound k t seat (n + 1) (omega arith))
   store_fits (call.Exit o) l (n, old, new) =
       let low : n ≤ 255 = (rw old at (stands_at w sound o.0)).2 in
       rw new (cond_both (nat_lt 0 n) _ _ Fits (λ e. thin_fits w sound k t seat (n - 1) (omega arith)) (λ e. tt))
   store_fits (call.Holds o) l fact = absurd fact
+  store_fits call.End l fact = absurd fact
 
-  store_stands : (c : Call) (l : Lock) → StoresOwn (k + 1) (lock_at w (object_of c).0) l c → Stands w (object_of c).0 l
+  store_new : (c : Call) (l : Lock) → StoresOwn (k + 1) (lock_at w (target c).0) l c → NotAnothers l
+  store_new (call.Enter o) l (n, old, few, new) = rw new refl
+  store_new (call.Exit o) l (n, old, new) = rw new (cond_both (nat_lt 0 n) _ _ NotAnothers (λ e. refl) (λ e. tt))
+  store_new (call.Holds o) l fact = absurd fact
+  store_new call.End l fact = absurd fact
+
+  store_stands : (c : Call) (l : Lock) → StoresOwn (k + 1) (lock_at w (target c).0) l c → Stands w (target c).0 l
   store_stands (call.Enter o) l (n, old, few, new) = rw new (thin_stands w sound k t seat o.0 (n + 1) (omega arith))
   store_stands (call.Exit o) l (n, old, new) =
       let low : n ≤ 255 = (rw old at (stands_at w sound o.0)).2 in
       rw new (cond_both (nat_lt 0 n) _ _ (Stands w o.0) (λ e. thin_stands w sound k t seat o.0 (n - 1) (omega arith)) (λ e. tt))
   store_stands (call.Holds o) l fact = absurd fact
+  store_stands call.End l fact = absurd fact
 
-  store_sound : (c : Call) (l : Lock) → Fitting w k (Storing c l) → IsSound (gone w k (after_store w t c l))
-  store_sound c l fit =
-      sound_writes (object_of c) l fit.0 (store_fits c l (storing w k c l fit)) (rw fit.1.1 refl) Idle (replied (stored_at w (object_of c) l) t (stored_reply c))
+  store_sound : (c : Call) (l : Lock) → bound_by (place_at w k) ≡ None → Fitting w k (Storing c l) → IsSound (gone w k (after_store w t c l))
+  store_sound c l none fit =
+      sound_stores (target c) l fit.0.1 (store_fits c l (storing w k c l fit)) (rw fit.1.1 refl) (store_new c l (storing w k c l fit)) Idle (replied (stored_at w (target c) l) t (stored_reply c)) none
       (store_stands c l (storing w k c l fit)) tt
 
   -- where there is room
@@ -255,48 +335,70 @@ module _ (w : WorldState) (sound : IsSound w) (k : ℕ) (t : ThreadId) (seat : s
   room_for room = cond_both (nat_lt (length w.fats.monitors) w.fats.limit) _ _ (λ x. x ≡ None → length w.fats.monitors < w.fats.limit)
       (λ e h. ltb-true (length w.fats.monitors) w.fats.limit e) (λ e h. absurd (cc))
 
-  bind_sound : (c : Call) (won : Bool) (n : ℕ) (refused : Option Cause) → (object_of c).0 < length w.words
-      → lock_at w (object_of c).0 ≡ Thin (k + 1) n → (refused ≡ None → length w.fats.monitors < w.fats.limit)
+  bind_sound : (c : Call) (won : Bool) (n : ℕ) (refused : Option Cause) → bound_by (place_at w k) ≡ None → Reaches w c
+      → lock_at w (target c).0 ≡ Thin (k + 1) n → (refused ≡ None → length w.fats.monitors < w.fats.limit)
       → IsSound (gone w k (after_bind w t c won (n + 1) refused))
-  bind_sound c won n None h shows room =
-      let few : n ≤ 255 = (rw shows at (stands_at w sound (object_of c).0)).2 in
-      sound_bound (object_of c) (n + 1) (omega arith) (omega arith) (room refl) (Bound c won (length w.fats.monitors)) (silent (atomic.Bound (object_of c) (length w.fats.monitors))) (
+  bind_sound c won n None none h shows room =
+      let few : n ≤ 255 = (rw shows at (stands_at w sound (target c).0)).2 in
+      sound_bound (target c) (n + 1) (omega arith) (omega arith) (room refl) (Bound c won (length w.fats.monitors)) (silent (atomic.Bound (target c) (length w.fats.monitors))) none refl (
         h,
-        omega (arith, length-append w.fats.monitors (record { object = object_of c; owner = Some t; holds = n + 1 } ∷ [])),
-        (n, shows, rw ((seat_found w.seats t k seat).1) (get_or_at w.fats.monitors (record { object = object_of c; owner = Some t; holds = n + 1 }) [] unbound (length w.fats.monitors) refl)),
+        omega (arith, length-append w.fats.monitors (record { object = target c; owner = Some t; holds = n + 1 } ∷ [])),
+        (n, shows, rw ((seat_found w.seats t k seat).1) (get_or_at w.fats.monitors (record { object = target c; owner = Some t; holds = n + 1 }) [] unbound (length w.fats.monitors) refl)),
       )
-  bind_sound c true n (Some x) h shows room = sound_stays Idle (returned (atomic.NotBound (object_of c) x) t reply.Entered) tt
-  bind_sound c false n (Some x) h shows room = sound_stays Idle (replied (atomic.NotBound (object_of c) x) t (reply.Refused x)) tt
+  bind_sound c true n (Some x) none h shows room = sound_stays Idle (returned (atomic.NotBound (target c) x) t reply.Entered) none tt
+  bind_sound c false n (Some x) none h shows room = sound_stays Idle (replied (atomic.NotBound (target c) x) t (reply.Refused x)) none tt
 
   -- the number of a bound monitor fits a word
   pub number_fits : (m : ℕ) → m < length w.fats.monitors → Fits (Fat m)
   number_fits m h = let b : length w.fats.monitors ≤ w.fats.limit = sound.fats.few in let l : w.fats.limit ≤ 8388608 = sound.fats.limit in omega arith
 
-  publish_sound : (c : Call) (won : Bool) (m : ℕ) → Fitting w k (Bound c won m) → IsSound (gone w k (after_publish w t c won m))
-  publish_sound c true m fit = sound_writes (object_of c) (Fat m) fit.0 (number_fits m fit.1) (rw fit.2.1 refl) Idle (returned (stored_at w (object_of c) (Fat m)) t reply.Entered)
+  -- the store of a fat word publishes what the thread has bound
+  published_now : (c : Call) (won : Bool) (m : ℕ) (p : Place) (d : Did) → place_at w k ≡ Bound c won m → Fitting w k (Bound c won m)
+      → (j : ℕ) → bound_by (place_at w k) ≡ Some j → IsPublished (gone w k (writes w (target c) (new_word w (target c) (Fat m)) p d)) j
+  published_now c won m p d e fit j some =
+      let same : m ≡ j = same_Some m j (sym (ap bound_by e) ∙ some) in
+      let object : (monitor_at w.fats m).object.0 ≡ (target c).0 = ap (λ (x : fat.Monitor). x.object.0) fit.2.2 in
+      subst (λ (x : ℕ). IsPublished (gone w k (writes w (target c) (new_word w (target c) (Fat m)) p d)) x) same
+      (inl (rw object (lock_there (target c) (Fat m) fit.0.1 (number_fits m fit.1) (rw fit.2.1 refl) tt p d)))
+
+  publish_sound : (c : Call) (won : Bool) (m : ℕ) → place_at w k ≡ Bound c won m → Fitting w k (Bound c won m) → IsSound (gone w k (after_publish w t c won m))
+  publish_sound c true m e fit =
+      sound_writes (target c) (Fat m) fit.0.1 (number_fits m fit.1) (rw fit.2.1 refl) tt Idle (returned (stored_at w (target c) (Fat m)) t reply.Entered)
+      (published_now c true m Idle (returned (stored_at w (target c) (Fat m)) t reply.Entered) e fit)
       (fit.1, ap (λ (x : fat.Monitor). x.object.0) fit.2.2) tt
-  publish_sound c false m fit = sound_writes (object_of c) (Fat m) fit.0 (number_fits m fit.1) (rw fit.2.1 refl) (Inflated c m) (silent (stored_at w (object_of c) (Fat m)))
+  publish_sound c false m e fit =
+      sound_writes (target c) (Fat m) fit.0.1 (number_fits m fit.1) (rw fit.2.1 refl) tt (Inflated c m) (silent (stored_at w (target c) (Fat m)))
+      (published_now c false m (Inflated c m) (silent (stored_at w (target c) (Fat m))) e fit)
       (fit.1, ap (λ (x : fat.Monitor). x.object.0) fit.2.2) (
-        rw (length-set w.words (object_of c).0 (new_word w (object_of c) (Fat m))) fit.0,
-        lock_there (object_of c) (Fat m) fit.0 (number_fits m fit.1) (rw fit.2.1 refl) (Inflated c m) (silent (stored_at w (object_of c) (Fat m))),
+        (fit.0.0, rw (length-set w.words (target c).0 (new_word w (target c) (Fat m))) fit.0.1),
+        lock_there (target c) (Fat m) fit.0.1 (number_fits m fit.1) (rw fit.2.1 refl) tt (Inflated c m) (silent (stored_at w (target c) (Fat m))),
       )
 
-  act_sound : (c : Call) (m : ℕ) → (object_of c).0 < length w.words → lock_at w (object_of c).0 ≡ Fat m → (a : Answer)
+  act_sound : (c : Call) (m : ℕ) → bound_by (place_at w k) ≡ None → Reaches w c → lock_at w (target c).0 ≡ Fat m → (a : Answer)
       → IsSound (gone w k (after_answer w t c m a))
-  act_sound c m h shows (answer.Reply r) = rw (named c m) (sound_changed c m shows Idle (replied (atomic.Acted (action_of c m) (answer.Reply r)) t r) tt)
-  act_sound c m h shows answer.Quiet = rw (named c m) (sound_changed c m shows (Begun c false) (silent (atomic.Acted (action_of c m) answer.Quiet)) h)
+  act_sound c m none h shows (answer.Reply r) = rw (acted_at w.fats t c m h.0) (sound_changed c m shows Idle (replied (atomic.Acted (action_of c m) (answer.Reply r)) t r) none tt)
+  act_sound c m none h shows answer.Quiet = rw (acted_at w.fats t c m h.0) (sound_changed c m shows (Begun c false) (silent (atomic.Acted (action_of c m) answer.Quiet)) none h)
 
-  go_sound_at : (room : Bool) (p : Place) → Fitting w k p → IsSound (gone w k (after_go room w k t p))
-  go_sound_at room Idle fit = sound_stays Idle (silent atomic.Label) tt
-  go_sound_at room (Begun c b) fit = load_sound c b (next_of c (lock_at w (object_of c).0) (k + 1)) fit refl
-  go_sound_at room (Taking o b) fit = take_sound o b (lock_at w o.0) fit refl
-  go_sound_at room (Storing c l) fit = store_sound c l fit
-  go_sound_at room (Binding c n) fit = bind_sound c false n (bind_cause room w.fats) fit.0 fit.1 (room_for room)
-  go_sound_at room (Acting c m) fit = act_sound c m fit.0 fit.1 (answered w.fats t (action_of c m))
-  go_sound_at room (Won o) fit = bind_sound (call.Enter o) true 0 (bind_cause room w.fats) fit.0 fit.1 (room_for room)
-  go_sound_at room (Bound c won m) fit = publish_sound c won m fit
-  go_sound_at room (Inflated c m) fit = act_sound c m fit.0 fit.1 (answered w.fats t (action_of c m))
+  look_sound : (n : ℕ) (own : Bool) → bound_by (place_at w k) ≡ None → Fitting w k (Ending n) → is_own (lock_at w n) (k + 1) ≡ own → n < length w.words → IsSound (gone w k (after_look w t n own))
+  look_sound n true none fit found more = sound_stays Idle (replied (load_of w (record { 0 = n })) t (reply.Refused cause.StillOwner)) none tt
+  look_sound n false none fit found more = sound_stays (Ending (n + 1)) (silent (load_of w (record { 0 = n }))) none (omega arith, λ q h. below q h (cases_eq q n))
+    where
+      below : (q : ℕ) → q < n + 1 → (q ≡ n) ⊎ (q ≡ n → ⊥) → is_own (lock_at w q) (k + 1) ≡ false
+      below q h (inl e) = rw e found
+      below q h (inr other) = fit.1 q (omega arith)
+
+  go_sound_at : (room : Bool) (p : Place) → place_at w k ≡ p → IsBusyAt (length w.words) p → Fitting w k p → IsSound (gone w k (after_go room w k t p))
+  go_sound_at room Idle e more fit = sound_stays Idle (silent atomic.Label) (rw e refl) tt
+  go_sound_at room (Begun c b) e more fit = load_sound c b (next_of c (lock_at w (target c).0) (k + 1)) (rw e refl) fit refl
+  go_sound_at room (Taking o b) e more fit = take_sound o b (lock_at w o.0) (rw e refl) fit refl
+  go_sound_at room (Storing c l) e more fit = store_sound c l (rw e refl) fit
+  go_sound_at room (Binding c n) e more fit = bind_sound c false n (bind_cause room w.fats) (rw e refl) fit.0 fit.1 (room_for room)
+  go_sound_at room (Acting c m) e more fit = act_sound c m (rw e refl) fit.0 fit.1 (answered w.fats t (action_of c m))
+  go_sound_at room (Won o) e more fit = bind_sound (call.Enter o) true 0 (bind_cause room w.fats) (rw e refl) (refl, fit.0) fit.1 (room_for room)
+  go_sound_at room (Bound c won m) e more fit = publish_sound c won m e fit
+  go_sound_at room (Inflated c m) e more fit = act_sound c m (rw e refl) fit.0 fit.1 (answered w.fats t (action_of c m))
+  go_sound_at room (Ending n) e more fit = look_sound n (is_own (lock_at w n) (k + 1)) (rw e refl) fit refl more
 
   -- A Go keeps the world sound.
-  pub go_sound : (room : Bool) → IsSound (gone w k (after_go room w k t (place_at w k)))
-  go_sound room = go_sound_at room (place_at w k) (sound.places k (within w sound k t seat))
+  pub go_sound : (room : Bool) → IsBusyAt (length w.words) (place_at w k) → IsSound (gone w k (after_go room w k t (place_at w k)))
+  go_sound room more = go_sound_at room (place_at w k) refl more (sound.places k (within w sound k t seat))

@@ -8,26 +8,27 @@ use Rattle.lock_word.specs.declared.Lock.{Lock}
 use Rattle.lock_word.specs.declared.Lock.TheVariants.{Free, Thin, Fat}
 use Rattle.thread_index.specs.Indices.{seat_of, free_seat}
 use Rattle.fat_monitor.specs.declared.actions.Cause.{Cause}
+use Rattle.fat_monitor.specs.declared.actions.Cause.TheVariants as cause
 use Rattle.fat_monitor.specs.declared.actions.Reply.{Reply}
 use Rattle.fat_monitor.specs.declared.actions.Reply.TheVariants as reply
 use Rattle.fat_monitor.specs.declared.actions.Answer.{Answer}
 use Rattle.fat_monitor.specs.declared.actions.Answer.TheVariants as answer
-use Rattle.fat_monitor.specs.FatState.{answered}
+use Rattle.fat_monitor.specs.FatState.{answered, owns_one}
 use Rattle.fast_path.specs.declared.Call.{Call}
 use Rattle.fast_path.specs.declared.Call.TheVariants as call
 use Rattle.fast_path.specs.declared.Next.{Next}
 use Rattle.fast_path.specs.declared.Next.TheVariants as next
-use Rattle.fast_path.specs.Table.{object_of, next_of}
+use Rattle.fast_path.specs.Table.{target, next_of, object_of}
 use Rattle.step_core.specs.declared.places.Place.{Place}
-use Rattle.step_core.specs.declared.places.Place.TheVariants.{Idle, Begun, Taking, Storing, Binding, Acting, Won, Bound, Inflated}
+use Rattle.step_core.specs.declared.places.Place.TheVariants.{Idle, Begun, Taking, Storing, Binding, Acting, Won, Bound, Inflated, Ending}
 use Rattle.step_core.specs.declared.moves.Move.TheVariants as move
 use Rattle.step_core.specs.declared.events.Atomic.{Atomic}
 use Rattle.step_core.specs.declared.events.Did.{Did}
 use Rattle.step_core.specs.declared.events.Step.{Step}
 use Rattle.step_core.specs.declared.events.Step.TheVariants as step
-use Rattle.step_core.specs.WorldState.{WorldState, place_at, lock_at}
-use Rattle.step_core.specs.Going.{replied, move_for, after_load, after_take, after_bind, after_publish, after_answer, after_go, action_of, bind_cause}
-use Rattle.step_core.specs.Stepping.{Outcome, attached, begun, begun_at, refused, went, went_at, step_of, given}
+use Rattle.step_core.specs.WorldState.{WorldState, place_at, lock_at, is_own}
+use Rattle.step_core.specs.Going.{replied, move_for, after_load, after_take, after_bind, after_publish, after_answer, after_go, action_of, bind_cause, after_look, gone}
+use Rattle.step_core.specs.Stepping.{Outcome, attached, begun, begun_at, refused, went, went_at, step_of, given, begun_on, ended, accepted}
 use Rattle.step_core.specs.Labels.{labels_of, EndsWith, HasLabels}
 use Rattle.step_core.specs.declared.events.Fault.TheVariants as fault
 
@@ -41,6 +42,7 @@ no_label t reply.Entered = refl
 no_label t reply.Exited = refl
 no_label t reply.Yes = refl
 no_label t reply.No = refl
+no_label t reply.Ended = refl
 no_label t reply.IllegalMonitorState = refl
 no_label t (reply.Refused c) = refl
 
@@ -78,10 +80,15 @@ stores : (w : WorldState) (t : ThreadId) (c : Call) (l : Lock) → Ends t (after
 stores w t (call.Enter o) l = (move.Lock t ∷ [], refl, refl)
 stores w t (call.Exit o) l = (move.Unlock t ∷ [], refl, refl)
 stores w t (call.Holds o) l = (move.Ask t ∷ [], refl, refl)
+stores w t call.End l = (move.End t ∷ [], refl, refl)
+
+looks : (w : WorldState) (t : ThreadId) (n : ℕ) (own : Bool) → Ends t (after_look w t n own).did
+looks w t n true = (move.Refuse t cause.StillOwner ∷ [], refl, refl)
+looks w t n false = refl
 
 goes : (room : Bool) (w : WorldState) (k : ℕ) (t : ThreadId) (p : Place) → Ends t (after_go room w k t p).did
 goes room w k t Idle = refl
-goes room w k t (Begun c b) = loads w t c b (next_of c (lock_at w (object_of c).0) (k + 1))
+goes room w k t (Begun c b) = loads w t c b (next_of c (lock_at w (target c).0) (k + 1))
 goes room w k t (Taking o b) = takes w k t o b (lock_at w o.0)
 goes room w k t (Storing c l) = stores w t c l
 goes room w k t (Binding c n) = binds w t c false (n + 1) (bind_cause room w.fats)
@@ -89,6 +96,7 @@ goes room w k t (Acting c m) = acts w t c m (answered w.fats t (action_of c m))
 goes room w k t (Won o) = binds w t (call.Enter o) true 1 (bind_cause room w.fats)
 goes room w k t (Bound c won m) = publishes w t c won m
 goes room w k t (Inflated c m) = acts w t c m (answered w.fats t (action_of c m))
+goes room w k t (Ending n) = looks w t n (is_own (lock_at w n) (k + 1))
 
 -- an accepted step has its labels
 abbrev Labeled : Step → Outcome → Type 0
@@ -110,12 +118,21 @@ begins_at w k t c (Acting d m) = tt
 begins_at w k t c (Won o) = tt
 begins_at w k t c (Bound d won m) = tt
 begins_at w k t c (Inflated d m) = tt
+begins_at w k t c (Ending n) = tt
+
+begins_on : (w : WorldState) (k : ℕ) (t : ThreadId) (c : Call) (o : Option ObjectId) → Labeled (step.Begin t c) (begun_on w k t c o)
+begins_on w k t c None = begins_at w k t c (place_at w k)
+begins_on w k t c (Some o) =
+    cond_both (nat_lt o.0 (length w.words)) (begun_at w k t c (place_at w k)) (refused w fault.NoObject) (Labeled (step.Begin t c))
+    (λ _. begins_at w k t c (place_at w k)) (λ _. tt)
 
 begins : (w : WorldState) (t : ThreadId) (c : Call) (o : Option ℕ) → Labeled (step.Begin t c) (begun w t c o)
 begins w t c None = tt
-begins w t c (Some k) =
-    cond_both (nat_lt (object_of c).0 (length w.words)) (begun_at w k t c (place_at w k)) (refused w fault.NoObject) (Labeled (step.Begin t c))
-    (λ _. begins_at w k t c (place_at w k)) (λ _. tt)
+begins w t c (Some k) = begins_on w k t c (object_of c)
+
+ends : (w : WorldState) (k : ℕ) (t : ThreadId) (b : Bool) → Labeled (step.Go t) (ended w k t b)
+ends w k t true = (move.Refuse t cause.StillOwner ∷ [], refl, refl)
+ends w k t false = (move.End t ∷ [], refl, refl)
 
 wents_at : (room : Bool) (w : WorldState) (k : ℕ) (t : ThreadId) (p : Place) → Labeled (step.Go t) (went_at room w k t p)
 wents_at room w k t Idle = tt
@@ -127,6 +144,9 @@ wents_at room w k t (Acting c m) = goes room w k t (Acting c m)
 wents_at room w k t (Won o) = goes room w k t (Won o)
 wents_at room w k t (Bound c won m) = goes room w k t (Bound c won m)
 wents_at room w k t (Inflated c m) = goes room w k t (Inflated c m)
+wents_at room w k t (Ending n) =
+    cond_both (nat_lt n (length w.words)) (accepted (gone w k (after_go room w k t (Ending n))) (after_go room w k t (Ending n)).did) (ended w k t (owns_one w.fats.monitors t)) (Labeled (step.Go t))
+    (λ _. goes room w k t (Ending n)) (λ _. ends w k t (owns_one w.fats.monitors t))
 
 wents : (room : Bool) (w : WorldState) (t : ThreadId) (o : Option ℕ) → Labeled (step.Go t) (went room w t o)
 wents room w t None = tt

@@ -5,6 +5,7 @@ pub mod WordRuns
 pub mod ActRuns
 pub mod Runs
 pub mod Keeps
+pub mod Endings
 pub mod Steps
 pub mod Opening
 pub mod Goings

@@ -64,6 +64,7 @@ module _ (lows : List ℕ) (monitors indices : ℕ) (bytes : (k : ℕ) → k < l
     formed = λ p bad. let h : (get_or (map low_word lows) p (low_word 0)).0 < 256 = low_words lows bytes p in omega arith;
     words = λ p h. rw (lock_free p) tt;
     fats = record { few = omega arith; limit = bounded; fair = λ m h. absurd (omega arith) };
+    published = λ m h. absurd (omega arith);
     attached = λ t h. absurd (nobody t h);
     live = λ t h. absurd (none_attached t h);
     places = λ k h. rw (idle_at indices k) tt;

@@ -1,5 +1,8 @@
 -- A step is refused with the first of its faults whose cause holds, and only then; and a refused step changes nothing.
-use Rattle.std.specs.Prelude.{zero, suc, ◌≡◌, ℕ, ◌+◌, ◌<◌, ◌≤◌, Bool, true, false, nat_lt, List, [], ◌∷◌, length, Option, Some, None, IsSome, is_some, is_none, MatchResult, OnErr}
+use Rattle.fat_monitor.specs.FatState.{owns_one}
+use Rattle.step_core.specs.Going.{after_go, gone}
+use Rattle.lock_word.specs.declared.ObjectId.{ObjectId}
+use Rattle.std.specs.Prelude.{zero, suc, ◌≡◌, ℕ, ◌+◌, ◌<◌, ◌≤◌, Bool, true, false, nat_lt, List, [], ◌∷◌, length, Option, Some, None, IsSome, is_some, is_none, MatchResult, OnErr, if◌then◌else◌}
 use Rattle.std.specs.List.{position_from}
 use Rattle.std.proofs.Common.{refl, arith, sym, ◌∙◌, ap}
 use Rattle.std.proofs.lemmas.Bool.{cond_both, ltb-true, ltb-false}
@@ -8,17 +11,18 @@ use Rattle.lock_word.specs.declared.ThreadId.{ThreadId}
 use Rattle.thread_index.specs.Indices.{seat_of, free_seat, holder_at}
 use Rattle.thread_index.proofs.Seats.{free_found}
 use Rattle.fast_path.specs.declared.Call.{Call}
+use Rattle.fast_path.specs.declared.Call.TheVariants as call
 use Rattle.fast_path.specs.Table.{object_of}
 use Rattle.step_core.specs.declared.moves.Doing.TheVariants as doing
 use Rattle.step_core.specs.declared.places.Place.{Place}
-use Rattle.step_core.specs.declared.places.Place.TheVariants.{Idle, Begun, Taking, Storing, Binding, Acting, Won, Bound, Inflated}
+use Rattle.step_core.specs.declared.places.Place.TheVariants.{Idle, Begun, Taking, Storing, Binding, Acting, Won, Bound, Inflated, Ending}
 use Rattle.step_core.specs.declared.events.Step.{Step}
 use Rattle.step_core.specs.declared.events.Step.TheVariants as step
 use Rattle.step_core.specs.declared.events.Fault.{Fault}
 use Rattle.step_core.specs.declared.events.Fault.TheVariants.{NoIndex, Memory, Known, NoThread, NoObject, InCall, NotCalling}
-use Rattle.step_core.specs.Machine.{Thread}
+use Rattle.step_core.specs.Machine.{Thread, Exists}
 use Rattle.step_core.specs.WorldState.{WorldState, place_at}
-use Rattle.step_core.specs.Stepping.{Outcome, attached, begun, begun_at, refused, went, went_at, step_of}
+use Rattle.step_core.specs.Stepping.{Outcome, attached, begun, begun_at, refused, went, went_at, step_of, ended, accepted}
 use Rattle.step_core.specs.Shown.{shown, doing_of}
 use Rattle.step_core.specs.Refusals.{IsLive, IsNotLive, IsBusy, IsIdle, IsRefused, IsAcceptable}
 
@@ -51,6 +55,7 @@ not_idle (Won o) busy e = cc
 not_idle (Bound c true m) busy e = cc
 not_idle (Bound c false m) busy e = cc
 not_idle (Inflated c m) busy e = cc
+not_idle (Ending n) busy e = cc
 
 module _ (w : WorldState) (t : ThreadId) where
   live : (k : ℕ) → seat_of w.seats t ≡ Some k → IsLive w t
@@ -92,33 +97,44 @@ module _ (w : WorldState) (t : ThreadId) where
       accepted_only NotCalling h = absurd h
   attaches false None (Some k) e free = let there = free_found w.seats k free in ((not_live e, (k, there.0, there.1)), refl)
 
-  begins_at : (c : Call) (k : ℕ) → seat_of w.seats t ≡ Some k → (object_of c).0 < length w.words → (p : Place) → place_at w k ≡ p
+  -- a call that names no object that is missing
+  begins_at : (c : Call) (k : ℕ) → seat_of w.seats t ≡ Some k → Exists (length w.words) c
+      → ((o : ObjectId) → object_of c ≡ Some o → length w.words ≤ o.0 → ⊥) → (p : Place) → place_at w k ≡ p
       → Judged w (step.Begin t c) (begun_at w k t c p)
-  begins_at c k e h Idle at = (accepted_only, tt)
+  begins_at c k e h there Idle at = (accepted_only, tt)
     where
       accepted_only : (f : Fault) → IsRefused w (step.Begin t c) f → f ≡ Memory
       accepted_only NoThread r = absurd (apart_too k e r)
-      accepted_only NoObject r = let past : length w.words ≤ (object_of c).0 = r.1 in absurd (omega arith)
+      accepted_only NoObject r = absurd (there r.1.0 r.1.1 r.1.2)
       accepted_only InCall r = let x = r.0 in absurd (x.2 (sym (act_of k e x.0 x.1) ∙ rw at refl))
       accepted_only Known r = absurd r
       accepted_only NoIndex r = absurd r
       accepted_only Memory r = refl
       accepted_only NotCalling r = absurd r
-  begins_at c k e h (Begun d b) at = ((busy k e (λ i. let x = sym at ∙ i in cc), h), refl)
-  begins_at c k e h (Taking d b) at = ((busy k e (λ i. let x = sym at ∙ i in cc), h), refl)
-  begins_at c k e h (Storing d l) at = ((busy k e (λ i. let x = sym at ∙ i in cc), h), refl)
-  begins_at c k e h (Binding d n) at = ((busy k e (λ i. let x = sym at ∙ i in cc), h), refl)
-  begins_at c k e h (Acting d m) at = ((busy k e (λ i. let x = sym at ∙ i in cc), h), refl)
-  begins_at c k e h (Won o) at = ((busy k e (λ i. let x = sym at ∙ i in cc), h), refl)
-  begins_at c k e h (Bound d won m) at = ((busy k e (λ i. let x = sym at ∙ i in cc), h), refl)
-  begins_at c k e h (Inflated d m) at = ((busy k e (λ i. let x = sym at ∙ i in cc), h), refl)
+  begins_at c k e h there (Begun d b) at = ((busy k e (λ i. let x = sym at ∙ i in cc), h), refl)
+  begins_at c k e h there (Taking d b) at = ((busy k e (λ i. let x = sym at ∙ i in cc), h), refl)
+  begins_at c k e h there (Storing d l) at = ((busy k e (λ i. let x = sym at ∙ i in cc), h), refl)
+  begins_at c k e h there (Binding d n) at = ((busy k e (λ i. let x = sym at ∙ i in cc), h), refl)
+  begins_at c k e h there (Acting d m) at = ((busy k e (λ i. let x = sym at ∙ i in cc), h), refl)
+  begins_at c k e h there (Won o) at = ((busy k e (λ i. let x = sym at ∙ i in cc), h), refl)
+  begins_at c k e h there (Bound d won m) at = ((busy k e (λ i. let x = sym at ∙ i in cc), h), refl)
+  begins_at c k e h there (Inflated d m) at = ((busy k e (λ i. let x = sym at ∙ i in cc), h), refl)
+  begins_at c k e h there (Ending n) at = ((busy k e (λ i. let x = sym at ∙ i in cc), h), refl)
+
+  begins_on : (c : Call) (o : ObjectId) (k : ℕ) → seat_of w.seats t ≡ Some k → object_of c ≡ Some o → (o.0 < length w.words → Exists (length w.words) c)
+      → Judged w (step.Begin t c) (if nat_lt o.0 (length w.words) then begun_at w k t c (place_at w k) else refused w NoObject)
+  begins_on c o k e names there =
+      cond_both (nat_lt o.0 (length w.words)) (begun_at w k t c (place_at w k)) (refused w NoObject) (Judged w (step.Begin t c))
+      (λ h. let low : o.0 < length w.words = ltb-true o.0 (length w.words) h in
+      begins_at c k e (there low) (λ p same past. let one : o.0 ≡ p.0 = ap (λ (x : ObjectId). x.0) (same_Some o p (sym names ∙ same)) in absurd (omega arith)) (place_at w k) refl)
+      (λ h. ((live k e, (o, names, ltb-false o.0 (length w.words) h)), refl))
 
   begins : (c : Call) (o : Option ℕ) → seat_of w.seats t ≡ o → Judged w (step.Begin t c) (begun w t c o)
   begins c None e = (not_live e, refl)
-  begins c (Some k) e =
-      cond_both (nat_lt (object_of c).0 (length w.words)) (begun_at w k t c (place_at w k)) (refused w NoObject) (Judged w (step.Begin t c))
-      (λ h. begins_at c k e (ltb-true (object_of c).0 (length w.words) h) (place_at w k) refl)
-      (λ h. ((live k e, ltb-false (object_of c).0 (length w.words) h), refl))
+  begins (call.Enter o) (Some k) e = begins_on (call.Enter o) o k e refl (λ h. h)
+  begins (call.Exit o) (Some k) e = begins_on (call.Exit o) o k e refl (λ h. h)
+  begins (call.Holds o) (Some k) e = begins_on (call.Holds o) o k e refl (λ h. h)
+  begins call.End (Some k) e = begins_at call.End k e tt (λ o same past. cc) (place_at w k) refl
 
   -- a Go of a thread in a call is accepted
   goes : (k : ℕ) → seat_of w.seats t ≡ Some k → (place_at w k ≡ Idle → ⊥) → (f : Fault) → IsRefused w (step.Go t) f → f ≡ Memory
@@ -140,6 +156,13 @@ module _ (w : WorldState) (t : ThreadId) where
   wents_at room k e (Won o) at = (goes k e (λ i. let x = sym at ∙ i in cc), tt)
   wents_at room k e (Bound d won m) at = (goes k e (λ i. let x = sym at ∙ i in cc), tt)
   wents_at room k e (Inflated d m) at = (goes k e (λ i. let x = sym at ∙ i in cc), tt)
+  wents_at room k e (Ending n) at =
+      cond_both (nat_lt n (length w.words)) (accepted (gone w k (after_go room w k t (Ending n))) (after_go room w k t (Ending n)).did) (ended w k t (owns_one w.fats.monitors t)) (Judged w (step.Go t))
+      (λ _. (goes k e (λ i. let x = sym at ∙ i in cc), tt)) (λ _. ends (owns_one w.fats.monitors t))
+    where
+      ends : (b : Bool) → Judged w (step.Go t) (ended w k t b)
+      ends true = (goes k e (λ i. let x = sym at ∙ i in cc), tt)
+      ends false = (goes k e (λ i. let x = sym at ∙ i in cc), tt)
 
   wents : (room : Bool) (o : Option ℕ) → seat_of w.seats t ≡ o → Judged w (step.Go t) (went room w t o)
   wents room None e = (not_live e, refl)

@@ -1,21 +1,27 @@
 -- Each step is a run of the machine and keeps the world sound.
-use Rattle.std.specs.Prelude.{◌≡◌, ◌⊎◌, ℕ, ◌-◌, ◌<◌, Bool, true, false, if◌then◌else◌, ◌==◌, nat_lt, List, [], ◌∷◌, ◌++◌, length, set, get_or, Option, Some, None, IsSome, is_some, Result}
-use Rattle.std.proofs.Common.{arith, refl, sym, ◌∙◌, subst, inl, inr, get_or-set_same, get_or-set_other, length-set}
+use Rattle.step_core.specs.Parts.{IsBusyAt}
+use Rattle.lock_word.specs.declared.ObjectId.{ObjectId}
+use Rattle.step_core.proofs.Endings.{Right, ended_right}
+use Rattle.std.specs.Prelude.{◌≡◌, ◌⊎◌, ℕ, ◌-◌, ◌<◌, Bool, true, false, if◌then◌else◌, ◌==◌, nat_lt, List, [], ◌∷◌, ◌++◌, length, set, get_or, Option, Some, None, IsSome, is_some, Result, ◌+◌}
+use Rattle.std.proofs.Common.{arith, refl, sym, ◌∙◌, subst, inl, inr, get_or-set_same, get_or-set_other, length-set, ap}
 use Rattle.std.proofs.Math.Path.{fun_ext}
-use Rattle.std.proofs.lemmas.Bool.{cases_eq, eq-eqb, ne_eqb, cond_both, ltb-true}
+use Rattle.std.proofs.lemmas.Bool.{cases_eq, eq-eqb, ne_eqb, cond_both, ltb-true, ltb-false}
 use Rattle.lock_word.specs.declared.ThreadId.{ThreadId}
 use Rattle.lock_word.specs.declared.Lock.{Lock}
 use Rattle.lock_word.specs.declared.Lock.TheVariants.{Free, Thin, Fat}
 use Rattle.thread_index.specs.Indices.{seat_of, free_seat, holder_at}
 use Rattle.thread_index.proofs.Seats.{seat_found, seat_same, free_found, seat_taken_same, seat_taken_other, IsOneToOne-taken}
 use Rattle.fat_monitor.specs.declared.actions.Post.TheVariants.{Out}
-use Rattle.fat_monitor.specs.FatState.{IsAttached}
+use Rattle.fat_monitor.specs.declared.monitors.Monitor as fat
+use Rattle.fat_monitor.specs.FatState.{IsAttached, owns_one, monitor_at}
 use Rattle.fat_monitor.proofs.Posts.{get-insert_by}
 use Rattle.fast_path.specs.declared.Call.{Call}
+use Rattle.fast_path.specs.declared.Call.TheVariants as call
+use Rattle.step_core.specs.declared.moves.Doing.{Doing}
 use Rattle.fast_path.specs.Table.{object_of}
 use Rattle.step_core.specs.declared.moves.Doing.TheVariants as doing
 use Rattle.step_core.specs.declared.places.Place.{Place}
-use Rattle.step_core.specs.declared.places.Place.TheVariants.{Idle, Begun, Taking, Storing, Binding, Acting, Won, Bound, Inflated}
+use Rattle.step_core.specs.declared.places.Place.TheVariants.{Idle, Begun, Taking, Storing, Binding, Acting, Won, Bound, Inflated, Ending}
 use Rattle.step_core.specs.declared.moves.Move.{Move}
 use Rattle.step_core.specs.declared.moves.Move.TheVariants as move
 use Rattle.step_core.specs.declared.events.Atomic.TheVariants.{Label}
@@ -24,50 +30,63 @@ use Rattle.step_core.specs.declared.events.Step.TheVariants as step
 use Rattle.step_core.specs.declared.events.Did.{Did}
 use Rattle.step_core.specs.declared.events.Fault.{Fault}
 use Rattle.step_core.specs.declared.events.Fault.TheVariants as fault
-use Rattle.step_core.specs.Machine.{State, Run, now_is}
-use Rattle.step_core.specs.WorldState.{WorldState, IsSound, Stands, Fitting, place_at, lock_at}
+use Rattle.step_core.specs.Machine.{State, Run, now_is, Exists}
+use Rattle.step_core.specs.WorldState.{WorldState, IsSound, Stands, Fitting, place_at, lock_at, bound_by, IsPublished}
 use Rattle.step_core.specs.Going.{gone, stays, moved, after_go}
-use Rattle.step_core.specs.Stepping.{Outcome, refused, accepted, with_live, attached, begun, begun_at, went, went_at, step_of, moves_of, world_after, moves_after}
-use Rattle.step_core.specs.Shown.{shown, thread_of, monitor_of}
+use Rattle.step_core.specs.Stepping.{Outcome, refused, accepted, with_live, attached, begun, begun_at, went, went_at, step_of, moves_of, world_after, moves_after, ended, first_place}
+use Rattle.step_core.specs.Shown.{shown, thread_of, monitor_of, doing_of}
 use Rattle.step_core.proofs.Shows.{shown_kept}
 use Rattle.step_core.proofs.Frames.{stands_at, within, is_at}
 use Rattle.step_core.proofs.Runs.{go_run}
 use Rattle.step_core.proofs.Keeps.{go_sound, sound_stays}
 
--- what a step is to show: a sound world, and a run to what it shows
-abbrev pub Right : WorldState → Outcome → Type 0
-Right w o = IsSound o.after × Run (shown w) (moves_of o.answer) (shown o.after)
-
 module _ (w : WorldState) (sound : IsSound w) (t : ThreadId) where
   -- a Go from a place in a call
-  busy_right : (room : Bool) (k : ℕ) → seat_of w.seats t ≡ Some k → (p : Place) → place_at w k ≡ p → (p ≡ Idle → ⊥)
+  busy_right : (room : Bool) (k : ℕ) → seat_of w.seats t ≡ Some k → (p : Place) → place_at w k ≡ p → (p ≡ Idle → ⊥) → IsBusyAt (length w.words) p
       → Right w (accepted (gone w k (after_go room w k t p)) (after_go room w k t p).did)
-  busy_right room k seat p e busy =
+  busy_right room k seat p e busy more =
       subst (λ (x : Place). Right w (accepted (gone w k (after_go room w k t x)) (after_go room w k t x).did)) e
-      (go_sound w sound k t seat room, go_run w sound k t seat room (λ idle. busy (sym e ∙ idle)))
+      (go_sound w sound k t seat room (subst (IsBusyAt (length w.words)) (sym e) more), go_run w sound k t seat room (λ idle. busy (sym e ∙ idle)))
 
   went_right_at : (room : Bool) (k : ℕ) → seat_of w.seats t ≡ Some k → (p : Place) → place_at w k ≡ p → Right w (went_at room w k t p)
   went_right_at room k seat Idle e = (sound, refl)
-  went_right_at room k seat (Begun c b) e = busy_right room k seat (Begun c b) e (λ x. cc)
-  went_right_at room k seat (Taking c b) e = busy_right room k seat (Taking c b) e (λ x. cc)
-  went_right_at room k seat (Storing c l) e = busy_right room k seat (Storing c l) e (λ x. cc)
-  went_right_at room k seat (Binding c n) e = busy_right room k seat (Binding c n) e (λ x. cc)
-  went_right_at room k seat (Acting c m) e = busy_right room k seat (Acting c m) e (λ x. cc)
-  went_right_at room k seat (Won o) e = busy_right room k seat (Won o) e (λ x. cc)
-  went_right_at room k seat (Bound c won m) e = busy_right room k seat (Bound c won m) e (λ x. cc)
-  went_right_at room k seat (Inflated c m) e = busy_right room k seat (Inflated c m) e (λ x. cc)
+  went_right_at room k seat (Begun c b) e = busy_right room k seat (Begun c b) e (λ x. cc) tt
+  went_right_at room k seat (Taking c b) e = busy_right room k seat (Taking c b) e (λ x. cc) tt
+  went_right_at room k seat (Storing c l) e = busy_right room k seat (Storing c l) e (λ x. cc) tt
+  went_right_at room k seat (Binding c n) e = busy_right room k seat (Binding c n) e (λ x. cc) tt
+  went_right_at room k seat (Acting c m) e = busy_right room k seat (Acting c m) e (λ x. cc) tt
+  went_right_at room k seat (Won o) e = busy_right room k seat (Won o) e (λ x. cc) tt
+  went_right_at room k seat (Bound c won m) e = busy_right room k seat (Bound c won m) e (λ x. cc) tt
+  went_right_at room k seat (Inflated c m) e = busy_right room k seat (Inflated c m) e (λ x. cc) tt
+  went_right_at room k seat (Ending n) e =
+      cond_both (nat_lt n (length w.words)) (accepted (gone w k (after_go room w k t (Ending n))) (after_go room w k t (Ending n)).did) (ended w k t (owns_one w.fats.monitors t)) (Right w)
+      (λ h. busy_right room k seat (Ending n) e (λ x. cc) (ltb-true n (length w.words) h))
+      (λ h. ended_right w sound k t seat n e (ltb-false n (length w.words) h))
 
   went_right : (room : Bool) (o : Option ℕ) → seat_of w.seats t ≡ o → Right w (went room w t o)
   went_right room None e = (sound, refl)
   went_right room (Some k) e = went_right_at room k e (place_at w k) refl
 
-  begun_right_at : (c : Call) (k : ℕ) → seat_of w.seats t ≡ Some k → (object_of c).0 < length w.words → (p : Place) → place_at w k ≡ p → Right w (begun_at w k t c p)
+  first_fits : (c : Call) (k : ℕ) → Exists (length w.words) c → Fitting w k (first_place c (object_of c))
+  first_fits (call.Enter o) k h = (refl, h)
+  first_fits (call.Exit o) k h = (refl, h)
+  first_fits (call.Holds o) k h = (refl, h)
+  first_fits call.End k h = (omega arith, λ p l. absurd (omega arith))
+
+  first_wants : (c : Call) → doing_of (first_place c (object_of c)) ≡ doing.Wants c
+  first_wants (call.Enter o) = refl
+  first_wants (call.Exit o) = refl
+  first_wants (call.Holds o) = refl
+  first_wants call.End = refl
+
+  begun_right_at : (c : Call) (k : ℕ) → seat_of w.seats t ≡ Some k → Exists (length w.words) c → (p : Place) → place_at w k ≡ p → Right w (begun_at w k t c p)
   begun_right_at c k seat h Idle e = (
-    sound_stays w sound k t seat (Begun c false) (moved Label (move.Call t c)) h,
+    sound_stays w sound k t seat (first_place c (object_of c)) (moved Label (move.Call t c)) (rw e refl) (first_fits c k h),
     (
       now_is (shown w) t false (doing.Wants c),
       (false, is_at w sound k t seat Idle e, h, refl),
-      shown_kept w k t (stays w (Begun c false) (moved Label (move.Call t c))) seat (within w sound k t seat) refl (λ q. refl),
+      shown_kept w k t (stays w (first_place c (object_of c)) (moved Label (move.Call t c))) seat (within w sound k t seat) refl (λ q. refl)
+          ∙ ap (λ (d : Doing). now_is (shown w) t false d) (first_wants c),
     ),
   )
   begun_right_at c k seat h (Begun d b) e = (sound, refl)
@@ -78,12 +97,21 @@ module _ (w : WorldState) (sound : IsSound w) (t : ThreadId) where
   begun_right_at c k seat h (Won o) e = (sound, refl)
   begun_right_at c k seat h (Bound d won m) e = (sound, refl)
   begun_right_at c k seat h (Inflated d m) e = (sound, refl)
+  begun_right_at c k seat h (Ending n) e = (sound, refl)
+
+  -- a call that names an object that exists, and one that names none
+  begun_right_on : (c : Call) (o : ObjectId) (k : ℕ) → seat_of w.seats t ≡ Some k → (o.0 < length w.words → Exists (length w.words) c)
+      → Right w (if nat_lt o.0 (length w.words) then begun_at w k t c (place_at w k) else refused w fault.NoObject)
+  begun_right_on c o k e there =
+      cond_both (nat_lt o.0 (length w.words)) (begun_at w k t c (place_at w k)) (refused w fault.NoObject) (Right w)
+      (λ h. begun_right_at c k e (there (ltb-true o.0 (length w.words) h)) (place_at w k) refl) (λ _. (sound, refl))
 
   begun_right : (c : Call) (o : Option ℕ) → seat_of w.seats t ≡ o → Right w (begun w t c o)
   begun_right c None e = (sound, refl)
-  begun_right c (Some k) e =
-      cond_both (nat_lt (object_of c).0 (length w.words)) (begun_at w k t c (place_at w k)) (refused w fault.NoObject) (Right w)
-      (λ h. begun_right_at c k e (ltb-true (object_of c).0 (length w.words) h) (place_at w k) refl) (λ _. (sound, refl))
+  begun_right (call.Enter o) (Some k) e = begun_right_on (call.Enter o) o k e (λ h. h)
+  begun_right (call.Exit o) (Some k) e = begun_right_on (call.Exit o) o k e (λ h. h)
+  begun_right (call.Holds o) (Some k) e = begun_right_on (call.Holds o) o k e (λ h. h)
+  begun_right call.End (Some k) e = begun_right_at call.End k e tt (place_at w k) refl
 
   -- a new thread at the lowest free seat
   module _ (none : seat_of w.seats t ≡ None) (k : ℕ) (free : free_seat w.seats ≡ Some k) where
@@ -138,6 +166,7 @@ module _ (w : WorldState) (sound : IsSound w) (t : ThreadId) where
     old_fits j ne (Won o) fit = fit
     old_fits j ne (Bound c won m) fit = (fit.0, fit.1, (fit.2.0, fit.2.1, rw (holder_kept j ne) fit.2.2))
     old_fits j ne (Inflated c m) fit = fit
+    old_fits j ne (Ending n) fit = fit
 
     attached_now : (u : ThreadId) → (u.0 ≡ t.0) ⊎ (u.0 ≡ t.0 → ⊥) → IsSome (seat_of now.seats u) → IsAttached now.fats u
     attached_now u (inl same) h = rw (get-insert_by w.fats.threads t.0 Out u.0, eq-eqb u.0 t.0 same) refl
@@ -146,6 +175,32 @@ module _ (w : WorldState) (sound : IsSound w) (t : ThreadId) where
     live_now : (u : ThreadId) → (u.0 ≡ t.0) ⊎ (u.0 ≡ t.0 → ⊥) → IsAttached now.fats u → IsSome (seat_of now.seats u)
     live_now u (inl same) h = rw (seat_now_same u same) refl
     live_now u (inr ne) h = rw (seat_now_other u ne) (sound.live u (rw (get-insert_by w.fats.threads t.0 Out u.0, ne_eqb u.0 t.0 ne) at h))
+
+    -- a free seat has bound nothing: a monitor that it had bound would have no owner
+    none_bound : (p : Place) → Fitting w k p → bound_by p ≡ None
+    none_bound Idle f = refl
+    none_bound (Begun c b) f = refl
+    none_bound (Taking o b) f = refl
+    none_bound (Storing c l) f = refl
+    none_bound (Binding c n) f = refl
+    none_bound (Acting c m) f = refl
+    none_bound (Won o) f = refl
+    none_bound (Bound c won m) f =
+        let owner : (monitor_at w.fats m).owner ≡ None = ap (λ (b : fat.Monitor). b.owner) f.2.2 ∙ (free_found w.seats k free).1 in
+        let holds : (monitor_at w.fats m).holds ≡ f.2.0 + 1 = ap (λ (b : fat.Monitor). b.holds) f.2.2 in
+        let nothing : (monitor_at w.fats m).holds ≡ 0 = (sound.fats.fair m f.1).1.0 owner in
+        absurd (omega arith)
+    none_bound (Inflated c m) f = refl
+    none_bound (Ending n) f = refl
+
+    published_now : (m : ℕ) → IsPublished w m → IsPublished now m
+    published_now m (inl shows) = inl shows
+    published_now m (inr (j, there, bound)) = by_seat (cases_eq j k)
+      where
+        by_seat : (j ≡ k) ⊎ (j ≡ k → ⊥) → IsPublished now m
+        by_seat (inl e) =
+            let never : None ≡ Some m = sym (none_bound (place_at w k) (sound.places k has_place)) ∙ rw e at bound in absurd (cc)
+        by_seat (inr ne) = inr (j, rw (length-set w.places k Idle) there, rw (get_or-set_other w.places k j Idle Idle ne) bound)
 
     now_sound : IsSound now
     now_sound = record {
@@ -156,6 +211,7 @@ module _ (w : WorldState) (sound : IsSound w) (t : ThreadId) where
       formed = sound.formed;
       words = λ p h. old_stands p (lock_at w p) (sound.words p h);
       fats = record { few = sound.fats.few; limit = sound.fats.limit; fair = sound.fats.fair };
+      published = λ m h. published_now m (sound.published m h);
       attached = λ u h. attached_now u (cases_eq u.0 t.0) h;
       live = λ u h. live_now u (cases_eq u.0 t.0) h;
       places = λ j h. at_seat j h (cases_eq j k);

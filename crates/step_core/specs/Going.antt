@@ -19,15 +19,15 @@ use Rattle.fast_path.specs.declared.Call.{Call}
 use Rattle.fast_path.specs.declared.Call.TheVariants as call
 use Rattle.fast_path.specs.declared.Next.{Next}
 use Rattle.fast_path.specs.declared.Next.TheVariants as next
-use Rattle.fast_path.specs.Table.{object_of, next_of}
+use Rattle.fast_path.specs.Table.{target, next_of}
 use Rattle.step_core.specs.declared.places.Place.{Place}
-use Rattle.step_core.specs.declared.places.Place.TheVariants.{Idle, Begun, Taking, Storing, Binding, Acting, Won, Bound, Inflated}
+use Rattle.step_core.specs.declared.places.Place.TheVariants.{Idle, Begun, Taking, Storing, Binding, Acting, Won, Bound, Inflated, Ending}
 use Rattle.step_core.specs.declared.moves.Move.{Move}
 use Rattle.step_core.specs.declared.moves.Move.TheVariants as move
 use Rattle.step_core.specs.declared.events.Atomic.{Atomic}
 use Rattle.step_core.specs.declared.events.Atomic.TheVariants as atomic
 use Rattle.step_core.specs.declared.events.Did.{Did}
-use Rattle.step_core.specs.WorldState.{WorldState, word_at, lock_at}
+use Rattle.step_core.specs.WorldState.{WorldState, word_at, lock_at, is_own}
 
 -- What a Go leaves: the words, the fat state and the place of its thread; and what it did.
 pub record After : Type 0 where
@@ -46,6 +46,7 @@ move_for reply.Entered t = move.Lock t
 move_for reply.Exited t = move.Unlock t
 move_for reply.Yes t = move.Ask t
 move_for reply.No t = move.Ask t
+move_for reply.Ended t = move.End t
 move_for reply.IllegalMonitorState t = move.Illegal t
 move_for (reply.Refused c) t = move.Refuse t c
 
@@ -98,12 +99,12 @@ stored_at w o l = atomic.Stored o (word_at w o.0) (new_word w o l)
 
 -- a load of a word that calls for this
 abbrev pub after_load : WorldState → ThreadId → Call → Bool → Next → After
-after_load w t c contended (next.Reply r) = stays w Idle (replied (load_of w (object_of c)) t r)
-after_load w t c contended (next.Cas l) = stays w (Taking (object_of c) contended) (silent (load_of w (object_of c)))
-after_load w t c contended (next.Store l) = stays w (Storing c l) (silent (load_of w (object_of c)))
-after_load w t c contended next.Bind = stays w (Binding c (count_of (lock_at w (object_of c).0))) (silent (load_of w (object_of c)))
-after_load w t c contended (next.Fat m) = stays w (Acting c m) (silent (load_of w (object_of c)))
-after_load w t c contended next.Spin = stays w (Begun c true) (silent (load_of w (object_of c)))
+after_load w t c contended (next.Reply r) = stays w Idle (replied (load_of w (target c)) t r)
+after_load w t c contended (next.Cas l) = stays w (Taking (target c) contended) (silent (load_of w (target c)))
+after_load w t c contended (next.Store l) = stays w (Storing c l) (silent (load_of w (target c)))
+after_load w t c contended next.Bind = stays w (Binding c (count_of (lock_at w (target c).0))) (silent (load_of w (target c)))
+after_load w t c contended (next.Fat m) = stays w (Acting c m) (silent (load_of w (target c)))
+after_load w t c contended next.Spin = stays w (Begun c true) (silent (load_of w (target c)))
 
 -- an exchange that finds this lock: only the free one is taken
 abbrev pub after_take : WorldState → ℕ → ThreadId → ObjectId → Bool → Lock → After
@@ -114,37 +115,39 @@ after_take w k t o false Free =
 after_take w k t o contended (Thin i c) = stays w (Begun (call.Enter o) true) (silent (lost_at w o))
 after_take w k t o contended (Fat m) = stays w (Begun (call.Enter o) true) (silent (lost_at w o))
 
--- what a call replies when its word is stored; a Holds stores none
+-- what a call replies when its word is stored; a Holds and an End store none
 abbrev pub stored_reply : Call → Reply
 stored_reply (call.Enter o) = reply.Entered
 stored_reply (call.Exit o) = reply.Exited
 stored_reply (call.Holds o) = reply.Yes
+stored_reply call.End = reply.Ended
 
 -- the store of a thin or free word
 abbrev pub after_store : WorldState → ThreadId → Call → Lock → After
 after_store w t c l =
-    writes w (object_of c) (new_word w (object_of c) l) Idle (replied (stored_at w (object_of c) l) t (stored_reply c))
+    writes w (target c) (new_word w (target c) l) Idle (replied (stored_at w (target c) l) t (stored_reply c))
 
 -- A bind of an object that is held n times; refused for a cause, or not. A contended enter that has won
 -- has its reply, and drops the inflation where it is refused.
 abbrev pub after_bind : WorldState → ThreadId → Call → Bool → ℕ → Option Cause → After
 after_bind w t c won n None =
-    turns w (bound_with w.fats (object_of c) t n) (Bound c won (length w.fats.monitors)) (silent (atomic.Bound (object_of c) (length w.fats.monitors)))
-after_bind w t c true n (Some cause) = stays w Idle (returned (atomic.NotBound (object_of c) cause) t reply.Entered)
-after_bind w t c false n (Some cause) = stays w Idle (replied (atomic.NotBound (object_of c) cause) t (reply.Refused cause))
+    turns w (bound_with w.fats (target c) t n) (Bound c won (length w.fats.monitors)) (silent (atomic.Bound (target c) (length w.fats.monitors)))
+after_bind w t c true n (Some cause) = stays w Idle (returned (atomic.NotBound (target c) cause) t reply.Entered)
+after_bind w t c false n (Some cause) = stays w Idle (replied (atomic.NotBound (target c) cause) t (reply.Refused cause))
 
 -- the store of a fat word
 abbrev pub after_publish : WorldState → ThreadId → Call → Bool → ℕ → After
 after_publish w t c true m =
-    writes w (object_of c) (new_word w (object_of c) (Fat m)) Idle (returned (stored_at w (object_of c) (Fat m)) t reply.Entered)
+    writes w (target c) (new_word w (target c) (Fat m)) Idle (returned (stored_at w (target c) (Fat m)) t reply.Entered)
 after_publish w t c false m =
-    writes w (object_of c) (new_word w (object_of c) (Fat m)) (Inflated c m) (silent (stored_at w (object_of c) (Fat m)))
+    writes w (target c) (new_word w (target c) (Fat m)) (Inflated c m) (silent (stored_at w (target c) (Fat m)))
 
 -- the fat action of a call's own name
 abbrev pub action_of : Call → ℕ → Action
 action_of (call.Enter o) m = action.Enter m
 action_of (call.Exit o) m = action.Exit m
 action_of (call.Holds o) m = action.Holds m
+action_of call.End m = action.End
 
 -- a fat action that answers this; where it is Quiet the call is at its load again
 abbrev pub after_answer : WorldState → ThreadId → Call → ℕ → Answer → After
@@ -161,10 +164,15 @@ after_act w t c m = after_answer w t c m (answered w.fats t (action_of c m))
 abbrev pub bind_cause : Bool → FatState → Option Cause
 bind_cause room f = if nat_lt (length f.monitors) f.limit then (if room then None else Some cause.Memory) else Some cause.NoMonitor
 
--- What a Go does at each place. At Idle no Go is made.
+-- a load by a thread that is to end, of a word that is its own thin one or not
+abbrev pub after_look : WorldState → ThreadId → ℕ → Bool → After
+after_look w t n true = stays w Idle (replied (load_of w (record { 0 = n })) t (reply.Refused cause.StillOwner))
+after_look w t n false = stays w (Ending (n + 1)) (silent (load_of w (record { 0 = n })))
+
+-- What a Go does at each place. At Idle no Go is made, and a thread that has loaded all words acts otherwise.
 abbrev pub after_go : Bool → WorldState → ℕ → ThreadId → Place → After
 after_go room w k t Idle = stays w Idle (silent atomic.Label)
-after_go room w k t (Begun c contended) = after_load w t c contended (next_of c (lock_at w (object_of c).0) (k + 1))
+after_go room w k t (Begun c contended) = after_load w t c contended (next_of c (lock_at w (target c).0) (k + 1))
 after_go room w k t (Taking o contended) = after_take w k t o contended (lock_at w o.0)
 after_go room w k t (Storing c l) = after_store w t c l
 after_go room w k t (Binding c n) = after_bind w t c false (n + 1) (bind_cause room w.fats)
@@ -172,3 +180,4 @@ after_go room w k t (Acting c m) = after_act w t c m
 after_go room w k t (Won o) = after_bind w t (call.Enter o) true 1 (bind_cause room w.fats)
 after_go room w k t (Bound c won m) = after_publish w t c won m
 after_go room w k t (Inflated c m) = after_act w t c m
+after_go room w k t (Ending n) = after_look w t n (is_own (lock_at w n) (k + 1))

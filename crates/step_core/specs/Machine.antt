@@ -4,12 +4,11 @@ use Rattle.std.specs.Prelude.{◌≡◌, ◌⊎◌, ◌↔◌, ℕ, ◌+◌, ◌
 use Rattle.lock_word.specs.declared.ThreadId.{ThreadId}
 use Rattle.lock_word.specs.declared.ObjectId.{ObjectId}
 use Rattle.fat_monitor.specs.declared.actions.Cause.{Cause}
-use Rattle.fat_monitor.specs.declared.actions.Cause.TheVariants.{NoMonitor, Memory, TooDeep}
+use Rattle.fat_monitor.specs.declared.actions.Cause.TheVariants.{NoMonitor, Memory, TooDeep, StillOwner}
 use Rattle.fat_monitor.specs.declared.actions.Reply.{Reply}
 use Rattle.fat_monitor.specs.declared.actions.Reply.TheVariants as reply
 use Rattle.fast_path.specs.declared.Call.{Call}
 use Rattle.fast_path.specs.declared.Call.TheVariants as call
-use Rattle.fast_path.specs.Table.{object_of}
 use Rattle.step_core.specs.declared.moves.Doing.{Doing}
 use Rattle.step_core.specs.declared.moves.Doing.TheVariants.{Idle, Wants, Has}
 use Rattle.step_core.specs.declared.moves.Move.{Move}
@@ -83,19 +82,33 @@ abbrev pub owner_only : Call → Option ObjectId
 owner_only (call.Exit o) = Some o
 owner_only (call.Enter o) = None
 owner_only (call.Holds o) = None
+owner_only call.End = None
+
+-- the object that a call names exists
+abbrev pub Exists : ℕ → Call → Type 0
+Exists n (call.Enter o) = o.0 < n
+Exists n (call.Exit o) = o.0 < n
+Exists n (call.Holds o) = o.0 < n
+Exists n call.End = Unit {0}
 
 -- t may be refused for this cause
 abbrev pub MayRefuse : State → ThreadId → Call → Cause → Type 0
 MayRefuse s t (call.Enter o) NoMonitor = OwnedBy s o t
 MayRefuse s t (call.Enter o) Memory = OwnedBy s o t
 MayRefuse s t (call.Enter o) TooDeep = OwnedBy s o t × ((s.monitor o).count ≡ 65535)
+MayRefuse s t (call.Enter o) StillOwner = ⊥
 MayRefuse s t (call.Exit o) cause = ⊥
 MayRefuse s t (call.Holds o) cause = ⊥
+MayRefuse s t call.End NoMonitor = ⊥
+MayRefuse s t call.End Memory = ⊥
+MayRefuse s t call.End TooDeep = ⊥
+MayRefuse s t call.End StillOwner = (o : ObjectId) × OwnedBy s o t
 
 -- From s the machine may make this move, which leads to s'. Whatever a row does not name stays.
 abbrev pub Steps : State → Move → State → Type 0
 Steps s (move.Attach t) s' = (s.thread t ≡ None) × (s' ≡ now_is s t false Idle)
-Steps s (move.Call t c) s' = (flag : Bool) × Is s t flag Idle × ((object_of c).0 < s.objects) × (s' ≡ now_is s t flag (Wants c))
+Steps s (move.Call t c) s' = (flag : Bool) × Is s t flag Idle × Exists s.objects c × (s' ≡ now_is s t flag (Wants c))
+Steps s (move.Return t reply.Ended) s' = (flag : Bool) × Is s t flag (Has reply.Ended) × (s' ≡ with_thread s t None)
 Steps s (move.Return t r) s' = (flag : Bool) × Is s t flag (Has r) × (s' ≡ now_is s t flag Idle)
 Steps s (move.Lock t) s' =
     (flag : Bool) × (o : ObjectId) × Calls s t flag (call.Enter o)
@@ -112,6 +125,7 @@ Steps s (move.Ask t) s' =
     × (s' ≡ answered s t flag (yes_or_no answer))
 Steps s (move.Refuse t cause) s' =
     (flag : Bool) × (c : Call) × Calls s t flag c × MayRefuse s t c cause × (s' ≡ answered s t flag (reply.Refused cause))
+Steps s (move.End t) s' = (flag : Bool) × Calls s t flag call.End × ((o : ObjectId) → OwnedBy s o t → ⊥) × (s' ≡ answered s t flag reply.Ended)
 
 -- one move after another
 abbrev pub Run : State → List Move → State → Type 0

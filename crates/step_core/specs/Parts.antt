@@ -1,12 +1,12 @@
 -- The parts of a world, as the functions over them see it.
-use Rattle.std.specs.Prelude.{ℕ, ◌<◌, ◌≤◌, List, [], length, slice_index_or, Option}
+use Rattle.std.specs.Prelude.{ℕ, ◌<◌, ◌≤◌, List, [], length, slice_index_or, Option, IsSome}
 use Rattle.lock_word.specs.declared.ThreadId.{ThreadId}
 use Rattle.lock_word.specs.declared.Word.{Word}
 use Rattle.lock_word.specs.Layout.{Fits, IsMalformed}
 use Rattle.fat_monitor.specs.FatState.{FatState}
-use Rattle.fast_path.specs.Table.{object_of}
+use Rattle.fast_path.specs.Table.{object_of, target}
 use Rattle.step_core.specs.declared.places.Place.{Place}
-use Rattle.step_core.specs.declared.places.Place.TheVariants.{Idle, Begun, Taking, Storing, Binding, Acting, Won, Bound, Inflated}
+use Rattle.step_core.specs.declared.places.Place.TheVariants.{Idle, Begun, Taking, Storing, Binding, Acting, Won, Bound, Inflated, Ending}
 use Rattle.step_core.specs.WorldState.{WorldState, low_word}
 
 -- a world of these parts
@@ -24,11 +24,25 @@ AreFormed words = (p : ℕ) → IsMalformed (slice_index_or words p (low_word 0)
 -- a Go may be made from this place: its object is there, its lock fits, its monitor is bound
 abbrev pub IsReady : List Word → FatState → Place → Type 0
 IsReady words f Idle = ⊥
-IsReady words f (Begun c contended) = (object_of c).0 < length words
+IsReady words f (Begun c contended) = IsSome (object_of c) × ((target c).0 < length words)
 IsReady words f (Taking o contended) = o.0 < length words
-IsReady words f (Storing c l) = ((object_of c).0 < length words) × Fits l
-IsReady words f (Binding c n) = n ≤ 255
-IsReady words f (Acting c m) = m < length f.monitors
+IsReady words f (Storing c l) = IsSome (object_of c) × ((target c).0 < length words) × Fits l
+IsReady words f (Binding c n) = IsSome (object_of c) × (n ≤ 255)
+IsReady words f (Acting c m) = IsSome (object_of c) × (m < length f.monitors)
 IsReady words f (Won o) = Unit {0}
-IsReady words f (Bound c won m) = ((object_of c).0 < length words) × (m ≤ 8388607)
-IsReady words f (Inflated c m) = m < length f.monitors
+IsReady words f (Bound c won m) = IsSome (object_of c) × ((target c).0 < length words) × (m ≤ 8388607)
+IsReady words f (Inflated c m) = IsSome (object_of c) × (m < length f.monitors)
+IsReady words f (Ending n) = n < length words
+
+-- a thread at this place that is to end has a word to load still, where there are so many objects
+abbrev pub IsBusyAt : ℕ → Place → Type 0
+IsBusyAt objects Idle = Unit {0}
+IsBusyAt objects (Begun c b) = Unit {0}
+IsBusyAt objects (Taking o b) = Unit {0}
+IsBusyAt objects (Storing c l) = Unit {0}
+IsBusyAt objects (Binding c n) = Unit {0}
+IsBusyAt objects (Acting c m) = Unit {0}
+IsBusyAt objects (Won o) = Unit {0}
+IsBusyAt objects (Bound c won m) = Unit {0}
+IsBusyAt objects (Inflated c m) = Unit {0}
+IsBusyAt objects (Ending n) = n < objects

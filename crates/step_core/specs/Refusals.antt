@@ -1,4 +1,5 @@
 -- When a step is refused, in the words of the machine.
+use Rattle.lock_word.specs.declared.ObjectId.{ObjectId}
 use Rattle.std.specs.Prelude.{◌≡◌, ◌≢◌, ℕ, ◌<◌, ◌≤◌, length, Some, None, IsSome}
 use Rattle.lock_word.specs.declared.ThreadId.{ThreadId}
 use Rattle.thread_index.specs.Indices.{holder_at}
@@ -8,7 +9,7 @@ use Rattle.step_core.specs.declared.events.Step.{Step}
 use Rattle.step_core.specs.declared.events.Step.TheVariants as step
 use Rattle.step_core.specs.declared.events.Fault.{Fault}
 use Rattle.step_core.specs.declared.events.Fault.TheVariants.{NoIndex, Memory, Known, NoThread, NoObject, InCall, NotCalling}
-use Rattle.step_core.specs.Machine.{Thread}
+use Rattle.step_core.specs.Machine.{Thread, Exists}
 use Rattle.step_core.specs.WorldState.{WorldState}
 use Rattle.step_core.specs.Shown.{shown}
 
@@ -42,8 +43,8 @@ IsRefused w (step.Attach t) NoObject = ⊥
 IsRefused w (step.Attach t) InCall = ⊥
 IsRefused w (step.Attach t) NotCalling = ⊥
 IsRefused w (step.Begin t c) NoThread = IsNotLive w t
-IsRefused w (step.Begin t c) NoObject = IsLive w t × ((shown w).objects ≤ (object_of c).0)
-IsRefused w (step.Begin t c) InCall = IsBusy w t × ((object_of c).0 < (shown w).objects)
+IsRefused w (step.Begin t c) NoObject = IsLive w t × ((o : ObjectId) × (object_of c ≡ Some o) × ((shown w).objects ≤ o.0))
+IsRefused w (step.Begin t c) InCall = IsBusy w t × Exists (shown w).objects c
 IsRefused w (step.Begin t c) Known = ⊥
 IsRefused w (step.Begin t c) NoIndex = ⊥
 IsRefused w (step.Begin t c) Memory = ⊥

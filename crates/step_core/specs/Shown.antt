@@ -5,11 +5,11 @@ use Rattle.lock_word.specs.declared.Lock.TheVariants.{Free, Thin, Fat}
 use Rattle.thread_index.specs.Indices.{seat_of, holder_at}
 use Rattle.fat_monitor.specs.FatState.{monitor_at}
 use Rattle.fat_monitor.specs.declared.actions.Reply.TheVariants.{Entered}
-use Rattle.fast_path.specs.declared.Call.TheVariants.{Enter}
+use Rattle.fast_path.specs.declared.Call.TheVariants.{Enter, End}
 use Rattle.step_core.specs.declared.moves.Doing.{Doing}
 use Rattle.step_core.specs.declared.moves.Doing.TheVariants as doing
 use Rattle.step_core.specs.declared.places.Place.{Place}
-use Rattle.step_core.specs.declared.places.Place.TheVariants.{Idle, Begun, Taking, Storing, Binding, Acting, Won, Bound, Inflated}
+use Rattle.step_core.specs.declared.places.Place.TheVariants.{Idle, Begun, Taking, Storing, Binding, Acting, Won, Bound, Inflated, Ending}
 use Rattle.step_core.specs.Machine.{State, Thread, Monitor, free}
 use Rattle.step_core.specs.WorldState.{WorldState, place_at, lock_at}
 
@@ -24,6 +24,7 @@ doing_of (Acting c m) = doing.Wants c
 doing_of (Won o) = doing.Has Entered
 doing_of (Bound c won m) = if won then doing.Has Entered else doing.Wants c
 doing_of (Inflated c m) = doing.Wants c
+doing_of (Ending n) = doing.Wants End
 
 -- the thread at a seat: nobody is interrupted yet
 abbrev pub thread_of : WorldState → Option ℕ → Option Thread

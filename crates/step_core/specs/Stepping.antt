@@ -2,21 +2,26 @@
 use Rattle.std.specs.Prelude.{ℕ, Bool, true, false, if◌then◌else◌, nat_lt, List, [], ◌∷◌, ◌++◌, length, slice_set, Option, Some, None, Result, Ok, Err}
 use Rattle.lock_word.specs.declared.ThreadId.{ThreadId}
 use Rattle.thread_index.specs.Indices.{seat_of, free_seat}
-use Rattle.fat_monitor.specs.FatState.{with_thread}
+use Rattle.fat_monitor.specs.FatState.{with_thread, without_thread, owns_one}
+use Rattle.fat_monitor.specs.declared.actions.Action.TheVariants as action
+use Rattle.fat_monitor.specs.declared.actions.Answer.TheVariants as answer
+use Rattle.fat_monitor.specs.declared.actions.Reply.TheVariants as reply
+use Rattle.fat_monitor.specs.declared.actions.Cause.TheVariants as cause
+use Rattle.lock_word.specs.declared.ObjectId.{ObjectId}
 use Rattle.fast_path.specs.declared.Call.{Call}
 use Rattle.fast_path.specs.Table.{object_of}
 use Rattle.step_core.specs.declared.places.Place.{Place}
-use Rattle.step_core.specs.declared.places.Place.TheVariants.{Idle, Begun}
+use Rattle.step_core.specs.declared.places.Place.TheVariants.{Idle, Begun, Ending}
 use Rattle.step_core.specs.declared.moves.Move.{Move}
 use Rattle.step_core.specs.declared.moves.Move.TheVariants as move
-use Rattle.step_core.specs.declared.events.Atomic.TheVariants.{Label}
+use Rattle.step_core.specs.declared.events.Atomic.TheVariants.{Label, Acted}
 use Rattle.step_core.specs.declared.events.Did.{Did}
 use Rattle.step_core.specs.declared.events.Step.{Step}
 use Rattle.step_core.specs.declared.events.Step.TheVariants as step
 use Rattle.step_core.specs.declared.events.Fault.{Fault}
 use Rattle.step_core.specs.declared.events.Fault.TheVariants.{NoIndex, Memory, Known, NoThread, NoObject, InCall, NotCalling}
 use Rattle.step_core.specs.WorldState.{WorldState, place_at}
-use Rattle.step_core.specs.Going.{moved, after_go, gone}
+use Rattle.step_core.specs.Going.{moved, replied, after_go, gone}
 
 -- the answer of a step, and the world after it
 pub record Outcome : Type 0 where
@@ -40,18 +45,43 @@ attached room w t None None = refused w NoIndex
 attached true w t None (Some k) = accepted (with_live w k t) (moved Label (move.Attach t))
 attached false w t None (Some k) = refused w Memory
 
+-- where a call begins that names this object, if it names one
+abbrev pub first_place : Call → Option ObjectId → Place
+first_place c None = Ending 0
+first_place c (Some o) = Begun c false
+
 -- the begin of a call by the thread at seat k, which stands at this place
 abbrev pub begun_at : WorldState → ℕ → ThreadId → Call → Place → Outcome
-begun_at w k t c Idle = accepted (record w { places = slice_set w.places k (Begun c false) }) (moved Label (move.Call t c))
+begun_at w k t c Idle = accepted (record w { places = slice_set w.places k (first_place c (object_of c)) }) (moved Label (move.Call t c))
 begun_at w k t c p = refused w InCall
+
+-- a call that names an object asks whether it exists
+abbrev pub begun_on : WorldState → ℕ → ThreadId → Call → Option ObjectId → Outcome
+begun_on w k t c None = begun_at w k t c (place_at w k)
+begun_on w k t c (Some o) = if nat_lt o.0 (length w.words) then begun_at w k t c (place_at w k) else refused w NoObject
 
 abbrev pub begun : WorldState → ThreadId → Call → Option ℕ → Outcome
 begun w t c None = refused w NoThread
-begun w t c (Some k) = if nat_lt (object_of c).0 (length w.words) then begun_at w k t c (place_at w k) else refused w NoObject
+begun w t c (Some k) = begun_on w k t c (object_of c)
+
+-- the world without thread t at seat k
+abbrev pub without_live : WorldState → ℕ → ThreadId → WorldState
+without_live w k t = record w { seats = slice_set w.seats k None; places = slice_set w.places k Idle; fats = without_thread w.fats t }
+
+-- the action by which thread t at seat k ends, where it owns a fat monitor or not
+abbrev pub ended : WorldState → ℕ → ThreadId → Bool → Outcome
+ended w k t true =
+    accepted (record w { places = slice_set w.places k Idle })
+    (replied (Acted action.End (answer.Reply (reply.Refused cause.StillOwner))) t (reply.Refused cause.StillOwner))
+ended w k t false = accepted (without_live w k t) (replied (Acted action.End (answer.Reply reply.Ended)) t reply.Ended)
 
 -- a Go of the thread at seat k, which stands at this place
 abbrev pub went_at : Bool → WorldState → ℕ → ThreadId → Place → Outcome
 went_at room w k t Idle = refused w NotCalling
+went_at room w k t (Ending n) =
+    if nat_lt n (length w.words)
+    then accepted (gone w k (after_go room w k t (Ending n))) (after_go room w k t (Ending n)).did
+    else ended w k t (owns_one w.fats.monitors t)
 went_at room w k t p = accepted (gone w k (after_go room w k t p)) (after_go room w k t p).did
 
 abbrev pub went : Bool → WorldState → ThreadId → Option ℕ → Outcome

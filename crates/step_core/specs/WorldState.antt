@@ -1,5 +1,5 @@
 -- What a world is: header words, the threads by index, the place of each in its call, and the fat state.
-use Rattle.std.specs.Prelude.{◌≡◌, ℕ, ◌+◌, ◌-◌, ◌<◌, ◌≤◌, List, length, slice_index_or, Option, None, IsSome, map, replicate}
+use Rattle.std.specs.Prelude.{Some, ◌≡◌, ℕ, ◌+◌, ◌-◌, ◌<◌, ◌≤◌, List, length, slice_index_or, Option, None, IsSome, map, replicate, Bool, false, ◌==◌, ◌⊎◌}
 use Rattle.lock_word.specs.declared.ThreadId.{ThreadId}
 use Rattle.lock_word.specs.declared.Word.{Word}
 use Rattle.lock_word.specs.declared.Lock.{Lock}
@@ -10,9 +10,9 @@ use Rattle.fat_monitor.specs.FatState.{FatState, monitor_at, IsAttached}
 use Rattle.fat_monitor.specs.FatState as fat
 use Rattle.fast_path.specs.declared.Call.{Call}
 use Rattle.fast_path.specs.declared.Next.TheVariants as next
-use Rattle.fast_path.specs.Table.{object_of, next_of}
+use Rattle.fast_path.specs.Table.{object_of, target, next_of}
 use Rattle.step_core.specs.declared.places.Place.{Place}
-use Rattle.step_core.specs.declared.places.Place.TheVariants.{Idle, Begun, Taking, Storing, Binding, Acting, Won, Bound, Inflated}
+use Rattle.step_core.specs.declared.places.Place.TheVariants.{Idle, Begun, Taking, Storing, Binding, Acting, Won, Bound, Inflated, Ending}
 
 -- the word of each object; who has each index, by seat, which is the index less one; the place of the
 -- thread at each seat; and the fat state
@@ -41,9 +41,9 @@ word_at w p = slice_index_or w.words p (low_word 0)
 abbrev pub lock_at : WorldState → ℕ → Lock
 lock_at w p = lock_of (word_at w p).0
 
--- the object that the call names exists
-abbrev pub Exists : WorldState → Call → Type 0
-Exists w c = (object_of c).0 < length w.words
+-- the call names an object, which exists
+abbrev pub Reaches : WorldState → Call → Type 0
+Reaches w c = IsSome (object_of c) × ((target c).0 < length w.words)
 
 -- a lock that object p may show: a thin one is a live thread's, and a fat one is of a monitor that is bound to p
 abbrev pub Stands : WorldState → ℕ → Lock → Type 0
@@ -51,22 +51,47 @@ Stands w p Free = Unit {0}
 Stands w p (Thin i c) = (1 ≤ i) × (i ≤ 32767) × (c ≤ 255) × IsSome (holder_at w.seats (i - 1))
 Stands w p (Fat m) = (m < length w.fats.monitors) × ((monitor_at w.fats m).object.0 ≡ p)
 
+-- a thin lock of the thread with this index
+abbrev pub is_own : Lock → ℕ → Bool
+is_own Free me = false
+is_own (Thin i c) me = i == me
+is_own (Fat m) me = false
+
 -- The thread at seat k may stand at this place: what it found when it loaded still stands, since a thin
 -- word is its owner's, a fat word stays fat, and a monitor that is bound and not stored is nobody else's.
 abbrev pub Fitting : WorldState → ℕ → Place → Type 0
 Fitting w k Idle = Unit {0}
-Fitting w k (Begun c contended) = Exists w c
+Fitting w k (Begun c contended) = Reaches w c
 Fitting w k (Taking o contended) = o.0 < length w.words
 Fitting w k (Storing c l) =
-    Exists w c × ((n : ℕ) × (lock_at w (object_of c).0 ≡ Thin (k + 1) n) × (next_of c (Thin (k + 1) n) (k + 1) ≡ next.Store l))
-Fitting w k (Binding c n) = Exists w c × (lock_at w (object_of c).0 ≡ Thin (k + 1) n) × (next_of c (Thin (k + 1) n) (k + 1) ≡ next.Bind)
-Fitting w k (Acting c m) = Exists w c × (lock_at w (object_of c).0 ≡ Fat m)
+    Reaches w c × ((n : ℕ) × (lock_at w (target c).0 ≡ Thin (k + 1) n) × (next_of c (Thin (k + 1) n) (k + 1) ≡ next.Store l))
+Fitting w k (Binding c n) = Reaches w c × (lock_at w (target c).0 ≡ Thin (k + 1) n) × (next_of c (Thin (k + 1) n) (k + 1) ≡ next.Bind)
+Fitting w k (Acting c m) = Reaches w c × (lock_at w (target c).0 ≡ Fat m)
 Fitting w k (Won o) = (o.0 < length w.words) × (lock_at w o.0 ≡ Thin (k + 1) 0)
 Fitting w k (Bound c won m) =
-    Exists w c × (m < length w.fats.monitors)
-    × ((n : ℕ) × (lock_at w (object_of c).0 ≡ Thin (k + 1) n)
-    × (monitor_at w.fats m ≡ record { object = object_of c; owner = holder_at w.seats k; holds = n + 1 }))
-Fitting w k (Inflated c m) = Exists w c × (lock_at w (object_of c).0 ≡ Fat m)
+    Reaches w c × (m < length w.fats.monitors)
+    × ((n : ℕ) × (lock_at w (target c).0 ≡ Thin (k + 1) n)
+    × (monitor_at w.fats m ≡ record { object = target c; owner = holder_at w.seats k; holds = n + 1 }))
+Fitting w k (Inflated c m) = Reaches w c × (lock_at w (target c).0 ≡ Fat m)
+Fitting w k (Ending n) = (n ≤ length w.words) × ((p : ℕ) → p < n → is_own (lock_at w p) (k + 1) ≡ false)
+
+-- the monitor that a thread at this place has bound and is to store
+abbrev pub bound_by : Place → Option ℕ
+bound_by Idle = None
+bound_by (Begun c contended) = None
+bound_by (Taking o contended) = None
+bound_by (Storing c l) = None
+bound_by (Binding c n) = None
+bound_by (Acting c m) = None
+bound_by (Won o) = None
+bound_by (Bound c won m) = Some m
+bound_by (Inflated c m) = None
+bound_by (Ending n) = None
+
+-- a monitor that is bound is shown by its object, or somebody is to store it
+abbrev pub IsPublished : WorldState → ℕ → Type 0
+IsPublished w m =
+    (lock_at w (monitor_at w.fats m).object.0 ≡ Fat m) ⊎ ((j : ℕ) × (j < length w.places) × (bound_by (place_at w j) ≡ Some m))
 
 -- what every world keeps
 pub record IsSound (w : WorldState) : Type 0 where
@@ -77,6 +102,7 @@ pub record IsSound (w : WorldState) : Type 0 where
   pub formed : (p : ℕ) → IsMalformed (word_at w p).0 → ⊥
   pub words : (p : ℕ) → p < length w.words → Stands w p (lock_at w p)
   pub fats : fat.IsSound w.fats
+  pub published : (m : ℕ) → m < length w.fats.monitors → IsPublished w m
   -- the attached threads are the live ones
   pub attached : (t : ThreadId) → IsSome (seat_of w.seats t) → IsAttached w.fats t
   pub live : (t : ThreadId) → IsAttached w.fats t → IsSome (seat_of w.seats t)

@@ -34,4 +34,6 @@ pub enum Move {
     Ask { thread: ThreadId },
     /// Its call is refused for this cause.
     Refuse { thread: ThreadId, cause: Cause },
+    /// It owns no object, and is to be live no longer.
+    End { thread: ThreadId },
 }

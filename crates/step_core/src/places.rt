@@ -25,4 +25,7 @@ pub enum Place {
     Bound { call: Call, won: bool, monitor: u32 },
     /// It stored the fat word, and is to act on the monitor.
     Inflated { call: Call, monitor: u32 },
+    /// It is to end. It loaded the words of the objects below `loaded`, none of which it owns thinly, and
+    /// is to load the next one, or to act where there is none.
+    Ending { loaded: u32 },
 }

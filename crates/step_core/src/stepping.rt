@@ -1,17 +1,18 @@
 //! Steps over the parts of a world.
 
-ghost use Rattle.std.specs.Prelude.{◌≡◌, ℕ, ◌+◌, ◌-◌, ◌<◌, ◌≤◌, List, length, Bool, true, false, Option, IsSome};
+ghost use Rattle.std.specs.Prelude.{◌≡◌, ℕ, ◌+◌, ◌-◌, ◌<◌, ◌≤◌, List, length, Bool, true, false, Option, IsSome, Some, Ok};
 ghost use Rattle.lock_word.specs.declared.Word.{Word};
 ghost use Rattle.thread_index.specs.Indices.{seat_of, free_seat};
-ghost use Rattle.fat_monitor.specs.FatState.{FatState, IsAttached};
+ghost use Rattle.fat_monitor.specs.FatState.{FatState, IsAttached, owns_one};
 ghost use Rattle.step_core.specs.WorldState.{IsSound};
-ghost use Rattle.step_core.specs.Stepping.{attached, begun, went};
-ghost use Rattle.step_core.specs.Parts.{world_of};
+ghost use Rattle.step_core.specs.Stepping.{Outcome, attached, begun, went, ended};
+ghost use Rattle.step_core.specs.Parts.{world_of, IsBusyAt};
+ghost use Rattle.step_core.specs.declared.places.Place.{Place};
 
-use crate::turns::{go_from, move_on};
+use crate::turns::{go_from, move_on, reply_to};
 use crate::{Atomic, Did, Fault, Move, Place};
 use fast_path::Call;
-use fat_monitor::{AttachFault, Fats};
+use fat_monitor::{Action, Answer, AttachFault, Done, Fats, Reply};
 use lock_word::{ThreadId, Word};
 use thread_index::{Indices, TakeFault};
 
@@ -58,31 +59,33 @@ pub(crate) fn begin(
     let Some(index) = indices.index_of(thread) else {
         return Err(Fault::NoThread);
     };
-    if call.object().0 as usize >= words.len() {
-        return Err(Fault::NoObject);
-    }
+    let first = match call.object() {
+        Some(object) if object.0 as usize >= words.len() => return Err(Fault::NoObject),
+        Some(_) => Place::Begun {
+            call,
+            contended: false,
+        },
+        None => Place::Ending { loaded: 0 },
+    };
     let seat = index as usize - 1;
     let Place::Idle = places[seat] else {
         return Err(Fault::InCall);
     };
-    places[seat] = Place::Begun {
-        call,
-        contended: false,
-    };
+    places[seat] = first;
     Ok(move_on(Atomic::Label, Move::Call { thread, call }))
 }
 
 /// Does the next atomic step of a thread's call.
 pub(crate) fn go(
     words: &mut [Word],
-    indices: &Indices,
+    indices: &mut Indices,
     places: &mut [Place],
     fats: &mut Fats,
     thread: ThreadId,
 ) -> Result<Did, Fault>
-    requires { IsSound (world_of words.old indices.now places.old fats.old) }
-    ensures sound { IsSound (world_of words.new indices.now places.new fats.new) }
-    ensures exact { (room : Bool) × (record { answer = result; after = world_of words.new indices.now places.new fats.new } ≡ went room (world_of words.old indices.now places.old fats.old) thread (seat_of indices.now thread)) }
+    requires { IsSound (world_of words.old indices.old places.old fats.old) }
+    ensures sound { IsSound (world_of words.new indices.new places.new fats.new) }
+    ensures exact { (room : Bool) × (record { answer = result; after = world_of words.new indices.new places.new fats.new } ≡ went room (world_of words.old indices.old places.old fats.old) thread (seat_of indices.old thread)) }
 {
     let Some(index) = indices.index_of(thread) else {
         return Err(Fault::NoThread);
@@ -92,7 +95,49 @@ pub(crate) fn go(
     if let Place::Idle = place {
         return Err(Fault::NotCalling);
     }
+    if has_looked(place, words.len()) {
+        return Ok(end(indices, places, fats, thread, seat));
+    }
     let (next, did) = go_from(words, fats, index, thread, place);
     places[seat] = next;
     Ok(did)
+}
+
+/// Whether a thread at this place is to end and has loaded the words of all objects.
+fn has_looked(place: Place, objects: usize) -> bool
+    ensures looked { result ≡ true → (n : ℕ) × (place ≡ Place.Ending n) × (objects ≤ n) }
+    ensures busy { result ≡ false → IsBusyAt objects place }
+{
+    match place {
+        Place::Ending { loaded } => loaded as usize >= objects,
+        _ => false,
+    }
+}
+
+/// Ends a thread that owns no object thinly: unless it owns a fat monitor, it is live no longer, and its
+/// index is free.
+fn end(
+    indices: &mut Indices,
+    places: &mut [Place],
+    fats: &mut Fats,
+    thread: ThreadId,
+    seat: usize,
+) -> Did
+    requires seated { seat < length places.old }
+    requires here { seat_of indices.old thread ≡ Some seat }
+    requires attached { IsAttached fats.old thread }
+    ensures { (words : List Word) → record { answer = Ok result; after = world_of words indices.new places.new fats.new } ≡ ended (world_of words indices.old places.old fats.old) seat thread (owns_one fats.old.monitors thread) }
+{
+    places[seat] = Place::Idle;
+    let action = Action::End;
+    let Ok(Done { answer, .. }) = fats.act(thread, action);
+    let atomic = Atomic::Acted { action, answer };
+    match answer {
+        Answer::Reply(Reply::Ended) => {
+            let _ = indices.give(thread);
+            reply_to(atomic, thread, Reply::Ended)
+        }
+        Answer::Reply(reply) => reply_to(atomic, thread, reply),
+        Answer::Quiet => unreachable!(),
+    }
 }

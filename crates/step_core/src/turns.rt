@@ -1,17 +1,17 @@
 //! What a Go does at each place in a call: one function for each kind of atomic step.
 
-ghost use Rattle.std.specs.Prelude.{◌≡◌, ℕ, ◌+◌, ◌-◌, ◌<◌, ◌≤◌, List, length, Bool, true, false};
+ghost use Rattle.std.specs.Prelude.{IsSome, ◌≡◌, ℕ, ◌+◌, ◌-◌, ◌<◌, ◌≤◌, List, length, Bool, true, false};
 ghost use Rattle.lock_word.specs.declared.Word.{Word};
 ghost use Rattle.lock_word.specs.Layout.{Fits, IsMalformed, lock_of, low_of, with_lock, count_of};
 ghost use Rattle.fat_monitor.specs.FatState.{FatState, IsAttached};
-ghost use Rattle.fast_path.specs.Table.{next_of, object_of};
-ghost use Rattle.step_core.specs.WorldState.{lock_at};
-ghost use Rattle.step_core.specs.Going.{move_for, silent, moved, replied, returned, after_load, after_take, after_store, after_bind, after_publish, after_act, after_go, action_of, bind_cause};
+ghost use Rattle.fast_path.specs.Table.{object_of, target, next_of};
+ghost use Rattle.step_core.specs.WorldState.{lock_at, is_own};
+ghost use Rattle.step_core.specs.Going.{move_for, silent, moved, replied, returned, after_load, after_take, after_store, after_bind, after_publish, after_act, after_look, after_go, action_of, bind_cause};
 ghost use Rattle.step_core.specs.Parts.{bare, AreFormed, IsReady};
 
 use crate::{Atomic, Did, Move, Place};
 use fast_path::{Call, Next, decide};
-use fat_monitor::{Action, Answer, Done, Fats, Reply};
+use fat_monitor::{Action, Answer, Cause, Done, Fats, Reply};
 use lock_word::{Lock, ObjectId, ThreadId, Word, decode, encode};
 
 /// One Go of the thread with index `me` from a place in its call: where it stands then, and what it did.
@@ -23,6 +23,7 @@ pub(crate) fn go_from(
     place: Place,
 ) -> (Place, Did)
     requires ready { IsReady words.old fats.old place }
+    requires few { length words.old ≤ 65535 }
     requires formed { AreFormed words.old }
     requires attached { IsAttached fats.old thread }
     requires low { 1 ≤ me }
@@ -39,16 +40,18 @@ pub(crate) fn go_from(
         Place::Won { object } => bind(fats, thread, Call::Enter(object), true, 1),
         Place::Bound { call, won, monitor } => publish(words, thread, call, won, monitor),
         Place::Inflated { call, monitor } => act(fats, thread, call, monitor),
+        Place::Ending { loaded } => look(words, me, thread, loaded),
     }
 }
 
 /// Loads the word of the call's object, and answers where the word says enough.
 fn load(words: &[Word], me: u16, thread: ThreadId, call: Call, contended: bool) -> (Place, Did)
-    requires within { (object_of call).0 < length words.now }
+    requires named { IsSome (object_of call) }
+    requires within { (target call).0 < length words.now }
     requires formed { AreFormed words.now }
-    ensures { (f : FatState) → record { words = words.now; fats = f; place = result.0; did = result.1 } ≡ after_load (bare words.now f) thread call contended (next_of call (lock_at (bare words.now f) (object_of call).0) me) }
+    ensures { (f : FatState) → record { words = words.now; fats = f; place = result.0; did = result.1 } ≡ after_load (bare words.now f) thread call contended (next_of call (lock_at (bare words.now f) (target call).0) me) }
 {
-    let object = call.object();
+    let object = named_by(call);
     let word = words[object.0 as usize];
     let lock = lock_in(word);
     let atomic = Atomic::Load { object, word };
@@ -116,11 +119,12 @@ fn take(
 
 /// Stores a free or thin word over the thread's own thin one.
 fn store(words: &mut [Word], thread: ThreadId, call: Call, lock: Lock) -> (Place, Did)
-    requires within { (object_of call).0 < length words.old }
+    requires named { IsSome (object_of call) }
+    requires within { (target call).0 < length words.old }
     requires fits { Fits lock }
     ensures { (f : FatState) → record { words = words.new; fats = f; place = result.0; did = result.1 } ≡ after_store (bare words.old f) thread call lock }
 {
-    let object = call.object();
+    let object = named_by(call);
     let at = object.0 as usize;
     let old = words[at];
     let new = changed(old, lock);
@@ -129,6 +133,7 @@ fn store(words: &mut [Word], thread: ThreadId, call: Call, lock: Lock) -> (Place
         Call::Enter(_) => Reply::Entered,
         Call::Exit(_) => Reply::Exited,
         Call::Holds(_) => Reply::Yes,
+        Call::End => unreachable!(),
     };
     (
         Place::Idle,
@@ -139,12 +144,13 @@ fn store(words: &mut [Word], thread: ThreadId, call: Call, lock: Lock) -> (Place
 /// Binds a fat monitor to the call's object, which the thread holds this often. Where none can be had,
 /// an enter that has won already drops the inflation, and any other call is refused.
 fn bind(fats: &mut Fats, thread: ThreadId, call: Call, won: bool, holds: u16) -> (Place, Did)
+    requires named { IsSome (object_of call) }
     requires attached { IsAttached fats.old thread }
     requires low { 1 ≤ holds }
     requires high { holds ≤ 256 }
     ensures { (ws : List Word) → (room : Bool) × (record { words = ws; fats = fats.new; place = result.0; did = result.1 } ≡ after_bind (bare ws fats.old) thread call won holds (bind_cause room fats.old)) }
 {
-    let object = call.object();
+    let object = named_by(call);
     match fats.bind(object, thread, holds) {
         Ok(receipt) => {
             let monitor = receipt.monitor();
@@ -172,11 +178,12 @@ fn publish(
     won: bool,
     monitor: u32,
 ) -> (Place, Did)
-    requires within { (object_of call).0 < length words.old }
+    requires named { IsSome (object_of call) }
+    requires within { (target call).0 < length words.old }
     requires fits { monitor ≤ 8388607 }
     ensures { (f : FatState) → record { words = words.new; fats = f; place = result.0; did = result.1 } ≡ after_publish (bare words.old f) thread call won monitor }
 {
-    let object = call.object();
+    let object = named_by(call);
     let at = object.0 as usize;
     let old = words[at];
     let new = changed(old, Lock::Fat { monitor });
@@ -192,6 +199,7 @@ fn publish(
 /// Makes the call's own action on a fat monitor.
 fn act(fats: &mut Fats, thread: ThreadId, call: Call, monitor: u32) -> (Place, Did)
     requires attached { IsAttached fats.old thread }
+    requires named { IsSome (object_of call) }
     requires bound { monitor < length fats.old.monitors }
     ensures { (ws : List Word) → record { words = ws; fats = fats.new; place = result.0; did = result.1 } ≡ after_act (bare ws fats.old) thread call monitor }
 {
@@ -199,6 +207,7 @@ fn act(fats: &mut Fats, thread: ThreadId, call: Call, monitor: u32) -> (Place, D
         Call::Enter(_) => Action::Enter { monitor },
         Call::Exit(_) => Action::Exit { monitor },
         Call::Holds(_) => Action::Holds { monitor },
+        Call::End => unreachable!(),
     };
     let Ok(Done { answer, .. }) = fats.act(thread, action);
     let atomic = Atomic::Acted { action, answer };
@@ -208,6 +217,49 @@ fn act(fats: &mut Fats, thread: ThreadId, call: Call, monitor: u32) -> (Place, D
             let contended = false;
             (Place::Begun { call, contended }, quietly(atomic))
         }
+    }
+}
+
+/// Loads the word of one object after another: a thread that owns one may not end.
+fn look(words: &[Word], me: u16, thread: ThreadId, loaded: u32) -> (Place, Did)
+    requires within { loaded < length words.now }
+    requires formed { AreFormed words.now }
+    requires low { 1 ≤ me }
+    requires few { length words.now ≤ 65535 }
+    ensures { (f : FatState) → record { words = words.now; fats = f; place = result.0; did = result.1 } ≡ after_look (bare words.now f) thread loaded (is_own (lock_at (bare words.now f) loaded) me) }
+{
+    let object = ObjectId(loaded);
+    let word = words[loaded as usize];
+    let atomic = Atomic::Load { object, word };
+    if is_thin_of(lock_in(word), me) {
+        (
+            Place::Idle,
+            reply_to(atomic, thread, Reply::Refused(Cause::StillOwner)),
+        )
+    } else {
+        let loaded = loaded + 1;
+        (Place::Ending { loaded }, quietly(atomic))
+    }
+}
+
+/// Whether a lock is a thin one of the thread with this index.
+fn is_thin_of(lock: Lock, me: u16) -> bool
+    ensures { result ≡ is_own lock me }
+{
+    match lock {
+        Lock::Thin { index, .. } => index == me,
+        Lock::Free | Lock::Fat { .. } => false,
+    }
+}
+
+/// The object of a call that names one.
+fn named_by(call: Call) -> ObjectId
+    requires { IsSome (object_of call) }
+    ensures { result ≡ target call }
+{
+    match call.object() {
+        Some(object) => object,
+        None => unreachable!(),
     }
 }
 
@@ -247,6 +299,7 @@ fn move_to(reply: Reply, thread: ThreadId) -> Move
     match reply {
         Reply::Entered => Move::Lock { thread },
         Reply::Exited => Move::Unlock { thread },
+        Reply::Ended => Move::End { thread },
         Reply::Yes | Reply::No => Move::Ask { thread },
         Reply::IllegalMonitorState => Move::Illegal { thread },
         Reply::Refused(cause) => Move::Refuse { thread, cause },
@@ -276,7 +329,7 @@ pub(crate) fn move_on(atomic: Atomic, made: Move) -> Did
 }
 
 /// The call gets its reply and returns with it.
-fn reply_to(atomic: Atomic, thread: ThreadId, reply: Reply) -> Did
+pub(crate) fn reply_to(atomic: Atomic, thread: ThreadId, reply: Reply) -> Did
     ensures { result ≡ replied atomic thread reply }
 {
     Did {

@@ -124,7 +124,7 @@ impl World {
     {
         stepping::go(
             &mut self.words,
-            &self.indices,
+            &mut self.indices,
             &mut self.places,
             &mut self.fats,
             thread,
@@ -201,6 +201,7 @@ impl World {
                 won: false,
                 ..
             } => Doing::Wants(call),
+            Place::Ending { .. } => Doing::Wants(Call::End),
         };
         Some(doing)
     }

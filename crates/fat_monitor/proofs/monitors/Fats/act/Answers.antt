@@ -18,9 +18,9 @@ returns-in-Enter-clause-told c =
 
 pub returns-in-Exit-clause-told : goal.returns-in-Exit-clause-told
 returns-in-Exit-clause-told c =
-    let l = rw (c.in-Exit.is, ← c.self.view_is) at c.requires.bound in
-    let e = monitor_at_read c.self.inside.monitors.items c.in-Exit.monitor _ l c.index_mut-found-in-Exit.ensures.value in
-    rw (c.in-Exit.is, ← c.self.view_is, e) (ap told (c.exit-answer.ensures.answer c.in-Exit.monitor))
+    let l = rw (c.in-Exit.is, ← c.self-in-Exit.view_is) at c.requires.bound in
+    let e = monitor_at_read c.self-in-Exit.inside.monitors.items c.in-Exit.monitor _ l c.index_mut-found-in-Exit.ensures.value in
+    rw (c.in-Exit.is, ← c.self-in-Exit.view_is, e) (ap told (c.exit-answer.ensures.answer c.in-Exit.monitor))
 
 pub returns-in-Enter-clause-after : goal.returns-in-Enter-clause-after
 returns-in-Enter-clause-after c =
@@ -30,6 +30,6 @@ returns-in-Enter-clause-after c =
 
 pub returns-in-Exit-clause-after : goal.returns-in-Exit-clause-after
 returns-in-Exit-clause-after c =
-    let l = rw (c.in-Exit.is, ← c.self.view_is) at c.requires.bound in
-    let e = monitor_at_read c.self.inside.monitors.items c.in-Exit.monitor _ l c.index_mut-found-in-Exit.ensures.value in
-    rw (c.in-Exit.is, ← c.self.view_is, e, ← c.exit-answer.ensures.after c.in-Exit.monitor) refl
+    let l = rw (c.in-Exit.is, ← c.self-in-Exit.view_is) at c.requires.bound in
+    let e = monitor_at_read c.self-in-Exit.inside.monitors.items c.in-Exit.monitor _ l c.index_mut-found-in-Exit.ensures.value in
+    rw (c.in-Exit.is, ← c.self-in-Exit.view_is, e, ← c.exit-answer.ensures.after c.in-Exit.monitor) refl

@@ -1,0 +1,241 @@
+-- A thread that owns nothing ends: it is live no longer, and its seat is free.
+use Rattle.fat_monitor.specs.declared.actions.Post.{Post}
+use Rattle.std.specs.Prelude.{◌≡◌, ◌⊎◌, ℕ, ◌+◌, ◌-◌, ◌<◌, ◌≤◌, Bool, true, false, if◌then◌else◌, ◌==◌, List, [], ◌∷◌, length, set, get_or, Option, Some, None, IsSome, is_some, ◌||◌}
+use Rattle.std.specs.List.{list_any}
+use Rattle.std.proofs.Common.{zero, suc, arith, refl, ap, sym, ◌∙◌, subst, inl, inr, get_or-set_same, get_or-set_other, length-set}
+use Rattle.std.proofs.Math.Path.{fun_ext}
+use Rattle.std.proofs.lemmas.Bool.{cases_eq, cases_lt, eq-eqb, ne_eqb, eqb-true, eqb-false}
+use Rattle.std.proofs.lemmas.Option.{same_Some}
+use Rattle.std.proofs.lemmas.List.{get_or_past}
+use Rattle.lock_word.specs.declared.ThreadId.{ThreadId}
+use Rattle.lock_word.specs.declared.ObjectId.{ObjectId}
+use Rattle.lock_word.specs.declared.Lock.{Lock}
+use Rattle.lock_word.specs.declared.Lock.TheVariants.{Free, Thin, Fat}
+use Rattle.thread_index.specs.Indices.{seat_of, holder_at}
+use Rattle.thread_index.proofs.Seats.{seat_same, seat_given_same, seat_given_other, IsOneToOne-given, seat_thread}
+use Rattle.fat_monitor.specs.declared.monitors.Monitor as fat
+use Rattle.fat_monitor.specs.declared.actions.Reply.TheVariants as reply
+use Rattle.fat_monitor.specs.declared.actions.Cause.TheVariants as cause
+use Rattle.fat_monitor.specs.declared.actions.Action.TheVariants as action
+use Rattle.fat_monitor.specs.declared.actions.Answer.TheVariants as answer
+use Rattle.fat_monitor.specs.FatState.{IsAttached, owns_one, monitor_at, unbound, is_owned_by}
+use Rattle.fat_monitor.proofs.Posts.{get-remove_by}
+use Rattle.fast_path.specs.declared.Call.TheVariants as call
+use Rattle.step_core.specs.declared.places.Place.{Place}
+use Rattle.step_core.specs.declared.places.Place.TheVariants.{Idle, Begun, Taking, Storing, Binding, Acting, Won, Bound, Inflated, Ending}
+use Rattle.step_core.specs.declared.moves.Move.TheVariants as move
+use Rattle.step_core.specs.declared.events.Atomic.TheVariants as atomic
+use Rattle.step_core.specs.Machine.{State, Run, with_thread, OwnedBy}
+use Rattle.step_core.specs.WorldState.{WorldState, IsSound, Stands, Fitting, is_own, place_at, lock_at, bound_by, IsPublished}
+use Rattle.step_core.specs.Going.{replied}
+use Rattle.step_core.specs.Stepping.{Outcome, without_live, ended, moves_of}
+use Rattle.step_core.specs.Shown.{shown, thread_of, monitor_of}
+use Rattle.step_core.proofs.Machines.{run_ended, run_refused}
+use Rattle.step_core.proofs.Frames.{stands_at, within, is_at, other}
+use Rattle.step_core.proofs.WordRuns.{told}
+use Rattle.step_core.proofs.Keeps.{sound_stays}
+
+-- what a step is to show: a sound world, and a run to what it shows
+abbrev pub Right : WorldState → Outcome → Type 0
+Right w o = IsSound o.after × Run (shown w) (moves_of o.answer) (shown o.after)
+
+-- an owned monitor among these
+owned_by_test : (t : ThreadId) (b : fat.Monitor) (bs : List fat.Monitor) (x : Bool) → is_owned_by b.owner t ≡ x
+    → (list_any (λ (c : fat.Monitor). is_owned_by c.owner t) bs ≡ true → (m : ℕ) × (m < length bs) × (is_owned_by (get_or bs m unbound).owner t ≡ true))
+    → (x || list_any (λ (c : fat.Monitor). is_owned_by c.owner t) bs) ≡ true
+    → (m : ℕ) × (m < length (b ∷ bs)) × (is_owned_by (get_or (b ∷ bs) m unbound).owner t ≡ true)
+owned_by_test t b bs true e rest h = (0, omega arith, e)
+owned_by_test t b bs false e rest h = let there = rest h in (suc there.0, omega arith, there.2)
+
+owned_one : (bs : List fat.Monitor) (t : ThreadId) → owns_one bs t ≡ true → (m : ℕ) × (m < length bs) × (is_owned_by (get_or bs m unbound).owner t ≡ true)
+owned_one [] t h = absurd (cc)
+owned_one (b ∷ bs) t h = owned_by_test t b bs (is_owned_by b.owner t) refl (owned_one bs t) h
+
+-- and none
+none_by_test : (t : ThreadId) (b : fat.Monitor) (bs : List fat.Monitor) (x : Bool) → is_owned_by b.owner t ≡ x
+    → (list_any (λ (c : fat.Monitor). is_owned_by c.owner t) bs ≡ false → (m : ℕ) → is_owned_by (get_or bs m unbound).owner t ≡ false)
+    → (x || list_any (λ (c : fat.Monitor). is_owned_by c.owner t) bs) ≡ false
+    → (m : ℕ) → is_owned_by (get_or (b ∷ bs) m unbound).owner t ≡ false
+none_by_test t b bs true e rest h m = absurd (cc)
+none_by_test t b bs false e rest h zero = e
+none_by_test t b bs false e rest h (suc m) = rest h m
+
+owned_none : (bs : List fat.Monitor) (t : ThreadId) → owns_one bs t ≡ false → (m : ℕ) → is_owned_by (get_or bs m unbound).owner t ≡ false
+owned_none [] t h m = refl
+owned_none (b ∷ bs) t h m = none_by_test t b bs (is_owned_by b.owner t) refl (owned_none bs t) h m
+
+-- who is the owner, by the test
+owner_is : (o : Option ThreadId) (t : ThreadId) → is_owned_by o t ≡ true → o ≡ Some t
+owner_is None t h = absurd (cc)
+owner_is (Some u) t h = ap (λ (n : ℕ). Some (let x : ThreadId = record { 0 = n } in x)) (eqb-true u.0 t.0 h)
+
+owner_is_not : (o : Option ThreadId) (t : ThreadId) → is_owned_by o t ≡ false → o ≡ Some t → ⊥
+owner_is_not o t h e = let never : is_owned_by (Some t) t ≡ false = rw e at h in let same : (t.0 == t.0) ≡ true = eq-eqb t.0 t.0 refl in absurd (cc)
+
+module _ (w : WorldState) (sound : IsSound w) (k : ℕ) (t : ThreadId) (seat : seat_of w.seats t ≡ Some k) (n : ℕ) (at : place_at w k ≡ Ending n) (all : length w.words ≤ n) where
+  -- no word is the thread's own thin one
+  fit : Fitting w k (Ending n)
+  fit = subst (λ (x : Place). Fitting w k x) at (sound.places k (within w sound k t seat))
+
+  not_thin : (p : ℕ) → is_own (lock_at w p) (k + 1) ≡ false
+  not_thin p = by_place (cases_lt p (length w.words))
+    where
+      by_place : (p < length w.words) ⊎ (length w.words ≤ p) → is_own (lock_at w p) (k + 1) ≡ false
+      by_place (inl h) = fit.1 p (omega arith)
+      by_place (inr h) = rw (get_or_past w.words p (record { 0 = 0 }) h) refl
+
+  none_bound : bound_by (place_at w k) ≡ None
+  none_bound = rw at refl
+
+  -- a fat monitor that the thread owns is shown by its object: nobody else has bound it and not stored it
+  shows_owner : (m : ℕ) → (monitor_at w.fats m).owner ≡ Some t → IsPublished w m → (o : ObjectId) × OwnedBy (shown w) o t
+  shows_owner m owner (inl shows) = ((monitor_at w.fats m).object, rw shows owner)
+  shows_owner m owner (inr (j, there, bound)) = absurd (elsewhere (place_at w j) refl bound (sound.places j there))
+    where
+      elsewhere : (p : Place) → place_at w j ≡ p → bound_by p ≡ Some m → Fitting w j p → ⊥
+      elsewhere Idle e b f = cc
+      elsewhere (Begun c x) e b f = cc
+      elsewhere (Taking o x) e b f = cc
+      elsewhere (Storing c l) e b f = cc
+      elsewhere (Binding c x) e b f = cc
+      elsewhere (Acting c x) e b f = cc
+      elsewhere (Won o) e b f = cc
+      elsewhere (Bound c won x) e b f =
+          let same : x ≡ m = same_Some x m b in
+          let own : holder_at w.seats j ≡ Some t = sym (ap (λ (y : fat.Monitor). y.owner) f.2.2) ∙ rw same owner in
+          let here : j ≡ k = same_Some j k (sym (sound.one_to_one j t own) ∙ seat) in
+          let both : Bound c won x ≡ Ending n = sym e ∙ rw here at in
+          cc
+      elsewhere (Inflated c x) e b f = cc
+      elsewhere (Ending x) e b f = cc
+
+  -- where the thread owns a fat monitor, it may not end
+  refused_right : owns_one w.fats.monitors t ≡ true → Right w (ended w k t true)
+  refused_right owns =
+      let there = owned_one w.fats.monitors t owns in (
+        sound_stays w sound k t seat Idle (replied (atomic.Acted action.End (answer.Reply (reply.Refused cause.StillOwner))) t (reply.Refused cause.StillOwner)) none_bound tt,
+        told w sound k t seat (atomic.Acted action.End (answer.Reply (reply.Refused cause.StillOwner))) (reply.Refused cause.StillOwner)
+            (run_refused (shown w) t false call.End cause.StillOwner (is_at w sound k t seat (Ending n) at)
+            (shows_owner there.0 (owner_is (monitor_at w.fats there.0).owner t there.2) (sound.published there.0 there.1))),
+      )
+
+  -- where it owns none, it owns no object
+  module _ (owns : owns_one w.fats.monitors t ≡ false) where
+    abbrev now : WorldState
+    now = without_live w k t
+
+    owns_none : (o : ObjectId) → OwnedBy (shown w) o t → ⊥
+    owns_none o = by_lock (lock_at w o.0) refl
+      where
+        by_lock : (l : Lock) → lock_at w o.0 ≡ l → (monitor_of w l).owner ≡ Some t → ⊥
+        by_lock Free e h = cc
+        by_lock (Thin i c) e h =
+            let stands : Stands w o.0 (Thin i c) = rw e at (stands_at w sound o.0) in
+            let apart : (i == k + 1) ≡ false = rw e at (not_thin o.0) in
+            other w sound k t seat i c (eqb-false i (k + 1) apart) stands.0 h
+        by_lock (Fat m) e h = owner_is_not (monitor_at w.fats m).owner t (owned_none w.fats.monitors t owns m) h
+
+    holder_kept : (j : ℕ) → (j ≡ k → ⊥) → holder_at (set w.seats k None) j ≡ holder_at w.seats j
+    holder_kept j ne = get_or-set_other w.seats k j None None ne
+
+    seat_now_same : (u : ThreadId) → u.0 ≡ t.0 → seat_of now.seats u ≡ None
+    seat_now_same u e = seat_same now.seats t u e ∙ seat_given_same w.seats t k sound.one_to_one seat
+
+    seat_now_other : (u : ThreadId) → (u.0 ≡ t.0 → ⊥) → seat_of now.seats u ≡ seat_of w.seats u
+    seat_now_other u ne = seat_given_other w.seats t u k seat ne
+
+    -- another thread's seat is another one
+    seats_apart : (u : ThreadId) (j : ℕ) → (u.0 ≡ t.0 → ⊥) → seat_of w.seats u ≡ Some j → j ≡ k → ⊥
+    seats_apart u j ne e same = ne (seat_thread w.seats t u k seat (rw same at e))
+
+    thread_kept : (u : ThreadId) → (u.0 ≡ t.0 → ⊥) → (o : Option ℕ) → seat_of w.seats u ≡ o → thread_of now o ≡ thread_of w o
+    thread_kept u ne None e = refl
+    thread_kept u ne (Some j) e = rw (get_or-set_other w.places k j Idle Idle (seats_apart u j ne e)) refl
+
+    new_thread : (u : ThreadId) → (u.0 ≡ t.0) ⊎ (u.0 ≡ t.0 → ⊥) → thread_of now (seat_of now.seats u) ≡ (if u.0 == t.0 then None else thread_of w (seat_of w.seats u))
+    new_thread u (inl same) = rw (seat_now_same u same, eq-eqb u.0 t.0 same) refl
+    new_thread u (inr ne) = rw (seat_now_other u ne, ne_eqb u.0 t.0 ne) (thread_kept u ne (seat_of w.seats u) refl)
+
+    -- a thin word is another thread's
+    index_apart : (i c : ℕ) (q : ℕ) → lock_at w q ≡ Thin i c → 1 ≤ i → i - 1 ≡ k → ⊥
+    index_apart i c q e low same = let apart : (i == k + 1) ≡ false = rw e at (not_thin q) in eqb-false i (k + 1) apart (omega arith)
+
+    old_monitor : (q : ℕ) (l : Lock) → lock_at w q ≡ l → Stands w q l → monitor_of now l ≡ monitor_of w l
+    old_monitor q Free e st = refl
+    old_monitor q (Thin i c) e st = rw (holder_kept (i - 1) (index_apart i c q e st.0)) refl
+    old_monitor q (Fat m) e st = refl
+
+    old_stands : (q : ℕ) (l : Lock) → lock_at w q ≡ l → Stands w q l → Stands now q l
+    old_stands q Free e st = st
+    old_stands q (Thin i c) e st = (st.0, st.1, st.2, rw (holder_kept (i - 1) (index_apart i c q e st.0)) st.3)
+    old_stands q (Fat m) e st = st
+
+    old_fits : (j : ℕ) → (j ≡ k → ⊥) → (p : Place) → Fitting w j p → Fitting now j p
+    old_fits j ne Idle f = f
+    old_fits j ne (Begun c b) f = f
+    old_fits j ne (Taking c b) f = f
+    old_fits j ne (Storing c l) f = f
+    old_fits j ne (Binding c x) f = f
+    old_fits j ne (Acting c m) f = f
+    old_fits j ne (Won o) f = f
+    old_fits j ne (Bound c won m) f = (f.0, f.1, (f.2.0, f.2.1, rw (holder_kept j ne) f.2.2))
+    old_fits j ne (Inflated c m) f = f
+    old_fits j ne (Ending x) f = f
+
+    attached_now : (u : ThreadId) → (u.0 ≡ t.0) ⊎ (u.0 ≡ t.0 → ⊥) → IsSome (seat_of now.seats u) → IsAttached now.fats u
+    attached_now u (inl same) h = let never : is_some {T = ℕ} None ≡ true = rw (seat_now_same u same) at h in absurd (cc)
+    attached_now u (inr ne) h = rw (get-remove_by w.fats.threads t.0 u.0, ne_eqb u.0 t.0 ne) (sound.attached u (rw (seat_now_other u ne) at h))
+
+    live_now : (u : ThreadId) → (u.0 ≡ t.0) ⊎ (u.0 ≡ t.0 → ⊥) → IsAttached now.fats u → IsSome (seat_of now.seats u)
+    live_now u (inl same) h = let never : is_some {T = Post} None ≡ true = rw (get-remove_by w.fats.threads t.0 u.0, eq-eqb u.0 t.0 same) at h in absurd (cc)
+    live_now u (inr ne) h = rw (seat_now_other u ne) (sound.live u (rw (get-remove_by w.fats.threads t.0 u.0, ne_eqb u.0 t.0 ne) at h))
+
+    published_now : (m : ℕ) → IsPublished w m → IsPublished now m
+    published_now m (inl shows) = inl shows
+    published_now m (inr (j, there, bound)) = by_seat (cases_eq j k)
+      where
+        by_seat : (j ≡ k) ⊎ (j ≡ k → ⊥) → IsPublished now m
+        by_seat (inl e) = let never : None ≡ Some m = sym none_bound ∙ rw e at bound in absurd (cc)
+        by_seat (inr ne) = inr (j, rw (length-set w.places k Idle) there, rw (get_or-set_other w.places k j Idle Idle ne) bound)
+
+    now_sound : IsSound now
+    now_sound = record {
+      many = sound.many;
+      seated = length-set w.places k Idle ∙ sound.seated ∙ sym (length-set w.seats k None);
+      few = rw (length-set w.seats k None) sound.few;
+      one_to_one = IsOneToOne-given w.seats t k sound.one_to_one seat;
+      formed = sound.formed;
+      words = λ p h. old_stands p (lock_at w p) refl (sound.words p h);
+      fats = record { few = sound.fats.few; limit = sound.fats.limit; fair = sound.fats.fair };
+      published = λ m h. published_now m (sound.published m h);
+      attached = λ u h. attached_now u (cases_eq u.0 t.0) h;
+      live = λ u h. live_now u (cases_eq u.0 t.0) h;
+      places = λ j h. at_seat j h (cases_eq j k);
+    } where
+      at_seat : (j : ℕ) → j < length (set w.places k Idle) → (j ≡ k) ⊎ (j ≡ k → ⊥) → Fitting now j (get_or (set w.places k Idle) j Idle)
+      at_seat j h (inl e) = rw (e, get_or-set_same w.places k Idle Idle (within w sound k t seat)) tt
+      at_seat j h (inr ne) =
+          let l : j < length w.places = omega (arith, length-set w.places k Idle) in
+          rw (get_or-set_other w.places k j Idle Idle ne) (old_fits j ne (place_at w j) (sound.places j l))
+
+    now_shows : shown now ≡ with_thread (shown w) t None
+    now_shows =
+        let threads : (shown now).thread ≡ (with_thread (shown w) t None).thread = fun_ext (λ u. new_thread u (cases_eq u.0 t.0)) in
+        let monitors : (shown now).monitor ≡ (shown w).monitor = fun_ext (λ q. old_monitor q.0 (lock_at w q.0) refl (stands_at w sound q.0)) in
+        λ i. record { thread = threads i; objects = length w.words; monitor = monitors i; moment = 0 }
+
+    gone_right : Right w (ended w k t false)
+    gone_right = (
+      now_sound,
+      subst (λ (s : State). Run (shown w) (move.End t ∷ move.Return t reply.Ended ∷ []) s) (sym now_shows)
+          (run_ended (shown w) t false (is_at w sound k t seat (Ending n) at) owns_none),
+    )
+
+-- the action of a thread that ends
+pub ended_right : (w : WorldState) (sound : IsSound w) (k : ℕ) (t : ThreadId) (seat : seat_of w.seats t ≡ Some k) (n : ℕ) → place_at w k ≡ Ending n → length w.words ≤ n
+    → Right w (ended w k t (owns_one w.fats.monitors t))
+ended_right w sound k t seat n at all = by_owner (owns_one w.fats.monitors t) refl
+  where
+    by_owner : (b : Bool) → owns_one w.fats.monitors t ≡ b → Right w (ended w k t b)
+    by_owner true e = refused_right w sound k t seat n at all e
+    by_owner false e = gone_right w sound k t seat n at all e
