@@ -84,7 +84,7 @@ module _ (s s' : Slab Record) (ks ks' : List (ℕ × ℕ)) (t key : ℕ)
   kept : (k q : ℕ) → (q ≡ t → ⊥) → lookup (nat_eq q) ks ≡ Some k → get s' k ≡ get s k
   kept k q other e = dropped.others k (λ same.
       let here : Some (record { thread = record { 0 = q }; post = (keyed q k e).0 }) ≡ Some (record { thread = record { 0 = t }; post = (keyed t key found).0 }) =
-          sym (keyed q k e).1 ∙ ap (λ (j : ℕ). get s j) same ∙ (keyed t key found).1 in
+      sym (keyed q k e).1 ∙ ap (λ (j : ℕ). get s j) same ∙ (keyed t key found).1 in
       other (ap (λ (r : Record). r.thread.0) (same_Some _ _ here)))
 
   post_kept : (q : ℕ) → (q ≡ t → ⊥) → (o : Option ℕ) → lookup (nat_eq q) ks ≡ o → option_map (λ k. post_in (get s' k)) o ≡ option_map (λ k. post_in (get s k)) o

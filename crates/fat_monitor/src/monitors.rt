@@ -192,7 +192,9 @@ impl Fats {
     fn owns_one(&self, thread: ThreadId) -> bool
         ensures { result ≡ owns_one self.now.monitors thread }
     {
-        self.monitors.iter().any(|monitor| is_owner(monitor.owner, thread))
+        self.monitors
+            .iter()
+            .any(|monitor| is_owner(monitor.owner, thread))
     }
 
     /// The object whose monitor has this number; None where it is not bound.

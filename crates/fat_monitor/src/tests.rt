@@ -1,5 +1,5 @@
 ghost use Rattle.std.specs.Prelude.{◌≡◌, ◌<◌, length};
-ghost use Rattle.fat_monitor.specs.FatState.{IsAttached, monitor_named};
+ghost use Rattle.fat_monitor.specs.FatState.{IsAttached, NamesBound, acted};
 
 use crate::{Action, Answer, AttachFault, Cause, Done, Fats, Reply};
 use lock_word::{ObjectId, ThreadId};
@@ -61,9 +61,8 @@ fn monitors_are_numbered_in_order_of_binding(rt: HostRuntime) -> Result<(), Fail
 /// An action on monitor 0, and the reply that it gives.
 fn acts(rt: &impl Abort, fats: &mut Fats, thread: ThreadId, action: Action, reply: Reply)
     requires attached { IsAttached fats.old thread }
-    requires bound { monitor_named action < length fats.old.monitors }
-    ensures threads { fats.new.threads ≡ fats.old.threads }
-    ensures monitors { length fats.new.monitors ≡ length fats.old.monitors }
+    requires bound { NamesBound fats.old action }
+    ensures { fats.new ≡ acted fats.old thread action }
 {
     let answer = Answer::Reply(reply);
     let done = Done {
@@ -112,6 +111,27 @@ fn the_owner_enters_and_exits(rt: HostRuntime) -> Result<(), Fail> {
         Action::Exit { monitor },
         Reply::IllegalMonitorState,
     );
+    Ok(())
+}
+
+#[test]
+fn a_thread_that_owns_no_monitor_ends(rt: HostRuntime) -> Result<(), Fail> {
+    let mut fats = Fats::new(rt.alloc(), 1);
+    assert_eq!(rt; fats.attach(SEVEN), Ok(()));
+    let bind = fats.bind(OBJECT, SEVEN, 1);
+    assert!(rt; bind.is_ok());
+    acts(
+        &rt,
+        &mut fats,
+        SEVEN,
+        Action::End,
+        Reply::Refused(Cause::StillOwner),
+    );
+    assert_eq!(rt; fats.attach(SEVEN), Err(AttachFault::Known));
+    let mut others = Fats::new(rt.alloc(), 1);
+    assert_eq!(rt; others.attach(SEVEN), Ok(()));
+    acts(&rt, &mut others, SEVEN, Action::End, Reply::Ended);
+    assert_eq!(rt; others.attach(SEVEN), Ok(()));
     Ok(())
 }
 

@@ -10,4 +10,4 @@ unreachable-requires c =
 pub returns-clause-dropped : goal.returns-clause-dropped
 returns-clause-dropped c =
     posts_of-drop c.args.records.now c.try_remove.new.self c.args.keys.now.entries c.remove.new.self.entries c.args.thread.0 c.in-Some.key
-        c.requires.keyed (sym c.in-Some.ensures.value) c.try_remove.ensures.updates c.in-Some.ensures.updates.0
+    c.requires.keyed (sym c.in-Some.ensures.value) c.try_remove.ensures.updates c.in-Some.ensures.updates.0
