@@ -1,14 +1,15 @@
 -- What the table tells of the lock that was loaded, by what it calls for.
-use Rattle.std.specs.Prelude.{◌≡◌, ℕ, ◌+◌, ◌-◌, ◌<◌, ◌≤◌, if◌then◌else◌, ◌==◌, nat_lt}
-use Rattle.std.proofs.Common.{ap}
-use Rattle.std.proofs.lemmas.Bool.{cond_both, eqb-true, ltb-true, ltb-false}
+use Rattle.lock_word.specs.declared.ObjectId.{ObjectId}
+use Rattle.std.specs.Prelude.{◌≡◌, ℕ, ◌+◌, ◌-◌, ◌<◌, ◌≤◌, if◌then◌else◌, ◌==◌, nat_lt, IsSome}
+use Rattle.std.proofs.Common.{ap, refl}
+use Rattle.std.proofs.lemmas.Bool.{cond_both, eqb-true, ltb-true, ltb-false, eqb-false}
 use Rattle.lock_word.specs.declared.Lock.{Lock}
 use Rattle.lock_word.specs.declared.Lock.TheVariants.{Free, Thin, Fat}
 use Rattle.fat_monitor.specs.declared.actions.Reply.TheVariants as reply
 use Rattle.fast_path.specs.declared.Call.{Call}
 use Rattle.fast_path.specs.declared.Call.TheVariants as call
 use Rattle.fast_path.specs.declared.Next.TheVariants as next
-use Rattle.fast_path.specs.Table.{next_of}
+use Rattle.fast_path.specs.Table.{next_of, object_of}
 
 -- the call is an enter
 abbrev pub IsEnter : Call → Type 0
@@ -104,3 +105,29 @@ own_of_store (call.Enter o) old l me (n, is, few, new) = (n, is)
 own_of_store (call.Exit o) old l me (n, is, new) = (n, is)
 own_of_store (call.Holds o) old l me h = absurd h
 own_of_store call.End old l me h = absurd h
+
+-- a spin is called for where an enter finds another thread's thin lock
+pub spin_fact : (c : Call) (old : Lock) (me : ℕ) → IsSome (object_of c) → next_of c old me ≡ next.Spin
+    → (o : ObjectId) × (c ≡ call.Enter o) × ((i n : ℕ) × (old ≡ Thin i n) × (i ≡ me → ⊥))
+spin_fact (call.Enter o) Free me names e = absurd (cc)
+spin_fact (call.Exit o) Free me names e = absurd (cc)
+spin_fact (call.Holds o) Free me names e = absurd (cc)
+spin_fact (call.Enter o) (Thin i n) me names e =
+    cond_both (i == me) _ _ (λ x. x ≡ next.Spin → (p : ObjectId) × (call.Enter o ≡ call.Enter p) × ((j m : ℕ) × (Thin i n ≡ Thin j m) × (j ≡ me → ⊥)))
+    (λ same. cond_both (nat_lt n 255) _ _ (λ x. x ≡ next.Spin → (p : ObjectId) × (call.Enter o ≡ call.Enter p) × ((j m : ℕ) × (Thin i n ≡ Thin j m) × (j ≡ me → ⊥)))
+        (λ below (h : next.Store (Thin me (n + 1)) ≡ next.Spin). absurd (cc))
+        (λ above (h : next.Bind ≡ next.Spin). absurd (cc)))
+    (λ ne (h : next.Spin ≡ next.Spin). (o, refl, (i, n, refl, eqb-false i me ne))) e
+spin_fact (call.Exit o) (Thin i n) me names e =
+    cond_both (i == me) _ _ (λ x. x ≡ next.Spin → (p : ObjectId) × (call.Exit o ≡ call.Enter p) × ((j m : ℕ) × (Thin i n ≡ Thin j m) × (j ≡ me → ⊥)))
+    (λ same. cond_both (nat_lt 0 n) _ _ (λ x. x ≡ next.Spin → (p : ObjectId) × (call.Exit o ≡ call.Enter p) × ((j m : ℕ) × (Thin i n ≡ Thin j m) × (j ≡ me → ⊥)))
+        (λ above (h : next.Store (Thin me (n - 1)) ≡ next.Spin). absurd (cc))
+        (λ zero (h : next.Store Free ≡ next.Spin). absurd (cc)))
+    (λ ne (h : next.Reply reply.IllegalMonitorState ≡ next.Spin). absurd (cc)) e
+spin_fact (call.Holds o) (Thin i n) me names e =
+    cond_both (i == me) _ _ (λ x. x ≡ next.Spin → (p : ObjectId) × (call.Holds o ≡ call.Enter p) × ((j m : ℕ) × (Thin i n ≡ Thin j m) × (j ≡ me → ⊥)))
+    (λ same (h : next.Reply reply.Yes ≡ next.Spin). absurd (cc)) (λ ne (h : next.Reply reply.No ≡ next.Spin). absurd (cc)) e
+spin_fact (call.Enter o) (Fat m) me names e = absurd (cc)
+spin_fact (call.Exit o) (Fat m) me names e = absurd (cc)
+spin_fact (call.Holds o) (Fat m) me names e = absurd (cc)
+spin_fact call.End old me names e = absurd (cc)

@@ -11,4 +11,7 @@ pub mod Opening
 pub mod Goings
 pub mod Labelings
 pub mod Refusing
+pub mod Patient
+pub mod Lingering
+pub mod Bytes
 pub mod Outcomes

@@ -44,7 +44,7 @@ full_from i [] e k h = absurd (omega arith)
 full_from i (x ∷ xs) e k h = full_by_test i x xs (is_none x) refl (full_from (i + 1) xs) e k h
 
 -- a thread in a call is not idle
-not_idle : (p : Place) → (p ≡ Idle → ⊥) → doing_of p ≡ doing.Idle → ⊥
+pub not_idle : (p : Place) → (p ≡ Idle → ⊥) → doing_of p ≡ doing.Idle → ⊥
 not_idle Idle busy e = busy refl
 not_idle (Begun c b) busy e = cc
 not_idle (Taking o b) busy e = cc

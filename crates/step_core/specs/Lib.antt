@@ -5,5 +5,7 @@ pub mod Stepping
 pub mod Shown
 pub mod Labels
 pub mod Refusals
+pub mod Patience
+pub mod Kept
 pub mod Parts
 pub mod View

@@ -9,6 +9,8 @@ ghost use Rattle.step_core.specs.Stepping.{Outcome, attached, begun, went, step_
 ghost use Rattle.step_core.specs.Shown.{shown};
 ghost use Rattle.step_core.specs.Labels.{HasLabels};
 ghost use Rattle.step_core.specs.Refusals.{IsRefused, IsAcceptable};
+ghost use Rattle.step_core.specs.Patience.{IsPatient};
+ghost use Rattle.step_core.specs.Kept.{Keeps};
 
 use crate::{Did, Doing, Fault, Place, Step, stepping};
 use fast_path::Call;
@@ -87,6 +89,11 @@ impl World {
         ensures refused { IfErr result (IsRefused self.old step) }
         ensures accepted { OnOk result (IsAcceptable self.old step) }
         ensures unchanged { OnErr result (self.new ≡ self.old) }
+
+        // A Go replies, meets another thread, or lowers the steps that its call has left; no other thread's
+        // step changes them. The objects stay, and so does the low byte of each word.
+        ensures patient { IfOk result (λ d. IsPatient self.old step d self.new) }
+        ensures kept { Keeps self.old self.new }
     {
         self.advance(step)
     }

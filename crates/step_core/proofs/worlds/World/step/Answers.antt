@@ -19,3 +19,9 @@ returns-clause-accepted c =
 
 pub returns-clause-unchanged : goal.returns-clause-unchanged
 returns-clause-unchanged c = let e = c.advance.ensures.exact in (tells c.args.self.now c.advance.new.self c.args.step c.advance.result e.0 c.advance.ensures.was e.1).unchanged
+
+pub returns-clause-patient : goal.returns-clause-patient
+returns-clause-patient c = let e = c.advance.ensures.exact in (tells c.args.self.now c.advance.new.self c.args.step c.advance.result e.0 c.advance.ensures.was e.1).patient
+
+pub returns-clause-kept : goal.returns-clause-kept
+returns-clause-kept c = let e = c.advance.ensures.exact in (tells c.args.self.now c.advance.new.self c.args.step c.advance.result e.0 c.advance.ensures.was e.1).kept

@@ -1,0 +1,201 @@
+-- How often a call can go on without a reply and without meeting another thread.
+use Rattle.std.specs.Prelude.{◌≡◌, ◌≢◌, ◌⊎◌, ℕ, ◌+◌, ◌-◌, ◌<◌, ◌≤◌, Bool, true, false, if◌then◌else◌, ◌==◌, List, [], ◌∷◌, length, Option, Some, None, IsSome, IfOk, OnErr, MatchResult, Result, Ok, Err}
+use Rattle.std.proofs.Common.{refl, arith, ap, sym, ◌∙◌, subst, inl, inr}
+use Rattle.std.proofs.lemmas.Bool.{cases_eq, cases_lt, eq-eqb, ne_eqb}
+use Rattle.std.proofs.lemmas.Option.{same_Some}
+use Rattle.lock_word.specs.declared.ThreadId.{ThreadId}
+use Rattle.lock_word.specs.declared.ObjectId.{ObjectId}
+use Rattle.thread_index.specs.Indices.{seat_of}
+use Rattle.thread_index.proofs.Seats.{seat_same, seat_found}
+use Rattle.fast_path.specs.declared.Call.{Call}
+use Rattle.fast_path.specs.declared.Call.TheVariants as call
+use Rattle.fast_path.specs.Table.{object_of}
+use Rattle.step_core.specs.declared.moves.Doing.{Doing}
+use Rattle.step_core.specs.declared.moves.Doing.TheVariants as doing
+use Rattle.step_core.specs.declared.places.Place.{Place}
+use Rattle.step_core.specs.declared.places.Place.TheVariants.{Idle, Begun, Taking, Storing, Binding, Acting, Won, Bound, Inflated, Ending}
+use Rattle.step_core.specs.declared.events.Step.{Step}
+use Rattle.step_core.specs.declared.events.Step.TheVariants as step
+use Rattle.step_core.specs.declared.events.Did.{Did}
+use Rattle.step_core.specs.declared.events.Fault.{Fault}
+use Rattle.step_core.specs.declared.events.Fault.TheVariants.{NoIndex, Memory, Known, NoThread, NoObject, InCall, NotCalling}
+use Rattle.step_core.specs.Machine.{Thread, Is}
+use Rattle.step_core.specs.WorldState.{WorldState, IsSound, Fitting, place_at}
+use Rattle.step_core.specs.Stepping.{Outcome, step_of}
+use Rattle.step_core.specs.Shown.{shown, doing_of}
+use Rattle.step_core.specs.Refusals.{IsLive, IsNotLive, IsBusy, IsIdle, IsRefused, IsAcceptable}
+use Rattle.step_core.specs.Patience.{left_at, left_of_seat, left_of, HasMet, IsPatient, goes_of, Lingers, AllLinger}
+use Rattle.step_core.proofs.Frames.{within}
+use Rattle.step_core.proofs.Steps.{step_right}
+use Rattle.step_core.proofs.Refusing.{step_judged, not_idle}
+use Rattle.step_core.proofs.Patient.{step_patient}
+
+-- threads with one number have as much left
+same_left : (w : WorldState) (t u : ThreadId) → u.0 ≡ t.0 → left_of w u ≡ left_of w t
+same_left w t u e = ap (λ (o : Option ℕ). left_of_seat w o) (seat_same w.seats t u e)
+
+-- a place with steps left is in a call
+busy_place : (objects : ℕ) (p : Place) → 1 ≤ left_at objects p → p ≡ Idle → ⊥
+busy_place objects Idle h e = absurd (omega arith)
+busy_place objects (Begun c b) h e = cc
+busy_place objects (Taking o b) h e = cc
+busy_place objects (Storing c l) h e = cc
+busy_place objects (Binding c n) h e = cc
+busy_place objects (Acting c m) h e = cc
+busy_place objects (Won o) h e = cc
+busy_place objects (Bound c won m) h e = cc
+busy_place objects (Inflated c m) h e = cc
+busy_place objects (Ending n) h e = cc
+
+-- and so is a thread with steps left
+is_busy : (w : WorldState) (t : ThreadId) → 1 ≤ left_of w t → IsBusy w t
+is_busy w t h = by_seat (seat_of w.seats t) refl
+  where
+    by_seat : (o : Option ℕ) → seat_of w.seats t ≡ o → IsBusy w t
+    by_seat None e = let none : left_of w t ≡ 0 = rw e refl in absurd (omega arith)
+    by_seat (Some k) e =
+        let some : 1 ≤ left_at (length w.words) (place_at w k) = rw e at h in
+        (record { flag = false; act = doing_of (place_at w k) }, rw e refl, not_idle (place_at w k) (busy_place (length w.words) (place_at w k) some))
+
+-- a busy thread is live, and is neither attached, nor begins a call, nor is refused a Go
+busy_live : (w : WorldState) (t : ThreadId) → IsBusy w t → IsLive w t
+busy_live w t busy = rw busy.1 refl
+
+no_attach : (w : WorldState) (t : ThreadId) → IsBusy w t → IsAcceptable w (step.Attach t) → ⊥
+no_attach w t busy all = let never : Known ≡ Memory = all Known (busy_live w t busy) in cc
+
+no_begin_on : (w : WorldState) (t : ThreadId) (c : Call) (o : ObjectId) → object_of c ≡ Some o
+    → (o.0 < (shown w).objects → IsRefused w (step.Begin t c) InCall) → IsBusy w t → IsAcceptable w (step.Begin t c) → ⊥
+no_begin_on w t c o names in_call busy all = by_place (cases_lt o.0 (shown w).objects)
+  where
+    by_place : (o.0 < (shown w).objects) ⊎ ((shown w).objects ≤ o.0) → ⊥
+    by_place (inl h) = let never : InCall ≡ Memory = all InCall (in_call h) in cc
+    by_place (inr h) = let never : NoObject ≡ Memory = all NoObject (busy_live w t busy, (o, names, h)) in cc
+
+no_begin : (w : WorldState) (t : ThreadId) (c : Call) → IsBusy w t → IsAcceptable w (step.Begin t c) → ⊥
+no_begin w t (call.Enter o) busy all = no_begin_on w t (call.Enter o) o refl (λ h. (busy, h)) busy all
+no_begin w t (call.Exit o) busy all = no_begin_on w t (call.Exit o) o refl (λ h. (busy, h)) busy all
+no_begin w t (call.Holds o) busy all = no_begin_on w t (call.Holds o) o refl (λ h. (busy, h)) busy all
+no_begin w t call.End busy all = let never : InCall ≡ Memory = all InCall (busy, tt) in cc
+
+no_refusal : (w : WorldState) (t : ThreadId) (f : Fault) → IsBusy w t → IsRefused w (step.Go t) f → ⊥
+no_refusal w t NoThread busy r = let never : ◌≡◌ {A = Option Thread} (Some busy.0) None = sym busy.1 ∙ r in cc
+no_refusal w t NotCalling busy r = busy.2 (ap (λ (x : Thread). x.act) (same_Some busy.0 r.0 (sym busy.1 ∙ r.1)) ∙ r.2)
+no_refusal w t Known busy r = r
+no_refusal w t NoIndex busy r = r
+no_refusal w t Memory busy r = r
+no_refusal w t NoObject busy r = r
+no_refusal w t InCall busy r = r
+
+-- what a step does to what t has left, where it lingers: a Go of t lowers it, which stays at least 1; any other step leaves it
+abbrev LowersBy : WorldState → ThreadId → ℕ → WorldState → Type 0
+LowersBy w t n w' = (left_of w' t + n ≤ left_of w t) × (1 ≤ left_of w' t)
+
+module _ (w : WorldState) (sound : IsSound w) (t : ThreadId) (left : 1 ≤ left_of w t) where
+  -- a step that is refused leaves it
+  unmoved : (s : Step) (room : Bool) → (step_of room w s).after ≡ w → LowersBy w t 0 (step_of room w s).after
+  unmoved s room e = rw e (omega arith, left)
+
+  -- so does a step of another thread
+  kept : (w' : WorldState) → left_of w' t ≡ left_of w t → LowersBy w t 0 w'
+  kept w' e = (omega arith, omega arith)
+
+  attaches : (u : ThreadId) (room : Bool) (r : Result Did Fault) → (step_of room w (step.Attach u)).answer ≡ r → (u.0 ≡ t.0) ⊎ (u.0 ≡ t.0 → ⊥)
+      → LowersBy w t 0 (step_of room w (step.Attach u)).after
+  attaches u room (Err f) e same = unmoved (step.Attach u) room (rw e at (step_judged room w (step.Attach u)).1)
+  attaches u room (Ok d) e (inl same) =
+      absurd (no_attach w u (is_busy w u (rw (same_left w t u same) left)) (rw e at (step_judged room w (step.Attach u)).0))
+  attaches u room (Ok d) e (inr other) = kept (step_of room w (step.Attach u)).after ((rw e at (step_patient w sound room (step.Attach u))) t (λ x. other (sym x)))
+
+  begins : (u : ThreadId) (c : Call) (room : Bool) (r : Result Did Fault) → (step_of room w (step.Begin u c)).answer ≡ r → (u.0 ≡ t.0) ⊎ (u.0 ≡ t.0 → ⊥)
+      → LowersBy w t 0 (step_of room w (step.Begin u c)).after
+  begins u c room (Err f) e same = unmoved (step.Begin u c) room (rw e at (step_judged room w (step.Begin u c)).1)
+  begins u c room (Ok d) e (inl same) =
+      absurd (no_begin w u c (is_busy w u (rw (same_left w t u same) left)) (rw e at (step_judged room w (step.Begin u c)).0))
+  begins u c room (Ok d) e (inr other) = kept (step_of room w (step.Begin u c)).after ((rw e at (step_patient w sound room (step.Begin u c))) t (λ x. other (sym x)))
+
+  others : (u : ThreadId) (room : Bool) (r : Result Did Fault) → (step_of room w (step.Go u)).answer ≡ r → (u.0 ≡ t.0 → ⊥) → LowersBy w t 0 (step_of room w (step.Go u)).after
+  others u room (Err f) e other = unmoved (step.Go u) room (rw e at (step_judged room w (step.Go u)).1)
+  others u room (Ok d) e other = kept (step_of room w (step.Go u)).after ((rw e at (step_patient w sound room (step.Go u))).1 t (λ x. other (sym x)))
+
+  goes : (u : ThreadId) (room : Bool) (r : Result Did Fault) → (step_of room w (step.Go u)).answer ≡ r → u.0 ≡ t.0 → Lingers w t (step.Go u, room)
+      → LowersBy w t 1 (step_of room w (step.Go u)).after
+  goes u room (Err f) e same lingers = absurd (no_refusal w u f (is_busy w u (rw (same_left w t u same) left)) (rw e at (step_judged room w (step.Go u)).0))
+  goes u room (Ok d) e same lingers = by_case (rw e at (step_patient w sound room (step.Go u))).0 (rw e at (lingers same))
+    where
+      w' : WorldState
+      w' = (step_of room w (step.Go u)).after
+      by_case : IsSome d.reply ⊎ (HasMet w u d.atomic ⊎ ((left_of w' u < left_of w u) × (1 ≤ left_of w' u))) → (IsSome d.reply → ⊥) × (HasMet w u d.atomic → ⊥) → LowersBy w t 1 w'
+      by_case (inl replied) neither = absurd (neither.0 replied)
+      by_case (inr (inl met)) neither = absurd (neither.1 met)
+      by_case (inr (inr lower)) neither =
+          let before : left_of w u ≡ left_of w t = same_left w t u same in let after : left_of w' u ≡ left_of w' t = same_left w' t u same in
+          (omega arith, omega arith)
+
+-- A call in which t lingers over a list of steps goes on less often than it has steps left.
+pub lingers : (w : WorldState) → IsSound w → (t : ThreadId) (ss : List (Step × Bool)) → 1 ≤ left_of w t → AllLinger w t ss → goes_of t ss < left_of w t
+lingers w sound t [] left all = left
+lingers w sound t ((step.Attach u, room) ∷ ss) left all =
+    let one = attaches w sound t left u room (step_of room w (step.Attach u)).answer refl (cases_eq u.0 t.0) in
+    let rest = lingers (step_of room w (step.Attach u)).after (step_right w sound room (step.Attach u)).0 t ss one.1 all.1 in omega arith
+lingers w sound t ((step.Begin u c, room) ∷ ss) left all =
+    let one = begins w sound t left u c room (step_of room w (step.Begin u c)).answer refl (cases_eq u.0 t.0) in
+    let rest = lingers (step_of room w (step.Begin u c)).after (step_right w sound room (step.Begin u c)).0 t ss one.1 all.1 in omega arith
+lingers w sound t ((step.Go u, room) ∷ ss) left all = by_thread (cases_eq u.0 t.0) (λ h. lingers (step_of room w (step.Go u)).after (step_right w sound room (step.Go u)).0 t ss h all.1)
+  where
+    by_thread : (u.0 ≡ t.0) ⊎ (u.0 ≡ t.0 → ⊥) → (1 ≤ left_of (step_of room w (step.Go u)).after t → goes_of t ss < left_of (step_of room w (step.Go u)).after t)
+        → goes_of t ((step.Go u, room) ∷ ss) < left_of w t
+    by_thread (inl same) rest =
+        let one = goes w sound t left u room (step_of room w (step.Go u)).answer refl same all.0 in let more = rest one.1 in
+        rw (eq-eqb u.0 t.0 same) (omega arith)
+    by_thread (inr other) rest =
+        let one = others w sound t left u room (step_of room w (step.Go u)).answer refl other in let more = rest one.1 in
+        rw (ne_eqb u.0 t.0 other) (omega arith)
+
+-- what a call has left, by what its thread is doing
+left_bounds : (w : WorldState) (k : ℕ) (p : Place) → Fitting w k p → (doing_of p ≡ doing.Idle → ⊥) → 1 ≤ left_at (length w.words) p
+left_bounds w k Idle fit h = absurd (h refl)
+left_bounds w k (Begun c b) fit h = omega arith
+left_bounds w k (Taking o b) fit h = omega arith
+left_bounds w k (Storing c l) fit h = omega arith
+left_bounds w k (Binding c n) fit h = omega arith
+left_bounds w k (Acting c m) fit h = omega arith
+left_bounds w k (Won o) fit h = omega arith
+left_bounds w k (Bound c true m) fit h = omega arith
+left_bounds w k (Bound c false m) fit h = omega arith
+left_bounds w k (Inflated c m) fit h = omega arith
+left_bounds w k (Ending n) fit h = let within : n ≤ length w.words = fit.0 in omega arith
+
+at_most_four : (objects : ℕ) (p : Place) → (doing_of p ≡ doing.Wants call.End → ⊥) → left_at objects p ≤ 4
+at_most_four objects Idle h = omega arith
+at_most_four objects (Begun c b) h = omega arith
+at_most_four objects (Taking o b) h = omega arith
+at_most_four objects (Storing c l) h = omega arith
+at_most_four objects (Binding c n) h = omega arith
+at_most_four objects (Acting c m) h = omega arith
+at_most_four objects (Won o) h = omega arith
+at_most_four objects (Bound c true m) h = omega arith
+at_most_four objects (Bound c false m) h = omega arith
+at_most_four objects (Inflated c m) h = omega arith
+at_most_four objects (Ending n) h = absurd (h refl)
+
+module _ (w : WorldState) (sound : IsSound w) (t : ThreadId) (act : Doing) (is : Is (shown w) t false act) where
+  -- the place of a thread that is doing this
+  placed : (k : ℕ) × (seat_of w.seats t ≡ Some k) × (doing_of (place_at w k) ≡ act)
+  placed = by_seat (seat_of w.seats t) refl
+    where
+      by_seat : (o : Option ℕ) → seat_of w.seats t ≡ o → (k : ℕ) × (seat_of w.seats t ≡ Some k) × (doing_of (place_at w k) ≡ act)
+      by_seat None e = let never : ◌≡◌ {A = Option Thread} None (Some (record { flag = false; act = act })) = rw e at is in absurd (cc)
+      by_seat (Some k) e =
+          (k, e, ap (λ (x : Thread). x.act) (same_Some (record { flag = false; act = doing_of (place_at w k) }) (record { flag = false; act = act }) (rw e at is)))
+
+  has_left : (act ≡ doing.Idle → ⊥) → 1 ≤ left_of w t
+  has_left busy = let p = placed in
+      rw p.1 (left_bounds w p.0 (place_at w p.0) (sound.places p.0 (within w sound p.0 t p.1)) (λ e. busy (sym p.2 ∙ e)))
+
+  -- A call but End replies or meets another thread within four Go steps.
+  pub within_four : (act ≡ doing.Idle → ⊥) → (act ≡ doing.Wants call.End → ⊥) → (ss : List (Step × Bool)) → AllLinger w t ss → goes_of t ss < 4
+  within_four busy not_end ss all =
+      let p = placed in
+      let most : left_of w t ≤ 4 = rw p.1 (at_most_four (length w.words) (place_at w p.0) (λ e. not_end (sym p.2 ∙ e))) in
+      let fewer : goes_of t ss < left_of w t = lingers w sound t ss (has_left busy) all in omega arith

@@ -1,0 +1,176 @@
+//! Scripts: the numbers and objects of a world, and the steps to play on it.
+
+ghost use Rattle.std.specs.Prelude.{◌≡◌, ◌<◌, ◌≤◌, ◌+◌, length, vec_len, IfSome, IfErr};
+ghost use Rattle.thinmon.specs.Faults.{IsOfLines};
+
+use crate::faults::FileFault;
+use crate::names::Names;
+use crate::numerals::{low_byte_in, number_in};
+use fast_path::Call;
+use lock_word::{Memory, ThreadId};
+use std::alloc::Global;
+use std::str;
+use step_core::Step;
+
+/// The most fat monitors that a world has.
+const MOST_MONITORS: u32 = 8_388_608;
+
+/// The most indices that a world has.
+const MOST_INDICES: u32 = 32_767;
+
+/// The most objects that a script declares.
+const MOST_OBJECTS: usize = 65_535;
+
+/// The words of a line: the first five.
+type Words<'a> = [Option<&'a str>; 5];
+
+/// A script: the world to make, and the steps to play on it.
+#[derive(Drop)]
+pub struct Script {
+    pub names: Names,
+    pub monitors: u32,
+    pub indices: u16,
+    /// The low byte of each object.
+    pub lows: Vec<u8>,
+    pub steps: Vec<Step>,
+    ghost monitors_fit: { monitors ≤ 8388608 },
+    ghost has_indices: { 1 ≤ indices },
+    ghost indices_fit: { indices ≤ 32767 },
+    ghost objects_fit: { vec_len lows ≤ 65535 },
+    ghost objects_are_named: { length names.objects ≡ vec_len lows },
+}
+
+impl Script {
+    /// The script whose first line this is; None where it is no `world` line.
+    fn opened_by(alloc: Global, line: &[u8]) -> Option<Script> {
+        let text = str::from_utf8(line).ok()?;
+        let [Some("world"), Some(monitors), Some(indices), None, _] = words_of(text) else {
+            return None;
+        };
+        let monitors = number_in(monitors, MOST_MONITORS)?;
+        let indices = number_in(indices, MOST_INDICES)?;
+        if indices < 1 {
+            return None;
+        }
+        Some(Script {
+            names: Names::new(alloc),
+            monitors,
+            indices: indices as u16,
+            lows: Vec::new(alloc),
+            steps: Vec::new(alloc),
+        })
+    }
+
+    /// Takes a line behind the first. False where it is bad: the script is then of no further use.
+    fn take_line(&mut self, line: &[u8]) -> Result<bool, Memory> {
+        let Ok(text) = str::from_utf8(line) else {
+            return Ok(false);
+        };
+        let words = words_of(text);
+        if let [Some("object"), Some(name), Some(low), None, _] = words {
+            return self.take_object(name, low);
+        }
+        let Some(step) = self.step_in(words)? else {
+            return Ok(false);
+        };
+        self.steps.push(step)?;
+        Ok(true)
+    }
+
+    /// Takes an object's name and low byte. No object stands behind a step.
+    fn take_object(&mut self, name: &str, low: &str) -> Result<bool, Memory> {
+        if !self.steps.is_empty() || self.lows.len() >= MOST_OBJECTS {
+            return Ok(false);
+        }
+        let Some(low) = low_byte_in(low) else {
+            return Ok(false);
+        };
+        self.lows.reserve(1)?;
+        if !self.names.declare(name)? {
+            return Ok(false);
+        }
+        self.lows.push(low).unwrap();
+        Ok(true)
+    }
+
+    /// The step that some words are.
+    fn step_in(&mut self, words: Words<'_>) -> Result<Option<Step>, Memory> {
+        match words {
+            [Some("attach"), Some(thread), None, _, _] => {
+                let thread = self.names.thread(thread)?;
+                Ok(thread.map(|thread| Step::Attach { thread }))
+            }
+            [Some("begin"), Some(thread), Some(verb), Some(object), None] => {
+                let Some(thread) = self.names.thread(thread)? else {
+                    return Ok(None);
+                };
+                let call = self.call_in(verb, object);
+                Ok(call.map(|call| Step::Begin { thread, call }))
+            }
+            [Some("go"), Some(thread), None, _, _] => {
+                let thread = self.names.thread(thread)?;
+                Ok(thread.map(|thread| Step::Go { thread }))
+            }
+            _ => Ok(None),
+        }
+    }
+
+    /// The call that a verb and an object's name are.
+    fn call_in(&self, verb: &str, object: &str) -> Option<Call> {
+        let object = self.names.object(object)?;
+        match verb {
+            "enter" => Some(Call::Enter(object)),
+            "exit" => Some(Call::Exit(object)),
+            "holds" => Some(Call::Holds(object)),
+            _ => None,
+        }
+    }
+}
+
+/// The script that some bytes are, or the first line that is bad.
+pub fn read_script(alloc: Global, bytes: &[u8]) -> Result<Script, FileFault>
+    requires { length bytes.now ≤ 16777216 }
+    ensures { IfErr result (IsOfLines (length bytes.now + 1)) }
+{
+    let Some((first, mut rest)) = cut_line(bytes) else {
+        return Err(FileFault::BadLine(1));
+    };
+    let Some(mut script) = Script::opened_by(alloc, first) else {
+        return Err(FileFault::BadLine(1));
+    };
+    let mut number = 2;
+    'lines: while let Some((line, after)) = cut_line(rest) {
+        if !script.take_line(line)? {
+            return Err(FileFault::BadLine(number));
+        }
+        number += 1;
+        rest = after;
+    }
+    if rest.is_empty() {
+        Ok(script)
+    } else {
+        Err(FileFault::BadLine(number))
+    }
+}
+
+/// The words of a text between single spaces.
+fn words_of(text: &str) -> Words<'_> {
+    let mut words = text.split(' ');
+    [
+        words.next(),
+        words.next(),
+        words.next(),
+        words.next(),
+        words.next(),
+    ]
+}
+
+/// The bytes before the first line feed, and those behind it; None where there is no line feed.
+fn cut_line(bytes: &[u8]) -> Option<(&[u8], &[u8])>
+    ensures { IfSome result (λ cut. length cut.1.now < length bytes.now) }
+{
+    let end = bytes.iter().position(|byte| *byte == b'\n')?;
+    let (line, _) = bytes.split_at(end);
+    let (_, rest) = bytes.split_at(end + 1);
+    Some((line, rest))
+}

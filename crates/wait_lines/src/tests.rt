@@ -1,0 +1,69 @@
+ghost use Rattle.std.specs.Prelude.{◌≡◌, ◌+◌, ◌<◌, OnOk};
+
+use super::{Lines, Role};
+use lock_word::{Memory, ThreadId};
+use std::test::Fail;
+
+/// Makes room for one more thread, and moves this one to the end of a line.
+fn add(lines: &mut Lines, thread: u32, place: u32, role: Role) -> Result<(), Memory>
+    requires { lines.old.reservations < 32767 }
+    ensures { OnOk result (lines.new.reservations ≡ lines.old.reservations + 1) }
+{
+    let thread = ThreadId(thread);
+    let _stood = lines.leave(thread);
+    lines.reserve_one()?;
+    lines.join(thread, place, role);
+    Ok(())
+}
+
+#[test]
+fn two_wait_and_one_leaves(rt: HostRuntime) -> Result<(), Fail> {
+    let (five, six) = (ThreadId(5), ThreadId(6));
+    let mut lines = Lines::new(rt.alloc());
+    add(&mut lines, 5, 0, Role::Waiting)?;
+    add(&mut lines, 6, 0, Role::Waiting)?;
+    assert_eq!(rt; lines.first(0, Role::Waiting), Some(five));
+    assert!(rt; lines.leave(five));
+    assert_eq!(rt; lines.first(0, Role::Waiting), Some(six));
+    let mut waiting = lines.all(0, Role::Waiting);
+    assert_eq!(rt; waiting.next(), Some(six));
+    assert_eq!(rt; waiting.next(), None);
+    assert!(rt; !lines.leave(five));
+    Ok(())
+}
+
+#[test]
+fn lines_are_apart(rt: HostRuntime) -> Result<(), Fail> {
+    let mut lines = Lines::new(rt.alloc());
+    add(&mut lines, 7, 0, Role::Entry)?;
+    add(&mut lines, 8, 1, Role::Waiting)?;
+    let rows = [
+        (0, Role::Entry, Some(7)),
+        (0, Role::Waiting, None),
+        (1, Role::Entry, None),
+        (1, Role::Waiting, Some(8)),
+    ];
+    for (place, role, first) in rows {
+        assert_eq!(rt;
+            lines.first(place, role),
+            first.map(ThreadId),
+            "{place} {role:?}"
+        );
+    }
+    Ok(())
+}
+
+#[test]
+fn the_middle_one_leaves(rt: HostRuntime) -> Result<(), Fail> {
+    let mut lines = Lines::new(rt.alloc());
+    add(&mut lines, 3, 9, Role::Entry)?;
+    add(&mut lines, 1, 9, Role::Entry)?;
+    add(&mut lines, 2, 9, Role::Entry)?;
+    assert!(rt; lines.leave(ThreadId(1)));
+    let line: Vec<u32> = lines
+        .all(9, Role::Entry)
+        .map(|thread| thread.0)
+        .collect(rt.alloc())?;
+    assert_eq!(rt; line.as_slice(), [3, 2].as_slice());
+    Ok(())
+}
