@@ -1,6 +1,6 @@
 -- Each step keeps the objects, and bits 7 to 0 of each word.
-use Rattle.std.specs.Prelude.{◌≡◌, ◌⊎◌, ℕ, ◌+◌, ◌<◌, ◌≤◌, Bool, true, false, if◌then◌else◌, nat_lt, List, length, set, get_or, Option, Some, None}
-use Rattle.std.proofs.Common.{refl, arith, ap, sym, ◌∙◌, subst, inl, inr, get_or-set_same, get_or-set_other, length-set}
+use Rattle.std.specs.Prelude.{◌≡◌, ◌⊎◌, ℕ, ◌+◌, ◌<◌, Bool, true, false, nat_lt, length, set, get_or, Option, Some, None}
+use Rattle.std.proofs.Common.{refl, arith, ap, ◌∙◌, subst, inl, inr, get_or-set_same, get_or-set_other, length-set}
 use Rattle.std.proofs.lemmas.Bool.{cases_eq, cond_both}
 use Rattle.lock_word.specs.declared.ThreadId.{ThreadId}
 use Rattle.lock_word.specs.declared.ObjectId.{ObjectId}
@@ -22,10 +22,9 @@ use Rattle.step_core.specs.declared.places.Place.{Place}
 use Rattle.step_core.specs.declared.places.Place.TheVariants.{Idle, Begun, Taking, Storing, Binding, Acting, Won, Bound, Inflated, Ending}
 use Rattle.step_core.specs.declared.events.Step.{Step}
 use Rattle.step_core.specs.declared.events.Step.TheVariants as step
-use Rattle.step_core.specs.declared.events.Did.{Did}
 use Rattle.step_core.specs.declared.events.Fault.TheVariants as fault
 use Rattle.step_core.specs.WorldState.{WorldState, IsSound, Fitting, is_own, place_at, word_at, lock_at, low_word}
-use Rattle.step_core.specs.Going.{After, gone, writes, new_word, after_load, after_take, after_store, after_bind, after_publish, after_answer, after_look, after_go, action_of, bind_cause}
+use Rattle.step_core.specs.Going.{After, gone, new_word, after_load, after_take, after_store, after_bind, after_publish, after_answer, after_look, after_go, action_of, bind_cause}
 use Rattle.step_core.specs.Stepping.{Outcome, accepted, refused, attached, begun, begun_on, begun_at, ended, went, went_at, step_of}
 use Rattle.step_core.specs.Kept.{Keeps}
 use Rattle.step_core.proofs.Frames.{within, thin_fits}
@@ -97,6 +96,7 @@ module _ (w : WorldState) (sound : IsSound w) (k : ℕ) (t : ThreadId) (seat : s
       ends : (b : Bool) → Keeps w (ended w k t b).after
       ends true = same w _ refl
       ends false = same w _ refl
+
       by_place : (p : Place) → Fitting w k p → Keeps w (went_at room w k t p).after
       by_place Idle fit = same w _ refl
       by_place (Begun c b) fit = goes room (Begun c b) fit

@@ -15,3 +15,4 @@ pub mod Patient
 pub mod Lingering
 pub mod Bytes
 pub mod Outcomes
+pub mod Reaching

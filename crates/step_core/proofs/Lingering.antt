@@ -1,12 +1,12 @@
 -- How often a call can go on without a reply and without meeting another thread.
-use Rattle.std.specs.Prelude.{◌≡◌, ◌≢◌, ◌⊎◌, ℕ, ◌+◌, ◌-◌, ◌<◌, ◌≤◌, Bool, true, false, if◌then◌else◌, ◌==◌, List, [], ◌∷◌, length, Option, Some, None, IsSome, IfOk, OnErr, MatchResult, Result, Ok, Err}
-use Rattle.std.proofs.Common.{refl, arith, ap, sym, ◌∙◌, subst, inl, inr}
+use Rattle.std.specs.Prelude.{◌≡◌, ◌⊎◌, ℕ, ◌+◌, ◌<◌, ◌≤◌, Bool, true, false, List, [], ◌∷◌, length, Option, Some, None, IsSome, Result, Ok, Err}
+use Rattle.std.proofs.Common.{refl, arith, ap, sym, ◌∙◌, inl, inr}
 use Rattle.std.proofs.lemmas.Bool.{cases_eq, cases_lt, eq-eqb, ne_eqb}
 use Rattle.std.proofs.lemmas.Option.{same_Some}
 use Rattle.lock_word.specs.declared.ThreadId.{ThreadId}
 use Rattle.lock_word.specs.declared.ObjectId.{ObjectId}
 use Rattle.thread_index.specs.Indices.{seat_of}
-use Rattle.thread_index.proofs.Seats.{seat_same, seat_found}
+use Rattle.thread_index.proofs.Seats.{seat_same}
 use Rattle.fast_path.specs.declared.Call.{Call}
 use Rattle.fast_path.specs.declared.Call.TheVariants as call
 use Rattle.fast_path.specs.Table.{object_of}
@@ -21,10 +21,10 @@ use Rattle.step_core.specs.declared.events.Fault.{Fault}
 use Rattle.step_core.specs.declared.events.Fault.TheVariants.{NoIndex, Memory, Known, NoThread, NoObject, InCall, NotCalling}
 use Rattle.step_core.specs.Machine.{Thread, Is}
 use Rattle.step_core.specs.WorldState.{WorldState, IsSound, Fitting, place_at}
-use Rattle.step_core.specs.Stepping.{Outcome, step_of}
+use Rattle.step_core.specs.Stepping.{step_of}
 use Rattle.step_core.specs.Shown.{shown, doing_of}
-use Rattle.step_core.specs.Refusals.{IsLive, IsNotLive, IsBusy, IsIdle, IsRefused, IsAcceptable}
-use Rattle.step_core.specs.Patience.{left_at, left_of_seat, left_of, HasMet, IsPatient, goes_of, Lingers, AllLinger}
+use Rattle.step_core.specs.Refusals.{IsLive, IsBusy, IsRefused, IsAcceptable}
+use Rattle.step_core.specs.Patience.{left_at, left_of_seat, left_of, HasMet, goes_of, Lingers, AllLinger}
 use Rattle.step_core.proofs.Frames.{within}
 use Rattle.step_core.proofs.Steps.{step_right}
 use Rattle.step_core.proofs.Refusing.{step_judged, not_idle}
@@ -125,6 +125,7 @@ module _ (w : WorldState) (sound : IsSound w) (t : ThreadId) (left : 1 ≤ left_
     where
       w' : WorldState
       w' = (step_of room w (step.Go u)).after
+
       by_case : IsSome d.reply ⊎ (HasMet w u d.atomic ⊎ ((left_of w' u < left_of w u) × (1 ≤ left_of w' u))) → (IsSome d.reply → ⊥) × (HasMet w u d.atomic → ⊥) → LowersBy w t 1 w'
       by_case (inl replied) neither = absurd (neither.0 replied)
       by_case (inr (inl met)) neither = absurd (neither.1 met)
@@ -179,6 +180,27 @@ at_most_four objects (Bound c false m) h = omega arith
 at_most_four objects (Inflated c m) h = omega arith
 at_most_four objects (Ending n) h = absurd (h refl)
 
+-- an end names no object
+names_none : (c : Call) → IsSome (object_of c) → doing.Wants c ≡ doing.Wants call.End → ⊥
+names_none (call.Enter o) names e = cc
+names_none (call.Exit o) names e = cc
+names_none (call.Holds o) names e = cc
+names_none call.End names e = cc
+
+-- a thread that ends has a Go for each word, and one more
+at_most_all : (w : WorldState) (k : ℕ) (p : Place) → Fitting w k p → doing_of p ≡ doing.Wants call.End → left_at (length w.words) p ≤ length w.words + 1
+at_most_all w k Idle fit h = absurd (cc)
+at_most_all w k (Begun c b) fit h = absurd (names_none c fit.0 h)
+at_most_all w k (Taking o b) fit h = absurd (cc)
+at_most_all w k (Storing c l) fit h = absurd (names_none c fit.0.0 h)
+at_most_all w k (Binding c n) fit h = absurd (names_none c fit.0.0 h)
+at_most_all w k (Acting c m) fit h = absurd (names_none c fit.0.0 h)
+at_most_all w k (Won o) fit h = absurd (cc)
+at_most_all w k (Bound c true m) fit h = absurd (cc)
+at_most_all w k (Bound c false m) fit h = absurd (names_none c fit.0.0 h)
+at_most_all w k (Inflated c m) fit h = absurd (names_none c fit.0.0 h)
+at_most_all w k (Ending n) fit h = omega arith
+
 module _ (w : WorldState) (sound : IsSound w) (t : ThreadId) (act : Doing) (is : Is (shown w) t false act) where
   -- the place of a thread that is doing this
   placed : (k : ℕ) × (seat_of w.seats t ≡ Some k) × (doing_of (place_at w k) ≡ act)
@@ -199,3 +221,11 @@ module _ (w : WorldState) (sound : IsSound w) (t : ThreadId) (act : Doing) (is :
       let p = placed in
       let most : left_of w t ≤ 4 = rw p.1 (at_most_four (length w.words) (place_at w p.0) (λ e. not_end (sym p.2 ∙ e))) in
       let fewer : goes_of t ss < left_of w t = lingers w sound t ss (has_left busy) all in omega arith
+
+-- An end replies within a Go for each object and one more.
+pub within_all : (w : WorldState) → IsSound w → (t : ThreadId) → Is (shown w) t false (doing.Wants call.End) → (ss : List (Step × Bool)) → AllLinger w t ss → goes_of t ss < length w.words + 1
+within_all w sound t is ss all =
+    let p = placed w sound t (doing.Wants call.End) is in
+    let fit : Fitting w p.0 (place_at w p.0) = sound.places p.0 (within w sound p.0 t p.1) in
+    let most : left_of w t ≤ length w.words + 1 = rw p.1 (at_most_all w p.0 (place_at w p.0) fit p.2) in
+    let fewer : goes_of t ss < left_of w t = lingers w sound t ss (has_left w sound t (doing.Wants call.End) is (λ e. cc)) all in omega arith

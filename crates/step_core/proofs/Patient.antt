@@ -1,15 +1,13 @@
 -- A Go replies, meets another thread, or lowers what is left of its call; and no other thread's step does.
-use Rattle.std.specs.Prelude.{◌≡◌, ◌≢◌, ◌⊎◌, ℕ, ◌+◌, ◌-◌, ◌<◌, ◌≤◌, Bool, true, false, if◌then◌else◌, ◌==◌, nat_lt, List, [], ◌∷◌, length, set, slice_set, get_or, Option, Some, None, IsSome, is_some, IfOk, Result, Ok, Err}
-use Rattle.std.specs.Option.{option_map}
-use Rattle.std.proofs.Common.{refl, arith, ap, sym, ◌∙◌, subst, inl, inr, get_or-set_same, get_or-set_other, length-set}
-use Rattle.std.proofs.lemmas.Bool.{cases_eq, cond_both, eqb-true, eqb-false, eq-eqb, ne_eqb, ltb-true, ltb-false}
+use Rattle.std.specs.Prelude.{◌≡◌, ◌≢◌, ◌⊎◌, ℕ, ◌+◌, ◌-◌, ◌<◌, ◌≤◌, Bool, true, false, nat_lt, length, Option, Some, None, IsSome, IfOk}
+use Rattle.std.proofs.Common.{refl, arith, sym, ◌∙◌, subst, inl, inr, get_or-set_same, get_or-set_other, length-set}
+use Rattle.std.proofs.lemmas.Bool.{cond_both, ltb-true}
 use Rattle.std.proofs.lemmas.Option.{same_Some}
 use Rattle.lock_word.specs.declared.ThreadId.{ThreadId}
 use Rattle.lock_word.specs.declared.ObjectId.{ObjectId}
 use Rattle.lock_word.specs.declared.Lock.{Lock}
 use Rattle.lock_word.specs.declared.Lock.TheVariants.{Free, Thin, Fat}
-use Rattle.lock_word.specs.Layout.{lock_of}
-use Rattle.thread_index.specs.Indices.{seat_of, free_seat, index_of, holder_at}
+use Rattle.thread_index.specs.Indices.{seat_of, free_seat}
 use Rattle.thread_index.proofs.Seats.{seat_found, seat_thread, free_found, seat_taken_other, seat_given_other}
 use Rattle.fat_monitor.specs.declared.actions.Cause.{Cause}
 use Rattle.fat_monitor.specs.declared.actions.Answer.{Answer}
@@ -31,15 +29,13 @@ use Rattle.step_core.specs.declared.places.Place.{Place}
 use Rattle.step_core.specs.declared.places.Place.TheVariants.{Idle, Begun, Taking, Storing, Binding, Acting, Won, Bound, Inflated, Ending}
 use Rattle.step_core.specs.declared.events.Step.{Step}
 use Rattle.step_core.specs.declared.events.Step.TheVariants as step
-use Rattle.step_core.specs.declared.events.Did.{Did}
-use Rattle.step_core.specs.declared.events.Fault.{Fault}
 use Rattle.step_core.specs.declared.events.Fault.TheVariants as fault
 use Rattle.step_core.specs.Machine.{Is}
 use Rattle.step_core.specs.WorldState.{WorldState, IsSound, Fitting, is_own, place_at, lock_at}
 use Rattle.step_core.specs.Parts.{IsBusyAt}
 use Rattle.step_core.specs.Going.{After, gone, after_load, after_take, after_bind, after_publish, after_answer, after_look, after_go, action_of, bind_cause, stays, moved, replied}
 use Rattle.step_core.specs.Stepping.{Outcome, accepted, refused, attached, begun, begun_on, begun_at, with_live, without_live, ended, went as went_by, went_at, step_of, first_place}
-use Rattle.step_core.specs.Shown.{shown, doing_of}
+use Rattle.step_core.specs.Shown.{shown}
 use Rattle.step_core.specs.Patience.{left_at, left_of_seat, left_of, HasMet, Advances, IsPatient}
 use Rattle.step_core.proofs.Frames.{within, is_at}
 
@@ -202,9 +198,10 @@ module _ (w : WorldState) (sound : IsSound w) (t : ThreadId) where
       → Patient w (step.Go t) (accepted (gone w k (after_go room w k t p)) (after_go room w k t p).did)
   went room k e p at busy more =
       let fit : Fitting w k p = subst (λ (x : Place). Fitting w k x) at (sound.places k (within w sound k t e)) in
-      let left : left_of w t ≡ left_at (length w.words) p = rw (e, at) refl in
-      (advances w sound k t e (after_go room w k t p) (rw left (goes w sound k t e room p at fit busy more)),
-       keeps w sound k t e (after_go room w k t p) (sizes w sound k t e room p))
+      let left : left_of w t ≡ left_at (length w.words) p = rw (e, at) refl in (
+        advances w sound k t e (after_go room w k t p) (rw left (goes w sound k t e room p at fit busy more)),
+        keeps w sound k t e (after_go room w k t p) (sizes w sound k t e room p),
+      )
 
   ends : (k : ℕ) → seat_of w.seats t ≡ Some k → (b : Bool) → Patient w (step.Go t) (ended w k t b)
   ends k e true = (inl refl, keeps w sound k t e (stays w Idle (replied (Acted action.End (answer.Reply (reply.Refused cause.StillOwner))) t (reply.Refused cause.StillOwner))) refl)

@@ -1,5 +1,7 @@
 -- The labels of a run: what a user of the machine sees of it.
-use Rattle.std.specs.Prelude.{◌≡◌, Bool, true, false, List, [], ◌∷◌, ◌++◌, filter, Option, Some, None}
+use Rattle.step_core.specs.WorldState.{WorldState}
+use Rattle.step_core.specs.declared.events.Fault.{Fault}
+use Rattle.std.specs.Prelude.{◌≡◌, Bool, true, false, List, [], ◌∷◌, ◌++◌, filter, Option, Some, None, Result, Ok, Err}
 use Rattle.lock_word.specs.declared.ThreadId.{ThreadId}
 use Rattle.fat_monitor.specs.declared.actions.Reply.{Reply}
 use Rattle.step_core.specs.declared.moves.Move.{Move}
@@ -7,7 +9,7 @@ use Rattle.step_core.specs.declared.moves.Move.TheVariants.{Attach, Call, Return
 use Rattle.step_core.specs.declared.events.Did.{Did}
 use Rattle.step_core.specs.declared.events.Step.{Step}
 use Rattle.step_core.specs.declared.events.Step.TheVariants as step
-use Rattle.step_core.specs.Stepping.{given}
+use Rattle.step_core.specs.Stepping.{given, step_of}
 
 abbrev pub is_label : Move → Bool
 is_label (Attach t) = true
@@ -33,3 +35,20 @@ abbrev pub HasLabels : Step → Did → Type 0
 HasLabels (step.Attach t) d = (given d.moves ≡ Attach t ∷ []) × (d.reply ≡ None)
 HasLabels (step.Begin t c) d = (given d.moves ≡ Call t c ∷ []) × (d.reply ≡ None)
 HasLabels (step.Go t) d = EndsWith t (given d.moves) d.reply
+
+-- the return with a reply, if there is one
+abbrev pub returned_with : ThreadId → Option Reply → List Move
+returned_with t None = []
+returned_with t (Some r) = Return t r ∷ []
+
+-- the labels of an answered step
+abbrev pub labels_for : Step → Result Did Fault → List Move
+labels_for s (Err f) = []
+labels_for (step.Attach t) (Ok d) = Attach t ∷ []
+labels_for (step.Begin t c) (Ok d) = Call t c ∷ []
+labels_for (step.Go t) (Ok d) = returned_with t d.reply
+
+-- the labels of a list of steps, each with whether its growth is granted
+abbrev pub labels_after : WorldState → List (Step × Bool) → List Move
+labels_after w [] = []
+labels_after w (s ∷ ss) = labels_for s.0 (step_of s.1 w s.0).answer ++ labels_after (step_of s.1 w s.0).after ss

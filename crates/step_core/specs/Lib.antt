@@ -9,3 +9,4 @@ pub mod Patience
 pub mod Kept
 pub mod Parts
 pub mod View
+pub mod Laws

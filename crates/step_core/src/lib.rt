@@ -18,7 +18,9 @@ mod turns;
 mod worlds;
 
 pub use events::{Atomic, Did, Fault, Step};
-pub use laws::every_list_of_steps_is_a_run;
+pub use laws::{
+    every_call_is_patient, every_list_of_steps_is_a_run, every_list_of_steps_keeps_the_world,
+};
 pub use moves::{Doing, Move};
 pub use places::Place;
 pub use worlds::World;

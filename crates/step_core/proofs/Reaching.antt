@@ -1,0 +1,90 @@
+-- Laws of every list of steps.
+use Rattle.std.specs.Prelude.{◌≡◌, ℕ, ◌+◌, ◌<◌, Bool, false, List, [], ◌∷◌, ◌++◌, length, Option, Some, None, IfOk, Result, Ok, Err}
+use Rattle.std.proofs.Common.{refl, ap, ◌∙◌}
+use Rattle.std.proofs.lemmas.List.{length-map}
+use Rattle.std.proofs.lemmas.List.Elements.{filter-append}
+use Rattle.lock_word.specs.declared.ThreadId.{ThreadId}
+use Rattle.thread_index.specs.Indices.{IsOneToOne}
+use Rattle.fat_monitor.specs.declared.actions.Reply.{Reply}
+use Rattle.fast_path.specs.declared.Call.TheVariants as call
+use Rattle.step_core.specs.declared.moves.Doing.{Doing}
+use Rattle.step_core.specs.declared.moves.Doing.TheVariants as doing
+use Rattle.step_core.specs.declared.moves.Move.{Move}
+use Rattle.step_core.specs.declared.moves.Move.TheVariants as move
+use Rattle.step_core.specs.declared.events.Step.{Step}
+use Rattle.step_core.specs.declared.events.Step.TheVariants as step
+use Rattle.step_core.specs.declared.events.Did.{Did}
+use Rattle.step_core.specs.declared.events.Fault.{Fault}
+use Rattle.step_core.specs.Machine.{Run, opening, Is}
+use Rattle.step_core.specs.WorldState.{WorldState, IsSound, opened, low_word}
+use Rattle.step_core.specs.Stepping.{step_of, given, moves_of, moves_after, world_after}
+use Rattle.step_core.specs.Shown.{shown}
+use Rattle.step_core.specs.Labels.{is_label, labels_of, EndsWith, HasLabels, returned_with, labels_for, labels_after}
+use Rattle.step_core.specs.Laws.{AreWithinLimits, reached}
+use Rattle.step_core.specs.Patience.{goes_of, AllLinger}
+use Rattle.step_core.specs.Kept.{Keeps}
+use Rattle.step_core.proofs.Steps.{step_right}
+use Rattle.step_core.proofs.Opening.{opened_sound, opened_run}
+use Rattle.step_core.proofs.Labelings.{step_labels}
+use Rattle.step_core.proofs.Bytes.{step_keeps}
+use Rattle.step_core.proofs.Lingering.{within_four, within_all}
+
+-- the labels of one step
+ends_labels : (t : ThreadId) (ms : List Move) (r : Option Reply) → EndsWith t ms r → labels_of ms ≡ returned_with t r
+ends_labels t ms None h = h
+ends_labels t ms (Some r) h = ap labels_of h.1 ∙ filter-append is_label h.0 (move.Return t r ∷ []) ∙ ap (λ xs. xs ++ move.Return t r ∷ []) h.2
+
+one_labels : (s : Step) (r : Result Did Fault) → IfOk r (HasLabels s) → labels_of (moves_of r) ≡ labels_for s r
+one_labels s (Err f) h = refl
+one_labels (step.Attach t) (Ok d) h = ap labels_of h.0
+one_labels (step.Begin t c) (Ok d) h = ap labels_of h.0
+one_labels (step.Go t) (Ok d) h = ends_labels t (given d.moves) d.reply h
+
+-- and of a list
+all_labels : (w : WorldState) (ss : List (Step × Bool)) → labels_of (moves_after w ss) ≡ labels_after w ss
+all_labels w [] = refl
+all_labels w (s ∷ ss) =
+    filter-append is_label (moves_of (step_of s.1 w s.0).answer) (moves_after (step_of s.1 w s.0).after ss)
+    ∙ ap (λ xs. xs ++ labels_of (moves_after (step_of s.1 w s.0).after ss)) (one_labels s.0 (step_of s.1 w s.0).answer (step_labels s.1 w s.0))
+    ∙ ap (λ xs. labels_for s.0 (step_of s.1 w s.0).answer ++ xs) (all_labels (step_of s.1 w s.0).after ss)
+
+-- a list of steps keeps a world sound, its objects and its low bytes
+all_sound : (w : WorldState) → IsSound w → (ss : List (Step × Bool)) → IsSound (world_after w ss)
+all_sound w sound [] = sound
+all_sound w sound (s ∷ ss) = all_sound (step_of s.1 w s.0).after (step_right w sound s.1 s.0).0 ss
+
+all_keeps : (w : WorldState) → IsSound w → (ss : List (Step × Bool)) → Keeps w (world_after w ss)
+all_keeps w sound [] = record { objects = refl; low_bytes = λ p. refl }
+all_keeps w sound (s ∷ ss) =
+    let one = step_keeps w sound s.1 s.0 in
+    let rest = all_keeps (step_of s.1 w s.0).after (step_right w sound s.1 s.0).0 ss in
+    record { objects = rest.objects ∙ one.objects; low_bytes = λ p. rest.low_bytes p ∙ one.low_bytes p }
+
+module _ (lows : List ℕ) (monitors indices : ℕ) (steps : List (Step × Bool)) (limits : AreWithinLimits lows monitors indices) where
+  start : IsSound (opened lows monitors indices)
+  start = opened_sound lows monitors indices limits.bytes limits.objects limits.few limits.bounded
+
+  pub reached_run : Run (opening (length lows)) (moves_after (opened lows monitors indices) steps) (shown (reached lows monitors indices steps))
+  reached_run = opened_run lows monitors indices steps limits.bytes limits.objects limits.bounded limits.few
+
+  pub reached_labels : labels_of (moves_after (opened lows monitors indices) steps) ≡ labels_after (opened lows monitors indices) steps
+  reached_labels = all_labels (opened lows monitors indices) steps
+
+  pub reached_sound : IsSound (reached lows monitors indices steps)
+  reached_sound = all_sound (opened lows monitors indices) start steps
+
+  pub reached_distinct : IsOneToOne (reached lows monitors indices steps).seats
+  reached_distinct = reached_sound.one_to_one
+
+  pub reached_keeps : Keeps (opened lows monitors indices) (reached lows monitors indices steps)
+  reached_keeps = all_keeps (opened lows monitors indices) start steps
+
+  pub reached_four : (t : ThreadId) (act : Doing) (more : List (Step × Bool)) → Is (shown (reached lows monitors indices steps)) t false act
+      → (act ≡ doing.Idle → ⊥) → (act ≡ doing.Wants call.End → ⊥) → AllLinger (reached lows monitors indices steps) t more → goes_of t more < 4
+  reached_four t act more is busy not_end all = within_four (reached lows monitors indices steps) reached_sound t act is busy not_end more all
+
+  pub reached_all : (t : ThreadId) (more : List (Step × Bool)) → Is (shown (reached lows monitors indices steps)) t false (doing.Wants call.End)
+      → AllLinger (reached lows monitors indices steps) t more → goes_of t more < length lows + 1
+  reached_all t more is all =
+      let size : length (reached lows monitors indices steps).words ≡ length lows = reached_keeps.objects ∙ length-map lows low_word in
+      rw (← size) (within_all (reached lows monitors indices steps) reached_sound t is more all)
