@@ -8,6 +8,7 @@ use std::process::Abort;
 use std::test::Fail;
 
 mod contention;
+mod endings;
 mod faults;
 mod inflation;
 mod nesting;
