@@ -14,5 +14,6 @@ pub mod Refusing
 pub mod Patient
 pub mod Lingering
 pub mod Bytes
+pub mod Sparing
 pub mod Outcomes
 pub mod Reaching

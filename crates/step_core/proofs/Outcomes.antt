@@ -13,10 +13,11 @@ use Rattle.step_core.specs.WorldState.{WorldState, IsSound}
 use Rattle.step_core.specs.Stepping.{Outcome, step_of, moves_of}
 use Rattle.step_core.specs.Shown.{shown}
 use Rattle.step_core.specs.Labels.{HasLabels}
-use Rattle.step_core.specs.Refusals.{IsRefused, IsAcceptable}
+use Rattle.step_core.specs.Refusals.{IsRefused, IsAcceptable, Spares}
 use Rattle.step_core.proofs.Steps.{step_right}
 use Rattle.step_core.proofs.Labelings.{step_labels}
 use Rattle.step_core.proofs.Refusing.{step_judged}
+use Rattle.step_core.proofs.Sparing.{step_spares}
 
 pub record Tells (w : WorldState) (s : Step) (o : Outcome) : Type 0 where
   pub sound : IsSound o.after
@@ -26,12 +27,13 @@ pub record Tells (w : WorldState) (s : Step) (o : Outcome) : Type 0 where
   pub unchanged : OnErr o.answer (o.after ≡ w)
   pub patient : IfOk o.answer (λ d. IsPatient w s d o.after)
   pub kept : Keeps w o.after
+  pub spared : IfOk o.answer (λ d. Spares w d.reply o.after)
 
 step_tells : (w : WorldState) → IsSound w → (room : Bool) (s : Step) → Tells w s (step_of room w s)
 step_tells w sound room s =
     let right = step_right w sound room s in
     let judged = step_judged room w s in
-    record { sound = right.0; run = right.1; labels = step_labels room w s; judged = judged.0; unchanged = judged.1; patient = step_patient w sound room s; kept = step_keeps w sound room s }
+    record { sound = right.0; run = right.1; labels = step_labels room w s; judged = judged.0; unchanged = judged.1; patient = step_patient w sound room s; kept = step_keeps w sound room s; spared = step_spares w sound room s }
 
 -- what a step of the code answers and leaves
 pub tells : (w w' : WorldState) (s : Step) (r : Result Did Fault) (room : Bool) → IsSound w

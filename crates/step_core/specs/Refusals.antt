@@ -1,7 +1,9 @@
 -- When a step is refused, in the words of the machine.
 use Rattle.lock_word.specs.declared.ObjectId.{ObjectId}
-use Rattle.std.specs.Prelude.{◌≡◌, ◌≢◌, ℕ, ◌<◌, ◌≤◌, length, Some, None, IsSome}
+use Rattle.std.specs.Prelude.{◌≡◌, ◌≢◌, ℕ, ◌<◌, ◌≤◌, length, Option, Some, None, IsSome}
 use Rattle.lock_word.specs.declared.ThreadId.{ThreadId}
+use Rattle.fat_monitor.specs.declared.actions.Reply.{Reply}
+use Rattle.fat_monitor.specs.declared.actions.Reply.TheVariants.{Refused, Entered, Exited, Yes, No, Ended, IllegalMonitorState}
 use Rattle.thread_index.specs.Indices.{holder_at}
 use Rattle.fast_path.specs.Table.{object_of}
 use Rattle.step_core.specs.declared.moves.Doing.TheVariants.{Idle}
@@ -60,3 +62,14 @@ IsRefused w (step.Go t) InCall = ⊥
 -- no fault of the step holds, want of memory apart
 abbrev pub IsAcceptable : WorldState → Step → Type 0
 IsAcceptable w s = (f : Fault) → IsRefused w s f → f ≡ Memory
+
+-- a call that is refused leaves every owner and count as it was
+abbrev pub Spares : WorldState → Option Reply → WorldState → Type 0
+Spares w None w' = Unit {0}
+Spares w (Some Entered) w' = Unit {0}
+Spares w (Some Exited) w' = Unit {0}
+Spares w (Some Yes) w' = Unit {0}
+Spares w (Some No) w' = Unit {0}
+Spares w (Some Ended) w' = Unit {0}
+Spares w (Some IllegalMonitorState) w' = Unit {0}
+Spares w (Some (Refused c)) w' = (o : ObjectId) → (shown w').monitor o ≡ (shown w).monitor o

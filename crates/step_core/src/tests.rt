@@ -11,6 +11,7 @@ mod contention;
 mod endings;
 mod faults;
 mod inflation;
+mod memory;
 mod nesting;
 
 const X: ThreadId = ThreadId(0);

@@ -8,7 +8,7 @@ ghost use Rattle.step_core.specs.WorldState.{IsSound, opened, word_at, lock_at};
 ghost use Rattle.step_core.specs.Stepping.{Outcome, attached, begun, went, step_of, moves_of};
 ghost use Rattle.step_core.specs.Shown.{shown};
 ghost use Rattle.step_core.specs.Labels.{HasLabels};
-ghost use Rattle.step_core.specs.Refusals.{IsRefused, IsAcceptable};
+ghost use Rattle.step_core.specs.Refusals.{IsRefused, IsAcceptable, Spares};
 ghost use Rattle.step_core.specs.Patience.{IsPatient};
 ghost use Rattle.step_core.specs.Kept.{Keeps};
 
@@ -89,6 +89,9 @@ impl World {
         ensures refused { IfErr result (IsRefused self.old step) }
         ensures accepted { OnOk result (IsAcceptable self.old step) }
         ensures unchanged { OnErr result (self.new ≡ self.old) }
+
+        // A call that is refused leaves every owner and count.
+        ensures spared { IfOk result (λ d. Spares self.old d.reply self.new) }
 
         // A Go replies, meets another thread, or lowers the steps that its call has left; no other thread's
         // step changes them. The objects stay, and so does the low byte of each word.

@@ -25,3 +25,6 @@ returns-clause-patient c = let e = c.advance.ensures.exact in (tells c.args.self
 
 pub returns-clause-kept : goal.returns-clause-kept
 returns-clause-kept c = let e = c.advance.ensures.exact in (tells c.args.self.now c.advance.new.self c.args.step c.advance.result e.0 c.advance.ensures.was e.1).kept
+
+pub returns-clause-spared : goal.returns-clause-spared
+returns-clause-spared c = let e = c.advance.ensures.exact in (tells c.args.self.now c.advance.new.self c.args.step c.advance.result e.0 c.advance.ensures.was e.1).spared
