@@ -1,0 +1,245 @@
+//! What the threads of the benchmark do.
+ghost use Rattle.std.specs.Prelude.{◌≡◌, ◌+◌, ◌<◌, [], length};
+ghost use Rattle.header_words.specs.Events.{depth};
+
+use anyhow::bail;
+use header_words::{Headers, Pass};
+use lock_word::ObjectId;
+use std::alloc::Global;
+use std::sync::atomic::{AtomicU64, Ordering};
+use std::thread;
+use std::thread::Threads;
+use std::time::{Clock, Instant};
+
+/// What a thread does in each round, on its own object or bare word.
+#[derive(Clone, Copy, PartialEq, Eq, Debug)]
+pub enum Work {
+    /// It acquires and releases the object.
+    Lock,
+    /// The two atomic operations of such a pair: an exchange and a store.
+    BareLock,
+    /// It nests and unnests the object.
+    Nest,
+    /// The two atomic operations of such a pair: two stores.
+    BareNest,
+}
+
+/// What the threads share: the words of objects, and as many bare words.
+#[derive(Clone, Copy)]
+pub struct Shared<'a> {
+    pub headers: &'a Headers,
+    pub bare: &'a [AtomicU64],
+}
+
+fn lock(headers: &Headers, pass: &mut Pass, object: ObjectId, rounds: u32) -> u32
+    requires belongs { pass.old.opening ≡ headers.now }
+    requires object { object.0 < length headers.now.lows }
+    requires free { depth object.0 pass.old.mine ≡ 0 }
+{
+    let mut won = 0u32;
+    for _ in 0..rounds {
+        if headers.acquire(pass, object) {
+            headers.release(pass, object);
+            won = won.wrapping_add(1);
+        }
+    }
+    won
+}
+
+fn nest(headers: &Headers, pass: &mut Pass, object: ObjectId, rounds: u32) -> u32
+    requires belongs { pass.old.opening ≡ headers.now }
+    requires object { object.0 < length headers.now.lows }
+    requires free { depth object.0 pass.old.mine ≡ 0 }
+{
+    if !headers.acquire(pass, object) {
+        return 0;
+    }
+    for _ in 0..rounds {
+        headers.nest(pass, object);
+        headers.unnest(pass, object);
+    }
+    rounds
+}
+
+fn bare_lock(word: &AtomicU64, rounds: u32) -> u32 {
+    let mut won = 0u32;
+    for _ in 0..rounds {
+        if word
+            .compare_exchange(0, 0x1_0000, Ordering::SeqCst, Ordering::SeqCst)
+            .is_ok()
+        {
+            word.store(0, Ordering::SeqCst);
+            won = won.wrapping_add(1);
+        }
+    }
+    won
+}
+
+fn bare_nest(word: &AtomicU64, rounds: u32) -> u32 {
+    for _ in 0..rounds {
+        word.store(0x1_0100, Ordering::SeqCst);
+        word.store(0x1_0000, Ordering::SeqCst);
+    }
+    word.store(0, Ordering::SeqCst);
+    rounds
+}
+
+/// Does `rounds` rounds of the work at an object, and returns how many of them succeeded.
+fn run(shared: &Shared<'_>, work: Work, rounds: u32, mut pass: Pass, object: ObjectId) -> u32
+    requires belongs { pass.opening ≡ shared.now.headers.now }
+    requires object { object.0 < length shared.now.headers.now.lows }
+    requires free { pass.mine ≡ [] }
+{
+    let bare = shared.bare.get(object.0 as usize);
+    match (work, bare) {
+        (Work::Lock, _) => lock(shared.headers, &mut pass, object, rounds),
+        (Work::Nest, _) => nest(shared.headers, &mut pass, object, rounds),
+        (Work::BareLock, Some(word)) => bare_lock(word, rounds),
+        (Work::BareNest, Some(word)) => bare_nest(word, rounds),
+        (_, None) => 0,
+    }
+}
+
+/// Does the work in two threads, each on an object of its own, 64 words apart.
+fn run_two<R: Threads + Sync>(
+    rt: &R,
+    shared: &Shared<'_>,
+    work: Work,
+    rounds: u32,
+    passes: (Pass, Pass),
+    object: u32,
+) -> u32
+    requires left { (passes.0.opening ≡ shared.now.headers.now) × (passes.0.mine ≡ []) }
+    requires right { (passes.1.opening ≡ shared.now.headers.now) × (passes.1.mine ≡ []) }
+    requires object { object + 64 < length shared.now.headers.now.lows }
+    requires small { object < 65536 }
+{
+    let (left, right) = passes;
+    let (one, two) = thread::join(
+        rt,
+        || run(shared, work, rounds, left, ObjectId(object)),
+        || run(shared, work, rounds, right, ObjectId(object + 64)),
+    );
+    one.wrapping_add(two)
+}
+
+/// Does the work in four threads.
+fn run_four<R: Threads + Sync>(
+    rt: &R,
+    shared: &Shared<'_>,
+    work: Work,
+    rounds: u32,
+    left: (Pass, Pass),
+    right: (Pass, Pass),
+) -> u32
+    requires objects { 192 < length shared.now.headers.now.lows }
+    requires first { (left.0.opening ≡ shared.now.headers.now) × (left.0.mine ≡ []) }
+    requires second { (left.1.opening ≡ shared.now.headers.now) × (left.1.mine ≡ []) }
+    requires third { (right.0.opening ≡ shared.now.headers.now) × (right.0.mine ≡ []) }
+    requires fourth { (right.1.opening ≡ shared.now.headers.now) × (right.1.mine ≡ []) }
+{
+    let (one, two) = thread::join(
+        rt,
+        ||
+            requires { (64 < length shared.now.headers.now.lows) × (left.0.opening ≡ shared.now.headers.now) × (left.0.mine ≡ []) × (left.1.opening ≡ shared.now.headers.now) × (left.1.mine ≡ []) }
+        { run_two(rt, shared, work, rounds, left, 0) },
+        ||
+            requires { (192 < length shared.now.headers.now.lows) × (right.0.opening ≡ shared.now.headers.now) × (right.0.mine ≡ []) × (right.1.opening ≡ shared.now.headers.now) × (right.1.mine ≡ []) }
+        { run_two(rt, shared, work, rounds, right, 128) },
+    );
+    one.wrapping_add(two)
+}
+
+/// What a run of some threads did, and how long it took.
+#[derive(Clone, Copy, Debug)]
+pub struct Measure {
+    /// The rounds that succeeded, of all threads.
+    pub done: u32,
+    /// In nanoseconds.
+    pub time: u128,
+}
+
+/// Where the threads run, and on what.
+#[derive(Drop)]
+pub struct Setup<'a, R> {
+    pub rt: &'a R,
+    pub lows: &'a [u8],
+    pub bare: &'a [AtomicU64],
+    pub rounds: u32,
+}
+
+/// Times the work in one thread.
+pub fn in_one<R: Clock + Threads + Sync>(
+    setup: &Setup<'_, R>,
+    alloc: Global,
+    work: Work,
+) -> anyhow::Result<Measure>
+    requires { length setup.now.lows.now ≡ 256 }
+{
+    let (headers, mut passes) = Headers::open(alloc, setup.lows, 1)?;
+    let Some(pass) = passes.pop() else {
+        bail!("no pass")
+    };
+    let shared = Shared {
+        headers: &headers,
+        bare: setup.bare,
+    };
+    let start = Instant::now(setup.rt)?;
+    let done = run(&shared, work, setup.rounds, pass, ObjectId(0));
+    let time = start.elapsed(setup.rt)?.as_nanos();
+    Ok(Measure { done, time })
+}
+
+/// Times the work in two threads.
+pub fn in_two<R: Clock + Threads + Sync>(
+    setup: &Setup<'_, R>,
+    alloc: Global,
+    work: Work,
+) -> anyhow::Result<Measure>
+    requires { length setup.now.lows.now ≡ 256 }
+{
+    let (headers, mut passes) = Headers::open(alloc, setup.lows, 2)?;
+    let (Some(second), Some(first)) = (passes.pop(), passes.pop()) else {
+        bail!("no two passes")
+    };
+    let shared = Shared {
+        headers: &headers,
+        bare: setup.bare,
+    };
+    let start = Instant::now(setup.rt)?;
+    let done = run_two(setup.rt, &shared, work, setup.rounds, (first, second), 0);
+    let time = start.elapsed(setup.rt)?.as_nanos();
+    Ok(Measure { done, time })
+}
+
+/// Times the work in four threads.
+pub fn in_four<R: Clock + Threads + Sync>(
+    setup: &Setup<'_, R>,
+    alloc: Global,
+    work: Work,
+) -> anyhow::Result<Measure>
+    requires { length setup.now.lows.now ≡ 256 }
+{
+    let (headers, mut passes) = Headers::open(alloc, setup.lows, 4)?;
+    let (Some(fourth), Some(third)) = (passes.pop(), passes.pop()) else {
+        bail!("no two passes")
+    };
+    let (Some(second), Some(first)) = (passes.pop(), passes.pop()) else {
+        bail!("no four passes")
+    };
+    let shared = Shared {
+        headers: &headers,
+        bare: setup.bare,
+    };
+    let start = Instant::now(setup.rt)?;
+    let done = run_four(
+        setup.rt,
+        &shared,
+        work,
+        setup.rounds,
+        (first, second),
+        (third, fourth),
+    );
+    let time = start.elapsed(setup.rt)?.as_nanos();
+    Ok(Measure { done, time })
+}

@@ -1,0 +1,257 @@
+-- Each step of a word keeps the rule.
+use Rattle.std.proofs.Common.{◌≡◌, ◌≢◌, ◌⊎◌, ℕ, zero, suc, ◌+◌, ◌<◌, ◌≤◌, Bool, true, false, List, [], ◌∷◌, ◌++◌, length, get_or, set, refl, sym, ap, ◌∙◌, subst, arith, eqb, eq-eqb, ne_eqb, inl, inr, ⊎_elim, length-set, get_or-set_same, get_or-set_other, append_assoc}
+use Rattle.std.specs.Prelude.{slice_index}
+use mathlib.Core.Logic.{dite}
+use mathlib.Core.List.{IsPrefix}
+use mathlib.Core.Option.{some, none}
+use native.Mathlib.Decide.{ℕ_discrete}
+use lib.ListN.{get_elem?}
+use prog.Atomic.{either}
+use Rattle.atomic_table.specs.Table.{State, Me, Step, step, keeps, stepped, Allows}
+use Rattle.atomic_table.proofs.Lists.{at_set}
+use Rattle.lock_word.specs.declared.Lock.{Lock}
+use Rattle.lock_word.specs.declared.Lock.TheVariants.{Free, Thin}
+use Rattle.lock_word.specs.Layout.{word_of, Fits}
+use Rattle.header_words.specs.declared.event.Deed.{Deed}
+use Rattle.header_words.specs.declared.event.Deed.TheVariants.{Load, Win, Lose}
+use Rattle.header_words.specs.declared.event.Event.{Event}
+use Rattle.header_words.specs.declared.rule.Part.{Part}
+use Rattle.header_words.specs.declared.rule.View.{View}
+use Rattle.header_words.specs.Events.{event, Legal, effect, lock_at, locks_after, Replays, free_locks, own_events, depth}
+use Rattle.header_words.specs.Rule.{Each, part, IsMine, Knows, Ruled, stepped_view, index_of, mine_of, HasOneIndex}
+use Rattle.header_words.specs.Steps.{ShowsDepth, AddsEvent, Does, Loads, Stores, Exchanges}
+use Rattle.header_words.proofs.History.{replays_snoc, length-locks, own_snoc_mine, own_snoc_other, depth_is_holds, thin_of_holds, fits_all, shows_depth, free_word, free_low, small_word, lock_after_here, lock_after_else}
+
+-- what follows holds of each, too
+pub each_map : {X : Type 0} (P Q : X → Type 0) → ((x : X) → P x → Q x) → (xs : List X) → Each P xs → Each Q xs
+each_map P Q f [] h = tt
+each_map P Q f (x ∷ xs) h = (f x h.0, each_map P Q f xs h.1)
+
+-- a beginning of a list begins a longer one
+pub prefix_more : (xs ys zs : List Event) → IsPrefix xs ys → IsPrefix xs (ys ++ zs)
+prefix_more xs ys zs h = (h.0 ++ zs, sym (append_assoc xs h.0 zs) ∙ ap (λ (l : List Event). l ++ zs) h.1)
+
+-- what another seat knows lasts
+pub knows_other : (lows : List ℕ) (count : ℕ) (log : List Event) (seat_of : ℕ → ℕ) (k : ℕ) (v : View) (e : Event) → k ≢ seat_of e.pass → Knows lows count log seat_of k v → Knows lows count (log ++ e ∷ []) seat_of k v
+knows_other lows count log seat_of k v e apart h = record {
+  seen = prefix_more v.seen log (e ∷ []) h.seen;
+  earlier = each_map (λ old. IsPrefix old log) (λ old. IsPrefix old (log ++ e ∷ [])) (λ old p. prefix_more old log (e ∷ []) p) v.earlier h.earlier;
+  parts = each_map (IsMine lows count log seat_of k v) (IsMine lows count (log ++ e ∷ []) seat_of k v) one v.parts h.parts;
+  apart = h.apart;
+}
+  where
+    one : (p : Part) → IsMine lows count log seat_of k v p → IsMine lows count (log ++ e ∷ []) seat_of k v p
+    one p m = record {
+      same = m.same;
+      same_count = m.same_count;
+      low = m.low;
+      high = m.high;
+      all = own_snoc_other p.index e log (λ (is : e.pass ≡ p.index). apart (sym (ap seat_of is ∙ m.seat))) ∙ m.all;
+      seen_all = m.seen_all;
+      seat = m.seat;
+    }
+
+-- the words after a step at the object o
+words_kept : (lows : List ℕ) (words : List ℕ) (locks : List Lock) (e : Event) (n : ℕ) → length words ≡ length lows + 1 → length locks ≡ length lows → e.object < length lows
+    → n ≡ word_of (effect e.pass e.deed (lock_at locks e.object)) (slice_index lows e.object)
+    → ((o : ℕ) → o < length lows → slice_index words (o + 1) ≡ word_of (lock_at locks o) (slice_index lows o))
+    → (o : ℕ) → o < length lows → slice_index (set words (e.object + 1) n) (o + 1) ≡ word_of (lock_at (locks_after e locks) o) (slice_index lows o)
+words_kept lows words locks e n wide len at is was o lt = go (ℕ_discrete e.object o)
+  where
+    go : Dec (e.object ≡ o) → slice_index (set words (e.object + 1) n) (o + 1) ≡ word_of (lock_at (locks_after e locks) o) (slice_index lows o)
+    go (yes same) =
+        ap (λ (k : ℕ). slice_index (set words (k + 1) n) (o + 1)) same
+        ∙ (get_or-set_same words (o + 1) n 0 (omega arith)
+        ∙ (is
+        ∙ (ap (λ (k : ℕ). word_of (effect e.pass e.deed (lock_at locks k)) (slice_index lows k)) same
+        ∙ sym (ap (λ (l : Lock). word_of l (slice_index lows o)) (lock_after_here e locks o (omega arith) same)))))
+    go (no ne) =
+        get_or-set_other words (e.object + 1) (o + 1) n 0 (omega arith)
+        ∙ (was o lt ∙ sym (ap (λ (l : Lock). word_of l (slice_index lows o)) (lock_after_else e locks o (λ x. ne (sym x)))))
+
+-- one lemma for every event: a legal event, whose word is that of its effect
+pub steps : {S : Type 0} (lows : List ℕ) (count : ℕ) (s : State S View) (r : Ruled lows count s) (id : ℕ) (v : View) (i : ℕ) (m : List Event) (o : ℕ) (deed : Deed) (n : ℕ)
+    → get_elem? s.views id ≡ some v → v.parts ≡ part i m ∷ [] → o < length lows
+    → Legal i deed (lock_at r.locks o) (slice_index lows o) → n ≡ word_of (effect i deed (lock_at r.locks o)) (slice_index lows o)
+    → (c : List (ℕ × S)) → Ruled lows count (stepped s (o + 1) n id c (stepped_view v r.log i m (event i o deed)) keeps)
+steps lows count s r id v i m o deed n at one inside legal is c = record {
+  log = r.log ++ e ∷ [];
+  locks = locks_after e r.locks;
+  seat_of = r.seat_of;
+  bytes = r.bytes;
+  few = r.few;
+  replays = replays_snoc lows count (free_locks lows) r.log r.locks e r.replays (mine.low, mine.high, inside, legal);
+  wide = length-set s.words (o + 1) n ∙ r.wide;
+  words = words_kept lows s.words r.locks e n r.wide (length-locks lows count r.log r.locks r.replays) inside is r.words;
+  views = λ k u found. ⊎_elim
+      (λ (t : (k ≡ id) × (w ≡ u)). subst (λ (z : ℕ × View). Knows lows count (r.log ++ e ∷ []) r.seat_of z.0 z.1) (λ j. (sym t.0 j, t.1 j)) here)
+      (λ (t : (k ≢ id) × (get_elem? s.views k ≡ some u)). knows_other lows count r.log r.seat_of k u e (λ (x : k ≡ r.seat_of i). t.0 (x ∙ mine.seat)) (r.views k u t.1))
+      (at_set s.views id k w u found);
+}
+  where
+    e : Event
+    e = event i o deed
+
+    w : View
+    w = stepped_view v r.log i m e
+
+    knows : Knows lows count r.log r.seat_of id v
+    knows = r.views id v at
+
+    mine : IsMine lows count r.log r.seat_of id v (part i m)
+    mine = (subst (Each (IsMine lows count r.log r.seat_of id v)) one knows.parts).0
+
+    here : Knows lows count (r.log ++ e ∷ []) r.seat_of id w
+    here = record {
+      seen = ([], Rattle.std.proofs.Common.append-nil (r.log ++ e ∷ []));
+      earlier = tt;
+      parts = (
+        record {
+          same = mine.same;
+          same_count = mine.same_count;
+          low = mine.low;
+          high = mine.high;
+          all = own_snoc_mine i e r.log refl ∙ ap (λ (z : List Event). z ++ e ∷ []) mine.all;
+          seen_all = own_snoc_mine i e r.log refl ∙ ap (λ (z : List Event). z ++ e ∷ []) mine.all;
+          seat = mine.seat;
+        },
+        tt,
+      );
+      apart = (tt, tt);
+    }
+
+-- what a step tells
+pub told : {S : Type 0} (lows : List ℕ) (count : ℕ) (s : State S View) (r : Ruled lows count s) (id : ℕ) (v : View) (o : ℕ) (deed : Deed) (n : ℕ)
+    → get_elem? s.views id ≡ some v → HasOneIndex v → o < length lows
+    → Legal (index_of v.parts) deed (lock_at r.locks o) (slice_index lows o) → n ≡ word_of (effect (index_of v.parts) deed (lock_at r.locks o)) (slice_index lows o)
+    → AddsEvent o deed n v (stepped_view v r.log (index_of v.parts) (mine_of v.parts) (event (index_of v.parts) o deed))
+told lows count s r id v o deed n at one inside legal is = record {
+  rest = knows.seen.0;
+  view = λ k. stepped_view v (sym knows.seen.1 k) i m e;
+  saw = record {
+    locks = locks_after e r.locks;
+    replays = subst (λ (z : List ℕ × ℕ). Replays z.0 z.1 (free_locks z.0) (r.log ++ e ∷ []) (locks_after e r.locks)) (λ k. (sym mine.same k, sym mine.same_count k)) again;
+    own = mine';
+  };
+  word = word' ∙ ap (λ (ls : List ℕ). word_of (lock_at (locks_after e r.locks) o) (slice_index ls o)) (sym mine.same);
+  small = subst (λ (x : ℕ). x < 4294967296) (sym word') (small_word (lock_at (locks_after e r.locks) o) (slice_index lows o) fits (r.bytes o));
+  shows = subst (λ (ls : List ℕ). ShowsDepth i (depth o (m ++ e ∷ [])) (slice_index ls o) n) (sym mine.same)
+      (shows_depth i (depth o (m ++ e ∷ [])) (lock_at (locks_after e r.locks) o) (slice_index lows o) n fits (r.bytes o)
+      (ap (depth o) (sym mine') ∙ depth_is_holds lows count i o (r.log ++ e ∷ []) (locks_after e r.locks) again) word');
+}
+  where
+    i : ℕ
+    i = index_of v.parts
+
+    m : List Event
+    m = mine_of v.parts
+
+    e : Event
+    e = event i o deed
+
+    knows : Knows lows count r.log r.seat_of id v
+    knows = r.views id v at
+
+    mine : IsMine lows count r.log r.seat_of id v (part i m)
+    mine = (subst (Each (IsMine lows count r.log r.seat_of id v)) one knows.parts).0
+
+    mine' : own_events i (r.log ++ e ∷ []) ≡ m ++ e ∷ []
+    mine' = own_snoc_mine i e r.log refl ∙ ap (λ (z : List Event). z ++ e ∷ []) mine.all
+
+    word' : n ≡ word_of (lock_at (locks_after e r.locks) o) (slice_index lows o)
+    word' = is ∙ sym (ap (λ (l : Lock). word_of l (slice_index lows o)) (lock_after_here e r.locks o (let len = length-locks lows count r.log r.locks r.replays in omega arith) refl))
+
+    again : Replays lows count (free_locks lows) (r.log ++ e ∷ []) (locks_after e r.locks)
+    again = replays_snoc lows count (free_locks lows) r.log r.locks e r.replays (mine.low, mine.high, inside, legal)
+
+    fits : Fits (lock_at (locks_after e r.locks) o)
+    fits = fits_all lows count (r.log ++ e ∷ []) (locks_after e r.locks) r.few again o
+
+-- what the step of an event tells
+does : {S : Type 0} (lows : List ℕ) (count : ℕ) (s : State S View) (r : Ruled lows count s) (id : ℕ) (me : Me S View) (o : ℕ) (deed : Deed) (n : ℕ) (st : Step S) → st.word ≡ o + 1
+    → get_elem? s.views id ≡ some me.0 → HasOneIndex me.0 → o < length lows
+    → Legal (index_of me.0.parts) deed (lock_at r.locks o) (slice_index lows o) → n ≡ word_of (effect (index_of me.0.parts) deed (lock_at r.locks o)) (slice_index lows o)
+    → Does deed n st me (stepped_view me.0 r.log (index_of me.0.parts) (mine_of me.0.parts) (event (index_of me.0.parts) o deed), me.1)
+does lows count s r id me o deed n st word at one inside legal is = (
+  (λ p w. let same : o ≡ p = omega arith in
+      subst (λ (k : ℕ). AddsEvent k deed n me.0 (stepped_view me.0 r.log (index_of me.0.parts) (mine_of me.0.parts) (event (index_of me.0.parts) o deed))) same
+      (told lows count s r id me.0 o deed n at one inside legal is)),
+  refl,
+)
+
+-- a load may be made
+pub loads : {S : Type 0} (lows : List ℕ) (count slots id : ℕ) (me : Me S View) (o : ℕ) → HasOneIndex me.0 → o < length lows
+    → Allows (Ruled lows count) slots id me (o + 1) (λ n. n) (Loads (step slots (o + 1) 0 0 none) me)
+loads lows count slots id me o one inside s r _ at _ = let n : ℕ = slice_index s.words (o + 1) in (
+  stepped_view me.0 r.log (index_of me.0.parts) (mine_of me.0.parts) (event (index_of me.0.parts) o (Load n)),
+  keeps,
+  tt,
+  steps lows count s r id me.0 (index_of me.0.parts) (mine_of me.0.parts) o (Load n) n at one inside (r.words o inside) (r.words o inside) me.1,
+  does lows count s r id me o (Load n) n (step slots (o + 1) 0 0 none) refl at one inside (r.words o inside) (r.words o inside),
+)
+
+-- an owner stores: nobody else changes the word, so it is what the owner's events made of it
+pub stores : {S : Type 0} (lows : List ℕ) (count slots id : ℕ) (me : Me S View) (o : ℕ) (kind : ℕ → Deed) (d new : ℕ) → HasOneIndex me.0 → o < length lows
+    → depth o (mine_of me.0.parts) ≡ suc d
+    → Legal (index_of me.0.parts) (kind new) (Thin (index_of me.0.parts) d) (slice_index lows o)
+    → new ≡ word_of (effect (index_of me.0.parts) (kind new) (Thin (index_of me.0.parts) d)) (slice_index lows o)
+    → Allows (Ruled lows count) slots id me (o + 1) (λ _. new) (λ _. Stores kind (step slots (o + 1) new 0 none) me new)
+stores lows count slots id me o kind d new one inside new_depth legal is s r _ at _ = (
+  stepped_view me.0 r.log i m (event i o (kind new)),
+  keeps,
+  tt,
+  steps lows count s r id me.0 i m o (kind new) new at one inside legal' is' me.1,
+  does lows count s r id me o (kind new) new (step slots (o + 1) new 0 none) refl at one inside legal' is',
+)
+  where
+    i : ℕ
+    i = index_of me.0.parts
+
+    m : List Event
+    m = mine_of me.0.parts
+
+    knows : Knows lows count r.log r.seat_of id me.0
+    knows = r.views id me.0 at
+
+    mine : IsMine lows count r.log r.seat_of id me.0 (part i m)
+    mine = (subst (Each (IsMine lows count r.log r.seat_of id me.0)) one knows.parts).0
+
+    thin : lock_at r.locks o ≡ Thin i d
+    thin = thin_of_holds i d (lock_at r.locks o) (sym (depth_is_holds lows count i o r.log r.locks r.replays) ∙ (ap (depth o) mine.all ∙ new_depth))
+
+    legal' : Legal i (kind new) (lock_at r.locks o) (slice_index lows o)
+    legal' = subst (λ (l : Lock). Legal i (kind new) l (slice_index lows o)) (sym thin) legal
+
+    is' : new ≡ word_of (effect i (kind new) (lock_at r.locks o)) (slice_index lows o)
+    is' = is ∙ ap (λ (l : Lock). word_of (effect i (kind new) l) (slice_index lows o)) (sym thin)
+
+-- an exchange of the free word may be made: it is won where the word is free
+pub exchanges : {S : Type 0} (lows : List ℕ) (count slots id : ℕ) (me : Me S View) (o low new : ℕ) → HasOneIndex me.0 → o < length lows → low ≡ slice_index lows o → new ≡ word_of (Thin (index_of me.0.parts) 0) low
+    → Allows (Ruled lows count) slots id me (o + 1) (λ n. either (eqb n low) new n) (Exchanges (step slots (o + 1) low new none) me)
+exchanges lows count slots id me o low new one inside is_low is_new s r _ at _ = dite (ℕ_discrete n low)
+    (λ hit. let free : lock_at r.locks o ≡ Free = free_word (lock_at r.locks o) (slice_index lows o) (fits_all lows count r.log r.locks r.few r.replays o) (sym (r.words o inside) ∙ (hit ∙ is_low)) in
+    let made : new ≡ word_of (Thin i 0) (slice_index lows o) = is_new ∙ ap (word_of (Thin i 0)) is_low in (
+      stepped_view me.0 r.log i m (event i o Win),
+      keeps,
+      tt,
+      subst (λ b. Ruled lows count (stepped s (o + 1) (either b new n) id me.1 (stepped_view me.0 r.log i m (event i o Win)) keeps)) (sym (eq-eqb n low hit))
+          (steps lows count s r id me.0 i m o Win new at one inside free made me.1),
+      ((λ _. does lows count s r id me o Win new (step slots (o + 1) low new none) refl at one inside free made), λ not. absurd (not hit)),
+    ))
+    (λ miss. let not_free : lock_at r.locks o ≢ Free = λ free. miss (r.words o inside ∙ (free_low (lock_at r.locks o) (slice_index lows o) free ∙ sym is_low)) in (
+      stepped_view me.0 r.log i m (event i o Lose),
+      keeps,
+      tt,
+      subst (λ b. Ruled lows count (stepped s (o + 1) (either b new n) id me.1 (stepped_view me.0 r.log i m (event i o Lose)) keeps)) (sym (ne_eqb n low miss))
+          (steps lows count s r id me.0 i m o Lose n at one inside not_free (r.words o inside) me.1),
+      ((λ hit. absurd (miss hit)), λ _. does lows count s r id me o Lose n (step slots (o + 1) low new none) refl at one inside not_free (r.words o inside)),
+    ))
+  where
+    i : ℕ
+    i = index_of me.0.parts
+
+    m : List Event
+    m = mine_of me.0.parts
+
+    n : ℕ
+    n = slice_index s.words (o + 1)

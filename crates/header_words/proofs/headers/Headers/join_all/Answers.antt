@@ -1,0 +1,31 @@
+use Rattle.std.proofs.Common.{◌≡◌, List, [], ◌∷◌, ◌++◌, sym, ap, ◌∙◌, subst, arith, append_assoc, All}
+use Rattle.header_words.specs.Rule.{part}
+use Rattle.header_words.specs.Passes.{PassValue}
+use Rattle.header_words.proofs.Closes.{all_mid, joining_next, joins_more}
+use Rattle.header_words.proofs.headers.Headers.join_all.Goals as goal
+
+pub join_seat-requires : goal.join_seat-requires
+join_seat-requires c =
+    let left = c.pop-in-loop-pass.new.self.items in
+    let j = c.loop-pass.invariant.joining in
+    let at : c.args.passes.items ≡ left ++ c.in-Some-pop.pass ∷ (j.first ∷ j.taken) =
+    j.split ∙ (ap (λ (l : List PassValue). l ++ j.first ∷ j.taken) c.in-Some-pop.ensures.items ∙ append_assoc left (c.in-Some-pop.pass ∷ []) (j.first ∷ j.taken)) in
+    let is : c.in-Some-pop.pass.opening ≡ c.args.self.now =
+    all_mid (λ (p : PassValue). p.opening ≡ c.args.self.now) left (j.first ∷ j.taken) c.in-Some-pop.pass
+    (subst (λ (l : List PassValue). All (λ (p : PassValue). p.opening ≡ c.args.self.now) l) at c.requires.belong) in
+    let home = sym (ap (λ z. z.table) c.self.view_is) in (
+      c.loop-pass.invariant.place ∙ home,
+      ap (λ z. z.opening.table) c.pass.view_is ∙ (ap (λ z. z.table) is ∙ home),
+      c.pass.invariant.empty,
+      (let w = c.self.invariant.words in omega arith),
+      joins_more c.self.inside.table.shared.key c.loop-pass.seat.id c.pass.inside.seat.id c.loop-pass.seat.me.0 c.pass.inside.seat.me.0 c.args.passes.items c.loop-pass.passes.items j,
+    )
+
+pub loop-pass-preserved : goal.loop-pass-preserved
+loop-pass-preserved c = record {
+  place = c.join_seat.ensures.0 ∙ c.loop-pass.invariant.place;
+  joining = joining_next c.args.passes.items c.loop-pass.passes.items c.pop-in-loop-pass.new.self.items c.in-Some-pop.pass c.loop-pass.seat.me.0 c.pass.inside.seat.me.0 c.join_seat.new.seat.me.0
+      c.in-Some-pop.ensures.items c.loop-pass.invariant.joining
+      (c.pass.invariant.lone ∙ λ k. part (c.pass.view_is k).index (c.pass.view_is k).mine ∷ [])
+      (ap (λ z. z.seen) c.pass.view_is) (ap (λ z. z.0) c.join_seat.ensures.2);
+}

@@ -1,0 +1,5 @@
+pub mod Events
+pub mod Faults
+pub mod Passes
+pub mod Rule
+pub mod Steps

@@ -1,0 +1,76 @@
+-- What each kind of step tells the seat that takes it.
+use Rattle.std.specs.Prelude.{◌≡◌, ◌≢◌, ◌↔◌, ℕ, suc, ◌+◌, ◌-◌, ◌/◌, ◌<◌, List, [], ◌++◌, slice_index}
+use mathlib.Core.List.{IsPrefix}
+use Rattle.atomic_table.specs.Table.{Me, Step}
+use Rattle.lock_word.specs.declared.Lock.{Lock}
+use Rattle.lock_word.specs.declared.Lock.TheVariants.{Thin}
+use Rattle.lock_word.specs.Layout.{word_of, lock_of, low_of, IsMalformed}
+use Rattle.header_words.specs.declared.event.Deed.{Deed}
+use Rattle.header_words.specs.declared.event.Deed.TheVariants.{Load, Win, Lose, Publish}
+use Rattle.header_words.specs.declared.event.Event.{Event}
+use Rattle.header_words.specs.declared.rule.View.{View}
+use Rattle.header_words.specs.Events.{event, Legal, effect, depth_after, lock_at, Replays, free_locks, own_events, depth}
+use Rattle.header_words.specs.Rule.{Each, AreApart, stepped_view, index_of, mine_of}
+
+-- `decode` reads this low byte off the word, and a thin lock with the index i and the count c exactly where d, the depth of the pass i, is c + 1
+pub record ShowsDepth (i d low word : ℕ) : Type 0 where
+  pub thin : (c : ℕ) → (d ≡ c + 1) ↔ (lock_of word ≡ Thin i c)
+  pub kept : low_of word ≡ low
+  pub spelled : word ≡ word_of (lock_of word) low
+  pub formed : IsMalformed word → ⊥
+
+-- the history that the pass i has seen replays, and has just these events of its own
+pub record Saw (lows : List ℕ) (count : ℕ) (seen : List Event) (i : ℕ) (mine : List Event) : Type 0 where
+  pub locks : List Lock
+  pub replays : Replays lows count (free_locks lows) seen locks
+  pub own : own_events i seen ≡ mine
+
+-- the seat added this event of its own to the history, saw it all, and the object's word then is n
+pub record AddsEvent (o : ℕ) (deed : Deed) (n : ℕ) (v w : View) : Type 0 where
+  pub rest : List Event
+  pub view : w ≡ stepped_view v (v.seen ++ rest) (index_of v.parts) (mine_of v.parts) (event (index_of v.parts) o deed)
+  pub saw : Saw w.lows w.count w.seen (index_of w.parts) (mine_of w.parts)
+  pub word : n ≡ word_of (lock_at saw.locks o) (slice_index w.lows o)
+  pub small : n < 4294967296
+  pub shows : ShowsDepth (index_of w.parts) (depth o (mine_of w.parts)) (slice_index w.lows o) n
+
+-- the step was this deed at the object of its word, and left the slots that the seat holds
+abbrev pub Does : {S : Type 0} → Deed → ℕ → Step S → Me S View → Me S View → Type 0
+Does deed n st me me' = ((o : ℕ) → st.word ≡ o + 1 → AddsEvent o deed n me.0 me'.0) × (me'.1 ≡ me.1)
+
+-- the load of a word
+abbrev pub Loads : {S : Type 0} → Step S → Me S View → ℕ → Me S View → Type 0
+Loads st me n me' = Does (Load n) n st me me'
+
+-- the store of a word, which tells the deed
+abbrev pub Stores : {S : Type 0} → (ℕ → Deed) → Step S → Me S View → ℕ → Me S View → Type 0
+Stores deed st me n me' = Does (deed n) n st me me'
+
+-- the store of a fat word, by its monitor
+abbrev pub publish_of : ℕ → Deed
+publish_of n = Publish ((n - 2147483648) / 256)
+
+-- the exchange of the free word: it was won where it found that word
+abbrev pub Exchanges : {S : Type 0} → Step S → Me S View → ℕ → Me S View → Type 0
+Exchanges st me n me' = (n ≡ st.first → Does Win st.second st me me') × (n ≢ st.first → Does Lose n st me me')
+
+-- the pass i, which holds the object `deep` times, may store the word of this lock, and then holds it `left` times
+abbrev pub MayStore : ℕ → ℕ → Deed → ℕ → Lock → ℕ → Type 0
+MayStore i deep deed low lock left = (d : ℕ) × (deep ≡ suc d) × Legal i deed (Thin i d) low × (lock ≡ effect i deed (Thin i d)) × (left ≡ depth_after deed deep)
+
+-- the seat sees the whole history, which replays and begins with each list that was seen before
+pub record SeesAll (v w : View) : Type 0 where
+  pub view : w ≡ record { lows = v.lows; count = v.count; parts = v.parts; seen = w.seen; earlier = [] }
+  pub seen : IsPrefix v.seen w.seen
+  pub earlier : Each (λ old. IsPrefix old w.seen) v.earlier
+  pub apart : AreApart v.parts
+  pub parts : Each (λ p. own_events p.index w.seen ≡ p.mine) v.parts
+  pub lows : List ℕ
+  pub count : ℕ
+  pub same : Each (λ p. (v.lows ≡ lows) × (v.count ≡ count)) v.parts
+  pub locks : List Lock
+  pub replays : Replays lows count (free_locks lows) w.seen locks
+
+-- the load of the spare word
+abbrev pub Syncs : {S : Type 0} → Step S → Me S View → ℕ → Me S View → Type 0
+Syncs st me n me' = SeesAll me.0 me'.0 × (me'.1 ≡ me.1)
