@@ -2,7 +2,7 @@
 ghost use Rattle.std.specs.Prelude.{◌≡◌, ◌+◌, ◌<◌, [], length};
 ghost use Rattle.header_words.specs.Events.{depth};
 
-use anyhow::bail;
+use crate::BenchFault;
 use header_words::{Headers, Pass};
 use lock_word::ObjectId;
 use std::alloc::Global;
@@ -173,12 +173,12 @@ pub fn in_one<R: Clock + Threads + Sync>(
     setup: &Setup<'_, R>,
     alloc: Global,
     work: Work,
-) -> anyhow::Result<Measure>
+) -> Result<Measure, BenchFault>
     requires { length setup.now.lows.now ≡ 256 }
 {
     let (headers, mut passes) = Headers::open(alloc, setup.lows, 1)?;
     let Some(pass) = passes.pop() else {
-        bail!("no pass")
+        return Err(BenchFault::Passes);
     };
     let shared = Shared {
         headers: &headers,
@@ -195,12 +195,12 @@ pub fn in_two<R: Clock + Threads + Sync>(
     setup: &Setup<'_, R>,
     alloc: Global,
     work: Work,
-) -> anyhow::Result<Measure>
+) -> Result<Measure, BenchFault>
     requires { length setup.now.lows.now ≡ 256 }
 {
     let (headers, mut passes) = Headers::open(alloc, setup.lows, 2)?;
     let (Some(second), Some(first)) = (passes.pop(), passes.pop()) else {
-        bail!("no two passes")
+        return Err(BenchFault::Passes);
     };
     let shared = Shared {
         headers: &headers,
@@ -217,15 +217,15 @@ pub fn in_four<R: Clock + Threads + Sync>(
     setup: &Setup<'_, R>,
     alloc: Global,
     work: Work,
-) -> anyhow::Result<Measure>
+) -> Result<Measure, BenchFault>
     requires { length setup.now.lows.now ≡ 256 }
 {
     let (headers, mut passes) = Headers::open(alloc, setup.lows, 4)?;
     let (Some(fourth), Some(third)) = (passes.pop(), passes.pop()) else {
-        bail!("no two passes")
+        return Err(BenchFault::Passes);
     };
     let (Some(second), Some(first)) = (passes.pop(), passes.pop()) else {
-        bail!("no four passes")
+        return Err(BenchFault::Passes);
     };
     let shared = Shared {
         headers: &headers,

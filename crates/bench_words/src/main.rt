@@ -9,12 +9,30 @@ ghost use Rattle.std.specs.Prelude.{◌≡◌, length};
 mod lanes;
 
 use lanes::{Measure, Setup, Work, in_four, in_one, in_two};
+use lock_word::Memory;
 use std::alloc::{AllocError, Global};
-use std::env;
 use std::io::Print;
+use std::num::ParseIntError;
 use std::sync::atomic::AtomicU64;
 use std::thread::Threads;
 use std::time::Clock;
+use std::{env, io};
+use thiserror::Error;
+
+/// Why the benchmark was not run to its end.
+#[derive(Debug, Drop, Error)]
+pub enum BenchFault {
+    #[error("out of memory")]
+    Memory(#[from] Memory),
+    #[error("out of memory for the bare words")]
+    BareWords(#[from] AllocError),
+    #[error("there are not as many passes as threads")]
+    Passes,
+    #[error("the argument is no number of rounds")]
+    Rounds(#[from] ParseIntError),
+    #[error("the system: {0}")]
+    System(#[from] io::Error),
+}
 
 const WORDS: usize = 256;
 
@@ -25,7 +43,7 @@ fn measure<R: Clock + Threads + Sync>(
     alloc: Global,
     threads: u32,
     work: Work,
-) -> anyhow::Result<Measure>
+) -> Result<Measure, BenchFault>
     requires { length setup.now.lows.now ≡ WORDS }
 {
     match threads {
@@ -42,7 +60,7 @@ fn best<R: Clock + Threads + Sync>(
     threads: u32,
     work: Work,
     base: Work,
-) -> anyhow::Result<(u128, u128)>
+) -> Result<(u128, u128), BenchFault>
     requires { length setup.now.lows.now ≡ WORDS }
 {
     let mut least = u128::MAX;
@@ -77,7 +95,7 @@ fn report<R: Clock + Threads + Print + Sync>(
     name: &str,
     work: (Work, Work),
     timed: bool,
-) -> anyhow::Result<()>
+) -> Result<(), BenchFault>
     requires { length setup.now.lows.now ≡ WORDS }
 {
     let (pair, base) = work;
@@ -95,7 +113,7 @@ fn report<R: Clock + Threads + Print + Sync>(
     Ok(())
 }
 
-fn main(rt: HostRuntime) -> anyhow::Result<()> {
+fn main(rt: HostRuntime) -> Result<(), BenchFault> {
     let alloc = rt.alloc();
     let rounds = match env::args(&rt)?.nth(1) {
         Some(text) => Some(text.parse::<u32>()?),
