@@ -1,7 +1,10 @@
 //! Scripts: the numbers and objects of a world, and the steps to play on it.
 
-ghost use Rattle.std.specs.Prelude.{◌≡◌, ◌<◌, ◌≤◌, ◌+◌, length, vec_len, IfSome, IfErr};
+ghost use Rattle.std.specs.Prelude.{◌≡◌, ◌<◌, ◌≤◌, ◌+◌, length, vec_len, if◌then◌else◌, None, IfSome, IfErr};
+ghost use Rattle.thinmon.specs.Calls.{call_alone, call_on};
 ghost use Rattle.thinmon.specs.Faults.{IsOfLines};
+ghost use Rattle.thinmon.specs.NameLists.{number_of};
+ghost use Rattle.thinmon.specs.Words.{is_name};
 
 use crate::faults::FileFault;
 use crate::names::Names;
@@ -100,11 +103,14 @@ impl Script {
                 let thread = self.names.thread(thread)?;
                 Ok(thread.map(|thread| Step::Attach { thread }))
             }
-            [Some("begin"), Some(thread), Some(verb), Some(object), None] => {
+            [Some("begin"), Some(thread), Some(verb), object, None] => {
                 let Some(thread) = self.names.thread(thread)? else {
                     return Ok(None);
                 };
-                let call = self.call_in(verb, object);
+                let call = match object {
+                    Some(object) => call_with(&self.names, verb, object),
+                    None => call_without_object(verb),
+                };
                 Ok(call.map(|call| Step::Begin { thread, call }))
             }
             [Some("go"), Some(thread), None, _, _] => {
@@ -114,16 +120,28 @@ impl Script {
             _ => Ok(None),
         }
     }
+}
 
-    /// The call that a verb and an object's name are.
-    fn call_in(&self, verb: &str, object: &str) -> Option<Call> {
-        let object = self.names.object(object)?;
-        match verb {
-            "enter" => Some(Call::Enter(object)),
-            "exit" => Some(Call::Exit(object)),
-            "holds" => Some(Call::Holds(object)),
-            _ => None,
-        }
+/// The call that a verb and an object's name are.
+fn call_with(names: &Names, verb: &str, object: &str) -> Option<Call>
+    ensures { result ≡ (if is_name object.now then call_on verb.now (record { 0 = number_of names.now.objects object.now }) else None) }
+{
+    let object = names.object(object)?;
+    match verb {
+        "enter" => Some(Call::Enter(object)),
+        "exit" => Some(Call::Exit(object)),
+        "holds" => Some(Call::Holds(object)),
+        _ => None,
+    }
+}
+
+/// The call that a verb is which stands alone.
+fn call_without_object(verb: &str) -> Option<Call>
+    ensures { result ≡ call_alone verb.now }
+{
+    match verb {
+        "end" => Some(Call::End),
+        _ => None,
     }
 }
 
