@@ -2,6 +2,7 @@
 
 mod bad_lines;
 mod edges;
+mod endings;
 mod examples;
 mod faults;
 mod plays;

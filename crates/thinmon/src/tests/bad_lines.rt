@@ -63,7 +63,7 @@ fn a_script_that_is_cut(rt: HostRuntime) {
 
 #[test]
 fn later_lines(rt: HostRuntime) {
-    let scripts: [(&[u8], u64); 24] = [
+    let scripts: [(&[u8], u64); 30] = [
         (b"world 4 4\nworld 4 4\n", 2),
         (b"world 4 4\n\n", 2),
         (b"world 4 4\nobject a a5\n", 2),
@@ -85,6 +85,12 @@ fn later_lines(rt: HostRuntime) {
         (b"world 4 4\nbegin x enter a b\n", 2),
         (b"world 4 4\nbegin x leave a\n", 2),
         (b"world 4 4\nbegin x wait a 0 0\n", 2),
+        (b"world 4 4\nobject a A5\nattach x\nbegin x end a\n", 4),
+        (b"world 4 4\nbegin x end a b\n", 2),
+        (b"world 4 4\nbegin x end \n", 2),
+        (b"world 4 4\nbegin x End\n", 2),
+        (b"world 4 4\nbegin end\n", 2),
+        (b"world 4 4\nend x\n", 2),
         (b"world 4 4\nexpire x\n", 2),
         (b"world 4 4\ntick 5\n", 2),
         (b"world 4 4\nattach \xFF\n", 2),

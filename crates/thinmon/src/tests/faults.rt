@@ -43,3 +43,25 @@ fn going(rt: HostRuntime) -> Result<(), Fail> {
     ];
     check_play(&rt, WORLD, &steps, FREE)
 }
+
+#[test]
+fn ending(rt: HostRuntime) -> Result<(), Fail> {
+    let steps = [
+        ("begin x end", "fault 4 NoThread"),
+        ("attach x", "attach x index 1"),
+        ("begin x end", "begin x"),
+        ("begin x end", "fault 6 InCall"),
+        ("begin x enter a", "fault 6 InCall"),
+        ("begin x enter b", "fault 5 NoObject"),
+        ("go x", "go x load a 000000A5"),
+        ("begin x end", "fault 6 InCall"),
+        ("attach x", "fault 3 Known"),
+        ("go x", "go x act End = Ended"),
+        ("go x", "fault 4 NoThread"),
+        ("begin x end", "fault 4 NoThread"),
+        ("begin x enter b", "fault 4 NoThread"),
+        ("attach x", "attach x index 1"),
+        ("go x", "fault 7 NotCalling"),
+    ];
+    check_play(&rt, WORLD, &steps, FREE)
+}
