@@ -76,7 +76,7 @@ pub struct Done {
 }
 
 /// Why an action was not made. The actions that there are now are always made.
-#[derive(Clone, Copy, PartialEq, Eq, Debug)]
+#[derive(Clone, Copy)]
 pub enum ActFault {}
 
 impl fmt::Display for Cause {
