@@ -157,7 +157,10 @@ fn another_thread_waits_for_a_free_monitor(rt: HostRuntime) -> Result<(), Fail> 
         granted: None,
         chosen: None,
     };
-    assert_eq!(rt; fats.act(eight, Action::Enter { monitor }).ok(), Some(quiet));
+    assert_eq!(rt;
+        fats.act(eight, Action::Enter { monitor }).ok(),
+        Some(quiet)
+    );
     assert_eq!(rt; fats.owner(0), Some(SEVEN));
     acts(
         &rt,
