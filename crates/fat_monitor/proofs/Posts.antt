@@ -16,7 +16,7 @@ use Rattle.fat_monitor.specs.declared.actions.Post.TheVariants.{Out}
 use Rattle.fat_monitor.specs.declared.monitors.Record.{Record}
 use Rattle.lock_word.specs.declared.ThreadId.{ThreadId}
 use Rattle.fat_monitor.specs.FatState.{FatState, with_thread, IsAttached}
-use Rattle.fat_monitor.specs.Slots.{post_in, posts_of, LeadToRecords}
+use Rattle.fat_monitor.specs.Slots.{post_in, posts_of, LeadToRecords, HaveKeys}
 
 found_by_test : {X Y : Type 0} (f : X → Y) (b : Bool) (v : X) (l : Option X) (r : Option Y) → r ≡ option_map f l
     → (if b then Some (f v) else r) ≡ option_map f (if b then Some v else l)
@@ -110,6 +110,41 @@ module _ (s s' : Slab Record) (ks ks' : List (ℕ × ℕ)) (t key : ℕ)
 
   pub LeadToRecords-drop : LeadToRecords s' ks'
   LeadToRecords-drop q k e = leads_after q k (cases_eq q t) e
+
+-- each record has its key, with one thread more
+module _ (s s' : Slab Record) (ks ks' : List (ℕ × ℕ)) (t key : ℕ)
+    (recorded : HaveKeys s ks)
+    (unknown : lookup (nat_eq t) ks ≡ None)
+    (put : Updates s s' key (Some (record { thread = record { 0 = t }; post = Out })))
+    (led : (q : ℕ) → lookup (nat_eq q) ks' ≡ (if t == q then Some key else lookup (nat_eq q) ks)) where
+  key_with : (k : ℕ) (r : Record) → (k ≡ key) ⊎ (k ≡ key → ⊥) → get s' k ≡ Some r → lookup (nat_eq r.thread.0) ks' ≡ Some k
+  key_with k r (inl same) e =
+      let new : Some (record { thread = record { 0 = t }; post = Out }) ≡ Some r = sym put.changed ∙ ap (λ (j : ℕ). get s' j) (sym same) ∙ e in
+      let of_t : t ≡ r.thread.0 = ap (λ (x : Record). x.thread.0) (same_Some _ _ new) in
+      rw (led r.thread.0, eq-eqb t r.thread.0 of_t, same) refl
+  key_with k r (inr other) e =
+      let was : lookup (nat_eq r.thread.0) ks ≡ Some k = recorded k r (sym (put.others k other) ∙ e) in
+      let another : t ≡ r.thread.0 → ⊥ = λ same. absurd (let none : None ≡ Some k = sym unknown ∙ ap (λ (j : ℕ). lookup (nat_eq j) ks) same ∙ was in cc) in
+      rw (led r.thread.0, ne_eqb t r.thread.0 another) was
+
+  pub HaveKeys-put : HaveKeys s' ks'
+  HaveKeys-put k r e = key_with k r (cases_eq k key) e
+
+-- and with one less
+module _ (s s' : Slab Record) (ks ks' : List (ℕ × ℕ)) (t key : ℕ)
+    (recorded : HaveKeys s ks)
+    (found : lookup (nat_eq t) ks ≡ Some key)
+    (dropped : Updates s s' key None)
+    (led : (q : ℕ) → lookup (nat_eq q) ks' ≡ (if t == q then None else lookup (nat_eq q) ks)) where
+  key_without : (k : ℕ) (r : Record) → (k ≡ key) ⊎ (k ≡ key → ⊥) → get s' k ≡ Some r → lookup (nat_eq r.thread.0) ks' ≡ Some k
+  key_without k r (inl same) e = absurd (let gone : None ≡ Some r = sym dropped.changed ∙ ap (λ (j : ℕ). get s' j) (sym same) ∙ e in cc)
+  key_without k r (inr other) e =
+      let was : lookup (nat_eq r.thread.0) ks ≡ Some k = recorded k r (sym (dropped.others k other) ∙ e) in
+      let another : t ≡ r.thread.0 → ⊥ = λ same. other (same_Some k key (sym was ∙ ap (λ (j : ℕ). lookup (nat_eq j) ks) (sym same) ∙ found)) in
+      rw (led r.thread.0, ne_eqb t r.thread.0 another) was
+
+  pub HaveKeys-drop : HaveKeys s' ks'
+  HaveKeys-drop k r e = key_without k r (cases_eq k key) e
 
 -- a thread with a key has a post, and one without has none
 pub posted : (records : Slab Record) (keys : List (ℕ × ℕ)) (q : ℕ) → is_some (lookup (nat_eq q) keys) ≡ true → IsSome (map.get (posts_of records keys) q)

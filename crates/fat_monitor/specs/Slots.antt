@@ -21,3 +21,7 @@ posts_of records keys = map.from_entries (list_map (λ e. (e.0, post_in (get rec
 abbrev pub LeadToRecords : Slab Record → List (ℕ × ℕ) → Type 0
 LeadToRecords records keys =
     (t k : ℕ) → lookup (nat_eq t) keys ≡ Some k → (p : Post) × (get records k ≡ Some (record { thread = record { 0 = t }; post = p }))
+
+-- each record has the key of its thread
+abbrev pub HaveKeys : Slab Record → List (ℕ × ℕ) → Type 0
+HaveKeys records keys = (k : ℕ) (r : Record) → get records k ≡ Some r → lookup (nat_eq r.thread.0) keys ≡ Some k

@@ -6,7 +6,7 @@ ghost use Rattle.std.specs.FinMap as map;
 ghost use Rattle.lock_word.specs.declared.ThreadId.{ThreadId};
 ghost use Rattle.fat_monitor.specs.declared.actions.Post.{Post};
 ghost use Rattle.fat_monitor.specs.FatState.{opened, post_of, IsAttached, with_thread, bound_with, refusal, NamesBound, owns_one, without_thread, monitor_at, object_at, answered, acted, done, is_owned_by, answer_of, monitor_after, IsFair};
-ghost use Rattle.fat_monitor.specs.Slots.{posts_of, LeadToRecords};
+ghost use Rattle.fat_monitor.specs.Slots.{posts_of, LeadToRecords, HaveKeys};
 
 use crate::{ActFault, Action, Answer, Cause, Done, Post, Receipt, Reply};
 use lock_word::{ObjectId, ThreadId};
@@ -239,8 +239,10 @@ fn add_record(
     keys: &mut HashMap<u32, usize>,
     thread: ThreadId,
 ) -> Result<(), AttachFault>
-    requires { LeadToRecords records.old keys.old.entries }
+    requires keyed { LeadToRecords records.old keys.old.entries }
+    requires recorded { HaveKeys records.old keys.old.entries }
     ensures keyed { LeadToRecords records.new keys.new.entries }
+    ensures recorded { HaveKeys records.new keys.new.entries }
     ensures ok { OnOk result (posts_of records.new keys.new.entries ≡ map.insert (posts_of records.old keys.old.entries) thread.0 Post.Out) }
     ensures fresh { OnOk result (map.get (posts_of records.old keys.old.entries) thread.0 ≡ None) }
     ensures known { IsErrOf result AttachFault.Known ↔ IsSome (map.get (posts_of records.old keys.old.entries) thread.0) }
@@ -267,8 +269,10 @@ fn add_record(
 /// Drops the record of a thread that has one.
 fn drop_record(records: &mut Slab<Record>, keys: &mut HashMap<u32, usize>, thread: ThreadId)
     requires keyed { LeadToRecords records.old keys.old.entries }
+    requires recorded { HaveKeys records.old keys.old.entries }
     requires here { IsSome (map.get (posts_of records.old keys.old.entries) thread.0) }
     ensures keyed { LeadToRecords records.new keys.new.entries }
+    ensures recorded { HaveKeys records.new keys.new.entries }
     ensures dropped { posts_of records.new keys.new.entries ≡ map.remove (posts_of records.old keys.old.entries) thread.0 }
 {
     let Some(key) = keys.remove(&thread.0) else {

@@ -22,7 +22,7 @@ returns-clause-ok c =
     let led : (q : ℕ) → lookup (nat_eq q) c.insert.new.self.entries ≡ (if nat_eq c.args.thread.0 q then Some c.insert_reserved.result else lookup (nat_eq q) c.args.keys.now.entries) =
     subst (λ (k : ℕ). (q : ℕ) → lookup (nat_eq q) c.insert.new.self.entries ≡ (if nat_eq c.args.thread.0 q then Some k else lookup (nat_eq q) c.args.keys.now.entries)) key c.in-Ok-insert.ensures.updates.0 in
     posts_of-put c.reserve.new.self c.insert_reserved.new.self c.args.keys.now.entries c.insert.new.self.entries c.args.thread.0 c.insert_reserved.result
-    (rw (c.in-Ok.ensures.rest_kept) c.requires) c.insert_reserved.ensures.was_vacant c.insert_reserved.ensures.updates led
+    (rw (c.in-Ok.ensures.rest_kept) c.requires.keyed) c.insert_reserved.ensures.was_vacant c.insert_reserved.ensures.updates led
     ∙ rw (c.in-Ok.ensures.rest_kept) refl
 
 pub returns-clause-fresh : goal.returns-clause-fresh

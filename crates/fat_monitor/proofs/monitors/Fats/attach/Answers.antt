@@ -1,4 +1,3 @@
-use Rattle.fat_monitor.specs.Slots.{posts_of}
 use Rattle.fat_monitor.proofs.Posts.{posted_here}
 use Rattle.fat_monitor.proofs.monitors.Fats.attach.Goals as goal
 
