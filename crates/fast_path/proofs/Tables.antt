@@ -115,14 +115,14 @@ spin_fact (call.Holds o) Free me names e = absurd (cc)
 spin_fact (call.Enter o) (Thin i n) me names e =
     cond_both (i == me) _ _ (λ x. x ≡ next.Spin → (p : ObjectId) × (call.Enter o ≡ call.Enter p) × ((j m : ℕ) × (Thin i n ≡ Thin j m) × (j ≡ me → ⊥)))
     (λ same. cond_both (nat_lt n 255) _ _ (λ x. x ≡ next.Spin → (p : ObjectId) × (call.Enter o ≡ call.Enter p) × ((j m : ℕ) × (Thin i n ≡ Thin j m) × (j ≡ me → ⊥)))
-        (λ below (h : next.Store (Thin me (n + 1)) ≡ next.Spin). absurd (cc))
-        (λ above (h : next.Bind ≡ next.Spin). absurd (cc)))
+    (λ below (h : next.Store (Thin me (n + 1)) ≡ next.Spin). absurd (cc))
+    (λ above (h : next.Bind ≡ next.Spin). absurd (cc)))
     (λ ne (h : next.Spin ≡ next.Spin). (o, refl, (i, n, refl, eqb-false i me ne))) e
 spin_fact (call.Exit o) (Thin i n) me names e =
     cond_both (i == me) _ _ (λ x. x ≡ next.Spin → (p : ObjectId) × (call.Exit o ≡ call.Enter p) × ((j m : ℕ) × (Thin i n ≡ Thin j m) × (j ≡ me → ⊥)))
     (λ same. cond_both (nat_lt 0 n) _ _ (λ x. x ≡ next.Spin → (p : ObjectId) × (call.Exit o ≡ call.Enter p) × ((j m : ℕ) × (Thin i n ≡ Thin j m) × (j ≡ me → ⊥)))
-        (λ above (h : next.Store (Thin me (n - 1)) ≡ next.Spin). absurd (cc))
-        (λ zero (h : next.Store Free ≡ next.Spin). absurd (cc)))
+    (λ above (h : next.Store (Thin me (n - 1)) ≡ next.Spin). absurd (cc))
+    (λ zero (h : next.Store Free ≡ next.Spin). absurd (cc)))
     (λ ne (h : next.Reply reply.IllegalMonitorState ≡ next.Spin). absurd (cc)) e
 spin_fact (call.Holds o) (Thin i n) me names e =
     cond_both (i == me) _ _ (λ x. x ≡ next.Spin → (p : ObjectId) × (call.Holds o ≡ call.Enter p) × ((j m : ℕ) × (Thin i n ≡ Thin j m) × (j ≡ me → ⊥)))

@@ -80,6 +80,11 @@ pub struct Done {
 pub enum ActFault {}
 
 impl fmt::Display for Cause {
+    ghost use Rattle.std.specs.Prelude.{Some};
+    ghost use Rattle.fat_monitor.specs.Names.{cause_name};
+
+    ghost output = { λ x. Some (cause_name x) };
+
     fn fmt<W: fmt::Write>(&self, f: &mut fmt::Formatter<W>) -> fmt::Result {
         f.write_str(match self {
             Cause::NoMonitor => "NoMonitor",
@@ -91,6 +96,11 @@ impl fmt::Display for Cause {
 }
 
 impl fmt::Display for Reply {
+    ghost use Rattle.std.specs.Prelude.{Some};
+    ghost use Rattle.fat_monitor.specs.Names.{reply_name};
+
+    ghost output = { λ x. Some (reply_name x) };
+
     fn fmt<W: fmt::Write>(&self, f: &mut fmt::Formatter<W>) -> fmt::Result {
         match self {
             Reply::Entered => f.write_str("Entered"),
@@ -106,6 +116,11 @@ impl fmt::Display for Reply {
 
 /// An action is written by its name alone.
 impl fmt::Display for Action {
+    ghost use Rattle.std.specs.Prelude.{Some};
+    ghost use Rattle.fat_monitor.specs.Names.{action_name};
+
+    ghost output = { λ x. Some (action_name x) };
+
     fn fmt<W: fmt::Write>(&self, f: &mut fmt::Formatter<W>) -> fmt::Result {
         f.write_str(match self {
             Action::Enter { .. } => "Enter",

@@ -27,6 +27,11 @@ pub enum AttachFault {
 }
 
 impl fmt::Display for AttachFault {
+    ghost use Rattle.std.specs.Prelude.{Some};
+    ghost use Rattle.fat_monitor.specs.Names.{fault_text};
+
+    ghost output = { λ x. Some (fault_text x) };
+
     fn fmt<W: fmt::Write>(&self, f: &mut fmt::Formatter<W>) -> fmt::Result {
         f.write_str(match self {
             AttachFault::Known => "the thread is attached already",

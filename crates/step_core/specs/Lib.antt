@@ -10,3 +10,4 @@ pub mod Kept
 pub mod Parts
 pub mod View
 pub mod Laws
+pub mod Names

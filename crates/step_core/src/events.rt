@@ -95,6 +95,11 @@ pub enum Fault {
 }
 
 impl fmt::Display for Fault {
+    ghost use Rattle.std.specs.Prelude.{Some};
+    ghost use Rattle.step_core.specs.Names.{fault_name};
+
+    ghost output = { λ x. Some (fault_name x) };
+
     fn fmt<W: fmt::Write>(&self, f: &mut fmt::Formatter<W>) -> fmt::Result {
         f.write_str(match self {
             Fault::NoIndex => "NoIndex",

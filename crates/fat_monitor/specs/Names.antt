@@ -1,0 +1,37 @@
+-- What is written for a cause, a reply, an action and a fault.
+use Rattle.std.specs.Prelude.{ℕ, List, ◌++◌, codes}
+use Rattle.fat_monitor.specs.declared.actions.Cause.{Cause}
+use Rattle.fat_monitor.specs.declared.actions.Cause.TheVariants as cause
+use Rattle.fat_monitor.specs.declared.actions.Reply.{Reply}
+use Rattle.fat_monitor.specs.declared.actions.Reply.TheVariants as reply
+use Rattle.fat_monitor.specs.declared.actions.Action.{Action}
+use Rattle.fat_monitor.specs.declared.actions.Action.TheVariants as action
+use Rattle.fat_monitor.specs.declared.monitors.AttachFault.{AttachFault}
+use Rattle.fat_monitor.specs.declared.monitors.AttachFault.TheVariants as fault
+
+abbrev pub cause_name : Cause → List ℕ
+cause_name cause.NoMonitor = codes "NoMonitor"
+cause_name cause.Memory = codes "Memory"
+cause_name cause.TooDeep = codes "TooDeep"
+cause_name cause.StillOwner = codes "StillOwner"
+
+-- a refusal is written with its cause behind it
+abbrev pub reply_name : Reply → List ℕ
+reply_name reply.Entered = codes "Entered"
+reply_name reply.Exited = codes "Exited"
+reply_name reply.Yes = codes "Yes"
+reply_name reply.No = codes "No"
+reply_name reply.Ended = codes "Ended"
+reply_name reply.IllegalMonitorState = codes "IllegalMonitorState"
+reply_name (reply.Refused c) = codes "Refused " ++ cause_name c
+
+-- an action is written by its name alone
+abbrev pub action_name : Action → List ℕ
+action_name (action.Enter m) = codes "Enter"
+action_name (action.Exit m) = codes "Exit"
+action_name (action.Holds m) = codes "Holds"
+action_name action.End = codes "End"
+
+abbrev pub fault_text : AttachFault → List ℕ
+fault_text fault.Known = codes "the thread is attached already"
+fault_text fault.Memory = codes "out of memory"
