@@ -5,6 +5,7 @@ mod edges;
 mod endings;
 mod examples;
 mod faults;
+mod memory;
 mod plays;
 mod words;
 

@@ -48,3 +48,23 @@ fn texts(rt: HostRuntime) -> Result<(), Fail> {
     }
     Ok(())
 }
+
+/// Run with each allocation refused in turn, this meets every refusal.
+#[test]
+fn what_was_refused_succeeds_when_tried_again(rt: HostRuntime) -> Result<(), Fail> {
+    let mut indices = match Indices::new(rt.alloc(), 4) {
+        Ok(indices) => indices,
+        Err(_) => Indices::new(rt.alloc(), 4)?,
+    };
+    for (thread, index) in [(ThreadId(7), 1), (ThreadId(8), 2), (ThreadId(9), 3)] {
+        let first = indices.take(thread);
+        if first == Err(TakeFault::Memory) {
+            assert_eq!(rt; indices.index_of(thread), None);
+            assert_eq!(rt; indices.id_of(index), None);
+            assert_eq!(rt; indices.take(thread), Ok(index));
+        } else {
+            assert_eq!(rt; first, Ok(index));
+        }
+    }
+    Ok(())
+}
