@@ -10,7 +10,8 @@ use Rattle.wait_lines.specs.declared.Role.{Role}
 use Rattle.wait_lines.specs.declared.Arrival.{Arrival}
 use Rattle.wait_lines.specs.Lines.{Key, key, role_number, line, StandsIn, Stands, StandsNowhere, is_thread, without, joined, left, total_count, IsFilled, IsOrderly}
 use Rattle.wait_lines.specs.Arrivals.{is_in, threads_in, lines_of, standing_of, IsKept}
-use Rattle.wait_lines.proofs.LineLemmas.{same_role, same_thread, is_same, key-same, cases_key, line-key, line-empty, line-with_line_same, line-with_line_other, IsFilled-empty, IsFilled-with_line, same_lines, total_count-empty, total_count-with_line, Contains-cons_cases, Contains-cons_first, Contains-cons_later, Contains-without_itself, without-absent, IsOrderly-nobody, IsOrderly-reserved, IsOrderly-joined, IsOrderly-left}
+use Rattle.wait_lines.proofs.LineLemmas.{same_role, key-same, cases_key, line-key, line-empty, line-with_line_same, line-with_line_other, IsFilled-empty, IsFilled-with_line, same_lines, total_count-empty, total_count-with_line, IsOrderly-nobody, IsOrderly-reserved, IsOrderly-joined, IsOrderly-left}
+use Rattle.wait_lines.proofs.ThreadLemmas.{same_thread, is_same, Contains-cons_cases, Contains-cons_first, Contains-cons_later, Contains-without_itself, without-absent}
 
 is_in-key : (m : ℕ) (r : Role) (a : Arrival) → is_in m r a ≡ true → key m r ≡ key a.place a.role
 is_in-key m r a e =

@@ -1,2 +1,3 @@
+pub mod ThreadLemmas
 pub mod LineLemmas
 pub mod ArrivalLemmas

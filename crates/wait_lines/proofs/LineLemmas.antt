@@ -1,5 +1,5 @@
 -- What a write to one line leaves, and what joining and leaving keep.
-use Rattle.std.specs.Prelude.{◌≡◌, ◌≢◌, ◌⊎◌, ℕ, zero, suc, ◌+◌, ◌<◌, ◌≤◌, Bool, true, false, cond, not, ◌&&◌, T, List, [], ◌∷◌, ◌++◌, map as list_map, length, sum_by, slice_index_or, slice_get, Contains, Option, Some, None}
+use Rattle.std.specs.Prelude.{◌≡◌, ◌≢◌, ◌⊎◌, ℕ, ◌+◌, ◌<◌, ◌≤◌, Bool, true, false, cond, ◌&&◌, T, List, [], ◌∷◌, ◌++◌, map as list_map, length, sum_by, slice_get, Contains, Option, Some, None}
 use Rattle.std.specs.Option.{unwrap_or}
 use Rattle.std.specs.Ordering.{nat_cmp, ordering_then, eq_by_cmp, is_eq, is_lt}
 use Rattle.std.specs.declared.cmp.Ordering.{Ordering}
@@ -9,7 +9,7 @@ use Rattle.std.specs.FinMap as map
 use Rattle.std.specs.FinMap.{get-entries, get-empty, get-insert, get-remove, entries-insert, entries_sorted, same_map, len-empty, len-entries, nat_cmp-IsAntisymmetric, IsAntisymmetric}
 use Rattle.std.specs.FinMap.Entries.{find, put, is_sorted, below_all, by_order}
 use Rattle.std.proofs.Common.{refl, sym, ap, ◌∙◌, subst, inl, inr, arith, length-append}
-use Rattle.std.proofs.lemmas.Bool.{cases_eq, eq-eqb, eqb-true}
+use Rattle.std.proofs.lemmas.Bool.{eqb-true}
 use Rattle.std.proofs.lemmas.Option.{same_Some}
 use Rattle.std.proofs.lemmas.List.Sums.{sum_by-cons, sum_by-append}
 use Rattle.std.proofs.lemmas.List.Elements.{Contains-push_cases, Contains-append_left, Contains-push}
@@ -17,6 +17,7 @@ use Rattle.lock_word.specs.declared.ThreadId.{ThreadId}
 use Rattle.wait_lines.specs.declared.Role.{Role}
 use Rattle.wait_lines.specs.declared.Role.TheVariants.{Entry, Waiting}
 use Rattle.wait_lines.specs.Lines.{Key, key, role_number, key_cmp, LineMap, line, with_line, StandsIn, StandsNowhere, is_thread, without, times_in, joined, left, total_count, IsFilled, Standing, nobody, IsOrderly}
+use Rattle.wait_lines.proofs.ThreadLemmas.{same_thread, Contains-cons_first, contains_none, times_in-one, times_in-absent, times_in-present, Contains-without, Contains-without_itself, Contains-without_other, times_in-without, length-without}
 
 -- ---- places
 
@@ -229,134 +230,6 @@ total_count-empty = no_entries (map.entries map.empty) (sym (len-entries map.emp
 pub total_count-with_line : (lines : LineMap) (m : ℕ) (r : Role) (ts : List ThreadId) → total_count (with_line lines m r ts) + length (line lines m r) ≡ total_count lines + length ts
 total_count-with_line lines m r [] = let e = total_count-remove lines (key m r) in omega arith
 total_count-with_line lines m r (t ∷ ts) = total_count-insert lines (key m r) (t ∷ ts)
-
--- ---- threads in lists
-
-pub same_thread : (t u : ThreadId) → u.0 ≡ t.0 → u ≡ t
-same_thread t u e = ap (λ (n : ℕ). let x : ThreadId = record { 0 = n } in x) e
-
-pub is_same : (t u : ThreadId) → u ≡ t → is_thread t u ≡ true
-is_same t u e = eq-eqb u.0 t.0 (ap (λ (x : ThreadId). x.0) e)
-
-pub Contains-cons_cases : (u : ThreadId) (us : List ThreadId) (t : ThreadId) → Contains (u ∷ us) t → (u ≡ t) ⊎ Contains us t
-Contains-cons_cases u us t h = at h.0 h.1 h.2
-  where
-    at : (k : ℕ) → k < length (u ∷ us) → slice_index_or (u ∷ us) k t ≡ t → (u ≡ t) ⊎ Contains us t
-    at zero l e = inl e
-    at (suc k) l e = inr (k, omega arith, e)
-
-pub Contains-cons_first : (u : ThreadId) (us : List ThreadId) (t : ThreadId) → u ≡ t → Contains (u ∷ us) t
-Contains-cons_first u us t e = (0, omega arith, e)
-
-pub Contains-cons_later : (u : ThreadId) (us : List ThreadId) (t : ThreadId) → Contains us t → Contains (u ∷ us) t
-Contains-cons_later u us t h = (suc h.0, omega arith, h.2)
-
-contains_none : (t : ThreadId) → Contains [] t → ⊥
-contains_none t h = let l : h.0 < 0 = h.1 in omega arith
-
--- a list has a thread or not
-pub cases_contains : (ts : List ThreadId) (t : ThreadId) → Contains ts t ⊎ (Contains ts t → ⊥)
-cases_contains [] t = inr (contains_none t)
-cases_contains (u ∷ us) t = at (cases_eq u.0 t.0) (cases_contains us t)
-  where
-    at : (u.0 ≡ t.0) ⊎ (u.0 ≡ t.0 → ⊥) → Contains us t ⊎ (Contains us t → ⊥) → Contains (u ∷ us) t ⊎ (Contains (u ∷ us) t → ⊥)
-    at (inl same) rest = inl (Contains-cons_first u us t (same_thread t u same))
-    at (inr other) (inl later) = inl (Contains-cons_later u us t later)
-    at (inr other) (inr absent) = inr (λ h. neither (Contains-cons_cases u us t h))
-      where
-        neither : (u ≡ t) ⊎ Contains us t → ⊥
-        neither (inl same) = other (ap (λ (x : ThreadId). x.0) same)
-        neither (inr later) = absent later
-
-times_in-cons : (t u : ThreadId) (us : List ThreadId) → times_in t (u ∷ us) ≡ cond (is_thread t u) 1 0 + times_in t us
-times_in-cons t u us = sum_by-cons (λ (x : ThreadId). cond (is_thread t x) 1 0) u us
-
-times_in-one : (t u : ThreadId) → times_in t (u ∷ []) ≡ cond (is_thread t u) 1 0
-times_in-one t u = let e = times_in-cons t u [] in omega arith
-
--- a thread that is not in a list stands in it no times
-times_in-absent : (t : ThreadId) (ts : List ThreadId) → (Contains ts t → ⊥) → times_in t ts ≡ 0
-times_in-absent t [] absent = refl
-times_in-absent t (u ∷ us) absent = at (is_thread t u) refl (times_in-absent t us (λ h. absent (Contains-cons_later u us t h)))
-  where
-    at : (b : Bool) → is_thread t u ≡ b → times_in t us ≡ 0 → times_in t (u ∷ us) ≡ 0
-    at true e again = absurd (absent (Contains-cons_first u us t (same_thread t u (eqb-true u.0 t.0 e))))
-    at false e again = rw (times_in-cons, e) (omega arith)
-
-times_in-present : (t : ThreadId) (ts : List ThreadId) → Contains ts t → 1 ≤ times_in t ts
-times_in-present t [] h = absurd (contains_none t h)
-times_in-present t (u ∷ us) h = at (times_in-present t us) (Contains-cons_cases u us t h)
-  where
-    at : (Contains us t → 1 ≤ times_in t us) → (u ≡ t) ⊎ Contains us t → 1 ≤ times_in t (u ∷ us)
-    at again (inl same) = rw (times_in-cons, is_same t u same) (omega arith)
-    at again (inr later) = let low = again later in rw times_in-cons (omega arith)
-
--- ---- a list without a thread
-
--- what stays was there
-pub Contains-without : (t u : ThreadId) (ts : List ThreadId) → Contains (without t ts) u → Contains ts u
-Contains-without t u [] h = h
-Contains-without t u (x ∷ xs) h = at (is_thread t x) (λ k. Contains-without t u xs k) h
-  where
-    kept : (Contains (without t xs) u → Contains xs u) → (x ≡ u) ⊎ Contains (without t xs) u → Contains (x ∷ xs) u
-    kept again (inl same) = Contains-cons_first x xs u same
-    kept again (inr later) = Contains-cons_later x xs u (again later)
-
-    at : (b : Bool) → (Contains (without t xs) u → Contains xs u) → Contains (cond (not b) (x ∷ without t xs) (without t xs)) u → Contains (x ∷ xs) u
-    at true again h = Contains-cons_later x xs u (again h)
-    at false again h = kept again (Contains-cons_cases x (without t xs) u h)
-
--- the thread is gone
-pub Contains-without_itself : (t : ThreadId) (ts : List ThreadId) → Contains (without t ts) t → ⊥
-Contains-without_itself t [] h = contains_none t h
-Contains-without_itself t (x ∷ xs) h = at (is_thread t x) refl (Contains-without_itself t xs) h
-  where
-    kept : is_thread t x ≡ false → (Contains (without t xs) t → ⊥) → (x ≡ t) ⊎ Contains (without t xs) t → ⊥
-    kept e again (inl same) = let yes = is_same t x same in cc
-    kept e again (inr later) = again later
-
-    at : (b : Bool) → is_thread t x ≡ b → (Contains (without t xs) t → ⊥) → Contains (cond (not b) (x ∷ without t xs) (without t xs)) t → ⊥
-    at true e again h = again h
-    at false e again h = kept e again (Contains-cons_cases x (without t xs) t h)
-
--- the others stay
-pub Contains-without_other : (t u : ThreadId) (ts : List ThreadId) → u ≢ t → Contains ts u → Contains (without t ts) u
-Contains-without_other t u [] other h = h
-Contains-without_other t u (x ∷ xs) other h = at (is_thread t x) refl (Contains-without_other t u xs other) (Contains-cons_cases x xs u h)
-  where
-    at : (b : Bool) → is_thread t x ≡ b → (Contains xs u → Contains (without t xs) u) → (x ≡ u) ⊎ Contains xs u
-        → Contains (cond (not b) (x ∷ without t xs) (without t xs)) u
-    at true e again (inl same) = absurd (other (sym same ∙ same_thread t x (eqb-true x.0 t.0 e)))
-    at true e again (inr later) = again later
-    at false e again (inl same) = Contains-cons_first x (without t xs) u same
-    at false e again (inr later) = Contains-cons_later x (without t xs) u (again later)
-
--- a list that has no such thread stays as it is
-pub without-absent : (t : ThreadId) (ts : List ThreadId) → (Contains ts t → ⊥) → without t ts ≡ ts
-without-absent t [] absent = refl
-without-absent t (x ∷ xs) absent = at (is_thread t x) refl (without-absent t xs (λ h. absent (Contains-cons_later x xs t h)))
-  where
-    at : (b : Bool) → is_thread t x ≡ b → without t xs ≡ xs → cond (not b) (x ∷ without t xs) (without t xs) ≡ x ∷ xs
-    at true e again = absurd (absent (Contains-cons_first x xs t (same_thread t x (eqb-true x.0 t.0 e))))
-    at false e again = ap (λ l. x ∷ l) again
-
-times_in-without : (t u : ThreadId) (ts : List ThreadId) → times_in u (without t ts) ≤ times_in u ts
-times_in-without t u [] = omega arith
-times_in-without t u (x ∷ xs) = at (is_thread t x) (times_in-without t u xs)
-  where
-    at : (b : Bool) → times_in u (without t xs) ≤ times_in u xs → times_in u (cond (not b) (x ∷ without t xs) (without t xs)) ≤ times_in u (x ∷ xs)
-    at true again = let e = times_in-cons u x xs in omega arith
-    at false again = let e = times_in-cons u x xs in let f = times_in-cons u x (without t xs) in omega arith
-
--- as many are gone as the thread stood there
-pub length-without : (t : ThreadId) (ts : List ThreadId) → length (without t ts) + times_in t ts ≡ length ts
-length-without t [] = refl
-length-without t (x ∷ xs) = at (is_thread t x) refl (length-without t xs)
-  where
-    at : (b : Bool) → is_thread t x ≡ b → length (without t xs) + times_in t xs ≡ length xs
-        → length (cond (not b) (x ∷ without t xs) (without t xs)) + times_in t (x ∷ xs) ≡ length (x ∷ xs)
-    at true e again = rw (times_in-cons, e) (omega arith)
-    at false e again = rw (times_in-cons, e) (omega arith)
 
 -- ---- joining and leaving
 
