@@ -101,6 +101,14 @@ impl Lines {
         Ok(())
     }
 
+    /// For how many threads there is room, 0 to 32,767.
+    pub fn reservations(&self) -> u16
+        ensures reservations { result ≡ self.now.reservations }
+        ensures orderly { IsOrderly self.now }
+    {
+        self.reservations
+    }
+
     /// Puts a thread at the end of a line.
     pub fn join(&mut self, thread: ThreadId, place: u32, role: Role)
         requires nowhere { StandsNowhere self.old.lines thread }
