@@ -1,2 +1,6 @@
-pub mod Posts
-pub mod FatStateLemmas
+pub mod PostMaps
+pub mod SoundCounts
+pub mod SoundSteps
+pub mod Soundness
+pub mod Effects
+pub mod Steps

@@ -1,32 +1,32 @@
--- The fat monitors and the attached threads: what they are, and what an action does.
-use Rattle.std.specs.Prelude.{◌≡◌, ℕ, ◌+◌, ◌-◌, ◌<◌, ◌≤◌, ◌↔◌, Bool, false, if◌then◌else◌, ◌==◌, nat_lt, List, [], ◌∷◌, ◌++◌, length, slice_index_or, slice_get, slice_set, Option, Some, None, is_none, IsSome}
-use Rattle.std.specs.Option.{option_map}
+-- The fat monitors, the attached threads, and the lines in which threads stand.
+use Rattle.std.specs.Prelude.{◌≡◌, ◌≢◌, ◌⊎◌, ℕ, ◌+◌, ◌<◌, ◌≤◌, ◌↔◌, Bool, true, false, if◌then◌else◌, ◌==◌, nat_lt, List, [], ◌∷◌, ◌++◌, length, count_by, slice_index_or, slice_get, slice_set, Option, Some, None, IsSome}
+use Rattle.std.specs.Option.{option_map, unwrap_or}
 use Rattle.std.specs.List.{list_any}
 use Rattle.std.specs.Ordering.{nat_cmp}
 use Rattle.std.specs.FinMap as map
 use Rattle.lock_word.specs.declared.ThreadId.{ThreadId}
 use Rattle.lock_word.specs.declared.ObjectId.{ObjectId}
+use Rattle.wait_lines.specs.declared.Role.{Role}
+use Rattle.wait_lines.specs.declared.Role.TheVariants.{Entry, Waiting as WaitSet}
+use Rattle.wait_lines.specs.Lines.{Key, key, LineMap, line, Standing, nobody, StandsIn, total_count, IsOrderly}
 use Rattle.fat_monitor.specs.declared.actions.Cause.{Cause}
-use Rattle.fat_monitor.specs.declared.actions.Cause.TheVariants.{NoMonitor, Memory, TooDeep, StillOwner}
-use Rattle.fat_monitor.specs.declared.actions.Reply.TheVariants.{Entered, Exited, Yes, No, Ended, IllegalMonitorState, Refused}
-use Rattle.fat_monitor.specs.declared.actions.Action.{Action}
-use Rattle.fat_monitor.specs.declared.actions.Action.TheVariants.{Enter, Exit, Holds, End}
-use Rattle.fat_monitor.specs.declared.actions.Answer.{Answer}
-use Rattle.fat_monitor.specs.declared.actions.Answer.TheVariants.{Reply, Quiet}
+use Rattle.fat_monitor.specs.declared.actions.Cause.TheVariants.{NoMonitor, Memory}
+use Rattle.fat_monitor.specs.declared.actions.Reply.TheVariants as reply
 use Rattle.fat_monitor.specs.declared.actions.Post.{Post}
-use Rattle.fat_monitor.specs.declared.actions.Post.TheVariants.{Out}
-use Rattle.fat_monitor.specs.declared.actions.Done.{Done}
+use Rattle.fat_monitor.specs.declared.actions.Post.TheVariants.{Out, Entering, Waiting, Back, Granted}
 use Rattle.fat_monitor.specs.declared.monitors.Monitor.{Monitor}
 
--- the bound monitors, by number; the post of each attached thread, by the thread's number; and how many monitors there may be
+-- the bound monitors, by number; the post of each attached thread, by the thread's number; who stands in
+-- which line, with the room that there is for it; and how many monitors there may be
 pub record FatState : Type 0 where
   pub monitors : List Monitor
   pub threads : map.FinMap nat_cmp Post
+  pub standing : Standing
   pub limit : ℕ
 
 -- no monitor is bound, no thread is attached
 abbrev pub opened : ℕ → FatState
-opened limit = record { monitors = []; threads = map.empty; limit = limit }
+opened limit = record { monitors = []; threads = map.empty; standing = nobody; limit = limit }
 
 -- what an unbound monitor reads as
 abbrev pub unbound : Monitor
@@ -44,16 +44,47 @@ object_at f m = option_map (λ (b : Monitor). b.object) (slice_get f.monitors m)
 abbrev pub post_of : FatState → ThreadId → Option Post
 post_of f t = map.get f.threads t.0
 
+-- the same, where a thread that is not attached reads as out
+abbrev pub post_at : FatState → ThreadId → Post
+post_at f t = unwrap_or (post_of f t) Out
+
 abbrev pub IsAttached : FatState → ThreadId → Type 0
 IsAttached f t = IsSome (post_of f t)
+
+abbrev pub thread_count : FatState → ℕ
+thread_count f = map.len f.threads
+
+-- the entry line of a monitor, or its wait set, in order of joining; and who joined first
+abbrev pub line_of : FatState → ℕ → Role → List ThreadId
+line_of f m r = line f.standing.lines m r
+
+abbrev pub first_of : FatState → ℕ → Role → Option ThreadId
+first_of f m r = slice_get (line_of f m r) 0
 
 -- the same, with this monitor under this number
 abbrev pub with_monitor : FatState → ℕ → Monitor → FatState
 with_monitor f m b = record f { monitors = slice_set f.monitors m b }
 
+-- the same, with this owner and these holds of a monitor
+abbrev pub with_owner : FatState → ℕ → Option ThreadId → ℕ → FatState
+with_owner f m t n = with_monitor f m (record (monitor_at f m) { owner = t; holds = n })
+
+-- the same, with this post of a thread
+abbrev pub with_post : FatState → ThreadId → Post → FatState
+with_post f t p = record f { threads = map.insert f.threads t.0 p }
+
+-- the same, with these lines
+abbrev pub with_lines : FatState → LineMap → FatState
+with_lines f lines = record f { standing = record f.standing { lines = lines } }
+
+-- room for one more thread in the lines, where as many are attached as there is room for
+abbrev pub room_for : ℕ → ℕ → ℕ
+room_for threads reservations = if threads == reservations then reservations + 1 else reservations
+
 -- the same, with one thread more
 abbrev pub with_thread : FatState → ThreadId → FatState
-with_thread f t = record f { threads = map.insert f.threads t.0 Out }
+with_thread f t =
+    record f { threads = map.insert f.threads t.0 Out; standing = record f.standing { reservations = room_for (thread_count f) f.standing.reservations } }
 
 -- the same, without this thread
 abbrev pub without_thread : FatState → ThreadId → FatState
@@ -71,60 +102,63 @@ abbrev pub is_owned_by : Option ThreadId → ThreadId → Bool
 is_owned_by None t = false
 is_owned_by (Some u) t = u.0 == t.0
 
--- the monitor that an action names is bound; End names none
-abbrev pub NamesBound : FatState → Action → Type 0
-NamesBound f (Enter m) = m < length f.monitors
-NamesBound f (Exit m) = m < length f.monitors
-NamesBound f (Holds m) = m < length f.monitors
-NamesBound f End = Unit {0}
-
 -- the thread owns one of these monitors
 abbrev pub owns_one : List Monitor → ThreadId → Bool
 owns_one monitors t = list_any (λ (b : Monitor). is_owned_by b.owner t) monitors
 
--- what an action of thread t answers at its monitor
-abbrev pub answer_of : Monitor → ThreadId → Action → Answer
-answer_of b t (Enter m) =
-    if is_none b.owner then Reply Entered
-    else (if is_owned_by b.owner t then (if nat_lt b.holds 65535 then Reply Entered else Reply (Refused TooDeep)) else Quiet)
-answer_of b t (Exit m) = if is_owned_by b.owner t then Reply Exited else Reply IllegalMonitorState
-answer_of b t (Holds m) = if is_owned_by b.owner t then Reply Yes else Reply No
-answer_of b t End = Quiet
-
--- what it leaves of its monitor
-abbrev pub monitor_after : Monitor → ThreadId → Action → Monitor
-monitor_after b t (Enter m) =
-    if is_none b.owner then record b { owner = Some t; holds = 1 }
-    else (if is_owned_by b.owner t then (if nat_lt b.holds 65535 then record b { holds = b.holds + 1 } else b) else b)
-monitor_after b t (Exit m) =
-    if is_owned_by b.owner t then record b { owner = if b.holds == 1 then None else b.owner; holds = b.holds - 1 } else b
-monitor_after b t (Holds m) = b
-monitor_after b t End = b
-
--- the answer of an action
-abbrev pub answered : FatState → ThreadId → Action → Answer
-answered f t (Enter m) = answer_of (monitor_at f m) t (Enter m)
-answered f t (Exit m) = answer_of (monitor_at f m) t (Exit m)
-answered f t (Holds m) = answer_of (monitor_at f m) t (Holds m)
-answered f t End = if owns_one f.monitors t then Reply (Refused StillOwner) else Reply Ended
-
--- the fat state after it
-abbrev pub acted : FatState → ThreadId → Action → FatState
-acted f t (Enter m) = with_monitor f m (monitor_after (monitor_at f m) t (Enter m))
-acted f t (Exit m) = with_monitor f m (monitor_after (monitor_at f m) t (Exit m))
-acted f t (Holds m) = with_monitor f m (monitor_after (monitor_at f m) t (Holds m))
-acted f t End = if owns_one f.monitors t then f else without_thread f t
-
--- what the thread is told: nobody is granted a monitor, and nobody leaves a wait set
-abbrev pub done : Answer → Done
-done a = record { answer = a; granted = None; chosen = None }
-
 -- a monitor has an owner exactly where it is held
 abbrev pub IsFair : Monitor → Type 0
 IsFair b = (b.holds ≤ 65535) × ((b.owner ≡ None) ↔ (b.holds ≡ 0))
+
+-- the line that a thread with this post stands in, and whether it stands in one
+abbrev pub place_of : Post → Option Key
+place_of Out = None
+place_of (Entering m) = Some (key m Entry)
+place_of (Waiting m n d) = Some (key m WaitSet)
+place_of (Back m n w) = Some (key m Entry)
+place_of (Granted r) = None
+
+abbrev pub stands : Post → Bool
+stands Out = false
+stands (Entering m) = true
+stands (Waiting m n d) = true
+stands (Back m n w) = true
+stands (Granted r) = false
+
+-- how many of the threads stand in a line
+abbrev pub stand_count : map.FinMap nat_cmp Post → ℕ
+stand_count threads = count_by stands (map.values threads)
+
+-- these holds may be given up by a wait and taken back
+abbrev pub IsHeld : ℕ → Type 0
+IsHeld n = (1 ≤ n) × (n ≤ 65535)
+
+-- a post names a bound monitor, and the holds that its thread comes back to; a grant is of an enter or a wait
+abbrev pub IsProper : FatState → Post → Type 0
+IsProper f Out = Unit {0}
+IsProper f (Entering m) = m < length f.monitors
+IsProper f (Waiting m n d) = (m < length f.monitors) × IsHeld n
+IsProper f (Back m n w) = (m < length f.monitors) × IsHeld n
+IsProper f (Granted r) = (r ≡ reply.Entered) ⊎ (r ≡ reply.WaitOver)
+
+-- A thread stands in an entry line only while another thread owns that monitor.
+abbrev pub StandBehindOwners : FatState → Type 0
+StandBehindOwners f =
+    (t : ThreadId) (m : ℕ) → StandsIn f.standing.lines t m Entry → (u : ThreadId) × ((monitor_at f m).owner ≡ Some u) × (u ≢ t)
 
 -- what every fat state keeps
 pub record IsSound (f : FatState) : Type 0 where
   pub few : length f.monitors ≤ f.limit
   pub limit : f.limit ≤ 8388608
   pub fair : (m : ℕ) → m < length f.monitors → IsFair (monitor_at f m)
+  pub proper : (t : ThreadId) (p : Post) → post_of f t ≡ Some p → IsProper f p
+  -- a thread stands where its post says
+  pub posted : (t : ThreadId) (p : Post) (m : ℕ) (r : Role) → post_of f t ≡ Some p → place_of p ≡ Some (key m r) → StandsIn f.standing.lines t m r
+  pub standing : (t : ThreadId) (m : ℕ) (r : Role) → StandsIn f.standing.lines t m r → (p : Post) × (post_of f t ≡ Some p) × (place_of p ≡ Some (key m r))
+  -- an entry line is behind an owner, and nobody stands in a line of its own monitor
+  pub behind : (t : ThreadId) (m : ℕ) → StandsIn f.standing.lines t m Entry → IsSome (monitor_at f m).owner
+  pub apart : (t : ThreadId) (m : ℕ) (r : Role) → StandsIn f.standing.lines t m r → (monitor_at f m).owner ≢ Some t
+  -- each attached thread has room in the lines
+  pub room : thread_count f ≤ f.standing.reservations
+  pub counted : total_count f.standing.lines ≡ stand_count f.threads
+  pub orderly : IsOrderly f.standing

@@ -1,5 +1,6 @@
 pub mod Binding
 pub mod FatState
+pub mod Acting
 pub mod Slots
 pub mod Fats
 pub mod Names

@@ -1,4 +1,4 @@
--- What is written for a cause, a reply, an action and a fault.
+-- What is written for causes, replies, actions and faults.
 use Rattle.std.specs.Prelude.{ℕ, List, ◌++◌, codes}
 use Rattle.fat_monitor.specs.declared.actions.Cause.{Cause}
 use Rattle.fat_monitor.specs.declared.actions.Cause.TheVariants as cause
@@ -6,6 +6,8 @@ use Rattle.fat_monitor.specs.declared.actions.Reply.{Reply}
 use Rattle.fat_monitor.specs.declared.actions.Reply.TheVariants as reply
 use Rattle.fat_monitor.specs.declared.actions.Action.{Action}
 use Rattle.fat_monitor.specs.declared.actions.Action.TheVariants as action
+use Rattle.fat_monitor.specs.declared.actions.ActFault.{ActFault}
+use Rattle.fat_monitor.specs.declared.actions.ActFault.TheVariants as act_fault
 use Rattle.fat_monitor.specs.declared.monitors.AttachFault.{AttachFault}
 use Rattle.fat_monitor.specs.declared.monitors.AttachFault.TheVariants as fault
 
@@ -19,19 +21,29 @@ cause_name cause.StillOwner = codes "StillOwner"
 abbrev pub reply_name : Reply → List ℕ
 reply_name reply.Entered = codes "Entered"
 reply_name reply.Exited = codes "Exited"
+reply_name reply.WaitOver = codes "WaitOver"
+reply_name reply.Notified = codes "Notified"
 reply_name reply.Yes = codes "Yes"
 reply_name reply.No = codes "No"
 reply_name reply.Ended = codes "Ended"
 reply_name reply.IllegalMonitorState = codes "IllegalMonitorState"
+reply_name reply.IllegalArgument = codes "IllegalArgument"
 reply_name (reply.Refused c) = codes "Refused " ++ cause_name c
 
 -- an action is written by its name alone
 abbrev pub action_name : Action → List ℕ
 action_name (action.Enter m) = codes "Enter"
 action_name (action.Exit m) = codes "Exit"
+action_name (action.Wait m millis nanos) = codes "Wait"
+action_name (action.Notify m) = codes "Notify"
+action_name (action.NotifyAll m) = codes "NotifyAll"
 action_name (action.Holds m) = codes "Holds"
+action_name action.Collect = codes "Collect"
 action_name action.End = codes "End"
 
 abbrev pub fault_text : AttachFault → List ℕ
 fault_text fault.Known = codes "the thread is attached already"
 fault_text fault.Memory = codes "out of memory"
+
+abbrev pub act_fault_text : ActFault → List ℕ
+act_fault_text act_fault.Parked = codes "no reply is granted"

@@ -6,7 +6,7 @@ use Rattle.std.specs.FinMap as map
 use Rattle.slab.specs.Slab.{Slab, get}
 use Rattle.fat_monitor.specs.declared.actions.Post.{Post}
 use Rattle.fat_monitor.specs.declared.actions.Post.TheVariants.{Out}
-use Rattle.fat_monitor.specs.declared.monitors.Record.{Record}
+use Rattle.fat_monitor.specs.declared.posts.Record.{Record}
 
 -- the post in a slot
 abbrev pub post_in : Option Record → Post

@@ -1,6 +1,7 @@
 //! What a thread may ask of a fat monitor, and what it is told.
 
 use lock_word::ThreadId;
+use std::error::Error;
 use std::fmt;
 
 /// Why a call was refused.
@@ -23,6 +24,10 @@ pub enum Reply {
     Entered,
     /// The thread holds the object once less.
     Exited,
+    /// The wait is over, and the thread holds the object as often as before it.
+    WaitOver,
+    /// A thread of the wait set, or all of them, have left it, if there was one.
+    Notified,
     /// Yes, the thread owns the object.
     Yes,
     /// No, it does not.
@@ -31,8 +36,17 @@ pub enum Reply {
     Ended,
     /// The thread does not own the object: `IllegalMonitorStateException`.
     IllegalMonitorState,
+    /// The time of a wait is out of range: `IllegalArgumentException`.
+    IllegalArgument,
     /// The call was refused, and nothing was changed.
     Refused(Cause),
+}
+
+/// Why a thread left a wait set.
+#[derive(Clone, Copy, PartialEq, Eq, Hash, Debug)]
+pub enum Why {
+    /// It was notified.
+    Notified,
 }
 
 /// Where an attached thread stands towards the fat monitors.
@@ -40,17 +54,59 @@ pub enum Reply {
 pub enum Post {
     /// In no action.
     Out,
+    /// In the entry line, behind another owner.
+    Entering {
+        monitor: u32,
+    },
+    /// In the wait set. It gave up `holds` holds, 1 to 65,535. The deadline is the moment in nanoseconds
+    /// at which the wait is over; a wait of no limit has none.
+    Waiting {
+        monitor: u32,
+        holds: u16,
+        deadline: Option<u128>,
+    },
+    /// In the entry line, on its way back from the wait set.
+    Back {
+        monitor: u32,
+        holds: u16,
+        why: Why,
+    },
+    /// Its action was granted, with this reply, which it has not collected yet.
+    Granted(Reply),
 }
 
 /// One action on the fat monitors.
 #[derive(Clone, Copy, PartialEq, Eq, Hash, Debug)]
 pub enum Action {
-    /// Own the monitor, or hold it once more.
-    Enter { monitor: u32 },
-    /// Hold the monitor once less.
-    Exit { monitor: u32 },
+    /// Own the monitor, or hold it once more, or stand in its entry line behind another owner.
+    Enter {
+        monitor: u32,
+    },
+    /// Hold the monitor once less. With the last hold it goes to the first of its entry line.
+    Exit {
+        monitor: u32,
+    },
+    /// Give up the monitor, and stand in its wait set until a notify, or until the time is over:
+    /// milliseconds from 0 on and nanoseconds 0 to 999,999, where 0 and 0 mean no limit.
+    Wait {
+        monitor: u32,
+        millis: i64,
+        nanos: i32,
+    },
+    /// Send the thread that has waited longest back to the entry line.
+    Notify {
+        monitor: u32,
+    },
+    /// Send all threads of the wait set back to the entry line, in the order in which they joined.
+    NotifyAll {
+        monitor: u32,
+    },
     /// Does the thread own the monitor?
-    Holds { monitor: u32 },
+    Holds {
+        monitor: u32,
+    },
+    /// Take the reply that was granted.
+    Collect,
     /// Be attached no longer, where the thread owns no monitor.
     End,
 }
@@ -60,8 +116,8 @@ pub enum Action {
 pub enum Answer {
     /// The call that made the action has this reply.
     Reply(Reply),
-    /// Nothing was changed, and the call has no reply yet.
-    Quiet,
+    /// The thread stands in a line, and has no reply until it is granted one.
+    Parked,
 }
 
 /// What an action did.
@@ -69,15 +125,33 @@ pub enum Answer {
 pub struct Done {
     /// What the thread is told.
     pub answer: Answer,
-    /// The thread that the action made the owner of the monitor that it left.
+    /// The thread that the action made the owner of the monitor that it gave up.
     pub granted: Option<ThreadId>,
     /// The thread that the action took out of a wait set.
     pub chosen: Option<ThreadId>,
 }
 
-/// Why an action was not made. The actions that there are now are always made.
-#[derive(Clone, Copy)]
-pub enum ActFault {}
+/// Why an action was not made. Nothing was changed then.
+#[derive(Clone, Copy, PartialEq, Eq, Hash, Debug)]
+pub enum ActFault {
+    /// The thread has no granted reply to collect.
+    Parked,
+}
+
+impl fmt::Display for ActFault {
+    ghost use Rattle.std.specs.Prelude.{Some};
+    ghost use Rattle.fat_monitor.specs.Names.{act_fault_text};
+
+    ghost output = { λ x. Some (act_fault_text x) };
+
+    fn fmt<W: fmt::Write>(&self, f: &mut fmt::Formatter<W>) -> fmt::Result {
+        f.write_str(match self {
+            ActFault::Parked => "no reply is granted",
+        })
+    }
+}
+
+impl Error for ActFault {}
 
 impl fmt::Display for Cause {
     ghost use Rattle.std.specs.Prelude.{Some};
@@ -105,10 +179,13 @@ impl fmt::Display for Reply {
         match self {
             Reply::Entered => f.write_str("Entered"),
             Reply::Exited => f.write_str("Exited"),
+            Reply::WaitOver => f.write_str("WaitOver"),
+            Reply::Notified => f.write_str("Notified"),
             Reply::Yes => f.write_str("Yes"),
             Reply::No => f.write_str("No"),
             Reply::Ended => f.write_str("Ended"),
             Reply::IllegalMonitorState => f.write_str("IllegalMonitorState"),
+            Reply::IllegalArgument => f.write_str("IllegalArgument"),
             Reply::Refused(cause) => write!(f, "Refused {cause}"),
         }
     }
@@ -125,7 +202,11 @@ impl fmt::Display for Action {
         f.write_str(match self {
             Action::Enter { .. } => "Enter",
             Action::Exit { .. } => "Exit",
+            Action::Wait { .. } => "Wait",
+            Action::Notify { .. } => "Notify",
+            Action::NotifyAll { .. } => "NotifyAll",
             Action::Holds { .. } => "Holds",
+            Action::Collect => "Collect",
             Action::End => "End",
         })
     }

@@ -5,10 +5,11 @@
 
 mod actions;
 mod monitors;
+mod posts;
 mod receipts;
 #[cfg(test)]
 mod tests;
 
-pub use actions::{ActFault, Action, Answer, Cause, Done, Post, Reply};
-pub use monitors::{AttachFault, Fats, Monitor};
+pub use actions::{ActFault, Action, Answer, Cause, Done, Post, Reply, Why};
+pub use monitors::{AttachFault, Fats, Monitor, are_good};
 pub use receipts::Receipt;

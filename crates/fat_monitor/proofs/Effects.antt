@@ -1,0 +1,465 @@
+-- What an action changes of a fat state, and what it leaves.
+use Rattle.std.specs.Prelude.{◌≡◌, ◌≢◌, ◌⊎◌, ◌↔◌, ℕ, ◌<◌, ◌≤◌, ◌+◌, ◌-◌, ◌==◌, Bool, true, false, if◌then◌else◌, nat_lt, List, [], ◌∷◌, length, slice_get, slice_index_or, slice_set, Contains, Option, Some, None, IsSome, is_some}
+use Rattle.std.specs.Option.{option_map, unwrap_or}
+use Rattle.std.specs.Ordering.{nat_cmp}
+use Rattle.std.specs.Cmp.{nat_cmp_total}
+use Rattle.std.specs.FinMap as map
+use Rattle.std.specs.FinMap.{get-empty, len-insert, len-remove, empty_of_len}
+use Rattle.std.proofs.Common.{refl, sym, ap, ◌∙◌, inl, inr, arith, length-set, get_or-set_same, get_or-set_other}
+use Rattle.std.proofs.lemmas.Bool.{cases_eq, cases_lt, eq-eqb, ne_eqb, cond-true, cond-false}
+use Rattle.std.proofs.lemmas.List.{set_past}
+use Rattle.std.proofs.lemmas.Option.{same_Some}
+use Rattle.lock_word.specs.declared.ThreadId.{ThreadId}
+use Rattle.wait_lines.specs.declared.Role.{Role}
+use Rattle.wait_lines.specs.declared.Role.TheVariants.{Entry, Waiting as WaitSet}
+use Rattle.wait_lines.specs.Lines.{Key, key}
+use Rattle.wait_lines.proofs.LineLemmas.{StandsIn-first}
+use Rattle.wait_lines.proofs.ThreadLemmas.{same_thread, contains_none, cases_contains, Contains-cons_first, Contains-cons_later, Contains-cons_cases}
+use Rattle.fat_monitor.specs.declared.actions.Post.{Post}
+use Rattle.fat_monitor.specs.declared.actions.Post.TheVariants.{Out, Entering, Waiting, Back, Granted}
+use Rattle.fat_monitor.specs.declared.actions.Why.{Why}
+use Rattle.fat_monitor.specs.declared.actions.Why.TheVariants.{Notified}
+use Rattle.fat_monitor.specs.declared.actions.Action.{Action}
+use Rattle.fat_monitor.specs.declared.actions.Action.TheVariants as action
+use Rattle.fat_monitor.specs.declared.monitors.Monitor.{Monitor}
+use Rattle.fat_monitor.specs.FatState.{FatState, IsSound, IsProper, IsAttached, IsHeld, monitor_at, unbound, post_of, post_at, thread_count, line_of, first_of, with_owner, with_post, with_thread, without_thread, place_of, is_owned_by, owns_one}
+use Rattle.fat_monitor.specs.Acting.{Outcome, acted, entered, exited, waited, notified, collected, are_good, handed_on, all_removed, parked, removed, reply_granted, holds_granted, MayAct}
+use Rattle.fat_monitor.proofs.PostMaps.{get-insert_by, get-remove_by}
+
+-- the monitor that an action names
+abbrev pub named : Action → Option ℕ
+named (action.Enter m) = Some m
+named (action.Exit m) = Some m
+named (action.Wait m millis nanos) = Some m
+named (action.Notify m) = Some m
+named (action.NotifyAll m) = Some m
+named (action.Holds m) = Some m
+named action.Collect = None
+named action.End = None
+
+-- what holds after both outcomes of a test holds after it
+either : (P : FatState → Type 0) (b : Bool) (x y : Outcome) → P x.after → P y.after → P (if b then x else y).after
+either P true x y h k = h
+either P false x y h k = k
+
+-- ---- monitors
+
+-- as many monitors under the same limit, each with its object, and all but the named one as before
+abbrev KeepsMonitors : FatState → Option ℕ → FatState → Type 0
+KeepsMonitors f a g =
+    (length g.monitors ≡ length f.monitors)
+    × (g.limit ≡ f.limit)
+    × ((j : ℕ) → (monitor_at g j).object ≡ (monitor_at f j).object)
+    × ((j : ℕ) → a ≢ Some j → monitor_at g j ≡ monitor_at f j)
+
+-- so it is where the monitors and the limit are the same
+KeepsMonitors-same : (f : FatState) (a : Option ℕ) (g : FatState) → g.monitors ≡ f.monitors → g.limit ≡ f.limit → KeepsMonitors f a g
+KeepsMonitors-same f a g e l = (
+  ap (λ (ms : List Monitor). length ms) e,
+  l,
+  (λ j. ap (λ (ms : List Monitor). (slice_index_or ms j unbound).object) e),
+  (λ j other. ap (λ (ms : List Monitor). slice_index_or ms j unbound) e),
+)
+
+-- a write of a monitor with its object keeps all objects
+object_set : (ms : List Monitor) (m j : ℕ) (b : Monitor) → b.object ≡ (slice_index_or ms m unbound).object → (slice_index_or (slice_set ms m b) j unbound).object ≡ (slice_index_or ms j unbound).object
+object_set ms m j b same = at (cases_eq j m) (cases_lt m (length ms))
+  where
+    at : (j ≡ m) ⊎ (j ≡ m → ⊥) → (m < length ms) ⊎ (length ms ≤ m) → (slice_index_or (slice_set ms m b) j unbound).object ≡ (slice_index_or ms j unbound).object
+    at (inl e) (inl h) = rw e (ap (λ (x : Monitor). x.object) (get_or-set_same ms m b unbound h) ∙ same)
+    at (inl e) (inr h) = ap (λ (ns : List Monitor). (slice_index_or ns j unbound).object) (set_past ms m b h)
+    at (inr other) h = ap (λ (x : Monitor). x.object) (get_or-set_other ms m j b unbound other)
+
+KeepsMonitors-with_owner : (f : FatState) (m : ℕ) (o : Option ThreadId) (n : ℕ) → KeepsMonitors f (Some m) (with_owner f m o n)
+KeepsMonitors-with_owner f m o n = (
+  length-set f.monitors m _,
+  refl,
+  (λ j. object_set f.monitors m j _ refl),
+  (λ j other. get_or-set_other f.monitors m j _ unbound (λ e. other (ap (λ (i : ℕ). Some i) (sym e)))),
+)
+
+KeepsMonitors-handed_on : (f : FatState) (m : ℕ) (o : Option ThreadId) → KeepsMonitors f (Some m) (handed_on f m o)
+KeepsMonitors-handed_on f m None = KeepsMonitors-with_owner f m None 0
+KeepsMonitors-handed_on f m (Some u) = KeepsMonitors-with_owner f m (Some u) (holds_granted (post_at f u))
+
+monitors-removed : (f : FatState) (u : ThreadId) (p : Post) → (removed f u p).monitors ≡ f.monitors
+monitors-removed f u Out = refl
+monitors-removed f u (Entering m) = refl
+monitors-removed f u (Waiting m n d) = refl
+monitors-removed f u (Back m n w) = refl
+monitors-removed f u (Granted r) = refl
+
+limit-removed : (f : FatState) (u : ThreadId) (p : Post) → (removed f u p).limit ≡ f.limit
+limit-removed f u Out = refl
+limit-removed f u (Entering m) = refl
+limit-removed f u (Waiting m n d) = refl
+limit-removed f u (Back m n w) = refl
+limit-removed f u (Granted r) = refl
+
+pub monitors-all_removed : (f : FatState) (us : List ThreadId) → (all_removed f us).monitors ≡ f.monitors
+monitors-all_removed f [] = refl
+monitors-all_removed f (u ∷ us) = monitors-all_removed (removed f u (post_at f u)) us ∙ monitors-removed f u (post_at f u)
+
+limit-all_removed : (f : FatState) (us : List ThreadId) → (all_removed f us).limit ≡ f.limit
+limit-all_removed f [] = refl
+limit-all_removed f (u ∷ us) = limit-all_removed (removed f u (post_at f u)) us ∙ limit-removed f u (post_at f u)
+
+KeepsMonitors-entered : (f : FatState) (t : ThreadId) (m : ℕ) (o : Option ThreadId) → KeepsMonitors f (Some m) (entered f t m o).after
+KeepsMonitors-entered f t m None = KeepsMonitors-with_owner f m (Some t) 1
+KeepsMonitors-entered f t m (Some u) =
+    either (KeepsMonitors f (Some m)) (u.0 == t.0) _ _
+    (either (KeepsMonitors f (Some m)) (nat_lt (monitor_at f m).holds 65535) _ _ (KeepsMonitors-with_owner f m (Some u) ((monitor_at f m).holds + 1)) (KeepsMonitors-same f (Some m) f refl refl))
+    (KeepsMonitors-same f (Some m) (parked f t (Entering m) m Entry) refl refl)
+
+KeepsMonitors-exited : (f : FatState) (t : ThreadId) (m : ℕ) → KeepsMonitors f (Some m) (exited f t m).after
+KeepsMonitors-exited f t m =
+    either (KeepsMonitors f (Some m)) (nat_lt 1 (monitor_at f m).holds) _ _ (KeepsMonitors-with_owner f m (Some t) ((monitor_at f m).holds - 1)) (KeepsMonitors-handed_on f m (first_of f m Entry))
+
+KeepsMonitors-notified : (f : FatState) (m : ℕ) (o : Option ThreadId) → KeepsMonitors f (Some m) (notified f o).after
+KeepsMonitors-notified f m None = KeepsMonitors-same f (Some m) f refl refl
+KeepsMonitors-notified f m (Some u) = KeepsMonitors-same f (Some m) (removed f u (post_at f u)) (monitors-removed f u (post_at f u)) (limit-removed f u (post_at f u))
+
+KeepsMonitors-collected : (f : FatState) (t : ThreadId) (p : Post) → KeepsMonitors f None (collected f t p).after
+KeepsMonitors-collected f t Out = KeepsMonitors-same f None f refl refl
+KeepsMonitors-collected f t (Entering m) = KeepsMonitors-same f None f refl refl
+KeepsMonitors-collected f t (Waiting m n d) = KeepsMonitors-same f None f refl refl
+KeepsMonitors-collected f t (Back m n w) = KeepsMonitors-same f None f refl refl
+KeepsMonitors-collected f t (Granted r) = KeepsMonitors-same f None (with_post f t Out) refl refl
+
+-- another than the owner changes nothing
+KeepsMonitors-by_owner : (f : FatState) (t : ThreadId) (m : ℕ) (x y : Outcome) → KeepsMonitors f (Some m) x.after → y.after ≡ f → KeepsMonitors f (Some m) (if is_owned_by (monitor_at f m).owner t then x else y).after
+KeepsMonitors-by_owner f t m x y h e =
+    either (KeepsMonitors f (Some m)) (is_owned_by (monitor_at f m).owner t) x y h
+    (KeepsMonitors-same f (Some m) y.after (ap (λ (g : FatState). g.monitors) e) (ap (λ (g : FatState). g.limit) e))
+
+KeepsMonitors-acted : (f : FatState) (t : ThreadId) (a : Action) → KeepsMonitors f (named a) (acted f t a).after
+KeepsMonitors-acted f t (action.Enter m) = KeepsMonitors-entered f t m (monitor_at f m).owner
+KeepsMonitors-acted f t (action.Exit m) = KeepsMonitors-by_owner f t m (exited f t m) _ (KeepsMonitors-exited f t m) refl
+KeepsMonitors-acted f t (action.Wait m millis nanos) =
+    KeepsMonitors-by_owner f t m (waited f t m millis nanos) _
+    (either (KeepsMonitors f (Some m)) (are_good millis nanos) _ _ (KeepsMonitors-handed_on f m (first_of f m Entry)) (KeepsMonitors-same f (Some m) f refl refl)) refl
+KeepsMonitors-acted f t (action.Notify m) = KeepsMonitors-by_owner f t m (notified f (first_of f m WaitSet)) _ (KeepsMonitors-notified f m (first_of f m WaitSet)) refl
+KeepsMonitors-acted f t (action.NotifyAll m) =
+    KeepsMonitors-by_owner f t m _ _
+    (KeepsMonitors-same f (Some m) (all_removed f (line_of f m WaitSet)) (monitors-all_removed f (line_of f m WaitSet)) (limit-all_removed f (line_of f m WaitSet))) refl
+KeepsMonitors-acted f t (action.Holds m) = KeepsMonitors-same f (Some m) f refl refl
+KeepsMonitors-acted f t action.Collect = KeepsMonitors-collected f t (post_at f t)
+KeepsMonitors-acted f t action.End = either (KeepsMonitors f None) (owns_one f.monitors t) _ _ (KeepsMonitors-same f None f refl refl) (KeepsMonitors-same f None (without_thread f t) refl refl)
+
+-- no monitor comes or goes, each keeps its object, and only the named one changes
+pub length-acted : (f : FatState) (t : ThreadId) (a : Action) → length (acted f t a).after.monitors ≡ length f.monitors
+length-acted f t a = (KeepsMonitors-acted f t a).0
+
+pub limit-acted : (f : FatState) (t : ThreadId) (a : Action) → (acted f t a).after.limit ≡ f.limit
+limit-acted f t a = (KeepsMonitors-acted f t a).1
+
+pub object-acted : (f : FatState) (t : ThreadId) (a : Action) (j : ℕ) → (monitor_at (acted f t a).after j).object ≡ (monitor_at f j).object
+object-acted f t a j = (KeepsMonitors-acted f t a).2 j
+
+pub other-acted : (f : FatState) (t : ThreadId) (a : Action) (j : ℕ) → named a ≢ Some j → monitor_at (acted f t a).after j ≡ monitor_at f j
+other-acted f t a j other = (KeepsMonitors-acted f t a).3 j other
+
+-- ---- posts
+
+-- the post of a thread after one was written
+pub post-with_post_same : (f : FatState) (t : ThreadId) (p : Post) → post_of (with_post f t p) t ≡ Some p
+post-with_post_same f t p = get-insert_by f.threads t.0 p t.0 ∙ cond-true (t.0 == t.0) _ _ (eq-eqb t.0 t.0 refl)
+
+pub post-with_post_other : (f : FatState) (t u : ThreadId) (p : Post) → u ≢ t → post_of (with_post f t p) u ≡ post_of f u
+post-with_post_other f t u p other = get-insert_by f.threads t.0 p u.0 ∙ cond-false (u.0 == t.0) _ _ (ne_eqb u.0 t.0 (λ e. other (same_thread t u e)))
+
+abbrev Posts : Type 0
+Posts = map.FinMap nat_cmp Post
+
+-- the same threads are attached, and of those but t the same are out
+abbrev KeepsPosts : ℕ → Posts → Posts → Type 0
+KeepsPosts t p q =
+    (map.len q ≡ map.len p)
+    × ((u : ℕ) → IsSome (map.get q u) ↔ IsSome (map.get p u))
+    × ((u : ℕ) → u ≢ t → (map.get q u ≡ Some Out) ↔ (map.get p u ≡ Some Out))
+
+KeepsPosts-same : (t : ℕ) (p : Posts) → KeepsPosts t p p
+KeepsPosts-same t p = (refl, (λ u. ((λ h. h), (λ h. h))), (λ u other. ((λ h. h), (λ h. h))))
+
+KeepsPosts-then : (t : ℕ) (p q r : Posts) → KeepsPosts t p q → KeepsPosts t q r → KeepsPosts t p r
+KeepsPosts-then t p q r a b = (
+  b.0 ∙ a.0,
+  (λ u. ((λ h. (a.1 u).0 ((b.1 u).0 h)), (λ h. (b.1 u).1 ((a.1 u).1 h)))),
+  (λ u other. ((λ h. (a.2 u other).0 ((b.2 u other).0 h)), (λ h. (b.2 u other).1 ((a.2 u other).1 h)))),
+)
+
+-- a new post of t, or of one that is not out and does not become so
+KeepsPosts-insert : (t : ℕ) (p : Posts) (k : ℕ) (v : Post) → IsSome (map.get p k) → (k ≡ t) ⊎ ((map.get p k ≢ Some Out) × (v ≢ Out)) → KeepsPosts t p (map.insert p k v)
+KeepsPosts-insert t p k v here why =
+    (len-insert nat_cmp_total p k v ∙ cond-true (is_some (map.get p k)) _ _ here, (λ u. attached u (cases_eq u k)), (λ u other. out u other (cases_eq u k) why))
+  where
+    attached : (u : ℕ) → (u ≡ k) ⊎ (u ≡ k → ⊥) → IsSome (map.get (map.insert p k v) u) ↔ IsSome (map.get p u)
+    attached u (inl same) = rw (same, get-insert_by p k v k, eq-eqb k k refl) ((λ h. here), (λ h. refl))
+    attached u (inr other) = rw (get-insert_by p k v u, ne_eqb u k other) ((λ h. h), (λ h. h))
+
+    out : (u : ℕ) → u ≢ t → (u ≡ k) ⊎ (u ≡ k → ⊥) → (k ≡ t) ⊎ ((map.get p k ≢ Some Out) × (v ≢ Out)) → (map.get (map.insert p k v) u ≡ Some Out) ↔ (map.get p u ≡ Some Out)
+    out u other (inl same) (inl own) = absurd (other (same ∙ own))
+    out u other (inl same) (inr not_out) =
+        rw (same, get-insert_by p k v k, eq-eqb k k refl) ((λ h. absurd (not_out.1 (same_Some v Out h))), (λ h. absurd (not_out.0 h)))
+    out u other (inr apart) w = rw (get-insert_by p k v u, ne_eqb u k apart) ((λ h. h), (λ h. h))
+
+-- u, which has the post o, leaves its wait set, and stays attached in a line
+KeepsPosts-removed : (t : ℕ) (f : FatState) (u : ThreadId) (o : Option Post) → post_of f u ≡ o → KeepsPosts t f.threads (removed f u (unwrap_or o Out)).threads
+KeepsPosts-removed t f u None e = KeepsPosts-same t f.threads
+KeepsPosts-removed t f u (Some Out) e = KeepsPosts-same t f.threads
+KeepsPosts-removed t f u (Some (Entering m)) e = KeepsPosts-same t f.threads
+KeepsPosts-removed t f u (Some (Waiting m n d)) e =
+    KeepsPosts-insert t f.threads u.0 (Back m n Notified) (rw e refl) (inr ((λ h. let x : Some (Waiting m n d) ≡ Some Out = sym e ∙ h in cc), (λ h. cc)))
+KeepsPosts-removed t f u (Some (Back m n w)) e = KeepsPosts-same t f.threads
+KeepsPosts-removed t f u (Some (Granted r)) e = KeepsPosts-same t f.threads
+
+KeepsPosts-all_removed : (t : ℕ) (f : FatState) (us : List ThreadId) → KeepsPosts t f.threads (all_removed f us).threads
+KeepsPosts-all_removed t f [] = KeepsPosts-same t f.threads
+KeepsPosts-all_removed t f (u ∷ us) =
+    KeepsPosts-then t f.threads (removed f u (post_at f u)).threads (all_removed f (u ∷ us)).threads
+    (KeepsPosts-removed t f u (post_of f u) refl) (KeepsPosts-all_removed t (removed f u (post_at f u)) us)
+
+-- whoever has a place in a line is not out
+not_out : (o : Option Post) (p : Post) (k : Key) → o ≡ Some p → place_of p ≡ Some k → o ≢ Some Out
+not_out o p k e place h =
+    let same : p ≡ Out = same_Some p Out (sym e ∙ h) in let none : place_of Out ≡ Some k = ap place_of (sym same) ∙ place in cc
+
+-- the first of an entry line was not out, and has a grant after it
+KeepsPosts-handed_on : (t : ℕ) (f : FatState) (m : ℕ) (o : Option ThreadId) → IsSound f → first_of f m Entry ≡ o → KeepsPosts t f.threads (handed_on f m o).threads
+KeepsPosts-handed_on t f m None sound e = KeepsPosts-same t f.threads
+KeepsPosts-handed_on t f m (Some u) sound e =
+    let stood = sound.standing u m Entry (StandsIn-first f.standing.lines u m Entry e) in
+    KeepsPosts-insert t f.threads u.0 (Granted (reply_granted (post_at f u))) (rw stood.1 refl) (inr (not_out (post_of f u) stood.0 (key m Entry) stood.1 stood.2, (λ h. cc)))
+
+-- t has another post
+KeepsPosts-own : (f : FatState) (t : ThreadId) (p : Post) → IsAttached f t → KeepsPosts t.0 f.threads (with_post f t p).threads
+KeepsPosts-own f t p here = KeepsPosts-insert t.0 f.threads t.0 p here (inl refl)
+
+-- the same, of the threads of two fat states
+abbrev KeepsThreads : FatState → ThreadId → FatState → Type 0
+KeepsThreads f t g = KeepsPosts t.0 f.threads g.threads
+
+KeepsThreads-entered : (f : FatState) (t : ThreadId) (m : ℕ) (o : Option ThreadId) → IsAttached f t → KeepsThreads f t (entered f t m o).after
+KeepsThreads-entered f t m None here = KeepsPosts-same t.0 f.threads
+KeepsThreads-entered f t m (Some u) here =
+    either (KeepsThreads f t) (u.0 == t.0) _ _
+    (either (KeepsThreads f t) (nat_lt (monitor_at f m).holds 65535) _ _ (KeepsPosts-same t.0 f.threads) (KeepsPosts-same t.0 f.threads))
+    (KeepsPosts-own f t (Entering m) here)
+
+KeepsThreads-exited : (f : FatState) (t : ThreadId) (m : ℕ) → IsSound f → KeepsThreads f t (exited f t m).after
+KeepsThreads-exited f t m sound =
+    either (KeepsThreads f t) (nat_lt 1 (monitor_at f m).holds) _ _ (KeepsPosts-same t.0 f.threads) (KeepsPosts-handed_on t.0 f m (first_of f m Entry) sound refl)
+
+-- t is parked after another was handed the monitor
+KeepsThreads-parked : (f g : FatState) (t : ThreadId) (p : Post) (m : ℕ) (r : Role) → IsAttached f t → KeepsThreads f t g → KeepsThreads f t (parked g t p m r)
+KeepsThreads-parked f g t p m r here kept = KeepsPosts-then t.0 f.threads g.threads (with_post g t p).threads kept (KeepsPosts-own g t p ((kept.1 t.0).1 here))
+
+KeepsThreads-notified : (f : FatState) (t : ThreadId) (o : Option ThreadId) → KeepsThreads f t (notified f o).after
+KeepsThreads-notified f t None = KeepsPosts-same t.0 f.threads
+KeepsThreads-notified f t (Some u) = KeepsPosts-removed t.0 f u (post_of f u) refl
+
+KeepsThreads-collected : (f : FatState) (t : ThreadId) (p : Post) → IsAttached f t → KeepsThreads f t (collected f t p).after
+KeepsThreads-collected f t Out here = KeepsPosts-same t.0 f.threads
+KeepsThreads-collected f t (Entering m) here = KeepsPosts-same t.0 f.threads
+KeepsThreads-collected f t (Waiting m n d) here = KeepsPosts-same t.0 f.threads
+KeepsThreads-collected f t (Back m n w) here = KeepsPosts-same t.0 f.threads
+KeepsThreads-collected f t (Granted r) here = KeepsPosts-own f t Out here
+
+KeepsThreads-by_owner : (f : FatState) (t : ThreadId) (m : ℕ) (x y : Outcome) → KeepsThreads f t x.after → y.after ≡ f → KeepsThreads f t (if is_owned_by (monitor_at f m).owner t then x else y).after
+KeepsThreads-by_owner f t m x y h e = either (KeepsThreads f t) (is_owned_by (monitor_at f m).owner t) x y h (rw e (KeepsPosts-same t.0 f.threads))
+
+attached_out : (f : FatState) (t : ThreadId) → post_of f t ≡ Some Out → IsAttached f t
+attached_out f t e = rw e refl
+
+KeepsThreads-acted : (f : FatState) (t : ThreadId) (a : Action) → IsSound f → MayAct f t a → a ≢ action.End → KeepsThreads f t (acted f t a).after
+KeepsThreads-acted f t (action.Enter m) sound may other = KeepsThreads-entered f t m (monitor_at f m).owner (attached_out f t may)
+KeepsThreads-acted f t (action.Exit m) sound may other = KeepsThreads-by_owner f t m (exited f t m) _ (KeepsThreads-exited f t m sound) refl
+KeepsThreads-acted f t (action.Wait m millis nanos) sound may other =
+    KeepsThreads-by_owner f t m (waited f t m millis nanos) _
+    (either (KeepsThreads f t) (are_good millis nanos) _ _
+    (KeepsThreads-parked f (handed_on f m (first_of f m Entry)) t _ m WaitSet (attached_out f t may) (KeepsPosts-handed_on t.0 f m (first_of f m Entry) sound refl))
+    (KeepsPosts-same t.0 f.threads)) refl
+KeepsThreads-acted f t (action.Notify m) sound may other = KeepsThreads-by_owner f t m (notified f (first_of f m WaitSet)) _ (KeepsThreads-notified f t (first_of f m WaitSet)) refl
+KeepsThreads-acted f t (action.NotifyAll m) sound may other = KeepsThreads-by_owner f t m _ _ (KeepsPosts-all_removed t.0 f (line_of f m WaitSet)) refl
+KeepsThreads-acted f t (action.Holds m) sound may other = KeepsPosts-same t.0 f.threads
+KeepsThreads-acted f t action.Collect sound may other = KeepsThreads-collected f t (post_at f t) may
+KeepsThreads-acted f t action.End sound may other = absurd (other refl)
+
+-- only an End takes a thread away, and no action attaches one
+pub count-acted : (f : FatState) (t : ThreadId) (a : Action) → IsSound f → MayAct f t a → a ≢ action.End → thread_count (acted f t a).after ≡ thread_count f
+count-acted f t a sound may other = (KeepsThreads-acted f t a sound may other).0
+
+pub attached-acted : (f : FatState) (t u : ThreadId) (a : Action) → IsSound f → MayAct f t a → a ≢ action.End → IsAttached (acted f t a).after u ↔ IsAttached f u
+attached-acted f t u a sound may other = (KeepsThreads-acted f t a sound may other).1 u.0
+
+-- the third part, for any action but an End
+out_kept : (f : FatState) (t u : ThreadId) (a : Action) → IsSound f → MayAct f t a → u ≢ t → a ≢ action.End → (post_of (acted f t a).after u ≡ Some Out) ↔ (post_of f u ≡ Some Out)
+out_kept f t u a sound may apart other = (KeepsThreads-acted f t a sound may other).2 u.0 (λ e. apart (same_thread t u e))
+
+post-without_thread_other : (f : FatState) (t u : ThreadId) → u ≢ t → post_of (without_thread f t) u ≡ post_of f u
+post-without_thread_other f t u other = get-remove_by f.threads t.0 u.0 ∙ cond-false (u.0 == t.0) _ _ (ne_eqb u.0 t.0 (λ e. other (same_thread t u e)))
+
+-- another thread that is out stays out, and one that is not does not become so
+pub out-acted : (f : FatState) (t u : ThreadId) (a : Action) → IsSound f → MayAct f t a → u ≢ t → (post_of (acted f t a).after u ≡ Some Out) ↔ (post_of f u ≡ Some Out)
+out-acted f t u (action.Enter m) sound may apart = out_kept f t u (action.Enter m) sound may apart (λ e. cc)
+out-acted f t u (action.Exit m) sound may apart = out_kept f t u (action.Exit m) sound may apart (λ e. cc)
+out-acted f t u (action.Wait m millis nanos) sound may apart = out_kept f t u (action.Wait m millis nanos) sound may apart (λ e. cc)
+out-acted f t u (action.Notify m) sound may apart = out_kept f t u (action.Notify m) sound may apart (λ e. cc)
+out-acted f t u (action.NotifyAll m) sound may apart = out_kept f t u (action.NotifyAll m) sound may apart (λ e. cc)
+out-acted f t u (action.Holds m) sound may apart = out_kept f t u (action.Holds m) sound may apart (λ e. cc)
+out-acted f t u action.Collect sound may apart = out_kept f t u action.Collect sound may apart (λ e. cc)
+out-acted f t u action.End sound may apart =
+    either (λ (g : FatState). (post_of g u ≡ Some Out) ↔ (post_of f u ≡ Some Out)) (owns_one f.monitors t) _ _ ((λ h. h), (λ h. h))
+    ((λ h. sym (post-without_thread_other f t u apart) ∙ h), (λ h. post-without_thread_other f t u apart ∙ h))
+
+-- the counts of threads after an attach and after an end
+pub count-with_thread : (f : FatState) (t : ThreadId) → post_of f t ≡ None → thread_count (with_thread f t) ≡ thread_count f + 1
+count-with_thread f t fresh = len-insert nat_cmp_total f.threads t.0 Out ∙ cond-false (is_some (post_of f t)) _ _ (rw fresh refl)
+
+pub count-without_thread : (f : FatState) (t : ThreadId) → IsAttached f t → thread_count (without_thread f t) + 1 ≡ thread_count f
+count-without_thread f t here = at (cases_eq (thread_count f) 0)
+  where
+    fewer : thread_count (without_thread f t) ≡ thread_count f - 1
+    fewer = len-remove nat_cmp_total f.threads t.0 ∙ cond-true (is_some (post_of f t)) _ _ here
+
+    nobody_here : thread_count f ≡ 0 → post_of f t ≡ None
+    nobody_here e = ap (λ (p : Posts). map.get p t.0) (empty_of_len f.threads e) ∙ get-empty nat_cmp t.0
+
+    at : (thread_count f ≡ 0) ⊎ (thread_count f ≡ 0 → ⊥) → thread_count (without_thread f t) + 1 ≡ thread_count f
+    at (inl e) = let none : is_some {T = Post} None ≡ true = rw (nobody_here e) at here in absurd (cc)
+    at (inr some) = let e = fewer in omega arith
+
+-- ---- lines
+
+-- who is first in an entry line, and in a wait set
+pub first_entering : (f : FatState) (m : ℕ) (u : ThreadId) → IsSound f → first_of f m Entry ≡ Some u → (post_of f u ≡ Some (Entering m)) ⊎ ((n : ℕ) × (w : Why) × (post_of f u ≡ Some (Back m n w)) × IsHeld n)
+first_entering f m u sound first =
+    let stood = sound.standing u m Entry (StandsIn-first f.standing.lines u m Entry first) in by_post stood.0 stood.1 stood.2 (sound.proper u stood.0 stood.1)
+  where
+    by_post : (p : Post) → post_of f u ≡ Some p → place_of p ≡ Some (key m Entry) → IsProper f p → (post_of f u ≡ Some (Entering m)) ⊎ ((n : ℕ) × (w : Why) × (post_of f u ≡ Some (Back m n w)) × IsHeld n)
+    by_post Out e place proper = absurd (cc)
+    by_post (Entering k) e place proper =
+        let same : k ≡ m = ap (λ (j : Key). j.0) (same_Some (key k Entry) (key m Entry) place) in inl (e ∙ ap (λ (j : ℕ). Some (Entering j)) same)
+    by_post (Waiting k n d) e place proper =
+        let same : WaitSet ≡ Entry = ap (λ (j : Key). j.1) (same_Some (key k WaitSet) (key m Entry) place) in absurd (cc)
+    by_post (Back k n w) e place proper =
+        let same : k ≡ m = ap (λ (j : Key). j.0) (same_Some (key k Entry) (key m Entry) place) in inr (n, w, e ∙ ap (λ (j : ℕ). Some (Back j n w)) same, proper.1)
+    by_post (Granted r) e place proper = absurd (cc)
+
+pub first_waiting : (f : FatState) (m : ℕ) (u : ThreadId) → IsSound f → first_of f m WaitSet ≡ Some u → (n : ℕ) × (d : Option ℕ) × (post_of f u ≡ Some (Waiting m n d)) × IsHeld n
+first_waiting f m u sound first =
+    let stood = sound.standing u m WaitSet (StandsIn-first f.standing.lines u m WaitSet first) in by_post stood.0 stood.1 stood.2 (sound.proper u stood.0 stood.1)
+  where
+    by_post : (p : Post) → post_of f u ≡ Some p → place_of p ≡ Some (key m WaitSet) → IsProper f p → (n : ℕ) × (d : Option ℕ) × (post_of f u ≡ Some (Waiting m n d)) × IsHeld n
+    by_post Out e place proper = absurd (cc)
+    by_post (Entering k) e place proper =
+        let same : Entry ≡ WaitSet = ap (λ (j : Key). j.1) (same_Some (key k Entry) (key m WaitSet) place) in absurd (cc)
+    by_post (Waiting k n d) e place proper =
+        let same : k ≡ m = ap (λ (j : Key). j.0) (same_Some (key k WaitSet) (key m WaitSet) place) in (n, d, e ∙ ap (λ (j : ℕ). Some (Waiting j n d)) same, proper.1)
+    by_post (Back k n w) e place proper =
+        let same : Entry ≡ WaitSet = ap (λ (j : Key). j.1) (same_Some (key k Entry) (key m WaitSet) place) in absurd (cc)
+    by_post (Granted r) e place proper = absurd (cc)
+
+-- a list with no first thread has none
+empty_line : (us : List ThreadId) (u : ThreadId) → slice_get us 0 ≡ None → Contains us u → ⊥
+empty_line [] u none h = contains_none u h
+empty_line (v ∷ us) u none h = cc
+
+pub nobody_waiting : (f : FatState) (m : ℕ) → IsSound f → first_of f m WaitSet ≡ None → (u : ThreadId) (n : ℕ) (d : Option ℕ) → post_of f u ≢ Some (Waiting m n d)
+nobody_waiting f m sound none u n d e = empty_line (line_of f m WaitSet) u none (sound.posted u (Waiting m n d) m WaitSet e refl)
+
+-- what a notifyAll of m makes of a post
+abbrev pub called_back : ℕ → Post → Post
+called_back m Out = Out
+called_back m (Entering k) = Entering k
+called_back m (Waiting k n d) = if k == m then Back k n Notified else Waiting k n d
+called_back m (Back k n w) = Back k n w
+called_back m (Granted r) = Granted r
+
+-- what leaving its wait set makes of a post, whichever wait set it is
+abbrev called : Post → Post
+called Out = Out
+called (Entering k) = Entering k
+called (Waiting k n d) = Back k n Notified
+called (Back k n w) = Back k n w
+called (Granted r) = Granted r
+
+called_twice : (o : Option Post) → option_map called (option_map called o) ≡ option_map called o
+called_twice None = refl
+called_twice (Some Out) = refl
+called_twice (Some (Entering k)) = refl
+called_twice (Some (Waiting k n d)) = refl
+called_twice (Some (Back k n w)) = refl
+called_twice (Some (Granted r)) = refl
+
+-- the post of the thread that is removed, and of another one
+post-removed_same : (f : FatState) (u : ThreadId) (o : Option Post) → post_of f u ≡ o → post_of (removed f u (unwrap_or o Out)) u ≡ option_map called o
+post-removed_same f u None e = e
+post-removed_same f u (Some Out) e = e
+post-removed_same f u (Some (Entering m)) e = e
+post-removed_same f u (Some (Waiting m n d)) e = post-with_post_same f u (Back m n Notified)
+post-removed_same f u (Some (Back m n w)) e = e
+post-removed_same f u (Some (Granted r)) e = e
+
+post-removed_other : (f : FatState) (u v : ThreadId) (p : Post) → v ≢ u → post_of (removed f u p) v ≡ post_of f v
+post-removed_other f u v Out other = refl
+post-removed_other f u v (Entering m) other = refl
+post-removed_other f u v (Waiting m n d) other = post-with_post_other f u v (Back m n Notified) other
+post-removed_other f u v (Back m n w) other = refl
+post-removed_other f u v (Granted r) other = refl
+
+-- a thread that is not in the list keeps its post
+post-unlisted : (f : FatState) (us : List ThreadId) (v : ThreadId) → (Contains us v → ⊥) → post_of (all_removed f us) v ≡ post_of f v
+post-unlisted f [] v absent = refl
+post-unlisted f (u ∷ us) v absent =
+    post-unlisted (removed f u (post_at f u)) us v (λ h. absent (Contains-cons_later u us v h))
+    ∙ post-removed_other f u v (post_at f u) (λ e. absent (Contains-cons_first u us v (sym e)))
+
+-- a thread of the list leaves its wait set, and only once, however often it is in the list
+post-listed : (f : FatState) (us : List ThreadId) (v : ThreadId) → Contains us v → post_of (all_removed f us) v ≡ option_map called (post_of f v)
+post-listed f [] v h = absurd (contains_none v h)
+post-listed f (u ∷ us) v h = at (λ k. post-listed (removed f u (post_at f u)) us v k) (cases_contains us v) (cases_eq v.0 u.0)
+  where
+    own : v.0 ≡ u.0 → post_of (removed f u (post_at f u)) v ≡ option_map called (post_of f v)
+    own e = rw (same_thread u v e) (post-removed_same f u (post_of f u) refl)
+
+    later : (u ≡ v) ⊎ Contains us v → (v.0 ≡ u.0 → ⊥) → Contains us v
+    later (inl same) other = absurd (other (ap (λ (x : ThreadId). x.0) (sym same)))
+    later (inr rest) other = rest
+
+    at : (Contains us v → post_of (all_removed (removed f u (post_at f u)) us) v ≡ option_map called (post_of (removed f u (post_at f u)) v))
+        → Contains us v ⊎ (Contains us v → ⊥) → (v.0 ≡ u.0) ⊎ (v.0 ≡ u.0 → ⊥) → post_of (all_removed (removed f u (post_at f u)) us) v ≡ option_map called (post_of f v)
+    at again (inl rest) (inl same) = again rest ∙ ap (λ (o : Option Post). option_map called o) (own same) ∙ called_twice (post_of f v)
+    at again (inr absent) (inl same) = post-unlisted (removed f u (post_at f u)) us v absent ∙ own same
+    at again rest (inr other) =
+        again (later (Contains-cons_cases u us v h) other)
+        ∙ ap (λ (o : Option Post). option_map called o) (post-removed_other f u v (post_at f u) (λ e. other (ap (λ (x : ThreadId). x.0) e)))
+
+-- a notifyAll calls back exactly those whose post is in the wait set of m
+pub post-all_removed : (f : FatState) (m : ℕ) (u : ThreadId) → IsSound f → post_of (all_removed f (line_of f m WaitSet)) u ≡ option_map (called_back m) (post_of f u)
+post-all_removed f m u sound = at (cases_contains (line_of f m WaitSet) u)
+  where
+    here : (p : Post) → place_of p ≡ Some (key m WaitSet) → called p ≡ called_back m p
+    here Out place = refl
+    here (Entering k) place = refl
+    here (Waiting k n d) place =
+        let same : k ≡ m = ap (λ (j : Key). j.0) (same_Some (key k WaitSet) (key m WaitSet) place) in
+        sym (cond-true (k == m) (Back k n Notified) (Waiting k n d) (eq-eqb k m same))
+    here (Back k n w) place = refl
+    here (Granted r) place = refl
+
+    elsewhere : (Contains (line_of f m WaitSet) u → ⊥) → (o : Option Post) → post_of f u ≡ o → o ≡ option_map (called_back m) o
+    elsewhere absent None e = refl
+    elsewhere absent (Some Out) e = refl
+    elsewhere absent (Some (Entering k)) e = refl
+    elsewhere absent (Some (Waiting k n d)) e =
+        let other : k ≡ m → ⊥ = λ same. absent (sound.posted u (Waiting k n d) m WaitSet e (ap (λ (j : ℕ). Some (key j WaitSet)) same)) in
+        sym (ap (λ (p : Post). Some p) (cond-false (k == m) (Back k n Notified) (Waiting k n d) (ne_eqb k m other)))
+    elsewhere absent (Some (Back k n w)) e = refl
+    elsewhere absent (Some (Granted r)) e = refl
+
+    at : Contains (line_of f m WaitSet) u ⊎ (Contains (line_of f m WaitSet) u → ⊥) → post_of (all_removed f (line_of f m WaitSet)) u ≡ option_map (called_back m) (post_of f u)
+    at (inl waits) =
+        let stood = sound.standing u m WaitSet waits in
+        post-listed f (line_of f m WaitSet) u waits ∙ rw stood.1 (ap (λ (p : Post). Some p) (here stood.0 stood.2))
+    at (inr absent) = post-unlisted f (line_of f m WaitSet) u absent ∙ elsewhere absent (post_of f u) refl

@@ -1,0 +1,133 @@
+-- What the bodies of actions make of a fat state.
+use Rattle.std.specs.Prelude.{◌≡◌, ℕ, ◌+◌, ◌<◌, ◌==◌, Bool, true, false, length, Option, Some, None, IsSome, Result, Ok, Err, OnOk, OnErr, if◌then◌else◌, slice_index_or, slice_set}
+use Rattle.std.proofs.Common.{refl, ap, ◌∙◌, subst, inl, inr}
+use Rattle.std.specs.Ordering.{nat_cmp}
+use Rattle.std.specs.FinMap as map
+use Rattle.std.proofs.lemmas.Bool.{ne_eqb, eq-eqb}
+use Rattle.std.proofs.lemmas.List.{get_or_default}
+use Rattle.std.specs.Result.{is_err}
+use Rattle.lock_word.specs.declared.ThreadId.{ThreadId}
+use Rattle.wait_lines.specs.Lines.{Standing, LineMap, joined, left}
+use Rattle.wait_lines.specs.declared.Role.{Role}
+use Rattle.wait_lines.specs.declared.Role.TheVariants.{Entry, Waiting as WaitSet}
+use Rattle.fat_monitor.specs.declared.monitors.Monitor.{Monitor}
+use Rattle.fat_monitor.specs.declared.actions.Done.{Done}
+use Rattle.fat_monitor.specs.declared.actions.Post.{Post}
+use Rattle.fat_monitor.specs.declared.actions.Post.TheVariants.{Out, Waiting, Back, Granted}
+use Rattle.fat_monitor.specs.declared.actions.Why.TheVariants.{Notified}
+use Rattle.fat_monitor.specs.declared.actions.Reply.{Reply}
+use Rattle.fat_monitor.specs.declared.actions.Action.{Action}
+use Rattle.fat_monitor.specs.declared.actions.ActFault.{ActFault}
+use Rattle.fat_monitor.specs.declared.actions.Answer.{Answer}
+use Rattle.fat_monitor.specs.FatState.{FatState, IsSound, monitor_at, with_monitor, with_owner, unbound, post_of, post_at, first_of, is_owned_by, room_for, thread_count, with_thread, StandBehindOwners}
+use Rattle.fat_monitor.specs.Acting.{Outcome, acted, told, replied, parked, removed, granted, holds_granted, reply_granted, MayAct, NamesBound}
+use Rattle.fat_monitor.proofs.PostMaps.{get-insert_by}
+use Rattle.fat_monitor.proofs.Soundness.{IsSound-acted, stand_behind}
+use Rattle.fat_monitor.proofs.Effects.{first_entering}
+
+-- what a read of a monitor found
+pub monitor_read : (f : FatState) (m : ℕ) (b : Monitor) → m < length f.monitors → b ≡ slice_index_or f.monitors m b → monitor_at f m ≡ b
+monitor_read f m b bound read = cc (read, get_or_default f.monitors m b unbound bound)
+
+-- the owner and the holds of a monitor were written
+pub written : (f : FatState) (m : ℕ) (old new : Monitor) (o : Option ThreadId) (n : ℕ) → m < length f.monitors → old ≡ slice_index_or f.monitors m old
+    → new ≡ record old { owner = o; holds = n } → with_monitor f m new ≡ with_owner f m o n
+written f m old new o n bound read is =
+    let at : monitor_at f m ≡ old = monitor_read f m old bound read in
+    rw (is, at) refl
+
+-- a standing whose lines were changed, and its reservations were not
+pub same_standing : (s new : Standing) (lines : LineMap) → new.lines ≡ lines → new.reservations ≡ s.reservations → new ≡ record s { lines = lines }
+same_standing s new lines e r =
+    let first : new ≡ record new { lines = lines } = ap (λ (l : LineMap). record new { lines = l }) e in
+    first ∙ ap (λ (n : ℕ). record { lines = lines; reservations = n }) r
+
+-- what a call without an error says, and one with an error
+pub of_ok : {E : Type 0} (r : Result (Unit {0}) E) (P : Type 0) → false ≡ is_err r → OnOk r P → P
+of_ok (Ok u) P h p = p
+of_ok (Err e) P h p = absurd (cc)
+
+pub of_err : {E : Type 0} (r : Result (Unit {0}) E) (P : Type 0) → true ≡ is_err r → OnErr r P → P
+of_err (Ok u) P h p = absurd (cc)
+of_err (Err e) P h p = p
+
+-- a thread was attached
+pub room_crowded : (threads reservations : ℕ) → threads ≡ reservations → room_for threads reservations ≡ reservations + 1
+room_crowded threads reservations e = rw (eq-eqb threads reservations e) refl
+
+pub room_left : (threads reservations : ℕ) → (threads ≡ reservations → ⊥) → room_for threads reservations ≡ reservations
+room_left threads reservations e = rw (ne_eqb threads reservations e) refl
+
+pub attached_as : (f : FatState) (t : ThreadId) (posts : map.FinMap nat_cmp Post) (standing : Standing) → posts ≡ map.insert f.threads t.0 Out
+    → standing.lines ≡ f.standing.lines → standing.reservations ≡ room_for (thread_count f) f.standing.reservations → record f { threads = posts; standing = standing } ≡ with_thread f t
+attached_as f t posts standing e lines room =
+    let first : standing ≡ record standing { lines = f.standing.lines } = ap (λ (l : LineMap). record standing { lines = l }) lines in
+    let all : standing ≡ record f.standing { reservations = room_for (thread_count f) f.standing.reservations } = first ∙ ap (λ (n : ℕ). record { lines = f.standing.lines; reservations = n }) room in
+    rw (e, all) refl
+
+pub attached_itself : (f : FatState) (t : ThreadId) → IsSome (map.get (map.insert f.threads t.0 Out) t.0)
+attached_itself f t = rw (get-insert_by f.threads t.0 Out t.0, eq-eqb t.0 t.0 refl) refl
+
+still_some : {X : Type 0} (b : Bool) (v : X) (o : Option X) → IsSome o → IsSome (if b then Some v else o)
+still_some true v o h = refl
+still_some false v o h = h
+
+pub attached_still : (f : FatState) (t u : ThreadId) → IsSome (map.get f.threads u.0) → IsSome (map.get (map.insert f.threads t.0 Out) u.0)
+attached_still f t u h = rw (get-insert_by f.threads t.0 Out u.0) (still_some (u.0 == t.0) Out (map.get f.threads u.0) h)
+
+-- a thread joined a line
+pub parked_as : (f : FatState) (t : ThreadId) (p : Post) (m : ℕ) (r : Role) (posts : map.FinMap nat_cmp Post) (standing : Standing) → posts ≡ map.insert f.threads t.0 p
+    → standing.lines ≡ joined f.standing.lines t m r → standing.reservations ≡ f.standing.reservations → record f { threads = posts; standing = standing } ≡ parked f t p m r
+parked_as f t p m r posts standing e lines kept = rw (e, same_standing f.standing standing _ lines kept) refl
+
+-- the first of an entry line was granted its monitor
+pub granted_as : (f : FatState) (m : ℕ) (u : ThreadId) (old new : Monitor) (grant : ℕ × Reply) (posts : map.FinMap nat_cmp Post) (standing : Standing)
+    → m < length f.monitors → old ≡ slice_index_or f.monitors m old → new ≡ record old { owner = Some u; holds = grant.0 }
+    → grant ≡ (holds_granted (post_at f u), reply_granted (post_at f u)) → posts ≡ map.insert f.threads u.0 (Granted grant.1)
+    → standing.lines ≡ left f.standing.lines u m Entry → standing.reservations ≡ f.standing.reservations
+    → record f { monitors = slice_set f.monitors m new; threads = posts; standing = standing } ≡ granted f m u (post_at f u)
+granted_as f m u old new grant posts standing bound read is g e lines kept =
+    ap (λ (h : FatState). record h { threads = posts; standing = standing }) (written f m old new (Some u) grant.0 bound read is)
+    ∙ rw (e, same_standing f.standing standing _ lines kept, g) refl
+
+-- a thread of a wait set was sent to the entry line
+pub removed_as : (f : FatState) (u : ThreadId) (m n : ℕ) (d : Option ℕ) (posts : map.FinMap nat_cmp Post) (between standing : Standing) → post_of f u ≡ Some (Waiting m n d)
+    → posts ≡ map.insert f.threads u.0 (Back m n Notified) → between.lines ≡ left f.standing.lines u m WaitSet → between.reservations ≡ f.standing.reservations
+    → standing.lines ≡ joined between.lines u m Entry → standing.reservations ≡ between.reservations → record f { threads = posts; standing = standing } ≡ removed f u (post_at f u)
+removed_as f u m n d posts between standing waits e lines kept more kept_too =
+    let at : standing.lines ≡ joined (left f.standing.lines u m WaitSet) u m Entry = more ∙ ap (λ (l : LineMap). joined l u m Entry) lines in
+    rw (waits, e, same_standing f.standing standing _ at (kept_too ∙ kept)) refl
+
+-- what a reply says at a state it says at the same state
+pub replied_at : (d : Done) (r : Reply) (f g : FatState) → ((h : FatState) → record { answer = Ok d; after = h } ≡ replied h r) → f ≡ g
+    → record { answer = Ok d; after = f } ≡ replied g r
+replied_at d r f g e same = e f ∙ ap (λ (h : FatState). replied h r) same
+
+pub told_at : (d : Done) (a : Answer) (grants chosen : Option ThreadId) (f g : FatState) → d ≡ record { answer = a; granted = grants; chosen = chosen } → f ≡ g
+    → record { answer = Ok d; after = f } ≡ told g a grants chosen
+told_at d a grants chosen f g e same = rw (e, same) refl
+
+-- what follows the table stays sound
+pub sound_after : (f after : FatState) (t : ThreadId) (a : Action) (r : Result Done ActFault) → IsSound f → MayAct f t a → NamesBound f a
+    → record { answer = r; after = after } ≡ acted f t a → IsSound after
+sound_after f after t a r sound may bound e =
+    let same : after ≡ (acted f t a).after = ap (λ (o : Outcome). o.after) e in
+    rw (same) (IsSound-acted f t a sound may bound)
+
+pub behind_after : (view f after : FatState) (t : ThreadId) (asked a : Action) (r : Result Done ActFault) → IsSound view → view ≡ f → asked ≡ a → MayAct f t asked → NamesBound f asked
+    → record { answer = r; after = after } ≡ acted f t a → StandBehindOwners after
+behind_after view f after t asked a r sound same is may bound e =
+    stand_behind after (sound_after f after t a r (subst (λ (g : FatState). IsSound g) same sound)
+    (subst (λ (b : Action). MayAct f t b) is may) (subst (λ (b : Action). NamesBound f b) is bound) e)
+
+-- an owned monitor has an owner
+pub owned_by : (o : Option ThreadId) (t : ThreadId) → is_owned_by o t ≡ true → IsSome o
+owned_by None t e = absurd (cc)
+owned_by (Some u) t e = refl
+
+-- the first of an entry line is attached
+pub first_attached : (f : FatState) (m : ℕ) (u : ThreadId) → IsSound f → first_of f m Entry ≡ Some u → IsSome (post_of f u)
+first_attached f m u sound first = elim (first_entering f m u sound first) as (λ _. IsSome (post_of f u)) [
+  | inl e ↦ rw (e) refl
+  | inr w ↦ rw (w.2) refl
+]

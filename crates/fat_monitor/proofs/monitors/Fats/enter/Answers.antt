@@ -1,0 +1,54 @@
+use Rattle.std.proofs.Common.{◌+◌, ◌<◌, Some, Ok, subst, arith}
+use Rattle.std.proofs.lemmas.Bool.{lt-ltb, eq-eqb, ne_eqb}
+use Rattle.wait_lines.specs.declared.Role.TheVariants.{Entry}
+use Rattle.fat_monitor.specs.declared.actions.Action.TheVariants.{Enter}
+use Rattle.fat_monitor.specs.declared.actions.Post.TheVariants.{Entering}
+use Rattle.fat_monitor.specs.FatState.{FatState, IsSound}
+use Rattle.fat_monitor.specs.Fats.{fat_state_in}
+use Rattle.fat_monitor.proofs.Soundness.{stands_nowhere, room_to_join}
+use Rattle.fat_monitor.proofs.Steps.{written, parked_as, replied_at, told_at, sound_after}
+use Rattle.fat_monitor.proofs.monitors.Fats.enter.Goals as goal
+
+pub returns-in_default : goal.returns-in_default
+returns-in_default c =
+    let bound = rw (← c.self.view_is) at c.requires.bound in
+    let after = written (fat_state_in c.self.inside) c.args.monitor c.index_mut.result.now c.give.new.self (Some c.args.thread) 1 bound c.index_mut.ensures.value c.give.ensures in
+    rw (← c.in_default.ensures, ← c.self.view_is) (replied_at c.reply_with.result _ _ _ c.reply_with.ensures after)
+
+pub invariant_of-self : goal.invariant_of-self
+invariant_of-self c =
+    sound_after c.args.self.now _ c.args.thread (Enter c.args.monitor) (Ok c.reply_with.result)
+    (subst (λ (f : FatState). IsSound f) c.self.view_is c.self.invariant) c.requires.out c.requires.bound (returns-in_default c)
+
+pub join-requires-clause-nowhere : goal.join-requires-clause-nowhere
+join-requires-clause-nowhere c = stands_nowhere (fat_state_in c.self.inside) c.args.thread c.self.invariant (rw (← c.self.view_is) at c.requires.out)
+
+pub join-requires-clause-room : goal.join-requires-clause-room
+join-requires-clause-room c = room_to_join (fat_state_in c.self.inside) c.args.thread c.self.invariant (rw (← c.self.view_is) at c.requires.out)
+
+pub invariant_of-self-then-owner-thread : goal.invariant_of-self-then-owner-thread
+invariant_of-self-then-owner-thread c =
+    let after = parked_as (fat_state_in c.self.inside) c.args.thread (Entering c.args.monitor) c.args.monitor Entry c.set.new.self c.join.new.self c.set.ensures c.join.ensures.joined c.join.ensures.reservations in
+    sound_after c.args.self.now _ c.args.thread (Enter c.args.monitor) (Ok c.tell.result)
+    (subst (λ (f : FatState). IsSound f) c.self.view_is c.self.invariant) c.requires.out c.requires.bound
+    (rw (← c.in-Some.ensures, ne_eqb c.in-Some.owner.0 c.args.thread.0 c.if-owner-thread.true, ← c.self.view_is)
+    (told_at c.tell.result _ _ _ _ _ c.tell.ensures after))
+
+pub returns-then-holds : goal.returns-then-holds
+returns-then-holds c =
+    rw (← c.in-Some.ensures, eq-eqb c.in-Some.owner.0 c.args.thread.0 c.if-owner-thread.false, ← c.holds-holds.ensures, c.if-holds.true)
+    (c.reply_with-then-holds.ensures _)
+
+pub returns : goal.returns
+returns c =
+    let bound = rw (← c.self.view_is) at c.requires.bound in
+    let after = written (fat_state_in c.self.inside) c.args.monitor c.index_mut-2.result.now c.give-2.new.self (Some c.in-Some.owner) (c.holds-holds.result + 1) bound c.index_mut-2.ensures.value c.give-2.ensures in
+    let fits : c.holds-holds.result < 65536 = c.holds-holds.type_inv in
+    let below : c.holds-holds.result < 65535 = let no = c.if-holds.false in omega arith in
+    rw (← c.in-Some.ensures, eq-eqb c.in-Some.owner.0 c.args.thread.0 c.if-owner-thread.false, ← c.holds-holds.ensures, lt-ltb c.holds-holds.result 65535 below, ← c.self.view_is)
+    (replied_at c.reply_with-2.result _ _ _ c.reply_with-2.ensures after)
+
+pub invariant_of-self-2 : goal.invariant_of-self-2
+invariant_of-self-2 c =
+    sound_after c.args.self.now _ c.args.thread (Enter c.args.monitor) (Ok c.reply_with-2.result)
+    (subst (λ (f : FatState). IsSound f) c.self.view_is c.self.invariant) c.requires.out c.requires.bound (returns c)

@@ -1,0 +1,8 @@
+use Rattle.std.proofs.Common.{arith}
+use Rattle.fat_monitor.proofs.Effects.{count-with_thread}
+use Rattle.fat_monitor.proofs.tests.attach.Goals as goal
+
+pub returns-clause-count : goal.returns-clause-count
+returns-clause-count g c =
+    let more = count-with_thread c.args.fats.now c.args.thread c.in-Ok.ensures.fresh in
+    rw (c.in-Ok.ensures.attached) (omega arith)

@@ -1,0 +1,165 @@
+-- The table of fat actions: what the action of a thread answers, and what it leaves.
+use Rattle.std.specs.Prelude.{◌≡◌, ℕ, ◌+◌, ◌-◌, ◌*◌, ◌<◌, Bool, true, false, ◌&&◌, if◌then◌else◌, ◌==◌, nat_lt, ℤ, pos, int_le, nat_abs, List, [], ◌∷◌, length, Option, Some, None, Result, Ok, Err}
+use Rattle.lock_word.specs.declared.ThreadId.{ThreadId}
+use Rattle.wait_lines.specs.declared.Role.{Role}
+use Rattle.wait_lines.specs.declared.Role.TheVariants.{Entry, Waiting as WaitSet}
+use Rattle.wait_lines.specs.Lines.{joined, left}
+use Rattle.fat_monitor.specs.declared.actions.Cause.TheVariants.{TooDeep, StillOwner}
+use Rattle.fat_monitor.specs.declared.actions.Why.TheVariants as why
+use Rattle.fat_monitor.specs.declared.actions.Reply.{Reply}
+use Rattle.fat_monitor.specs.declared.actions.Reply.TheVariants as reply
+use Rattle.fat_monitor.specs.declared.actions.Action.{Action}
+use Rattle.fat_monitor.specs.declared.actions.Action.TheVariants as action
+use Rattle.fat_monitor.specs.declared.actions.Answer.{Answer}
+use Rattle.fat_monitor.specs.declared.actions.Answer.TheVariants as answer
+use Rattle.fat_monitor.specs.declared.actions.Post.{Post}
+use Rattle.fat_monitor.specs.declared.actions.Post.TheVariants.{Out, Entering, Waiting, Back, Granted}
+use Rattle.fat_monitor.specs.declared.actions.Done.{Done}
+use Rattle.fat_monitor.specs.declared.actions.ActFault.{ActFault}
+use Rattle.fat_monitor.specs.declared.actions.ActFault.TheVariants as fault
+use Rattle.fat_monitor.specs.FatState.{FatState, monitor_at, post_of, post_at, IsAttached, line_of, first_of, with_owner, with_post, with_lines, without_thread, is_owned_by, owns_one}
+
+-- the answer of an action, and the fat state after it
+pub record Outcome : Type 0 where
+  pub answer : Result Done ActFault
+  pub after : FatState
+
+abbrev pub told : FatState → Answer → Option ThreadId → Option ThreadId → Outcome
+told f a granted chosen = record { answer = Ok (record { answer = a; granted = granted; chosen = chosen }); after = f }
+
+-- the call that made the action has this reply, and no other thread is named
+abbrev pub replied : FatState → Reply → Outcome
+replied f r = told f (answer.Reply r) None None
+
+-- t stands with this post at the end of a line
+abbrev pub parked : FatState → ThreadId → Post → ℕ → Role → FatState
+parked f t p m r = with_lines (with_post f t p) (joined f.standing.lines t m r)
+
+-- How often a thread holds the monitor that it is granted, and what its call replies: one that comes back
+-- from a wait has all its holds back, another had asked to enter.
+abbrev pub holds_granted : Post → ℕ
+holds_granted (Back m n w) = n
+holds_granted Out = 1
+holds_granted (Entering m) = 1
+holds_granted (Waiting m n d) = 1
+holds_granted (Granted r) = 1
+
+abbrev pub reply_granted : Post → Reply
+reply_granted (Back m n w) = reply.WaitOver
+reply_granted Out = reply.Entered
+reply_granted (Entering m) = reply.Entered
+reply_granted (Waiting m n d) = reply.Entered
+reply_granted (Granted r) = reply.Entered
+
+-- u leaves the entry line of m and becomes its owner
+abbrev pub granted : FatState → ℕ → ThreadId → Post → FatState
+granted f m u p =
+    with_lines (with_post (with_owner f m (Some u) (holds_granted p)) u (Granted (reply_granted p))) (left f.standing.lines u m Entry)
+
+-- the owner gives up m, which goes to this thread, the first of the entry line; without one, nobody owns it
+abbrev pub handed_on : FatState → ℕ → Option ThreadId → FatState
+handed_on f m None = with_owner f m None 0
+handed_on f m (Some u) = granted f m u (post_at f u)
+
+-- u, which has this post, leaves its wait set, keeps its holds, and joins the end of the entry line
+abbrev pub removed : FatState → ThreadId → Post → FatState
+removed f u (Waiting m n d) = with_lines (with_post f u (Back m n why.Notified)) (joined (left f.standing.lines u m WaitSet) u m Entry)
+removed f u Out = f
+removed f u (Entering m) = f
+removed f u (Back m n w) = f
+removed f u (Granted r) = f
+
+-- each of these threads does, one after another
+abbrev pub all_removed : FatState → List ThreadId → FatState
+all_removed f [] = f
+all_removed f (u ∷ us) = all_removed (removed f u (post_at f u)) us
+
+-- the arguments of a wait are in their ranges (JLS 17.2.1)
+abbrev pub are_good : ℤ → ℤ → Bool
+are_good millis nanos = int_le (pos 0) millis && int_le (pos 0) nanos && int_le nanos (pos 999999)
+
+-- when a wait that begins at this moment is over; none for a wait of no limit
+abbrev pub deadline : ℕ → ℤ → ℤ → Option ℕ
+deadline moment millis nanos =
+    let time = nat_abs millis * 1000000 + nat_abs nanos in if time == 0 then None else Some (moment + time)
+
+abbrev pub yes_or_no : Bool → Reply
+yes_or_no true = reply.Yes
+yes_or_no false = reply.No
+
+-- what the owner alone may do
+abbrev pub by_owner : FatState → ℕ → ThreadId → Outcome → Outcome
+by_owner f m t outcome = if is_owned_by (monitor_at f m).owner t then outcome else replied f reply.IllegalMonitorState
+
+-- An enter takes a monitor that nobody owns, counts one more hold of the owner, or parks behind another owner.
+abbrev pub entered : FatState → ThreadId → ℕ → Option ThreadId → Outcome
+entered f t m None = replied (with_owner f m (Some t) 1) reply.Entered
+entered f t m (Some u) =
+    if u.0 == t.0
+    then (
+    if nat_lt (monitor_at f m).holds 65535
+    then replied (with_owner f m (Some u) ((monitor_at f m).holds + 1)) reply.Entered
+    else replied f (reply.Refused TooDeep))
+    else told (parked f t (Entering m) m Entry) answer.Parked None None
+
+-- An exit counts one hold less, or hands the monitor on.
+abbrev pub exited : FatState → ThreadId → ℕ → Outcome
+exited f t m =
+    if nat_lt 1 (monitor_at f m).holds
+    then replied (with_owner f m (Some t) ((monitor_at f m).holds - 1)) reply.Exited
+    else told (handed_on f m (first_of f m Entry)) (answer.Reply reply.Exited) (first_of f m Entry) None
+
+-- A wait joins the wait set with all its holds, and hands the monitor on.
+abbrev pub waited : FatState → ThreadId → ℕ → ℤ → ℤ → Outcome
+waited f t m millis nanos =
+    if are_good millis nanos
+    then
+    told (parked (handed_on f m (first_of f m Entry)) t (Waiting m (monitor_at f m).holds (deadline 0 millis nanos)) m WaitSet)
+    answer.Parked (first_of f m Entry) None
+    else replied f reply.IllegalArgument
+
+-- A notify removes the thread that has waited longest, if one waits.
+abbrev pub notified : FatState → Option ThreadId → Outcome
+notified f None = replied f reply.Notified
+notified f (Some u) = told (removed f u (post_at f u)) (answer.Reply reply.Notified) None (Some u)
+
+-- A collect takes the reply that was granted.
+abbrev pub collected : FatState → ThreadId → Post → Outcome
+collected f t (Granted r) = replied (with_post f t Out) r
+collected f t Out = record { answer = Err fault.Parked; after = f }
+collected f t (Entering m) = record { answer = Err fault.Parked; after = f }
+collected f t (Waiting m n d) = record { answer = Err fault.Parked; after = f }
+collected f t (Back m n w) = record { answer = Err fault.Parked; after = f }
+
+-- The table: the action of thread t.
+abbrev pub acted : FatState → ThreadId → Action → Outcome
+acted f t (action.Enter m) = entered f t m (monitor_at f m).owner
+acted f t (action.Exit m) = by_owner f m t (exited f t m)
+acted f t (action.Wait m millis nanos) = by_owner f m t (waited f t m millis nanos)
+acted f t (action.Notify m) = by_owner f m t (notified f (first_of f m WaitSet))
+acted f t (action.NotifyAll m) = by_owner f m t (replied (all_removed f (line_of f m WaitSet)) reply.Notified)
+acted f t (action.Holds m) = replied f (yes_or_no (is_owned_by (monitor_at f m).owner t))
+acted f t action.Collect = collected f t (post_at f t)
+acted f t action.End = if owns_one f.monitors t then replied f (reply.Refused StillOwner) else replied (without_thread f t) reply.Ended
+
+-- the monitor that an action names is bound; a Collect and an End name none
+abbrev pub NamesBound : FatState → Action → Type 0
+NamesBound f (action.Enter m) = m < length f.monitors
+NamesBound f (action.Exit m) = m < length f.monitors
+NamesBound f (action.Wait m millis nanos) = m < length f.monitors
+NamesBound f (action.Notify m) = m < length f.monitors
+NamesBound f (action.NotifyAll m) = m < length f.monitors
+NamesBound f (action.Holds m) = m < length f.monitors
+NamesBound f action.Collect = Unit {0}
+NamesBound f action.End = Unit {0}
+
+-- the thread may make the action: it is attached, and out of every other action but for a Collect
+abbrev pub MayAct : FatState → ThreadId → Action → Type 0
+MayAct f t action.Collect = IsAttached f t
+MayAct f t (action.Enter m) = post_of f t ≡ Some Out
+MayAct f t (action.Exit m) = post_of f t ≡ Some Out
+MayAct f t (action.Wait m millis nanos) = post_of f t ≡ Some Out
+MayAct f t (action.Notify m) = post_of f t ≡ Some Out
+MayAct f t (action.NotifyAll m) = post_of f t ≡ Some Out
+MayAct f t (action.Holds m) = post_of f t ≡ Some Out
+MayAct f t action.End = post_of f t ≡ Some Out
