@@ -5,12 +5,12 @@
 #![tactic(auto)]
 
 ghost use Rattle.std.specs.Prelude.{◌≡◌, IsSome};
-ghost use Rattle.fast_path.specs.Table.{next_of, object_of};
+ghost use Rattle.fast_path.specs.Table.{next_of, when_free, when_own, when_anothers, object_of};
 
 #[cfg(test)]
 mod tests;
 
-use fat_monitor::Reply;
+use fat_monitor::{Reply, are_good};
 use lock_word::{Lock, ObjectId};
 
 /// What a thread asks of the service.
@@ -20,6 +20,17 @@ pub enum Call {
     Enter(ObjectId),
     /// Unlock it once (`monitorexit`).
     Exit(ObjectId),
+    /// Give up all locks of it and wait to be notified, for this time at most (`Object.wait`; JLS SE 8,
+    /// 17.2.1): milliseconds from 0 on and nanoseconds 0 to 999,999, where 0 and 0 mean no limit.
+    Wait {
+        object: ObjectId,
+        millis: i64,
+        nanos: i32,
+    },
+    /// Wake one thread that waits on it, if one does (`Object.notify`; JLS SE 8, 17.2.2).
+    Notify(ObjectId),
+    /// Wake all threads that wait on it (`Object.notifyAll`).
+    NotifyAll(ObjectId),
     /// Does the thread own the object (`Thread.holdsLock`)?
     Holds(ObjectId),
     /// Be live no longer.
@@ -33,6 +44,8 @@ impl Call {
     {
         match self {
             Call::Enter(object) | Call::Exit(object) | Call::Holds(object) => Some(object),
+            Call::Wait { object, .. } => Some(object),
+            Call::Notify(object) | Call::NotifyAll(object) => Some(object),
             Call::End => None,
         }
     }
@@ -61,30 +74,37 @@ pub fn decide(call: Call, lock: Lock, me: u16) -> Next
     ensures { result ≡ next_of call lock me }
 {
     match lock {
-        Lock::Free => match call {
-            Call::Enter(_) => Next::Cas(Lock::Thin {
-                index: me,
-                count: 0,
-            }),
-            Call::Exit(_) => Next::Reply(Reply::IllegalMonitorState),
-            Call::Holds(_) => Next::Reply(Reply::No),
-            Call::End => unreachable!(),
-        },
+        Lock::Free => free(call, me),
         Lock::Thin { index, count } if index == me => own(call, me, count),
-        Lock::Thin { .. } => match call {
-            Call::Enter(_) => Next::Spin,
-            Call::Exit(_) => Next::Reply(Reply::IllegalMonitorState),
-            Call::Holds(_) => Next::Reply(Reply::No),
-            Call::End => unreachable!(),
-        },
+        Lock::Thin { .. } => anothers(call),
         Lock::Fat { monitor } => Next::Fat(monitor),
     }
 }
 
-/// The same, where the thread itself holds the object `count + 1` times.
+/// The same, where nobody holds the object.
+fn free(call: Call, me: u16) -> Next
+    requires { IsSome (object_of call) }
+    ensures { result ≡ when_free call me }
+{
+    let first = Lock::Thin {
+        index: me,
+        count: 0,
+    };
+    let illegal = Next::Reply(Reply::IllegalMonitorState);
+    match call {
+        Call::Enter(_) => Next::Cas(first),
+        Call::Exit(_) | Call::Wait { .. } => illegal,
+        Call::Notify(_) | Call::NotifyAll(_) => illegal,
+        Call::Holds(_) => Next::Reply(Reply::No),
+        Call::End => unreachable!(),
+    }
+}
+
+/// The same, where the thread itself holds the object `count + 1` times. Nobody waits on an object that
+/// is held thinly, so a notify has nobody to wake.
 fn own(call: Call, me: u16, count: u8) -> Next
     requires { IsSome (object_of call) }
-    ensures { result ≡ next_of call (Lock.Thin me count) me }
+    ensures { result ≡ when_own call me count }
 {
     let thin = |count| Lock::Thin { index: me, count };
     match call {
@@ -92,7 +112,25 @@ fn own(call: Call, me: u16, count: u8) -> Next
         Call::Enter(_) => Next::Bind,
         Call::Exit(_) if count > 0 => Next::Store(thin(count - 1)),
         Call::Exit(_) => Next::Store(Lock::Free),
+        Call::Wait { millis, nanos, .. } if are_good(millis, nanos) => Next::Bind,
+        Call::Wait { .. } => Next::Reply(Reply::IllegalArgument),
+        Call::Notify(_) | Call::NotifyAll(_) => Next::Reply(Reply::Notified),
         Call::Holds(_) => Next::Reply(Reply::Yes),
+        Call::End => unreachable!(),
+    }
+}
+
+/// The same, where another thread holds the object.
+fn anothers(call: Call) -> Next
+    requires { IsSome (object_of call) }
+    ensures { result ≡ when_anothers call }
+{
+    let illegal = Next::Reply(Reply::IllegalMonitorState);
+    match call {
+        Call::Enter(_) => Next::Spin,
+        Call::Exit(_) | Call::Wait { .. } => illegal,
+        Call::Notify(_) | Call::NotifyAll(_) => illegal,
+        Call::Holds(_) => Next::Reply(Reply::No),
         Call::End => unreachable!(),
     }
 }

@@ -1,3 +1,6 @@
+ghost use Rattle.std.specs.Prelude.{IsSome};
+ghost use Rattle.fast_path.specs.Table.{object_of};
+
 use crate::{Call, Next, decide};
 use fat_monitor::Reply;
 use lock_word::{Lock, ObjectId};
@@ -7,6 +10,54 @@ const ENTER: Call = Call::Enter(ObjectId(3));
 const EXIT: Call = Call::Exit(ObjectId(3));
 
 const HOLDS: Call = Call::Holds(ObjectId(3));
+
+const NOTIFY: Call = Call::Notify(ObjectId(3));
+
+const NOTIFY_ALL: Call = Call::NotifyAll(ObjectId(3));
+
+fn wait(millis: i64, nanos: i32) -> Call
+    ensures { IsSome (object_of result) }
+{
+    Call::Wait {
+        object: ObjectId(3),
+        millis,
+        nanos,
+    }
+}
+
+#[test]
+fn a_wait_and_a_notify_call_for_this(rt: HostRuntime) {
+    let thin = |index| Lock::Thin { index, count: 7 };
+    let fat = Lock::Fat { monitor: 9 };
+    let illegal = Next::Reply(Reply::IllegalMonitorState);
+    let rows = [
+        (wait(-1, 0), Lock::Free, illegal),
+        (wait(0, 0), thin(2), Next::Bind),
+        (wait(0, 999_999), thin(2), Next::Bind),
+        (wait(i64::MAX, 0), thin(2), Next::Bind),
+        (wait(-1, 0), thin(2), Next::Reply(Reply::IllegalArgument)),
+        (wait(0, -1), thin(2), Next::Reply(Reply::IllegalArgument)),
+        (
+            wait(0, 1_000_000),
+            thin(2),
+            Next::Reply(Reply::IllegalArgument),
+        ),
+        (wait(0, 0), thin(1), illegal),
+        (wait(-1, 0), fat, Next::Fat(9)),
+        (NOTIFY, Lock::Free, illegal),
+        (NOTIFY, thin(2), Next::Reply(Reply::Notified)),
+        (NOTIFY, thin(1), illegal),
+        (NOTIFY, fat, Next::Fat(9)),
+        (NOTIFY_ALL, Lock::Free, illegal),
+        (NOTIFY_ALL, thin(2), Next::Reply(Reply::Notified)),
+        (NOTIFY_ALL, thin(1), illegal),
+        (NOTIFY_ALL, fat, Next::Fat(9)),
+    ];
+    for (call, lock, next) in rows {
+        assert_eq!(rt; decide(call, lock, 2), next, "{call:?} {lock:?}");
+        assert_eq!(rt; call.object(), Some(ObjectId(3)));
+    }
+}
 
 #[test]
 fn a_loaded_lock_calls_for_this(rt: HostRuntime) {
