@@ -1,195 +1,284 @@
--- Each Go that acts on a fat monitor is a run of the machine on the shown states.
-use Rattle.std.specs.Prelude.{zero, suc, ◌≡◌, ◌⊎◌, ℕ, ◌+◌, ◌-◌, ◌<◌, ◌≤◌, Bool, true, false, if◌then◌else◌, ◌==◌, [], ◌∷◌, Option, Some, None, IsSome}
+-- Each fat action is a run of the machine on the shown states.
+use Rattle.std.specs.Prelude.{zero, suc, ◌≡◌, ◌⊎◌, ℕ, ◌+◌, ◌-◌, ◌<◌, ◌≤◌, ℤ, Bool, true, false, ◌==◌, nat_lt, [], ◌∷◌, Option, Some, None}
 use Rattle.std.proofs.Common.{arith, refl, ap, sym, ◌∙◌, subst, inl, inr, get_or-set_same, get_or-set_other}
-use Rattle.std.proofs.Math.Path.{fun_ext}
-use Rattle.std.proofs.lemmas.Bool.{cases_eq, cases_lt, eq-eqb, ne_eqb, eqb-true, eqb-false, lt-ltb, le-ltb}
-use Rattle.std.proofs.lemmas.Option.{same_Some}
+use Rattle.std.proofs.lemmas.Bool.{cases_eq, cases_lt, eq-eqb, ne_eqb, lt-ltb, le-ltb, ltb-true, ltb-false}
 use Rattle.lock_word.specs.declared.ThreadId.{ThreadId}
 use Rattle.lock_word.specs.declared.ObjectId.{ObjectId}
-use Rattle.lock_word.specs.declared.Lock.{Lock}
-use Rattle.lock_word.specs.declared.Lock.TheVariants.{Free, Thin, Fat}
+use Rattle.lock_word.specs.declared.Lock.TheVariants.{Fat}
 use Rattle.thread_index.specs.Indices.{seat_of}
-use Rattle.fat_monitor.specs.declared.monitors.Monitor as fat
+use Rattle.wait_lines.specs.declared.Role.TheVariants.{Entry, Waiting as WaitSet}
 use Rattle.fat_monitor.specs.declared.actions.Cause.TheVariants as cause
 use Rattle.fat_monitor.specs.declared.actions.Reply.{Reply}
 use Rattle.fat_monitor.specs.declared.actions.Reply.TheVariants as reply
 use Rattle.fat_monitor.specs.declared.actions.Answer.TheVariants as answer
-use Rattle.fat_monitor.specs.FatState.{monitor_at, unbound, answered, acted, monitor_after, is_owned_by, IsFair, FatState, answer_of}
-use Rattle.fat_monitor.specs.FatState as book
+use Rattle.fat_monitor.specs.declared.actions.Action.TheVariants as action
+use Rattle.fat_monitor.specs.declared.actions.Post.{Post}
+use Rattle.fat_monitor.specs.declared.actions.Post.TheVariants.{Out, Entering, Waiting, Granted}
+use Rattle.fat_monitor.specs.FatState.{FatState, monitor_at, unbound, is_owned_by, IsFair, post_of, post_at, first_of, with_owner}
+use Rattle.fat_monitor.specs.Acting.{acted, told, granted, replied as fat_replied, are_good, deadline, parked, holds_granted, reply_granted}
+use Rattle.fat_monitor.proofs.Effects.{post-with_post_same, post-with_post_other}
 use Rattle.fast_path.specs.declared.Call.{Call}
 use Rattle.fast_path.specs.declared.Call.TheVariants as call
-use Rattle.fast_path.specs.Table.{target, object_of}
+use Rattle.step_core.specs.declared.moves.Doing.{Doing}
 use Rattle.step_core.specs.declared.moves.Doing.TheVariants as doing
-use Rattle.step_core.specs.declared.places.Place.{Place}
-use Rattle.step_core.specs.declared.places.Place.TheVariants.{Idle, Begun}
+use Rattle.step_core.specs.declared.places.Place.TheVariants.{Idle, Parked}
 use Rattle.step_core.specs.declared.moves.Move.TheVariants as move
 use Rattle.step_core.specs.declared.events.Atomic.TheVariants as atomic
 use Rattle.step_core.specs.declared.events.Did.{Did}
-use Rattle.step_core.specs.Machine.{State, Monitor, Run, free, held, with_monitor, Is, now_is, OwnedBy}
-use Rattle.step_core.specs.WorldState.{WorldState, IsSound, Stands, place_at, lock_at}
-use Rattle.step_core.specs.Going.{gone, turns, silent, replied, move_for, after_act, action_of}
-use Rattle.step_core.specs.Stepping.{given}
-use Rattle.step_core.specs.Shown.{shown, monitor_of, doing_of}
-use Rattle.step_core.proofs.Machines.{run_entered, run_exited, run_illegal, run_yes, run_no, run_refused, over}
-use Rattle.step_core.proofs.Shows.{shown_changed}
-use Rattle.step_core.proofs.Frames.{now_is_same, stands_at, within, is_at, as_it_was}
+use Rattle.step_core.specs.Machine.{State, Monitor, Run, Steps, free, held, with_monitor, Is, now_is, owner_only, AreGood}
+use Rattle.step_core.specs.WorldState.{WorldState, IsSound, lock_at}
+use Rattle.step_core.specs.Going.{gone, turns, silent, action_of, granting, granted_and_replied, parked_by}
+use Rattle.step_core.specs.Shown.{shown, act_of, thread_of}
+use Rattle.step_core.proofs.Machines.{run_entered, run_exited, run_illegal, run_bad, run_yes, run_no, run_refused, run_handed, run_handed_over, now_is-other}
+use Rattle.step_core.proofs.Shows.{acts_alike}
+use Rattle.step_core.proofs.Shifts.{same_thread, one_thread, same_post, post_is, own_thread, kept_thread, shown_turned}
+use Rattle.step_core.proofs.Frames.{act_out}
+use Rattle.step_core.proofs.WordRuns.{good_time, not_good}
+use Rattle.step_core.proofs.ActShows.{object-with_owner, here, object_here, monitors_turned, monitors_kept, with_holds, Goal, by_outcome, keeps_all, owner_changes, owned_by_me, not_mine, mine, shown_handed, shown_handed_over, Granting, first_granting, shows_wanting}
 
--- what the own action of a call that names an object answers and leaves
-pub answered_at : (f : FatState) (t : ThreadId) (c : Call) (m : ℕ) → IsSome (object_of c) → answered f t (action_of c m) ≡ answer_of (monitor_at f m) t (action_of c m)
-answered_at f t (call.Enter o) m h = refl
-answered_at f t (call.Exit o) m h = refl
-answered_at f t (call.Holds o) m h = refl
-answered_at f t call.End m h = absurd (cc)
+-- one hold is the last
+only_one : (n : ℕ) → n ≤ 1 → (n ≡ 0 → ⊥) → n ≡ 1
+only_one zero h some = absurd (some refl)
+only_one (suc n) h some = omega arith
 
-pub acted_at : (f : FatState) (t : ThreadId) (c : Call) (m : ℕ) → IsSome (object_of c) → acted f t (action_of c m) ≡ book.with_monitor f m (monitor_after (monitor_at f m) t (action_of c m))
-acted_at f t (call.Enter o) m h = refl
-acted_at f t (call.Exit o) m h = refl
-acted_at f t (call.Holds o) m h = refl
-acted_at f t call.End m h = absurd (cc)
-
--- threads with one number are one thread
-same_thread : (u t : ThreadId) → (u.0 == t.0) ≡ true → u ≡ t
-same_thread u t e = ap (λ (n : ℕ). let x : ThreadId = record { 0 = n } in x) (eqb-true u.0 t.0 e)
-
--- what the machine sees of a fat monitor
-abbrev seen : fat.Monitor → Monitor
-seen b = record { owner = b.owner; count = b.holds }
-
-module _ (w : WorldState) (sound : IsSound w) (k : ℕ) (t : ThreadId) (seat : seat_of w.seats t ≡ Some k) where
-  -- what an action of this thread at its object's monitor changes
-  module _ (c : Call) (m : ℕ) (names : IsSome (object_of c)) (p : Place) (at : place_at w k ≡ p) (wants : doing_of p ≡ doing.Wants c) (shows : lock_at w (target c).0 ≡ Fat m) where
-    -- the monitor before the action, and after it
-    abbrev found : fat.Monitor
-    found = monitor_at w.fats m
-
-    abbrev leaves : fat.Monitor
-    leaves = monitor_after found t (action_of c m)
-
-    stands_fat : Stands w (target c).0 (Fat m)
-    stands_fat = rw shows at (stands_at w sound (target c).0)
-
-    at_object : (p' : Place) (d : Did) (q : ObjectId) → (q.0 ≡ (target c).0) ⊎ (q.0 ≡ (target c).0 → ⊥)
-        → monitor_of (gone w k (turns w (book.with_monitor w.fats m leaves) p' d)) (lock_at w q.0) ≡ (if q.0 == (target c).0 then seen leaves else monitor_of w (lock_at w q.0))
-    at_object p' d q (inl same) = rw (eq-eqb q.0 (target c).0 same, same, shows, get_or-set_same w.fats.monitors m leaves unbound stands_fat.0) refl
-    at_object p' d q (inr ne) = rw (ne_eqb q.0 (target c).0 ne) (elsewhere (lock_at w q.0) (stands_at w sound q.0))
-      where
-        elsewhere : (l : Lock) → Stands w q.0 l → monitor_of (gone w k (turns w (book.with_monitor w.fats m leaves) p' d)) l ≡ monitor_of w l
-        elsewhere Free st = refl
-        elsewhere (Thin i n) st = refl
-        elsewhere (Fat j) st =
-            let apart : j ≡ m → ⊥ = λ e. ne (sym st.1 ∙ rw e stands_fat.1) in
-            rw (get_or-set_other w.fats.monitors m j leaves unbound apart) refl
-
-    -- the state after the action: at the object stands what the action leaves
-    shown_acted : (p' : Place) (d : Did) → shown (gone w k (turns w (acted w.fats t (action_of c m)) p' d)) ≡ with_monitor (now_is (shown w) t false (doing_of p')) (target c) (seen leaves)
-    shown_acted p' d = rw (acted_at w.fats t c m names)
-        (shown_changed w k t (turns w (book.with_monitor w.fats m leaves) p' d) (target c) (seen leaves) seat (within w sound k t seat) refl (λ q. at_object p' d q (cases_eq q.0 (target c).0)))
-
-    is_calling : Is (shown w) t false (doing.Wants c)
-    is_calling = rw wants at (is_at w sound k t seat p at)
-
-    -- an action that replies, and leaves this monitor
-    replies : (r : Reply) (b : fat.Monitor) → answered w.fats t (action_of c m) ≡ answer.Reply r → leaves ≡ b
-        → Run (shown w) (move_for r t ∷ move.Return t r ∷ []) (over (shown w) t false (target c) (seen b))
-        → Run (shown w) (given (after_act w t c m).did.moves) (shown (gone w k (after_act w t c m)))
-    replies r b answers leaving run =
-        rw answers
-        (subst (λ (s : State). Run (shown w) (move_for r t ∷ move.Return t r ∷ []) s)
-        (sym (shown_acted Idle (replied (atomic.Acted (action_of c m) (answer.Reply r)) t r))) (rw leaving run))
-
-    -- a state where the monitor is written as it is
-    over_same : with_monitor (shown w) (target c) (seen found) ≡ shown w
-    over_same = ap (λ (f : ObjectId → Monitor). record (shown w) { monitor = f })
-        (fun_ext (λ q. as_it_was w sound k t seat (target c) (seen found) (rw shows refl) q))
-
-    over_idle : over (shown w) t false (target c) (seen found) ≡ now_is (shown w) t false doing.Idle
-    over_idle = ap (λ (s : State). now_is s t false doing.Idle) over_same
-
-    -- an action that replies, and leaves all monitors as they are
-    replies_only : (r : Reply) → answered w.fats t (action_of c m) ≡ answer.Reply r → leaves ≡ found
-        → Run (shown w) (move_for r t ∷ move.Return t r ∷ []) (now_is (shown w) t false doing.Idle)
-        → Run (shown w) (given (after_act w t c m).did.moves) (shown (gone w k (after_act w t c m)))
-    replies_only r answers leaving run = replies r found answers leaving
-        (subst (λ (s : State). Run (shown w) (move_for r t ∷ move.Return t r ∷ []) s) (sym over_idle) run)
-
-    -- an action that is quiet, and leaves all monitors as they are: nothing is shown of it
-    keeps_quiet : answered w.fats t (action_of c m) ≡ answer.Quiet → leaves ≡ found
-        → Run (shown w) (given (after_act w t c m).did.moves) (shown (gone w k (after_act w t c m)))
-    keeps_quiet answers leaving =
-        rw answers
-        (shown_acted (Begun c false) (silent (atomic.Acted (action_of c m) answer.Quiet))
-        ∙ rw leaving (ap (λ (s : State). now_is s t false (doing.Wants c)) over_same ∙ now_is_same (shown w) t (doing.Wants c) is_calling))
-
+module _ (w : WorldState) (sound : IsSound w) (k : ℕ) (t : ThreadId) (seat : seat_of w.seats t ≡ Some k) (out : post_of w.fats t ≡ Some Out) where
   -- fat actions, call by call, by the owner that is found
-  enter_run : (o : ObjectId) (m : ℕ) (p : Place) → place_at w k ≡ p → doing_of p ≡ doing.Wants (call.Enter o) → lock_at w o.0 ≡ Fat m
-      → IsFair (monitor_at w.fats m) → (own : Option ThreadId) → (monitor_at w.fats m).owner ≡ own
-      → Run (shown w) (given (after_act w t (call.Enter o) m).did.moves) (shown (gone w k (after_act w t (call.Enter o) m)))
-  enter_run o m p at wants shows fair None own =
-      replies (call.Enter o) m refl p at wants shows reply.Entered (record (monitor_at w.fats m) { owner = Some t; holds = 1 }) (rw own refl) (rw own refl)
-      (run_entered (shown w) t false o 0 (is_calling (call.Enter o) m refl p at wants shows) (inl (rw shows own)) (rw shows (fair.1.0 own)) (omega arith))
-  enter_run o m p at wants shows fair (Some u) own = by_test (u.0 == t.0) refl (cases_lt (monitor_at w.fats m).holds 65535)
+  pub enter_run : (o : ObjectId) (m : ℕ) (is : Is (shown w) t false (doing.Wants (call.Enter o))) (shows : lock_at w o.0 ≡ Fat m) → IsFair (monitor_at w.fats m)
+      → (own : Option ThreadId) → (monitor_at w.fats m).owner ≡ own → Goal w sound k t seat out (call.Enter o) o m is shows
+  enter_run o m is shows fair None own =
+      owner_changes w sound k t seat out (call.Enter o) o m is shows reply.Entered (Some t) 1 (rw own refl)
+      (run_entered (shown w) t false o 0 is (inl (rw shows own)) (rw shows (fair.1.0 own)) (omega arith))
+  enter_run o m is shows fair (Some u) own = by_test (u.0 == t.0) refl (cases_lt (monitor_at w.fats m).holds 65535)
     where
-      by_test : (b : Bool) → (u.0 == t.0) ≡ b → ((monitor_at w.fats m).holds < 65535) ⊎ (65535 ≤ (monitor_at w.fats m).holds)
-          → Run (shown w) (given (after_act w t (call.Enter o) m).did.moves) (shown (gone w k (after_act w t (call.Enter o) m)))
+      parks : (u.0 == t.0) ≡ false → Goal w sound k t seat out (call.Enter o) o m is shows
+      parks other =
+          by_outcome w sound k t seat out (call.Enter o) o m is shows (told (parked w.fats t (Entering m) m Entry) answer.Parked None None) (rw (own, other) refl)
+          (shown_turned w sound k t seat (parked w.fats t (Entering m) m Entry) Parked (silent (atomic.Acted (action.Enter m) answer.Parked)) (shown w) refl refl
+          (λ v. at_thread v (cases_eq v.0 t.0)) (monitors_kept w sound k t seat out (call.Enter o) o m is shows (parked w.fats t (Entering m) m Entry) Parked (silent (atomic.Acted (action.Enter m) answer.Parked)) refl))
+        where
+          wants : act_of (parked w.fats t (Entering m) m Entry) (post_at (parked w.fats t (Entering m) m Entry) t) Parked ≡ doing.Wants (call.Enter o)
+          wants =
+              ap (λ (q : Post). act_of (parked w.fats t (Entering m) m Entry) q Parked)
+              (post_is (parked w.fats t (Entering m) m Entry) t (Entering m) (post-with_post_same w.fats t (Entering m)))
+              ∙ ap (λ (x : ObjectId). doing.Wants (call.Enter x)) (object_here w sound k t seat out (call.Enter o) o m is shows)
+
+          at_thread : (v : ThreadId) → (v.0 ≡ t.0) ⊎ (v.0 ≡ t.0 → ⊥)
+              → thread_of (gone w k (turns w (parked w.fats t (Entering m) m Entry) Parked (silent (atomic.Acted (action.Enter m) answer.Parked)))) v (seat_of w.seats v) ≡ (shown w).thread v
+          at_thread v (inl e) =
+              own_thread w sound k t seat (parked w.fats t (Entering m) m Entry) Parked (silent (atomic.Acted (action.Enter m) answer.Parked)) (doing.Wants (call.Enter o)) wants v e
+              ∙ sym (ap (λ (x : ThreadId). (shown w).thread x) (one_thread v t e) ∙ is)
+          at_thread v (inr ne) =
+              kept_thread w sound k t seat (parked w.fats t (Entering m) m Entry) Parked (silent (atomic.Acted (action.Enter m) answer.Parked)) v ne
+              (acts_alike w.fats (parked w.fats t (Entering m) m Entry) v sound.fats
+              (same_post w.fats (parked w.fats t (Entering m) m Entry) v (post-with_post_other w.fats t v (Entering m) (λ e. ne (ap (λ (x : ThreadId). x.0) e)))) (λ j h. refl))
+
+      by_test : (b : Bool) → (u.0 == t.0) ≡ b → ((monitor_at w.fats m).holds < 65535) ⊎ (65535 ≤ (monitor_at w.fats m).holds) → Goal w sound k t seat out (call.Enter o) o m is shows
       by_test true same (inl few) =
-          replies (call.Enter o) m refl p at wants shows reply.Entered (record (monitor_at w.fats m) { owner = Some t; holds = (monitor_at w.fats m).holds + 1 })
-          (rw (own, same, lt-ltb (monitor_at w.fats m).holds 65535 few) refl) (rw (own, same, lt-ltb (monitor_at w.fats m).holds 65535 few) (ap (λ (x : ThreadId). let y : fat.Monitor = record { object = (monitor_at w.fats m).object; owner = Some x; holds = (monitor_at w.fats m).holds + 1 } in y) (same_thread u t same)))
-          (run_entered (shown w) t false o (monitor_at w.fats m).holds (is_calling (call.Enter o) m refl p at wants shows) (inr (rw shows (own ∙ ap (λ (x : ThreadId). Some x) (same_thread u t same)))) (rw shows refl) few)
+          owner_changes w sound k t seat out (call.Enter o) o m is shows reply.Entered (Some u) ((monitor_at w.fats m).holds + 1) (rw (own, same, lt-ltb (monitor_at w.fats m).holds 65535 few) refl)
+          (subst (λ (x : ThreadId). Run (shown w) (move.Lock t ∷ move.Return t reply.Entered ∷ []) (with_monitor (now_is (shown w) t false doing.Idle) o (held x ((monitor_at w.fats m).holds + 1))))
+          (sym (same_thread u t same))
+          (run_entered (shown w) t false o (monitor_at w.fats m).holds is (inr (owned_by_me w sound k t seat out (call.Enter o) o m is shows (mine w sound k t seat out (call.Enter o) o m is shows (Some u) own same))) (rw shows refl) few))
       by_test true same (inr full) =
-          replies_only (call.Enter o) m refl p at wants shows (reply.Refused cause.TooDeep)
-          (rw (own, same, le-ltb (monitor_at w.fats m).holds 65535 full) refl) (rw (own, same, le-ltb (monitor_at w.fats m).holds 65535 full) refl)
-          (run_refused (shown w) t false (call.Enter o) cause.TooDeep (is_calling (call.Enter o) m refl p at wants shows) (rw shows (own ∙ ap (λ (x : ThreadId). Some x) (same_thread u t same)), rw shows (omega arith)))
-      by_test false other h = keeps_quiet (call.Enter o) m refl p at wants shows (rw (own, other) refl) (rw (own, other) refl)
+          keeps_all w sound k t seat out (call.Enter o) o m is shows (reply.Refused cause.TooDeep) (rw (own, same, le-ltb (monitor_at w.fats m).holds 65535 full) refl)
+          (run_refused (shown w) t false (call.Enter o) cause.TooDeep is
+          (owned_by_me w sound k t seat out (call.Enter o) o m is shows (mine w sound k t seat out (call.Enter o) o m is shows (Some u) own same), rw shows (omega arith)))
+      by_test false other h = parks other
 
-  not_owner : (o : ObjectId) (m : ℕ) → lock_at w o.0 ≡ Fat m → (own : Option ThreadId) → (monitor_at w.fats m).owner ≡ own → is_owned_by own t ≡ false → OwnedBy (shown w) o t → ⊥
-  not_owner o m shows None own other h = let e : (monitor_at w.fats m).owner ≡ Some t = rw shows at h in absurd (cc)
-  not_owner o m shows (Some u) own other h =
-      let e : (monitor_at w.fats m).owner ≡ Some t = rw shows at h in
-      eqb-false u.0 t.0 other (ap (λ (x : ThreadId). x.0) (same_Some u t (sym own ∙ e)))
+  pub holds_run : (o : ObjectId) (m : ℕ) (is : Is (shown w) t false (doing.Wants (call.Holds o))) (shows : lock_at w o.0 ≡ Fat m)
+      → (b : Bool) → is_owned_by (monitor_at w.fats m).owner t ≡ b → Goal w sound k t seat out (call.Holds o) o m is shows
+  holds_run o m is shows true b =
+      keeps_all w sound k t seat out (call.Holds o) o m is shows reply.Yes (rw b refl) (run_yes (shown w) t false o is (owned_by_me w sound k t seat out (call.Holds o) o m is shows (mine w sound k t seat out (call.Holds o) o m is shows (monitor_at w.fats m).owner refl b)))
+  holds_run o m is shows false b =
+      keeps_all w sound k t seat out (call.Holds o) o m is shows reply.No (rw b refl) (run_no (shown w) t false o is (not_mine w sound k t seat out (call.Holds o) o m is shows (monitor_at w.fats m).owner refl b))
 
-  holds_run : (o : ObjectId) (m : ℕ) (p : Place) → place_at w k ≡ p → doing_of p ≡ doing.Wants (call.Holds o) → lock_at w o.0 ≡ Fat m
-      → (own : Option ThreadId) → (monitor_at w.fats m).owner ≡ own → (b : Bool) → is_owned_by own t ≡ b
-      → Run (shown w) (given (after_act w t (call.Holds o) m).did.moves) (shown (gone w k (after_act w t (call.Holds o) m)))
-  holds_run o m p at wants shows own e false b =
-      replies_only (call.Holds o) m refl p at wants shows reply.No (rw (e, b) refl) refl
-      (run_no (shown w) t false o (is_calling (call.Holds o) m refl p at wants shows) (not_owner o m shows own e b))
-  holds_run o m p at wants shows None e true b = absurd (cc)
-  holds_run o m p at wants shows (Some u) e true b =
-      replies_only (call.Holds o) m refl p at wants shows reply.Yes (rw (e, b) refl) refl
-      (run_yes (shown w) t false o (is_calling (call.Holds o) m refl p at wants shows) (rw shows (e ∙ ap (λ (x : ThreadId). Some x) (same_thread u t b))))
+  -- a call for the owner alone, by another
+  pub illegal_run : (c : Call) (o : ObjectId) (m : ℕ) (is : Is (shown w) t false (doing.Wants c)) (shows : lock_at w o.0 ≡ Fat m) → owner_only c ≡ Some o
+      → is_owned_by (monitor_at w.fats m).owner t ≡ false → acted w.fats t (action_of c m) ≡ fat_replied w.fats reply.IllegalMonitorState → Goal w sound k t seat out c o m is shows
+  illegal_run c o m is shows only b e =
+      keeps_all w sound k t seat out c o m is shows reply.IllegalMonitorState e
+      (run_illegal (shown w) t false c o only is (not_mine w sound k t seat out c o m is shows (monitor_at w.fats m).owner refl b))
 
-  -- what is left of a monitor that is left once
-  exit_leaves : (u : ThreadId) (n h : ℕ) → h ≡ n + 1 → (u.0 == t.0) ≡ true
-      → ◌≡◌ {A = Monitor} (record { owner = if h == 1 then None else Some u; count = h - 1 }) (if n == 0 then free else held t n)
-  exit_leaves u zero h e same = rw e refl
-  exit_leaves u (suc j) h e same =
-      let more : (h == 1) ≡ false = ne_eqb h 1 (λ x. absurd (omega arith)) in
-      let still : (suc j == 0) ≡ false = ne_eqb (suc j) 0 (λ x. absurd (omega arith)) in
-      let less : h - 1 ≡ suc j = omega arith in
-      rw (more, still, less) (ap (λ (x : ThreadId). let y : Monitor = record { owner = Some x; count = suc j } in y) (same_thread u t same))
+  -- the owner gives up its last hold, or all of them
+  module _ (o : ObjectId) (m : ℕ) (shows : lock_at w o.0 ≡ Fat m) (own : (monitor_at w.fats m).owner ≡ Some t) where
+    monitor_held : (n : ℕ) → (monitor_at w.fats m).holds ≡ n → (shown w).monitor o ≡ held t n
+    monitor_held n e = rw shows (λ i. record { owner = own i; count = e i })
 
-  exit_run : (o : ObjectId) (m : ℕ) (p : Place) → place_at w k ≡ p → doing_of p ≡ doing.Wants (call.Exit o) → lock_at w o.0 ≡ Fat m
-      → IsFair (monitor_at w.fats m) → (own : Option ThreadId) → (monitor_at w.fats m).owner ≡ own → (b : Bool) → is_owned_by own t ≡ b
-      → Run (shown w) (given (after_act w t (call.Exit o) m).did.moves) (shown (gone w k (after_act w t (call.Exit o) m)))
-  exit_run o m p at wants shows fair own e false b =
-      replies_only (call.Exit o) m refl p at wants shows reply.IllegalMonitorState (rw (e, b) refl) (rw (e, b) refl)
-      (run_illegal (shown w) t false o (is_calling (call.Exit o) m refl p at wants shows) (not_owner o m shows own e b))
-  exit_run o m p at wants shows fair None e true b = absurd (cc)
-  exit_run o m p at wants shows fair (Some u) e true b =
-      let held_once : (monitor_at w.fats m).holds ≡ 0 → ⊥ = λ z. absurd (let none : (monitor_at w.fats m).owner ≡ None = fair.1.1 z in cc) in
-      let number : (monitor_at w.fats m).holds ≡ (monitor_at w.fats m).holds - 1 + 1 = omega arith in
-      replies (call.Exit o) m refl p at wants shows reply.Exited
-      (record (monitor_at w.fats m) { owner = if (monitor_at w.fats m).holds == 1 then None else (monitor_at w.fats m).owner; holds = (monitor_at w.fats m).holds - 1 })
-      (rw (e, b) refl) (rw (e, b) refl)
-      (subst (λ (x : Monitor). Run (shown w) (move.Unlock t ∷ move.Return t reply.Exited ∷ []) (over (shown w) t false o x))
-      (sym (rw e (exit_leaves u ((monitor_at w.fats m).holds - 1) (monitor_at w.fats m).holds number b)))
-      (run_exited (shown w) t false o ((monitor_at w.fats m).holds - 1) (is_calling (call.Exit o) m refl p at wants shows)
-      (rw (shows, e, ← number) (ap (λ (x : ThreadId). let y : Monitor = record { owner = Some x; count = (monitor_at w.fats m).holds } in y) (same_thread u t b)))))
+    -- the state in which t does this and o is free
+    abbrev given_up : Doing → State
+    given_up d = with_monitor (now_is (shown w) t false d) o free
 
-  -- a Go that makes the call's own action
-  pub act_run : (c : Call) (m : ℕ) (p : Place) → IsSome (object_of c) → place_at w k ≡ p → doing_of p ≡ doing.Wants c → lock_at w (target c).0 ≡ Fat m
-      → Run (shown w) (given (after_act w t c m).did.moves) (shown (gone w k (after_act w t c m)))
-  act_run (call.Enter o) m p names at wants shows = enter_run o m p at wants shows (sound.fats.fair m (stands_fat (call.Enter o) m refl p at wants shows).0) (monitor_at w.fats m).owner refl
-  act_run (call.Exit o) m p names at wants shows = exit_run o m p at wants shows (sound.fats.fair m (stands_fat (call.Exit o) m refl p at wants shows).0) (monitor_at w.fats m).owner refl (is_owned_by (monitor_at w.fats m).owner t) refl
-  act_run (call.Holds o) m p names at wants shows = holds_run o m p at wants shows (monitor_at w.fats m).owner refl (is_owned_by (monitor_at w.fats m).owner t) refl
-  act_run call.End m p names at wants shows = absurd (cc)
+    free_then : (d : Doing) → (given_up d).monitor o ≡ free
+    free_then d = rw (eq-eqb o.0 o.0 refl) refl
+
+  pub exit_run : (o : ObjectId) (m : ℕ) (is : Is (shown w) t false (doing.Wants (call.Exit o))) (shows : lock_at w o.0 ≡ Fat m) → IsFair (monitor_at w.fats m)
+      → (b : Bool) → is_owned_by (monitor_at w.fats m).owner t ≡ b → Goal w sound k t seat out (call.Exit o) o m is shows
+  exit_run o m is shows fair false b = illegal_run (call.Exit o) o m is shows refl b (rw b refl)
+  exit_run o m is shows fair true b = by_holds (nat_lt 1 (monitor_at w.fats m).holds) refl
+    where
+      own : (monitor_at w.fats m).owner ≡ Some t
+      own = mine w sound k t seat out (call.Exit o) o m is shows (monitor_at w.fats m).owner refl b
+
+      some : (monitor_at w.fats m).holds ≡ 0 → ⊥
+      some z = absurd (let none : (monitor_at w.fats m).owner ≡ None = fair.1.1 z in let never : Some t ≡ None = sym own ∙ none in cc)
+
+      one_hold : nat_lt 1 (monitor_at w.fats m).holds ≡ false → (monitor_at w.fats m).holds ≡ 1
+      one_hold one = only_one (monitor_at w.fats m).holds (ltb-false 1 (monitor_at w.fats m).holds one) some
+
+      -- with the last hold the monitor goes to the first of the entry line
+      last : nat_lt 1 (monitor_at w.fats m).holds ≡ false → (first : Option ThreadId) → first_of w.fats m Entry ≡ first → Goal w sound k t seat out (call.Exit o) o m is shows
+      last one None first =
+          owner_changes w sound k t seat out (call.Exit o) o m is shows reply.Exited None 0 (rw (b, one, first) refl)
+          (run_exited (shown w) t false o 0 is (monitor_held o m shows own 1 (one_hold one)))
+      last one (Some u) first =
+          by_outcome w sound k t seat out (call.Exit o) o m is shows (told (granted w.fats m u x.post) (answer.Reply reply.Exited) (Some u) None) (rw (b, one, first, post_is w.fats u x.post x.is_at) refl)
+          (rw theirs
+          (subst (λ (s : State). Run (shown w) (move.Unlock t ∷ granting u (Granted r) ∷ move.Return t reply.Exited ∷ []) s) (sym shown_then)
+          (run_handed_over (shown w) t u o n r (doing.Has reply.Exited) (move.Unlock t) (granting u (Granted r))
+          (false, o, 0, is, monitor_held o m shows own 1 (one_hold one), refl)
+          (x.grants (given_up o m shows own (doing.Has reply.Exited)) wanting (free_then o m shows own (doing.Has reply.Exited)))
+          reply.Exited refl tt (λ e. x.apart (sym e)))))
+        where
+          x : Granting w sound k t seat out (call.Exit o) o m is shows u
+          x = first_granting w sound k t seat out (call.Exit o) o m is shows u first
+
+          g : FatState
+          g = granted w.fats m u x.post
+
+          r : Reply
+          r = reply_granted x.post
+
+          n : ℕ
+          n = holds_granted x.post
+
+          theirs : post_at (granted w.fats m u x.post) u ≡ Granted (reply_granted x.post)
+          theirs = post_is (granted w.fats m u x.post) u (Granted (reply_granted x.post)) (post-with_post_same w.fats u (Granted (reply_granted x.post)))
+
+          wanting : Is (given_up o m shows own (doing.Has reply.Exited)) u false x.act
+          wanting = now_is-other (shown w) u t false (doing.Has reply.Exited) x.apart ∙ shows_wanting w sound k t seat out (call.Exit o) o m is shows u x
+
+          did : Did
+          did = granted_and_replied (atomic.Acted (action.Exit m) (answer.Reply reply.Exited)) (move.Unlock t) (Some (granting u (Granted r))) t reply.Exited
+
+          shown_then : shown (gone w k (turns w g Idle did)) ≡ with_monitor (now_is (now_is (shown w) u false (doing.Has r)) t false doing.Idle) o (held u n)
+          shown_then = shown_handed_over w sound k t seat out (call.Exit o) o m is shows u g Idle did doing.Idle r n x.apart x.live
+              (act_out g t Idle (post-with_post_other w.fats u t (Granted r) (λ e. x.apart (sym (ap (λ (y : ThreadId). y.0) e))) ∙ out))
+              theirs
+              (λ v ne nu. same_post w.fats g v (post-with_post_other w.fats u v (Granted r) (λ e. nu (ap (λ (y : ThreadId). y.0) e))))
+              refl
+
+      by_holds : (more : Bool) → nat_lt 1 (monitor_at w.fats m).holds ≡ more → Goal w sound k t seat out (call.Exit o) o m is shows
+      by_holds true more =
+          let above : 1 < (monitor_at w.fats m).holds = ltb-true 1 (monitor_at w.fats m).holds more in
+          let still : ((monitor_at w.fats m).holds - 1 == 0) ≡ false = ne_eqb ((monitor_at w.fats m).holds - 1) 0 (λ z. absurd (omega arith)) in
+          owner_changes w sound k t seat out (call.Exit o) o m is shows reply.Exited (Some t) ((monitor_at w.fats m).holds - 1) (rw (b, more) refl)
+          (rw still at (run_exited (shown w) t false o ((monitor_at w.fats m).holds - 1) is (monitor_held o m shows own ((monitor_at w.fats m).holds - 1 + 1) (omega arith))))
+      by_holds false one = last one (first_of w.fats m Entry) refl
+
+  -- a wait whose time is in its range joins the wait set, and the monitor goes to the first of the entry line
+  pub wait_run : (o : ObjectId) (millis nanos : ℤ) (m : ℕ) (is : Is (shown w) t false (doing.Wants (call.Wait o millis nanos))) (shows : lock_at w o.0 ≡ Fat m)
+      → (b : Bool) → is_owned_by (monitor_at w.fats m).owner t ≡ b → Goal w sound k t seat out (call.Wait o millis nanos) o m is shows
+  wait_run o millis nanos m is shows false b = illegal_run (call.Wait o millis nanos) o m is shows refl b (rw b refl)
+  wait_run o millis nanos m is shows true b = by_time (are_good millis nanos) refl
+    where
+      own : (monitor_at w.fats m).owner ≡ Some t
+      own = mine w sound k t seat out (call.Wait o millis nanos) o m is shows (monitor_at w.fats m).owner refl b
+
+      h : ℕ
+      h = (monitor_at w.fats m).holds
+
+      post : Post
+      post = Waiting m (monitor_at w.fats m).holds (deadline 0 millis nanos)
+
+      waits : Doing
+      waits = doing.Waits o (monitor_at w.fats m).holds (deadline 0 millis nanos)
+
+      -- what a fat state shows of a thread that it parks so
+      waiting : (f : FatState) → (monitor_at f m).object ≡ (monitor_at w.fats m).object
+          → act_of (parked f t post m WaitSet) (post_at (parked f t post m WaitSet) t) Parked ≡ waits
+      waiting f same =
+          ap (λ (q : Post). act_of (parked f t post m WaitSet) q Parked) (post_is (parked f t post m WaitSet) t post (post-with_post_same f t post))
+          ∙ ap (λ (x : ObjectId). doing.Waits x (monitor_at w.fats m).holds (deadline 0 millis nanos)) (same ∙ object_here w sound k t seat out (call.Wait o millis nanos) o m is shows)
+
+      gives_up : AreGood millis nanos → Steps (shown w) (move.Wait t) (given_up o m shows own waits)
+      gives_up good = (
+        o,
+        millis,
+        nanos,
+        is,
+        owned_by_me w sound k t seat out (call.Wait o millis nanos) o m is shows own,
+        good,
+        ap (λ (x : Monitor). with_monitor (now_is (shown w) t false (doing.Waits o x.count (deadline 0 millis nanos))) o free) (sym (monitor_held o m shows own (monitor_at w.fats m).holds refl)),
+      )
+
+      parks : are_good millis nanos ≡ true → (first : Option ThreadId) → first_of w.fats m Entry ≡ first → Goal w sound k t seat out (call.Wait o millis nanos) o m is shows
+      parks good None first =
+          by_outcome w sound k t seat out (call.Wait o millis nanos) o m is shows (told g answer.Parked None None) (rw (b, good, first) refl)
+          (given_up o m shows own waits, gives_up (good_time millis nanos good), shown_then)
+        where
+          f : FatState
+          f = with_owner w.fats m None 0
+
+          g : FatState
+          g = parked f t post m WaitSet
+
+          did : Did
+          did = parked_by (call.Wait o millis nanos) (atomic.Acted (action.Wait m millis nanos) answer.Parked) t None
+
+          at_thread : (v : ThreadId) → (v.0 ≡ t.0) ⊎ (v.0 ≡ t.0 → ⊥) → thread_of (gone w k (turns w g Parked did)) v (seat_of w.seats v) ≡ (now_is (shown w) t false waits).thread v
+          at_thread v (inl e) =
+              rw (eq-eqb v.0 t.0 e) (own_thread w sound k t seat g Parked did waits (waiting f (object-with_owner w.fats m None 0 m (here w sound k t seat out (call.Wait o millis nanos) o m is shows).0)) v e)
+          at_thread v (inr ne) =
+              rw (ne_eqb v.0 t.0 ne) (kept_thread w sound k t seat g Parked did v ne
+              (acts_alike w.fats g v sound.fats (same_post w.fats g v (post-with_post_other f t v post (λ e. ne (ap (λ (y : ThreadId). y.0) e))))
+              (λ j l. object-with_owner w.fats m None 0 j (here w sound k t seat out (call.Wait o millis nanos) o m is shows).0)))
+
+          shown_then : shown (gone w k (turns w g Parked did)) ≡ given_up o m shows own waits
+          shown_then =
+              shown_turned w sound k t seat g Parked did (given_up o m shows own waits) refl refl (λ v. at_thread v (cases_eq v.0 t.0))
+              (monitors_turned w sound k t seat out (call.Wait o millis nanos) o m is shows g Parked did (with_holds w sound k t seat out (call.Wait o millis nanos) o m is shows None 0)
+              (get_or-set_same w.fats.monitors m (with_holds w sound k t seat out (call.Wait o millis nanos) o m is shows None 0) unbound (here w sound k t seat out (call.Wait o millis nanos) o m is shows).0)
+              (λ j ne. get_or-set_other w.fats.monitors m j (with_holds w sound k t seat out (call.Wait o millis nanos) o m is shows None 0) unbound ne))
+      parks good (Some u) first =
+          by_outcome w sound k t seat out (call.Wait o millis nanos) o m is shows (told g answer.Parked (Some u) None) (rw (b, good, first, post_is w.fats u x.post x.is_at) refl)
+          (rw theirs
+          (subst (λ (s : State). Run (shown w) (move.Wait t ∷ granting u (Granted r) ∷ []) s) (sym shown_then)
+          (run_handed (shown w) t u o n r waits (move.Wait t) (granting u (Granted r)) (gives_up (good_time millis nanos good))
+          (x.grants (given_up o m shows own waits) wanting (free_then o m shows own waits)))))
+        where
+          x : Granting w sound k t seat out (call.Wait o millis nanos) o m is shows u
+          x = first_granting w sound k t seat out (call.Wait o millis nanos) o m is shows u first
+
+          r : Reply
+          r = reply_granted x.post
+
+          n : ℕ
+          n = holds_granted x.post
+
+          f : FatState
+          f = granted w.fats m u x.post
+
+          g : FatState
+          g = parked f t post m WaitSet
+
+          theirs : post_at (parked (granted w.fats m u x.post) t post m WaitSet) u ≡ Granted (reply_granted x.post)
+          theirs =
+              post_is g u (Granted r) (post-with_post_other f t u post (λ e. x.apart (ap (λ (y : ThreadId). y.0) e)) ∙ post-with_post_same w.fats u (Granted r))
+
+          wanting : Is (given_up o m shows own waits) u false x.act
+          wanting = now_is-other (shown w) u t false waits x.apart ∙ shows_wanting w sound k t seat out (call.Wait o millis nanos) o m is shows u x
+
+          did : Did
+          did = parked_by (call.Wait o millis nanos) (atomic.Acted (action.Wait m millis nanos) answer.Parked) t (Some (granting u (Granted r)))
+
+          shown_then : shown (gone w k (turns w g Parked did)) ≡ with_monitor (now_is (now_is (shown w) t false waits) u false (doing.Has r)) o (held u n)
+          shown_then = shown_handed w sound k t seat out (call.Wait o millis nanos) o m is shows u g Parked did waits r n x.apart x.live
+              (waiting f (object-with_owner w.fats m (Some u) n m (here w sound k t seat out (call.Wait o millis nanos) o m is shows).0))
+              theirs
+              (λ v ne nu. same_post w.fats g v (post-with_post_other f t v post (λ e. ne (ap (λ (y : ThreadId). y.0) e)) ∙ post-with_post_other w.fats u v (Granted r) (λ e. nu (ap (λ (y : ThreadId). y.0) e))))
+              refl
+
+      by_time : (good : Bool) → are_good millis nanos ≡ good → Goal w sound k t seat out (call.Wait o millis nanos) o m is shows
+      by_time true good = parks good (first_of w.fats m Entry) refl
+      by_time false bad =
+          keeps_all w sound k t seat out (call.Wait o millis nanos) o m is shows reply.IllegalArgument (rw (b, bad) refl)
+          (run_bad (shown w) t false o millis nanos is (owned_by_me w sound k t seat out (call.Wait o millis nanos) o m is shows own) (not_good millis nanos bad))

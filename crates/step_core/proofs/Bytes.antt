@@ -1,5 +1,5 @@
 -- Each step keeps the objects, and bits 7 to 0 of each word.
-use Rattle.std.specs.Prelude.{◌≡◌, ◌⊎◌, ℕ, ◌+◌, ◌<◌, Bool, true, false, nat_lt, length, set, get_or, Option, Some, None}
+use Rattle.std.specs.Prelude.{◌≡◌, ◌⊎◌, ℕ, ◌+◌, ◌<◌, Bool, true, false, nat_lt, length, set, get_or, Option, Some, None, Result, Ok, Err}
 use Rattle.std.proofs.Common.{refl, arith, ap, ◌∙◌, subst, inl, inr, get_or-set_same, get_or-set_other, length-set}
 use Rattle.std.proofs.lemmas.Bool.{cases_eq, cond_both}
 use Rattle.lock_word.specs.declared.ThreadId.{ThreadId}
@@ -10,22 +10,26 @@ use Rattle.lock_word.specs.Layout.{Fits, low_of}
 use Rattle.lock_word.proofs.Words.{low_kept}
 use Rattle.thread_index.specs.Indices.{seat_of, free_seat}
 use Rattle.fat_monitor.specs.declared.actions.Cause.{Cause}
-use Rattle.fat_monitor.specs.declared.actions.Answer.{Answer}
-use Rattle.fat_monitor.specs.declared.actions.Answer.TheVariants as answer
-use Rattle.fat_monitor.specs.FatState.{answered, owns_one}
+use Rattle.fat_monitor.specs.declared.actions.Action.{Action}
+use Rattle.fat_monitor.specs.declared.actions.Done.{Done}
+use Rattle.fat_monitor.specs.declared.actions.ActFault.{ActFault}
+use Rattle.fat_monitor.specs.declared.actions.Post.{Post}
+use Rattle.fat_monitor.specs.declared.actions.Post.TheVariants.{Out, Entering, Waiting, Back, Granted}
+use Rattle.fat_monitor.specs.FatState.{FatState, post_at, owns_one}
+use Rattle.fat_monitor.specs.Acting.{acted}
 use Rattle.fast_path.specs.declared.Call.{Call}
 use Rattle.fast_path.specs.declared.Call.TheVariants as call
 use Rattle.fast_path.specs.declared.Next.{Next}
 use Rattle.fast_path.specs.declared.Next.TheVariants as next
 use Rattle.fast_path.specs.Table.{object_of, target, next_of}
 use Rattle.step_core.specs.declared.places.Place.{Place}
-use Rattle.step_core.specs.declared.places.Place.TheVariants.{Idle, Begun, Taking, Storing, Binding, Acting, Won, Bound, Inflated, Ending}
+use Rattle.step_core.specs.declared.places.Place.TheVariants.{Idle, Begun, Taking, Storing, Binding, Acting, Won, Bound, Inflated, Parked, Ending}
 use Rattle.step_core.specs.declared.events.Step.{Step}
 use Rattle.step_core.specs.declared.events.Step.TheVariants as step
 use Rattle.step_core.specs.declared.events.Fault.TheVariants as fault
 use Rattle.step_core.specs.WorldState.{WorldState, IsSound, Fitting, is_own, place_at, word_at, lock_at, low_word}
-use Rattle.step_core.specs.Going.{After, gone, new_word, after_load, after_take, after_store, after_bind, after_publish, after_answer, after_look, after_go, action_of, bind_cause}
-use Rattle.step_core.specs.Stepping.{Outcome, accepted, refused, attached, begun, begun_on, begun_at, ended, went, went_at, step_of}
+use Rattle.step_core.specs.Going.{After, gone, new_word, after_load, after_take, after_store, after_bind, after_publish, after_told, after_act, after_look, after_go, action_of, bind_cause}
+use Rattle.step_core.specs.Stepping.{Outcome, accepted, refused, attached, begun, begun_on, begun_at, ended, gathered, went, went_at, step_of}
 use Rattle.step_core.specs.Kept.{Keeps}
 use Rattle.step_core.proofs.Frames.{within, thin_fits}
 use Rattle.step_core.proofs.Runs.{storing}
@@ -70,9 +74,12 @@ module _ (w : WorldState) (sound : IsSound w) (k : ℕ) (t : ThreadId) (seat : s
   publishes c true m fit = written w k (target c) (Fat m) (after_publish w t c true m) refl (number_fits w sound k t seat m fit.1) fit.0.1
   publishes c false m fit = written w k (target c) (Fat m) (after_publish w t c false m) refl (number_fits w sound k t seat m fit.1) fit.0.1
 
-  acts : (c : Call) (m : ℕ) (a : Answer) → Keeps w (gone w k (after_answer w t c m a))
-  acts c m (answer.Reply r) = same w _ refl
-  acts c m answer.Quiet = same w _ refl
+  tells : (c : Call) (a : Action) (r : Result Done ActFault) (f : FatState) → Keeps w (gone w k (after_told w t c a r f))
+  tells c a (Ok d) f = same w _ refl
+  tells c a (Err e) f = same w _ refl
+
+  acts : (c : Call) (m : ℕ) → Keeps w (gone w k (after_act w t c m))
+  acts c m = tells c (action_of c m) (acted w.fats t (action_of c m)).answer (acted w.fats t (action_of c m)).after
 
   looks : (n : ℕ) (own : Bool) → Keeps w (gone w k (after_look w t n own))
   looks n true = same w _ refl
@@ -84,10 +91,11 @@ module _ (w : WorldState) (sound : IsSound w) (k : ℕ) (t : ThreadId) (seat : s
   goes room (Taking o b) fit = takes o b (lock_at w o.0) fit
   goes room (Storing c l) fit = written w k (target c) l (after_store w t c l) refl (store_fits w sound k t seat c l (storing w k c l fit)) fit.0.1
   goes room (Binding c n) fit = binds c false (n + 1) (bind_cause room w.fats)
-  goes room (Acting c m) fit = acts c m (answered w.fats t (action_of c m))
+  goes room (Acting c m) fit = acts c m
   goes room (Won o) fit = binds (call.Enter o) true 1 (bind_cause room w.fats)
   goes room (Bound c won m) fit = publishes c won m fit
-  goes room (Inflated c m) fit = acts c m (answered w.fats t (action_of c m))
+  goes room (Inflated c m) fit = acts c m
+  goes room Parked fit = same w _ refl
   goes room (Ending n) fit = looks n (is_own (lock_at w n) (k + 1))
 
   went_keeps : (room : Bool) (p : Place) → place_at w k ≡ p → Keeps w (went_at room w k t p).after
@@ -96,6 +104,13 @@ module _ (w : WorldState) (sound : IsSound w) (k : ℕ) (t : ThreadId) (seat : s
       ends : (b : Bool) → Keeps w (ended w k t b).after
       ends true = same w _ refl
       ends false = same w _ refl
+
+      gathers : (p : Post) → Keeps w (gathered w k t p).after
+      gathers Out = same w _ refl
+      gathers (Entering m) = same w _ refl
+      gathers (Waiting m n d) = same w _ refl
+      gathers (Back m n y) = same w _ refl
+      gathers (Granted r) = same w _ refl
 
       by_place : (p : Place) → Fitting w k p → Keeps w (went_at room w k t p).after
       by_place Idle fit = same w _ refl
@@ -107,6 +122,7 @@ module _ (w : WorldState) (sound : IsSound w) (k : ℕ) (t : ThreadId) (seat : s
       by_place (Won o) fit = goes room (Won o) fit
       by_place (Bound c won m) fit = goes room (Bound c won m) fit
       by_place (Inflated c m) fit = goes room (Inflated c m) fit
+      by_place Parked fit = gathers (post_at w.fats t)
       by_place (Ending n) fit =
           cond_both (nat_lt n (length w.words)) (accepted (gone w k (after_go room w k t (Ending n))) (after_go room w k t (Ending n)).did) (ended w k t (owns_one w.fats.monitors t)) (λ (o : Outcome). Keeps w o.after)
           (λ _. goes room (Ending n) fit) (λ _. ends (owns_one w.fats.monitors t))
@@ -127,6 +143,7 @@ begins_at w k t c (Acting d m) = same w _ refl
 begins_at w k t c (Won o) = same w _ refl
 begins_at w k t c (Bound d won m) = same w _ refl
 begins_at w k t c (Inflated d m) = same w _ refl
+begins_at w k t c Parked = same w _ refl
 begins_at w k t c (Ending n) = same w _ refl
 
 begins_on : (w : WorldState) (k : ℕ) (t : ThreadId) (c : Call) (o : Option ObjectId) → Keeps w (begun_on w k t c o).after

@@ -1,6 +1,7 @@
 -- A thread that owns nothing ends: it is live no longer, and its seat is free.
 use Rattle.fat_monitor.specs.declared.actions.Post.{Post}
-use Rattle.std.specs.Prelude.{◌≡◌, ◌⊎◌, ℕ, ◌+◌, ◌-◌, ◌<◌, ◌≤◌, Bool, true, false, if◌then◌else◌, ◌==◌, List, [], ◌∷◌, length, set, get_or, Option, Some, None, IsSome, is_some, ◌||◌}
+use Rattle.std.specs.Prelude.{◌≡◌, ◌⊎◌, ℕ, ◌+◌, ◌-◌, ◌<◌, ◌≤◌, Bool, true, false, if◌then◌else◌, ◌==◌, List, [], ◌∷◌, length, set, get_or, Option, Some, None, IsSome, is_some, count_by, ◌||◌}
+use Rattle.std.specs.Option.{unwrap_or}
 use Rattle.std.specs.List.{list_any}
 use Rattle.std.proofs.Common.{zero, suc, arith, refl, ap, sym, ◌∙◌, subst, inl, inr, get_or-set_same, get_or-set_other, length-set}
 use Rattle.std.proofs.Math.Path.{fun_ext}
@@ -12,27 +13,33 @@ use Rattle.lock_word.specs.declared.ObjectId.{ObjectId}
 use Rattle.lock_word.specs.declared.Lock.{Lock}
 use Rattle.lock_word.specs.declared.Lock.TheVariants.{Free, Thin, Fat}
 use Rattle.thread_index.specs.Indices.{seat_of, holder_at}
-use Rattle.thread_index.proofs.Seats.{seat_same, seat_given_same, seat_given_other, IsOneToOne-given, seat_thread}
+use Rattle.thread_index.proofs.Seats.{seat_found, seat_same, seat_given_same, seat_given_other, IsOneToOne-given, seat_thread}
 use Rattle.fat_monitor.specs.declared.monitors.Monitor as fat
 use Rattle.fat_monitor.specs.declared.actions.Reply.TheVariants as reply
 use Rattle.fat_monitor.specs.declared.actions.Cause.TheVariants as cause
 use Rattle.fat_monitor.specs.declared.actions.Action.TheVariants as action
 use Rattle.fat_monitor.specs.declared.actions.Answer.TheVariants as answer
-use Rattle.fat_monitor.specs.FatState.{IsAttached, owns_one, monitor_at, unbound, is_owned_by}
-use Rattle.fat_monitor.proofs.Posts.{get-remove_by}
+use Rattle.fat_monitor.specs.declared.actions.Post.TheVariants.{Out}
+use Rattle.fat_monitor.specs.FatState.{IsAttached, owns_one, monitor_at, unbound, is_owned_by, post_of, thread_count}
+use Rattle.fat_monitor.proofs.PostMaps.{get-remove_by}
+use Rattle.fat_monitor.proofs.Soundness.{IsSound-without_thread}
+use Rattle.fat_monitor.proofs.Effects.{count-without_thread}
 use Rattle.fast_path.specs.declared.Call.TheVariants as call
+use Rattle.step_core.specs.declared.moves.Doing.{Doing}
+use Rattle.step_core.specs.declared.events.Did.{Did}
 use Rattle.step_core.specs.declared.places.Place.{Place}
-use Rattle.step_core.specs.declared.places.Place.TheVariants.{Idle, Begun, Taking, Storing, Binding, Acting, Won, Bound, Inflated, Ending}
+use Rattle.step_core.specs.declared.places.Place.TheVariants.{Idle, Begun, Taking, Storing, Binding, Acting, Won, Bound, Inflated, Parked, Ending}
 use Rattle.step_core.specs.declared.moves.Move.TheVariants as move
 use Rattle.step_core.specs.declared.events.Atomic.TheVariants as atomic
 use Rattle.step_core.specs.Machine.{State, Run, with_thread, OwnedBy}
-use Rattle.step_core.specs.WorldState.{WorldState, IsSound, Stands, Fitting, is_own, place_at, lock_at, bound_by, IsPublished}
+use Rattle.step_core.specs.WorldState.{WorldState, IsSound, Stands, Fitting, Agrees, is_own, place_at, lock_at, bound_by, IsPublished}
 use Rattle.step_core.specs.Going.{replied}
 use Rattle.step_core.specs.Stepping.{Outcome, without_live, ended, moves_of}
 use Rattle.step_core.specs.Shown.{shown, thread_of, monitor_of}
 use Rattle.step_core.proofs.Machines.{run_ended, run_refused}
-use Rattle.step_core.proofs.Frames.{stands_at, within, is_at, other}
-use Rattle.step_core.proofs.WordRuns.{told}
+use Rattle.step_core.proofs.Shows.{ActsAlike, acts_alike}
+use Rattle.step_core.proofs.Frames.{stands_at, within, is_at, out_at, other, shown_stays}
+use Rattle.step_core.proofs.KeepsPosts.{count_given}
 use Rattle.step_core.proofs.Keeps.{sound_stays}
 
 -- what a step is to show: a sound world, and a run to what it shows
@@ -87,6 +94,9 @@ module _ (w : WorldState) (sound : IsSound w) (k : ℕ) (t : ThreadId) (seat : s
   none_bound : bound_by (place_at w k) ≡ None
   none_bound = rw at refl
 
+  out : post_of w.fats t ≡ Some Out
+  out = out_at w sound k t seat (Ending n) at (λ x. cc)
+
   -- a fat monitor that the thread owns is shown by its object: nobody else has bound it and not stored it
   shows_owner : (m : ℕ) → (monitor_at w.fats m).owner ≡ Some t → IsPublished w m → (o : ObjectId) × OwnedBy (shown w) o t
   shows_owner m owner (inl shows) = ((monitor_at w.fats m).object, rw shows owner)
@@ -107,16 +117,18 @@ module _ (w : WorldState) (sound : IsSound w) (k : ℕ) (t : ThreadId) (seat : s
           let both : Bound c won x ≡ Ending n = sym e ∙ rw here at in
           cc
       elsewhere (Inflated c x) e b f = cc
+      elsewhere Parked e b f = cc
       elsewhere (Ending x) e b f = cc
 
   -- where the thread owns a fat monitor, it may not end
   refused_right : owns_one w.fats.monitors t ≡ true → Right w (ended w k t true)
   refused_right owns =
-      let there = owned_one w.fats.monitors t owns in (
-        sound_stays w sound k t seat Idle (replied (atomic.Acted action.End (answer.Reply (reply.Refused cause.StillOwner))) t (reply.Refused cause.StillOwner)) none_bound tt,
-        told w sound k t seat (atomic.Acted action.End (answer.Reply (reply.Refused cause.StillOwner))) (reply.Refused cause.StillOwner)
-            (run_refused (shown w) t false call.End cause.StillOwner (is_at w sound k t seat (Ending n) at)
-            (shows_owner there.0 (owner_is (monitor_at w.fats there.0).owner t there.2) (sound.published there.0 there.1))),
+      let there = owned_one w.fats.monitors t owns in
+      let owner = shows_owner there.0 (owner_is (monitor_at w.fats there.0).owner t there.2) (sound.published there.0 there.1) in
+      let d : Did = replied (atomic.Acted action.End (answer.Reply (reply.Refused cause.StillOwner))) (move.Refuse t cause.StillOwner) t (reply.Refused cause.StillOwner) in (
+        sound_stays w sound k t seat Idle d none_bound out tt,
+        subst (λ (s : State). Run (shown w) (move.Refuse t cause.StillOwner ∷ move.Return t (reply.Refused cause.StillOwner) ∷ []) s) (sym (shown_stays w sound k t seat Idle d out))
+            (run_refused (shown w) t false call.End cause.StillOwner (is_at w sound k t seat (Ending n) at out) owner),
       )
 
   -- where it owns none, it owns no object
@@ -148,11 +160,20 @@ module _ (w : WorldState) (sound : IsSound w) (k : ℕ) (t : ThreadId) (seat : s
     seats_apart : (u : ThreadId) (j : ℕ) → (u.0 ≡ t.0 → ⊥) → seat_of w.seats u ≡ Some j → j ≡ k → ⊥
     seats_apart u j ne e same = ne (seat_thread w.seats t u k seat (rw same at e))
 
-    thread_kept : (u : ThreadId) → (u.0 ≡ t.0 → ⊥) → (o : Option ℕ) → seat_of w.seats u ≡ o → thread_of now o ≡ thread_of w o
-    thread_kept u ne None e = refl
-    thread_kept u ne (Some j) e = rw (get_or-set_other w.places k j Idle Idle (seats_apart u j ne e)) refl
+    -- another thread has the post that it had, and shows what it showed
+    post_kept : (u : ThreadId) → (u.0 ≡ t.0 → ⊥) → post_of now.fats u ≡ post_of w.fats u
+    post_kept u ne = rw (get-remove_by w.fats.threads t.0 u.0, ne_eqb u.0 t.0 ne) refl
 
-    new_thread : (u : ThreadId) → (u.0 ≡ t.0) ⊎ (u.0 ≡ t.0 → ⊥) → thread_of now (seat_of now.seats u) ≡ (if u.0 == t.0 then None else thread_of w (seat_of w.seats u))
+    alike : (u : ThreadId) → (u.0 ≡ t.0 → ⊥) → ActsAlike w.fats now.fats u
+    alike u ne = acts_alike w.fats now.fats u sound.fats (ap (λ (o : Option Post). unwrap_or o Out) (post_kept u ne)) (λ m h. refl)
+
+    thread_kept : (u : ThreadId) → (u.0 ≡ t.0 → ⊥) → (o : Option ℕ) → seat_of w.seats u ≡ o → thread_of now u o ≡ thread_of w u o
+    thread_kept u ne None e = refl
+    thread_kept u ne (Some j) e =
+        rw (get_or-set_other w.places k j Idle Idle (seats_apart u j ne e)) (ap (λ (x : Doing). Some (record { flag = false; act = x })) (alike u ne (place_at w j)))
+
+    new_thread : (u : ThreadId) → (u.0 ≡ t.0) ⊎ (u.0 ≡ t.0 → ⊥)
+        → thread_of now u (seat_of now.seats u) ≡ (if u.0 == t.0 then None else thread_of w u (seat_of w.seats u))
     new_thread u (inl same) = rw (seat_now_same u same, eq-eqb u.0 t.0 same) refl
     new_thread u (inr ne) = rw (seat_now_other u ne, ne_eqb u.0 t.0 ne) (thread_kept u ne (seat_of w.seats u) refl)
 
@@ -180,15 +201,31 @@ module _ (w : WorldState) (sound : IsSound w) (k : ℕ) (t : ThreadId) (seat : s
     old_fits j ne (Won o) f = f
     old_fits j ne (Bound c won m) f = (f.0, f.1, (f.2.0, f.2.1, rw (holder_kept j ne) f.2.2))
     old_fits j ne (Inflated c m) f = f
+    old_fits j ne Parked f = f
     old_fits j ne (Ending x) f = f
 
     attached_now : (u : ThreadId) → (u.0 ≡ t.0) ⊎ (u.0 ≡ t.0 → ⊥) → IsSome (seat_of now.seats u) → IsAttached now.fats u
     attached_now u (inl same) h = let never : is_some {T = ℕ} None ≡ true = rw (seat_now_same u same) at h in absurd (cc)
-    attached_now u (inr ne) h = rw (get-remove_by w.fats.threads t.0 u.0, ne_eqb u.0 t.0 ne) (sound.attached u (rw (seat_now_other u ne) at h))
+    attached_now u (inr ne) h = rw (post_kept u ne) (sound.attached u (rw (seat_now_other u ne) at h))
 
     live_now : (u : ThreadId) → (u.0 ≡ t.0) ⊎ (u.0 ≡ t.0 → ⊥) → IsAttached now.fats u → IsSome (seat_of now.seats u)
     live_now u (inl same) h = let never : is_some {T = Post} None ≡ true = rw (get-remove_by w.fats.threads t.0 u.0, eq-eqb u.0 t.0 same) at h in absurd (cc)
-    live_now u (inr ne) h = rw (seat_now_other u ne) (sound.live u (rw (get-remove_by w.fats.threads t.0 u.0, ne_eqb u.0 t.0 ne) at h))
+    live_now u (inr ne) h = rw (seat_now_other u ne) (sound.live u (rw (post_kept u ne) at h))
+
+    posted_now : (u : ThreadId) (j : ℕ) → (u.0 ≡ t.0) ⊎ (u.0 ≡ t.0 → ⊥) → seat_of now.seats u ≡ Some j → Agrees (place_at now j) (post_of now.fats u)
+    posted_now u j (inl same) h = let never : None ≡ Some j = sym (seat_now_same u same) ∙ h in absurd (cc)
+    posted_now u j (inr ne) h =
+        let before : seat_of w.seats u ≡ Some j = sym (seat_now_other u ne) ∙ h in
+        rw (get_or-set_other w.places k j Idle Idle (seats_apart u j ne before), post_kept u ne) (sound.posted u j before)
+
+    counted_now : thread_count now.fats ≡ count_by is_some now.seats
+    counted_now =
+        let here : IsAttached w.fats t = rw out refl in
+        let found = seat_found w.seats t k seat in
+        let fewer : thread_count now.fats + 1 ≡ thread_count w.fats = count-without_thread w.fats t here in
+        let given : count_by is_some now.seats + 1 ≡ count_by is_some w.seats = count_given w.seats k t found.0 found.1 in
+        let before : thread_count w.fats ≡ count_by is_some w.seats = sound.counted in
+        omega arith
 
     published_now : (m : ℕ) → IsPublished w m → IsPublished now m
     published_now m (inl shows) = inl shows
@@ -206,10 +243,12 @@ module _ (w : WorldState) (sound : IsSound w) (k : ℕ) (t : ThreadId) (seat : s
       one_to_one = IsOneToOne-given w.seats t k sound.one_to_one seat;
       formed = sound.formed;
       words = λ p h. old_stands p (lock_at w p) refl (sound.words p h);
-      fats = record { few = sound.fats.few; limit = sound.fats.limit; fair = sound.fats.fair };
+      fats = IsSound-without_thread w.fats t sound.fats out;
       published = λ m h. published_now m (sound.published m h);
       attached = λ u h. attached_now u (cases_eq u.0 t.0) h;
       live = λ u h. live_now u (cases_eq u.0 t.0) h;
+      posted = λ u j h. posted_now u j (cases_eq u.0 t.0) h;
+      counted = counted_now;
       places = λ j h. at_seat j h (cases_eq j k);
     } where
       at_seat : (j : ℕ) → j < length (set w.places k Idle) → (j ≡ k) ⊎ (j ≡ k → ⊥) → Fitting now j (get_or (set w.places k Idle) j Idle)
@@ -228,7 +267,7 @@ module _ (w : WorldState) (sound : IsSound w) (k : ℕ) (t : ThreadId) (seat : s
     gone_right = (
       now_sound,
       subst (λ (s : State). Run (shown w) (move.End t ∷ move.Return t reply.Ended ∷ []) s) (sym now_shows)
-          (run_ended (shown w) t false (is_at w sound k t seat (Ending n) at) owns_none),
+          (run_ended (shown w) t false (is_at w sound k t seat (Ending n) at out) owns_none),
     )
 
 -- the action of a thread that ends

@@ -15,13 +15,16 @@ use Rattle.lock_word.proofs.Words.{lock_of-word_of}
 use Rattle.thread_index.specs.Indices.{seat_of}
 use Rattle.thread_index.proofs.Seats.{seat_found}
 use Rattle.step_core.specs.declared.moves.Doing.{Doing}
+use Rattle.fat_monitor.specs.declared.actions.Post.TheVariants.{Out}
+use Rattle.fat_monitor.specs.FatState.{FatState, post_of, post_at}
 use Rattle.step_core.specs.declared.places.Place.{Place}
+use Rattle.step_core.specs.declared.places.Place.TheVariants.{Idle, Begun, Taking, Storing, Binding, Acting, Won, Bound, Inflated, Parked, Ending}
 use Rattle.step_core.specs.declared.events.Did.{Did}
 use Rattle.step_core.specs.Machine.{State, Thread, Monitor, held, with_monitor, Is, now_is, OwnedBy}
-use Rattle.step_core.specs.WorldState.{WorldState, IsSound, Stands, place_at, word_at, lock_at, low_word}
-use Rattle.step_core.specs.Going.{gone, writes, new_word}
-use Rattle.step_core.specs.Shown.{shown, monitor_of, doing_of}
-use Rattle.step_core.proofs.Shows.{shown_changed}
+use Rattle.step_core.specs.WorldState.{WorldState, IsSound, Stands, Agrees, place_at, word_at, lock_at, low_word}
+use Rattle.step_core.specs.Going.{gone, stays, writes, new_word}
+use Rattle.step_core.specs.Shown.{shown, monitor_of, doing_of, act_of}
+use Rattle.step_core.proofs.Shows.{shown_changed, shown_kept}
 
 -- the state is as it was where a thread is written as it is
 pub now_is_same : (s : State) (t : ThreadId) (d : Doing) → Is s t false d → now_is s t false d ≡ s
@@ -44,6 +47,10 @@ stands_at w sound p = by_place (cases_lt p (length w.words))
     by_place (inl h) = sound.words p h
     by_place (inr h) = rw (get_or_past w.words p (low_word 0) h) tt
 
+-- what a thread shows that is out of every fat action
+pub act_out : (f : FatState) (t : ThreadId) (p : Place) → post_of f t ≡ Some Out → act_of f (post_at f t) p ≡ doing_of p
+act_out f t p out = rw out refl
+
 module _ (w : WorldState) (sound : IsSound w) (k : ℕ) (t : ThreadId) (seat : seat_of w.seats t ≡ Some k) where
   -- the thread has a place, and its index fits a word
   pub within : k < length w.places
@@ -58,8 +65,25 @@ module _ (w : WorldState) (sound : IsSound w) (k : ℕ) (t : ThreadId) (seat : s
   pub thin_stands : (q c : ℕ) → c ≤ 255 → Stands w q (Thin (k + 1) c)
   thin_stands q c h = let n : k + 1 - 1 ≡ k = omega arith in (omega arith, index_fits, h, rw (n, (seat_found w.seats t k seat).1) refl)
 
-  pub is_at : (p : Place) → place_at w k ≡ p → Is (shown w) t false (doing_of p)
-  is_at p e = rw (seat, e) refl
+  -- a thread that is not parked is out of every fat action
+  pub out_at : (p : Place) → place_at w k ≡ p → (p ≡ Parked → ⊥) → post_of w.fats t ≡ Some Out
+  out_at p e busy = by_place p (rw e at (sound.posted t k seat)) busy
+    where
+      by_place : (p : Place) → Agrees p (post_of w.fats t) → (p ≡ Parked → ⊥) → post_of w.fats t ≡ Some Out
+      by_place Idle h busy = h
+      by_place (Begun c b) h busy = h
+      by_place (Taking o b) h busy = h
+      by_place (Storing c l) h busy = h
+      by_place (Binding c n) h busy = h
+      by_place (Acting c m) h busy = h
+      by_place (Won o) h busy = h
+      by_place (Bound c won m) h busy = h
+      by_place (Inflated c m) h busy = h
+      by_place Parked h busy = absurd (busy refl)
+      by_place (Ending n) h busy = h
+
+  pub is_at : (p : Place) → place_at w k ≡ p → post_of w.fats t ≡ Some Out → Is (shown w) t false (doing_of p)
+  is_at p e out = rw (seat, e) (ap (λ (x : Doing). Some (record { flag = false; act = x })) (act_out w.fats t p out))
 
   -- the owner that a thin word of one's own shows
   pub mine : (c : ℕ) → monitor_of w (Thin (k + 1) c) ≡ held t (c + 1)
@@ -86,11 +110,15 @@ module _ (w : WorldState) (sound : IsSound w) (k : ℕ) (t : ThreadId) (seat : s
       at_object (inr ne) = rw (ne_eqb q.0 o.0 ne, get_or-set_other w.words o.0 q.0 x (low_word 0) ne) refl
 
   -- the state after a write of a lock that shows this monitor
-  pub shown_written : (o : ObjectId) (l : Lock) (m : Monitor) (p : Place) (d : Did) → o.0 < length w.words → Fits l → monitor_of w l ≡ m
+  pub shown_written : (o : ObjectId) (l : Lock) (m : Monitor) (p : Place) (d : Did) → post_of w.fats t ≡ Some Out → o.0 < length w.words → Fits l → monitor_of w l ≡ m
       → shown (gone w k (writes w o (new_word w o l) p d)) ≡ with_monitor (now_is (shown w) t false (doing_of p)) o m
-  shown_written o l m p d h f e =
-      rw (← e) (shown_changed w k t (writes w o (new_word w o l) p d) o (monitor_of w l) seat within (length-set w.words o.0 (new_word w o l))
-      (written o (new_word w o l) p d l h (lock_of-new_word w o l f)))
+  shown_written o l m p d out h f e =
+      rw (← e) (shown_changed w k t (writes w o (new_word w o l) p d) (doing_of p) seat within (length-set w.words o.0 (new_word w o l))
+      (act_out w.fats t p out) (λ u ne q. refl) o (monitor_of w l) (written o (new_word w o l) p d l h (lock_of-new_word w o l f)))
+
+  -- the state after a Go that changes its place alone
+  pub shown_stays : (p : Place) (d : Did) → post_of w.fats t ≡ Some Out → shown (gone w k (stays w p d)) ≡ now_is (shown w) t false (doing_of p)
+  shown_stays p d out = shown_kept w k t (stays w p d) (doing_of p) seat within refl (act_out w.fats t p out) (λ u ne q. refl) (λ q. refl)
 
   -- a monitor that is written as it was
   pub as_it_was : (o : ObjectId) (x : Monitor) → x ≡ monitor_of w (lock_at w o.0) → (q : ObjectId)

@@ -2,8 +2,12 @@ pub mod Machines
 pub mod Shows
 pub mod Frames
 pub mod WordRuns
+pub mod Shifts
+pub mod ActShows
 pub mod ActRuns
+pub mod NotifyRuns
 pub mod Runs
+pub mod KeepsPosts
 pub mod Keeps
 pub mod Endings
 pub mod Steps
@@ -15,5 +19,6 @@ pub mod Patient
 pub mod Lingering
 pub mod Bytes
 pub mod Sparing
+pub mod Lasting
 pub mod Outcomes
 pub mod Reaching

@@ -1,8 +1,7 @@
--- How often a call can go on without a reply and without meeting another thread.
+-- How often a call can go on without a reply, without parking and without meeting another thread.
 use Rattle.std.specs.Prelude.{◌≡◌, ◌⊎◌, ℕ, ◌+◌, ◌<◌, ◌≤◌, Bool, true, false, List, [], ◌∷◌, length, Option, Some, None, IsSome, Result, Ok, Err}
 use Rattle.std.proofs.Common.{refl, arith, ap, sym, ◌∙◌, inl, inr}
 use Rattle.std.proofs.lemmas.Bool.{cases_eq, cases_lt, eq-eqb, ne_eqb}
-use Rattle.std.proofs.lemmas.Option.{same_Some}
 use Rattle.lock_word.specs.declared.ThreadId.{ThreadId}
 use Rattle.lock_word.specs.declared.ObjectId.{ObjectId}
 use Rattle.thread_index.specs.Indices.{seat_of}
@@ -13,21 +12,21 @@ use Rattle.fast_path.specs.Table.{object_of}
 use Rattle.step_core.specs.declared.moves.Doing.{Doing}
 use Rattle.step_core.specs.declared.moves.Doing.TheVariants as doing
 use Rattle.step_core.specs.declared.places.Place.{Place}
-use Rattle.step_core.specs.declared.places.Place.TheVariants.{Idle, Begun, Taking, Storing, Binding, Acting, Won, Bound, Inflated, Ending}
+use Rattle.step_core.specs.declared.places.Place.TheVariants.{Idle, Begun, Taking, Storing, Binding, Acting, Won, Bound, Inflated, Parked, Ending}
 use Rattle.step_core.specs.declared.events.Step.{Step}
 use Rattle.step_core.specs.declared.events.Step.TheVariants as step
 use Rattle.step_core.specs.declared.events.Did.{Did}
 use Rattle.step_core.specs.declared.events.Fault.{Fault}
-use Rattle.step_core.specs.declared.events.Fault.TheVariants.{NoIndex, Memory, Known, NoThread, NoObject, InCall, NotCalling}
+use Rattle.step_core.specs.declared.events.Fault.TheVariants.{Memory, Known, NoObject, InCall}
 use Rattle.step_core.specs.Machine.{Thread, Is}
 use Rattle.step_core.specs.WorldState.{WorldState, IsSound, Fitting, place_at}
 use Rattle.step_core.specs.Stepping.{step_of}
 use Rattle.step_core.specs.Shown.{shown, doing_of}
 use Rattle.step_core.specs.Refusals.{IsLive, IsBusy, IsRefused, IsAcceptable}
-use Rattle.step_core.specs.Patience.{left_at, left_of_seat, left_of, HasMet, goes_of, Lingers, AllLinger}
+use Rattle.step_core.specs.Patience.{left_at, left_of_seat, left_of, HasMet, HasParked, goes_of, Lingers, AllLinger}
 use Rattle.step_core.proofs.Frames.{within}
 use Rattle.step_core.proofs.Steps.{step_right}
-use Rattle.step_core.proofs.Refusing.{step_judged, not_idle}
+use Rattle.step_core.proofs.Refusing.{step_judged, does, does_out, shows, busy}
 use Rattle.step_core.proofs.Patient.{step_patient}
 
 -- threads with one number have as much left
@@ -45,19 +44,18 @@ busy_place objects (Acting c m) h e = cc
 busy_place objects (Won o) h e = cc
 busy_place objects (Bound c won m) h e = cc
 busy_place objects (Inflated c m) h e = cc
+busy_place objects Parked h e = cc
 busy_place objects (Ending n) h e = cc
 
 -- and so is a thread with steps left
-is_busy : (w : WorldState) (t : ThreadId) → 1 ≤ left_of w t → IsBusy w t
-is_busy w t h = by_seat (seat_of w.seats t) refl
+is_busy : (w : WorldState) → IsSound w → (t : ThreadId) → 1 ≤ left_of w t → IsBusy w t
+is_busy w sound t h = by_seat (seat_of w.seats t) refl
   where
     by_seat : (o : Option ℕ) → seat_of w.seats t ≡ o → IsBusy w t
     by_seat None e = let none : left_of w t ≡ 0 = rw e refl in absurd (omega arith)
-    by_seat (Some k) e =
-        let some : 1 ≤ left_at (length w.words) (place_at w k) = rw e at h in
-        (record { flag = false; act = doing_of (place_at w k) }, rw e refl, not_idle (place_at w k) (busy_place (length w.words) (place_at w k) some))
+    by_seat (Some k) e = let some : 1 ≤ left_at (length w.words) (place_at w k) = rw e at h in busy w sound t k e (busy_place (length w.words) (place_at w k) some)
 
--- a busy thread is live, and is neither attached, nor begins a call, nor is refused a Go
+-- a busy thread is live, and is neither attached nor begins a call
 busy_live : (w : WorldState) (t : ThreadId) → IsBusy w t → IsLive w t
 busy_live w t busy = rw busy.1 refl
 
@@ -75,17 +73,14 @@ no_begin_on w t c o names in_call busy all = by_place (cases_lt o.0 (shown w).ob
 no_begin : (w : WorldState) (t : ThreadId) (c : Call) → IsBusy w t → IsAcceptable w (step.Begin t c) → ⊥
 no_begin w t (call.Enter o) busy all = no_begin_on w t (call.Enter o) o refl (λ h. (busy, h)) busy all
 no_begin w t (call.Exit o) busy all = no_begin_on w t (call.Exit o) o refl (λ h. (busy, h)) busy all
+no_begin w t (call.Wait o millis nanos) busy all = no_begin_on w t (call.Wait o millis nanos) o refl (λ h. (busy, h)) busy all
+no_begin w t (call.Notify o) busy all = no_begin_on w t (call.Notify o) o refl (λ h. (busy, h)) busy all
+no_begin w t (call.NotifyAll o) busy all = no_begin_on w t (call.NotifyAll o) o refl (λ h. (busy, h)) busy all
 no_begin w t (call.Holds o) busy all = no_begin_on w t (call.Holds o) o refl (λ h. (busy, h)) busy all
 no_begin w t call.End busy all = let never : InCall ≡ Memory = all InCall (busy, tt) in cc
 
-no_refusal : (w : WorldState) (t : ThreadId) (f : Fault) → IsBusy w t → IsRefused w (step.Go t) f → ⊥
-no_refusal w t NoThread busy r = let never : ◌≡◌ {A = Option Thread} (Some busy.0) None = sym busy.1 ∙ r in cc
-no_refusal w t NotCalling busy r = busy.2 (ap (λ (x : Thread). x.act) (same_Some busy.0 r.0 (sym busy.1 ∙ r.1)) ∙ r.2)
-no_refusal w t Known busy r = r
-no_refusal w t NoIndex busy r = r
-no_refusal w t Memory busy r = r
-no_refusal w t NoObject busy r = r
-no_refusal w t InCall busy r = r
+same_Ok : (d e : Did) → ◌≡◌ {A = Result Did Fault} (Ok d) (Ok e) → d ≡ e
+same_Ok d e h = cc
 
 -- what a step does to what t has left, where it lingers: a Go of t lowers it, which stays at least 1; any other step leaves it
 abbrev LowersBy : WorldState → ThreadId → ℕ → WorldState → Type 0
@@ -102,34 +97,39 @@ module _ (w : WorldState) (sound : IsSound w) (t : ThreadId) (left : 1 ≤ left_
 
   attaches : (u : ThreadId) (room : Bool) (r : Result Did Fault) → (step_of room w (step.Attach u)).answer ≡ r → (u.0 ≡ t.0) ⊎ (u.0 ≡ t.0 → ⊥)
       → LowersBy w t 0 (step_of room w (step.Attach u)).after
-  attaches u room (Err f) e same = unmoved (step.Attach u) room (rw e at (step_judged room w (step.Attach u)).1)
+  attaches u room (Err f) e same = unmoved (step.Attach u) room (rw e at (step_judged w sound room (step.Attach u)).1)
   attaches u room (Ok d) e (inl same) =
-      absurd (no_attach w u (is_busy w u (rw (same_left w t u same) left)) (rw e at (step_judged room w (step.Attach u)).0))
+      absurd (no_attach w u (is_busy w sound u (rw (same_left w t u same) left)) (rw e at (step_judged w sound room (step.Attach u)).0))
   attaches u room (Ok d) e (inr other) = kept (step_of room w (step.Attach u)).after ((rw e at (step_patient w sound room (step.Attach u))) t (λ x. other (sym x)))
 
   begins : (u : ThreadId) (c : Call) (room : Bool) (r : Result Did Fault) → (step_of room w (step.Begin u c)).answer ≡ r → (u.0 ≡ t.0) ⊎ (u.0 ≡ t.0 → ⊥)
       → LowersBy w t 0 (step_of room w (step.Begin u c)).after
-  begins u c room (Err f) e same = unmoved (step.Begin u c) room (rw e at (step_judged room w (step.Begin u c)).1)
+  begins u c room (Err f) e same = unmoved (step.Begin u c) room (rw e at (step_judged w sound room (step.Begin u c)).1)
   begins u c room (Ok d) e (inl same) =
-      absurd (no_begin w u c (is_busy w u (rw (same_left w t u same) left)) (rw e at (step_judged room w (step.Begin u c)).0))
+      absurd (no_begin w u c (is_busy w sound u (rw (same_left w t u same) left)) (rw e at (step_judged w sound room (step.Begin u c)).0))
   begins u c room (Ok d) e (inr other) = kept (step_of room w (step.Begin u c)).after ((rw e at (step_patient w sound room (step.Begin u c))) t (λ x. other (sym x)))
 
   others : (u : ThreadId) (room : Bool) (r : Result Did Fault) → (step_of room w (step.Go u)).answer ≡ r → (u.0 ≡ t.0 → ⊥) → LowersBy w t 0 (step_of room w (step.Go u)).after
-  others u room (Err f) e other = unmoved (step.Go u) room (rw e at (step_judged room w (step.Go u)).1)
+  others u room (Err f) e other = unmoved (step.Go u) room (rw e at (step_judged w sound room (step.Go u)).1)
   others u room (Ok d) e other = kept (step_of room w (step.Go u)).after ((rw e at (step_patient w sound room (step.Go u))).1 t (λ x. other (sym x)))
 
   goes : (u : ThreadId) (room : Bool) (r : Result Did Fault) → (step_of room w (step.Go u)).answer ≡ r → u.0 ≡ t.0 → Lingers w t (step.Go u, room)
       → LowersBy w t 1 (step_of room w (step.Go u)).after
-  goes u room (Err f) e same lingers = absurd (no_refusal w u f (is_busy w u (rw (same_left w t u same) left)) (rw e at (step_judged room w (step.Go u)).0))
-  goes u room (Ok d) e same lingers = by_case (rw e at (step_patient w sound room (step.Go u))).0 (rw e at (lingers same))
+  goes u room (Err f) e same lingers = let one = lingers same in let never : ◌≡◌ {A = Result Did Fault} (Err f) (Ok one.0) = sym e ∙ one.1 in absurd (cc)
+  goes u room (Ok d) e same lingers =
+      let one = lingers same in
+      let other : d ≡ one.0 = same_Ok d one.0 (sym e ∙ one.1) in
+      by_case (rw e at (step_patient w sound room (step.Go u))).0 (rw other (one.2, one.3, one.4))
     where
       w' : WorldState
       w' = (step_of room w (step.Go u)).after
 
-      by_case : IsSome d.reply ⊎ (HasMet w u d.atomic ⊎ ((left_of w' u < left_of w u) × (1 ≤ left_of w' u))) → (IsSome d.reply → ⊥) × (HasMet w u d.atomic → ⊥) → LowersBy w t 1 w'
+      by_case : IsSome d.reply ⊎ (HasParked d.atomic ⊎ (HasMet w u d.atomic ⊎ ((left_of w' u < left_of w u) × (1 ≤ left_of w' u))))
+          → (IsSome d.reply → ⊥) × (HasParked d.atomic → ⊥) × (HasMet w u d.atomic → ⊥) → LowersBy w t 1 w'
       by_case (inl replied) neither = absurd (neither.0 replied)
-      by_case (inr (inl met)) neither = absurd (neither.1 met)
-      by_case (inr (inr lower)) neither =
+      by_case (inr (inl parked)) neither = absurd (neither.1 parked)
+      by_case (inr (inr (inl met))) neither = absurd (neither.2 met)
+      by_case (inr (inr (inr lower))) neither =
           let before : left_of w u ≡ left_of w t = same_left w t u same in let after : left_of w' u ≡ left_of w' t = same_left w' t u same in
           (omega arith, omega arith)
 
@@ -153,8 +153,8 @@ lingers w sound t ((step.Go u, room) ∷ ss) left all = by_thread (cases_eq u.0 
         let one = others w sound t left u room (step_of room w (step.Go u)).answer refl other in let more = rest one.1 in
         rw (ne_eqb u.0 t.0 other) (omega arith)
 
--- what a call has left, by what its thread is doing
-left_bounds : (w : WorldState) (k : ℕ) (p : Place) → Fitting w k p → (doing_of p ≡ doing.Idle → ⊥) → 1 ≤ left_at (length w.words) p
+-- what a call has left, by its place
+left_bounds : (w : WorldState) (k : ℕ) (p : Place) → Fitting w k p → (p ≡ Idle → ⊥) → 1 ≤ left_at (length w.words) p
 left_bounds w k Idle fit h = absurd (h refl)
 left_bounds w k (Begun c b) fit h = omega arith
 left_bounds w k (Taking o b) fit h = omega arith
@@ -165,9 +165,10 @@ left_bounds w k (Won o) fit h = omega arith
 left_bounds w k (Bound c true m) fit h = omega arith
 left_bounds w k (Bound c false m) fit h = omega arith
 left_bounds w k (Inflated c m) fit h = omega arith
+left_bounds w k Parked fit h = omega arith
 left_bounds w k (Ending n) fit h = let within : n ≤ length w.words = fit.0 in omega arith
 
-at_most_four : (objects : ℕ) (p : Place) → (doing_of p ≡ doing.Wants call.End → ⊥) → left_at objects p ≤ 4
+at_most_four : (objects : ℕ) (p : Place) → ((n : ℕ) → p ≡ Ending n → ⊥) → left_at objects p ≤ 4
 at_most_four objects Idle h = omega arith
 at_most_four objects (Begun c b) h = omega arith
 at_most_four objects (Taking o b) h = omega arith
@@ -178,48 +179,56 @@ at_most_four objects (Won o) h = omega arith
 at_most_four objects (Bound c true m) h = omega arith
 at_most_four objects (Bound c false m) h = omega arith
 at_most_four objects (Inflated c m) h = omega arith
-at_most_four objects (Ending n) h = absurd (h refl)
+at_most_four objects Parked h = omega arith
+at_most_four objects (Ending n) h = absurd (h n refl)
 
 -- an end names no object
 names_none : (c : Call) → IsSome (object_of c) → doing.Wants c ≡ doing.Wants call.End → ⊥
 names_none (call.Enter o) names e = cc
 names_none (call.Exit o) names e = cc
+names_none (call.Wait o millis nanos) names e = cc
+names_none (call.Notify o) names e = cc
+names_none (call.NotifyAll o) names e = cc
 names_none (call.Holds o) names e = cc
 names_none call.End names e = cc
 
 -- a thread that ends has a Go for each word, and one more
-at_most_all : (w : WorldState) (k : ℕ) (p : Place) → Fitting w k p → doing_of p ≡ doing.Wants call.End → left_at (length w.words) p ≤ length w.words + 1
-at_most_all w k Idle fit h = absurd (cc)
-at_most_all w k (Begun c b) fit h = absurd (names_none c fit.0 h)
-at_most_all w k (Taking o b) fit h = absurd (cc)
-at_most_all w k (Storing c l) fit h = absurd (names_none c fit.0.0 h)
-at_most_all w k (Binding c n) fit h = absurd (names_none c fit.0.0 h)
-at_most_all w k (Acting c m) fit h = absurd (names_none c fit.0.0 h)
-at_most_all w k (Won o) fit h = absurd (cc)
-at_most_all w k (Bound c true m) fit h = absurd (cc)
-at_most_all w k (Bound c false m) fit h = absurd (names_none c fit.0.0 h)
-at_most_all w k (Inflated c m) fit h = absurd (names_none c fit.0.0 h)
+at_most_all : (w : WorldState) (k : ℕ) (p : Place) → Fitting w k p → ((p ≡ Parked → ⊥) → doing_of p ≡ doing.Wants call.End) → left_at (length w.words) p ≤ length w.words + 1
+at_most_all w k Idle fit h = let e = h (λ i. cc) in absurd (cc)
+at_most_all w k (Begun c b) fit h = absurd (names_none c fit.0 (h (λ i. cc)))
+at_most_all w k (Taking o b) fit h = let e = h (λ i. cc) in absurd (cc)
+at_most_all w k (Storing c l) fit h = absurd (names_none c fit.0.0 (h (λ i. cc)))
+at_most_all w k (Binding c n) fit h = absurd (names_none c fit.0.0 (h (λ i. cc)))
+at_most_all w k (Acting c m) fit h = absurd (names_none c fit.0.0 (h (λ i. cc)))
+at_most_all w k (Won o) fit h = let e = h (λ i. cc) in absurd (cc)
+at_most_all w k (Bound c true m) fit h = let e = h (λ i. cc) in absurd (cc)
+at_most_all w k (Bound c false m) fit h = absurd (names_none c fit.0.0 (h (λ i. cc)))
+at_most_all w k (Inflated c m) fit h = absurd (names_none c fit.0.0 (h (λ i. cc)))
+at_most_all w k Parked fit h = omega arith
 at_most_all w k (Ending n) fit h = omega arith
 
 module _ (w : WorldState) (sound : IsSound w) (t : ThreadId) (act : Doing) (is : Is (shown w) t false act) where
-  -- the place of a thread that is doing this
-  placed : (k : ℕ) × (seat_of w.seats t ≡ Some k) × (doing_of (place_at w k) ≡ act)
+  -- the seat of a thread that is doing this
+  placed : (k : ℕ) × (seat_of w.seats t ≡ Some k) × (does w sound t k ≡ act)
   placed = by_seat (seat_of w.seats t) refl
     where
-      by_seat : (o : Option ℕ) → seat_of w.seats t ≡ o → (k : ℕ) × (seat_of w.seats t ≡ Some k) × (doing_of (place_at w k) ≡ act)
+      by_seat : (o : Option ℕ) → seat_of w.seats t ≡ o → (k : ℕ) × (seat_of w.seats t ≡ Some k) × (does w sound t k ≡ act)
       by_seat None e = let never : ◌≡◌ {A = Option Thread} None (Some (record { flag = false; act = act })) = rw e at is in absurd (cc)
-      by_seat (Some k) e =
-          (k, e, ap (λ (x : Thread). x.act) (same_Some (record { flag = false; act = doing_of (place_at w k) }) (record { flag = false; act = act }) (rw e at is)))
+      by_seat (Some k) e = (k, e, shows w sound t k e (record { flag = false; act = act }) is)
+
+  -- its place, where it is not parked
+  place_does : (k : ℕ) → seat_of w.seats t ≡ Some k → does w sound t k ≡ act → (p : Place) → place_at w k ≡ p → (p ≡ Parked → ⊥) → doing_of p ≡ act
+  place_does k e h p at free = sym (does_out w sound t k e p at free) ∙ h
 
   has_left : (act ≡ doing.Idle → ⊥) → 1 ≤ left_of w t
   has_left busy = let p = placed in
-      rw p.1 (left_bounds w p.0 (place_at w p.0) (sound.places p.0 (within w sound p.0 t p.1)) (λ e. busy (sym p.2 ∙ e)))
+      rw p.1 (left_bounds w p.0 (place_at w p.0) (sound.places p.0 (within w sound p.0 t p.1)) (λ e. busy (sym (place_does p.0 p.1 p.2 Idle e (λ i. cc)))))
 
-  -- A call but End replies or meets another thread within four Go steps.
+  -- A call but End replies, parks or meets another thread within four Go steps.
   pub within_four : (act ≡ doing.Idle → ⊥) → (act ≡ doing.Wants call.End → ⊥) → (ss : List (Step × Bool)) → AllLinger w t ss → goes_of t ss < 4
   within_four busy not_end ss all =
       let p = placed in
-      let most : left_of w t ≤ 4 = rw p.1 (at_most_four (length w.words) (place_at w p.0) (λ e. not_end (sym p.2 ∙ e))) in
+      let most : left_of w t ≤ 4 = rw p.1 (at_most_four (length w.words) (place_at w p.0) (λ n e. not_end (sym (place_does p.0 p.1 p.2 (Ending n) e (λ i. cc))))) in
       let fewer : goes_of t ss < left_of w t = lingers w sound t ss (has_left busy) all in omega arith
 
 -- An end replies within a Go for each object and one more.
@@ -227,5 +236,5 @@ pub within_all : (w : WorldState) → IsSound w → (t : ThreadId) → Is (shown
 within_all w sound t is ss all =
     let p = placed w sound t (doing.Wants call.End) is in
     let fit : Fitting w p.0 (place_at w p.0) = sound.places p.0 (within w sound p.0 t p.1) in
-    let most : left_of w t ≤ length w.words + 1 = rw p.1 (at_most_all w p.0 (place_at w p.0) fit p.2) in
+    let most : left_of w t ≤ length w.words + 1 = rw p.1 (at_most_all w p.0 (place_at w p.0) fit (λ free. place_does w sound t (doing.Wants call.End) is p.0 p.1 p.2 (place_at w p.0) refl free)) in
     let fewer : goes_of t ss < left_of w t = lingers w sound t ss (has_left w sound t (doing.Wants call.End) is (λ e. cc)) all in omega arith

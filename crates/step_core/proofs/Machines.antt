@@ -1,7 +1,10 @@
 -- Runs of the machine that answer a call.
-use Rattle.std.specs.Prelude.{◌≡◌, ◌⊎◌, ℕ, ◌+◌, ◌<◌, Bool, true, false, if◌then◌else◌, ◌==◌, [], ◌∷◌, Option, Some, None}
-use Rattle.std.proofs.Common.{arith, refl, ap, sym}
+use Rattle.std.specs.Prelude.{◌≡◌, ◌⊎◌, ℕ, ◌+◌, ◌<◌, Bool, true, false, if◌then◌else◌, ◌==◌, [], ◌∷◌, Option, Some, None, ℤ}
+use Rattle.std.proofs.Common.{arith, refl, ap, sym, ◌∙◌, inl}
 use Rattle.std.proofs.Math.Path.{fun_ext}
+use Rattle.std.proofs.lemmas.Bool.{cond_both, eqb-true, ne_eqb}
+use Rattle.std.specs.Option.{option_map}
+use Rattle.fat_monitor.specs.declared.actions.Why.TheVariants as why
 use Rattle.lock_word.specs.declared.ThreadId.{ThreadId}
 use Rattle.lock_word.specs.declared.ObjectId.{ObjectId}
 use Rattle.fat_monitor.specs.declared.actions.Cause.{Cause}
@@ -10,10 +13,14 @@ use Rattle.fat_monitor.specs.declared.actions.Reply.TheVariants as reply
 use Rattle.fast_path.specs.declared.Call.{Call}
 use Rattle.fast_path.specs.declared.Call.TheVariants as call
 use Rattle.step_core.specs.declared.moves.Doing.{Doing}
-use Rattle.step_core.specs.declared.moves.Doing.TheVariants.{Idle, Has}
+use Rattle.step_core.specs.declared.moves.Doing.TheVariants.{Idle, Wants, Waits, Back, Has}
 use Rattle.step_core.specs.declared.moves.Move.{Move}
 use Rattle.step_core.specs.declared.moves.Move.TheVariants as move
-use Rattle.step_core.specs.Machine.{State, Thread, Monitor, Steps, Run, free, held, with_thread, with_monitor, Is, now_is, answered, OwnedBy, Unowned, Calls, MayRefuse}
+use Rattle.step_core.specs.Machine.{State, Thread, Monitor, Steps, Run, free, held, with_thread, with_monitor, Is, now_is, answered, OwnedBy, Unowned, Calls, MayRefuse, AreGood, NobodyWaits, all_woken, woken, owner_only}
+
+-- objects with one number are one object
+pub one_object : (p o : ObjectId) → p.0 ≡ o.0 → p ≡ o
+one_object p o e = ap (λ (n : ℕ). let x : ObjectId = record { 0 = n } in x) e
 
 if_same : {A : Type 0} (b : Bool) (x : A) → (if b then x else x) ≡ x
 if_same true x = refl
@@ -44,20 +51,26 @@ run_lock s t flag o n calls may count few =
 abbrev pub IsPlain : Reply → Type 0
 IsPlain reply.Entered = Unit {0}
 IsPlain reply.Exited = Unit {0}
+IsPlain reply.WaitOver = Unit {0}
+IsPlain reply.Notified = Unit {0}
 IsPlain reply.Yes = Unit {0}
 IsPlain reply.No = Unit {0}
 IsPlain reply.Ended = ⊥
 IsPlain reply.IllegalMonitorState = Unit {0}
+IsPlain reply.IllegalArgument = Unit {0}
 IsPlain (reply.Refused c) = Unit {0}
 
 -- such a reply is returned
-return_row : (s : State) (t : ThreadId) (flag : Bool) (r : Reply) → IsPlain r → Is s t flag (Has r) → Steps s (move.Return t r) (now_is s t flag Idle)
+pub return_row : (s : State) (t : ThreadId) (flag : Bool) (r : Reply) → IsPlain r → Is s t flag (Has r) → Steps s (move.Return t r) (now_is s t flag Idle)
 return_row s t flag reply.Entered p h = (flag, h, refl)
 return_row s t flag reply.Exited p h = (flag, h, refl)
+return_row s t flag reply.WaitOver p h = (flag, h, refl)
+return_row s t flag reply.Notified p h = (flag, h, refl)
 return_row s t flag reply.Yes p h = (flag, h, refl)
 return_row s t flag reply.No p h = (flag, h, refl)
 return_row s t flag reply.Ended p h = absurd p
 return_row s t flag reply.IllegalMonitorState p h = (flag, h, refl)
+return_row s t flag reply.IllegalArgument p h = (flag, h, refl)
 return_row s t flag (reply.Refused c) p h = (flag, h, refl)
 
 -- the state with the call over, and this monitor
@@ -102,10 +115,43 @@ pub run_exited : (s : State) (t : ThreadId) (flag : Bool) (o : ObjectId) (n : �
     → Run s (move.Unlock t ∷ move.Return t reply.Exited ∷ []) (over s t flag o (if n == 0 then free else held t n))
 run_exited s t flag o n calls owned = run_changed s t flag reply.Exited (move.Unlock t) o (if n == 0 then free else held t n) tt (flag, o, n, calls, owned, refl)
 
-pub run_illegal : (s : State) (t : ThreadId) (flag : Bool) (o : ObjectId) → Calls s t flag (call.Exit o)
+pub run_illegal : (s : State) (t : ThreadId) (flag : Bool) (c : Call) (o : ObjectId) → owner_only c ≡ Some o → Calls s t flag c
     → (OwnedBy s o t → ⊥)
     → Run s (move.Illegal t ∷ move.Return t reply.IllegalMonitorState ∷ []) (now_is s t flag Idle)
-run_illegal s t flag o calls other = run_replied s t flag reply.IllegalMonitorState (move.Illegal t) tt (flag, call.Exit o, o, calls, refl, other, refl)
+run_illegal s t flag c o only calls other = run_replied s t flag reply.IllegalMonitorState (move.Illegal t) tt (flag, c, o, calls, only, other, refl)
+
+pub run_bad : (s : State) (t : ThreadId) (flag : Bool) (o : ObjectId) (millis nanos : ℤ) → Calls s t flag (call.Wait o millis nanos)
+    → OwnedBy s o t → (AreGood millis nanos → ⊥)
+    → Run s (move.BadArgument t ∷ move.Return t reply.IllegalArgument ∷ []) (now_is s t flag Idle)
+run_bad s t flag o millis nanos calls owned bad =
+    run_replied s t flag reply.IllegalArgument (move.BadArgument t) tt (flag, o, millis, nanos, calls, owned, bad, refl)
+
+-- a notify where nobody waits
+pub run_unnoticed : (s : State) (t : ThreadId) (flag : Bool) (o : ObjectId) → Calls s t flag (call.Notify o) → OwnedBy s o t → NobodyWaits s o
+    → Run s (move.Notify t None ∷ move.Return t reply.Notified ∷ []) (now_is s t flag Idle)
+run_unnoticed s t flag o calls owned nobody = run_replied s t flag reply.Notified (move.Notify t None) tt (flag, o, calls, owned, nobody, refl)
+
+-- and a notifyAll there: who does not wait is not woken
+woken_same : (s : State) (o : ObjectId) → NobodyWaits s o → all_woken s o ≡ s
+woken_same s o nobody = ap (λ (f : ThreadId → Option Thread). record s { thread = f }) (fun_ext (λ u. at_one u (s.thread u) refl))
+  where
+    by_act : (u : ThreadId) (flag : Bool) (d : Doing) → s.thread u ≡ Some (record { flag = flag; act = d }) → woken o d ≡ d
+    by_act u flag Idle e = refl
+    by_act u flag (Wants c) e = refl
+    by_act u flag (Waits p n d) e =
+        cond_both (p.0 == o.0) (Back p n why.Notified) (Waits p n d) (λ x. x ≡ Waits p n d)
+        (λ same. absurd (nobody u flag n d (rw (← one_object p o (eqb-true p.0 o.0 same)) e))) (λ _. refl)
+    by_act u flag (Back p n w) e = refl
+    by_act u flag (Has r) e = refl
+
+    at_one : (u : ThreadId) (x : Option Thread) → s.thread u ≡ x → option_map (λ y. record { flag = y.flag; act = woken o y.act }) x ≡ x
+    at_one u None e = refl
+    at_one u (Some x) e = ap (λ (d : Doing). Some (record { flag = x.flag; act = d })) (by_act u x.flag x.act e)
+
+pub run_unnoticed_all : (s : State) (t : ThreadId) (flag : Bool) (o : ObjectId) → Calls s t flag (call.NotifyAll o) → OwnedBy s o t → NobodyWaits s o
+    → Run s (move.NotifyAll t ∷ move.Return t reply.Notified ∷ []) (now_is s t flag Idle)
+run_unnoticed_all s t flag o calls owned nobody =
+    run_replied s t flag reply.Notified (move.NotifyAll t) tt (flag, o, calls, owned, ap (λ (x : State). answered x t flag reply.Notified) (sym (woken_same s o nobody)))
 
 pub run_yes : (s : State) (t : ThreadId) (flag : Bool) (o : ObjectId) → Calls s t flag (call.Holds o)
     → OwnedBy s o t
@@ -123,9 +169,104 @@ pub run_refused : (s : State) (t : ThreadId) (flag : Bool) (c : Call) (cause : C
 run_refused s t flag c cause calls may = run_replied s t flag (reply.Refused cause) (move.Refuse t cause) tt (flag, c, calls, may, refl)
 
 -- a reply that was there is handed out
-pub run_returned : (s : State) (t : ThreadId) (flag : Bool) → Is s t flag (Has reply.Entered)
-    → Run s (move.Return t reply.Entered ∷ []) (now_is s t flag Idle)
-run_returned s t flag h = (now_is s t flag Idle, (flag, h, refl), refl)
+pub run_returned : (s : State) (t : ThreadId) (flag : Bool) (r : Reply) → IsPlain r → Is s t flag (Has r)
+    → Run s (move.Return t r ∷ []) (now_is s t flag Idle)
+run_returned s t flag r plain h = (now_is s t flag Idle, return_row s t flag r plain h, refl)
+
+-- what two threads are after three writes, of which the last two count
+two_writes : {A : Type 0} (b c : Bool) (x y z v : A) → (if b then x else (if c then y else (if b then z else v))) ≡ (if b then x else (if c then y else v))
+two_writes true c x y z v = refl
+two_writes false true x y z v = refl
+two_writes false false x y z v = refl
+
+-- another thread than the one that is written is what it was
+pub now_is-other : (s : State) (t u : ThreadId) (flag : Bool) (d : Doing) → (t.0 ≡ u.0 → ⊥) → (now_is s u flag d).thread t ≡ s.thread t
+now_is-other s t u flag d ne = rw (ne_eqb t.0 u.0 ne) refl
+
+-- the later of two writes at one monitor stays
+pub with_monitor-with_monitor : (s : State) (o : ObjectId) (x y : Monitor) → with_monitor (with_monitor s o x) o y ≡ with_monitor s o y
+with_monitor-with_monitor s o x y =
+    ap (λ (f : ObjectId → Monitor). record s { monitor = f }) (fun_ext (λ p. if_twice (p.0 == o.0) y x (s.monitor p)))
+
+-- a free monitor goes to a thread that wants to enter, or to one that comes back from a wait
+pub grant_lock : (s : State) (u : ThreadId) (o : ObjectId) → Is s u false (Wants (call.Enter o)) → s.monitor o ≡ free
+    → Steps s (move.Lock u) (with_monitor (now_is s u false (Has reply.Entered)) o (held u 1))
+grant_lock s u o is unowned =
+    let few : (s.monitor o).count < 65535 = rw unowned (omega arith) in
+    (false, o, is, inl (rw unowned refl), few, sym (ap (λ (x : Monitor). with_monitor (answered s u false reply.Entered) o (held u (x.count + 1))) unowned))
+
+pub grant_relock : (s : State) (u : ThreadId) (o : ObjectId) (n : ℕ) → Is s u false (Back o n why.Notified) → s.monitor o ≡ free
+    → Steps s (move.Relock u) (with_monitor (now_is s u false (Has reply.WaitOver)) o (held u n))
+grant_relock s u o n is unowned = (false, o, n, why.Notified, is, rw unowned refl, refl)
+
+-- t gives up a monitor by the first of two moves, and u is granted it by the other
+module _ (s : State) (t u : ThreadId) (o : ObjectId) (n : ℕ) (r : Reply) (d : Doing) (first grant : Move)
+    (gives : Steps s first (with_monitor (now_is s t false d) o free))
+    (grants : Steps (with_monitor (now_is s t false d) o free) grant (with_monitor (now_is (with_monitor (now_is s t false d) o free) u false (Has r)) o (held u n))) where
+  pub run_handed : Run s (first ∷ grant ∷ []) (with_monitor (now_is (now_is s t false d) u false (Has r)) o (held u n))
+  run_handed = (
+    with_monitor (now_is s t false d) o free,
+    gives,
+    (
+      with_monitor (now_is (with_monitor (now_is s t false d) o free) u false (Has r)) o (held u n),
+      grants,
+      sym (with_monitor-with_monitor (now_is (now_is s t false d) u false (Has r)) o free (held u n)),
+    ),
+  )
+
+  -- and t returns with its reply
+  pub run_handed_over : (q : Reply) → d ≡ Has q → IsPlain q → (t.0 ≡ u.0 → ⊥)
+      → Run s (first ∷ grant ∷ move.Return t q ∷ []) (with_monitor (now_is (now_is s u false (Has r)) t false Idle) o (held u n))
+  run_handed_over q e plain apart = (
+    with_monitor (now_is s t false d) o free,
+    gives,
+    (
+      with_monitor (now_is (with_monitor (now_is s t false d) o free) u false (Has r)) o (held u n),
+      grants,
+      (
+        now_is (with_monitor (now_is (with_monitor (now_is s t false d) o free) u false (Has r)) o (held u n)) t false Idle,
+        return_row (with_monitor (now_is (with_monitor (now_is s t false d) o free) u false (Has r)) o (held u n)) t false q plain
+            (now_is-other (now_is s t false d) t u false (Has r) apart ∙ ap (λ (x : Doing). (now_is s t false x).thread t) e ∙ now_is-Is s t false (Has q)),
+        sym (at_last),
+      ),
+    ),
+  ) where
+    at_last : now_is (with_monitor (now_is (with_monitor (now_is s t false d) o free) u false (Has r)) o (held u n)) t false Idle
+        ≡ with_monitor (now_is (now_is s u false (Has r)) t false Idle) o (held u n)
+    at_last =
+        ap (λ (x : State). now_is x t false Idle) (with_monitor-with_monitor (now_is (now_is s t false d) u false (Has r)) o free (held u n))
+        ∙ ap (λ (f : ThreadId → Option Thread). record (with_monitor s o (held u n)) { thread = f })
+        (fun_ext (λ v. two_writes (v.0 == t.0) (v.0 == u.0) (Some (record { flag = false; act = Idle })) (Some (record { flag = false; act = Has r })) (Some (record { flag = false; act = d })) (s.thread v)))
+
+-- t notifies u, which waits
+pub run_notified : (s : State) (t u : ThreadId) (o : ObjectId) (n : ℕ) (d : Option ℕ) → Calls s t false (call.Notify o) → OwnedBy s o t
+    → Is s u false (Waits o n d) → (t.0 ≡ u.0 → ⊥)
+    → Run s (move.Notify t (Some u) ∷ move.Return t reply.Notified ∷ []) (now_is (now_is s u false (Back o n why.Notified)) t false Idle)
+run_notified s t u o n d calls owned waits apart = (
+  now_is (answered s t false reply.Notified) u false (Back o n why.Notified),
+  (false, o, calls, owned, false, n, d, waits, refl),
+  (
+    now_is (now_is (answered s t false reply.Notified) u false (Back o n why.Notified)) t false Idle,
+    return_row (now_is (answered s t false reply.Notified) u false (Back o n why.Notified)) t false reply.Notified tt
+        (now_is-other (answered s t false reply.Notified) t u false (Back o n why.Notified) apart ∙ now_is-Is s t false (Has reply.Notified)),
+    ap (λ (f : ThreadId → Option Thread). record s { thread = f })
+        (fun_ext (λ v. sym (two_writes (v.0 == t.0) (v.0 == u.0) (Some (record { flag = false; act = Idle })) (Some (record { flag = false; act = Back o n why.Notified })) (Some (record { flag = false; act = Has reply.Notified })) (s.thread v)))),
+  ),
+)
+
+-- t notifies all that wait
+pub run_notified_all : (s : State) (t : ThreadId) (o : ObjectId) → Calls s t false (call.NotifyAll o) → OwnedBy s o t
+    → Run s (move.NotifyAll t ∷ move.Return t reply.Notified ∷ []) (now_is (all_woken s o) t false Idle)
+run_notified_all s t o calls owned = (
+  answered (all_woken s o) t false reply.Notified,
+  (false, o, calls, owned, refl),
+  (
+    now_is (all_woken s o) t false Idle,
+    rw (← with_thread-with_thread (all_woken s o) t (Some (record { flag = false; act = Has reply.Notified })) (Some (record { flag = false; act = Idle })))
+        (return_row (answered (all_woken s o) t false reply.Notified) t false reply.Notified tt (now_is-Is (all_woken s o) t false (Has reply.Notified))),
+    refl,
+  ),
+)
 
 -- a thread that owns nothing ends
 pub run_ended : (s : State) (t : ThreadId) (flag : Bool) → Calls s t flag call.End → ((o : ObjectId) → OwnedBy s o t → ⊥)

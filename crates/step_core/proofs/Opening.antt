@@ -1,11 +1,12 @@
 -- The opening world is sound, and shows the opening state.
-use Rattle.std.specs.Prelude.{◌≡◌, ℕ, ◌<◌, ◌≤◌, List, [], ◌∷◌, length, map, get_or, replicate, None, IsSome, is_some, true, Bool}
+use Rattle.std.specs.Prelude.{◌≡◌, ℕ, ◌<◌, ◌≤◌, List, [], ◌∷◌, length, map, get_or, replicate, Option, None, IsSome, is_some, count_by, cond, true, Bool}
 use Rattle.std.proofs.Common.{arith, refl, sym, ap, ◌∙◌, zero, suc, subst}
 use Rattle.std.proofs.Math.Path.{fun_ext}
 use Rattle.std.proofs.lemmas.Bool.{lt-ltb}
 use Rattle.std.proofs.lemmas.List.{length-map}
+use Rattle.std.proofs.lemmas.List.Folds.{sum_by-replicate}
 use Rattle.std.specs.Ordering.{nat_cmp}
-use Rattle.std.specs.FinMap.{get-empty}
+use Rattle.std.specs.FinMap.{get-empty, len-empty}
 use Rattle.lock_word.specs.declared.ThreadId.{ThreadId}
 use Rattle.lock_word.specs.declared.Lock.TheVariants.{Free}
 use Rattle.lock_word.specs.Layout.{lock_of}
@@ -13,6 +14,7 @@ use Rattle.thread_index.specs.Indices.{seat_of}
 use Rattle.thread_index.proofs.Seats.{seat_of-replicate, IsOneToOne-replicate}
 use Rattle.fat_monitor.specs.declared.actions.Post.{Post}
 use Rattle.fat_monitor.specs.FatState.{IsAttached}
+use Rattle.fat_monitor.proofs.Soundness.{IsSound-opened}
 use Rattle.step_core.specs.declared.places.Place.TheVariants.{Idle}
 use Rattle.step_core.specs.declared.events.Step.{Step}
 use Rattle.step_core.specs.Machine.{State, Run, opening}
@@ -30,6 +32,10 @@ low_words (x ∷ xs) h (suc p) = low_words xs (λ k l. h (suc k) (omega arith)) 
 -- shows no lock
 free_at : (word : ℕ) → word < 256 → lock_of word ≡ Free
 free_at word h = rw (lt-ltb word 2147483648 (omega arith), lt-ltb word 65536 (omega arith)) refl
+
+-- no seat is taken
+none_taken : (n : ℕ) → count_by {X = Option ThreadId} is_some (replicate n None) ≡ 0
+none_taken n = sum_by-replicate (λ (x : Option ThreadId). cond (is_some x) 1 0) n None ∙ omega arith
 
 -- every seat is idle
 idle_at : (n k : ℕ) → get_or (replicate n Idle) k Idle ≡ Idle
@@ -63,10 +69,12 @@ module _ (lows : List ℕ) (monitors indices : ℕ) (bytes : (k : ℕ) → k < l
     one_to_one = IsOneToOne-replicate indices;
     formed = λ p bad. let h : (get_or (map low_word lows) p (low_word 0)).0 < 256 = low_words lows bytes p in omega arith;
     words = λ p h. rw (lock_free p) tt;
-    fats = record { few = omega arith; limit = bounded; fair = λ m h. absurd (omega arith) };
+    fats = IsSound-opened monitors bounded;
     published = λ m h. absurd (omega arith);
     attached = λ t h. absurd (nobody t h);
     live = λ t h. absurd (none_attached t h);
+    posted = λ t k h. absurd (nobody t (rw h refl));
+    counted = len-empty nat_cmp Post ∙ sym (none_taken indices);
     places = λ k h. rw (idle_at indices k) tt;
   } where
     size : length world.seats ≡ indices

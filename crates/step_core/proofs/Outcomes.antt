@@ -1,7 +1,11 @@
 -- What the answer of a step tells, and the world that it leaves.
+use Rattle.fat_monitor.specs.FatState.{StandBehindOwners}
+use Rattle.fat_monitor.proofs.Soundness.{stand_behind}
 use Rattle.step_core.proofs.Bytes.{step_keeps}
 use Rattle.step_core.specs.Kept.{Keeps}
 use Rattle.step_core.proofs.Patient.{step_patient}
+use Rattle.step_core.proofs.Lasting.{step_lasts}
+use Rattle.step_core.specs.Lasting.{Lasts}
 use Rattle.step_core.specs.Patience.{IsPatient}
 use Rattle.std.specs.Prelude.{◌≡◌, Bool, IfOk, IfErr, OnOk, OnErr, MatchResult, Result, Ok, Err}
 use Rattle.std.proofs.Common.{sym, subst}
@@ -27,13 +31,15 @@ pub record Tells (w : WorldState) (s : Step) (o : Outcome) : Type 0 where
   pub unchanged : OnErr o.answer (o.after ≡ w)
   pub patient : IfOk o.answer (λ d. IsPatient w s d o.after)
   pub kept : Keeps w o.after
+  pub behind : StandBehindOwners o.after.fats
+  pub lasting : IfOk o.answer (λ d. Lasts (shown w) s d.reply (shown o.after))
   pub spared : IfOk o.answer (λ d. Spares w d.reply o.after)
 
 step_tells : (w : WorldState) → IsSound w → (room : Bool) (s : Step) → Tells w s (step_of room w s)
 step_tells w sound room s =
     let right = step_right w sound room s in
-    let judged = step_judged room w s in
-    record { sound = right.0; run = right.1; labels = step_labels room w s; judged = judged.0; unchanged = judged.1; patient = step_patient w sound room s; kept = step_keeps w sound room s; spared = step_spares w sound room s }
+    let judged = step_judged w sound room s in
+    record { sound = right.0; run = right.1; labels = step_labels w sound room s; judged = judged.0; unchanged = judged.1; patient = step_patient w sound room s; kept = step_keeps w sound room s; behind = stand_behind (step_of room w s).after.fats right.0.fats; lasting = step_lasts w sound room s; spared = step_spares w sound room s }
 
 -- what a step of the code answers and leaves
 pub tells : (w w' : WorldState) (s : Step) (r : Result Did Fault) (room : Bool) → IsSound w

@@ -1,5 +1,5 @@
--- A Go replies, meets another thread, or lowers what is left of its call; and no other thread's step does.
-use Rattle.std.specs.Prelude.{◌≡◌, ◌≢◌, ◌⊎◌, ℕ, ◌+◌, ◌-◌, ◌<◌, ◌≤◌, Bool, true, false, nat_lt, length, Option, Some, None, IsSome, IfOk}
+-- A Go replies, parks, meets another thread, or lowers what is left of its call; and no other thread's step does.
+use Rattle.std.specs.Prelude.{◌≡◌, ◌≢◌, ◌⊎◌, ℕ, ◌+◌, ◌-◌, ◌<◌, ◌≤◌, Bool, true, false, ◌==◌, nat_lt, length, Option, Some, None, IsSome, Result, Ok, Err, IfOk, OnErr}
 use Rattle.std.proofs.Common.{refl, arith, sym, ◌∙◌, subst, inl, inr, get_or-set_same, get_or-set_other, length-set}
 use Rattle.std.proofs.lemmas.Bool.{cond_both, ltb-true}
 use Rattle.std.proofs.lemmas.Option.{same_Some}
@@ -17,7 +17,14 @@ use Rattle.fat_monitor.specs.declared.actions.Reply.TheVariants as reply
 use Rattle.fat_monitor.specs.declared.actions.Cause.TheVariants as cause
 use Rattle.step_core.specs.declared.events.Atomic.TheVariants.{Label, Acted}
 use Rattle.step_core.specs.declared.moves.Move.TheVariants as move
-use Rattle.fat_monitor.specs.FatState.{answered, owns_one}
+use Rattle.fat_monitor.specs.declared.actions.Action.{Action}
+use Rattle.fat_monitor.specs.declared.actions.Done.{Done}
+use Rattle.fat_monitor.specs.declared.actions.ActFault.{ActFault}
+use Rattle.fat_monitor.specs.declared.actions.Post.{Post}
+use Rattle.fat_monitor.specs.declared.actions.Post.TheVariants.{Out, Entering, Waiting, Back, Granted}
+use Rattle.wait_lines.specs.declared.Role.TheVariants.{Waiting as WaitSet}
+use Rattle.fat_monitor.specs.FatState.{FatState, monitor_at, first_of, line_of, post_at, with_post, owns_one, is_owned_by}
+use Rattle.fat_monitor.specs.Acting.{Outcome as FatOutcome, acted, by_owner, entered, exited, waited, notified, replied as fat_replied, all_removed, are_good}
 use Rattle.fast_path.specs.declared.Call.{Call}
 use Rattle.fast_path.specs.declared.Call.TheVariants as call
 use Rattle.fast_path.specs.declared.Next.{Next}
@@ -26,85 +33,126 @@ use Rattle.fast_path.specs.Table.{object_of, target, next_of}
 use Rattle.fast_path.proofs.Tables.{spin_fact}
 use Rattle.step_core.specs.declared.moves.Doing.TheVariants as doing
 use Rattle.step_core.specs.declared.places.Place.{Place}
-use Rattle.step_core.specs.declared.places.Place.TheVariants.{Idle, Begun, Taking, Storing, Binding, Acting, Won, Bound, Inflated, Ending}
+use Rattle.step_core.specs.declared.places.Place.TheVariants.{Idle, Begun, Taking, Storing, Binding, Acting, Won, Bound, Inflated, Parked, Ending}
 use Rattle.step_core.specs.declared.events.Step.{Step}
 use Rattle.step_core.specs.declared.events.Step.TheVariants as step
 use Rattle.step_core.specs.declared.events.Fault.TheVariants as fault
 use Rattle.step_core.specs.Machine.{Is}
 use Rattle.step_core.specs.WorldState.{WorldState, IsSound, Fitting, is_own, place_at, lock_at}
 use Rattle.step_core.specs.Parts.{IsBusyAt}
-use Rattle.step_core.specs.Going.{After, gone, after_load, after_take, after_bind, after_publish, after_answer, after_look, after_go, action_of, bind_cause, stays, moved, replied}
-use Rattle.step_core.specs.Stepping.{Outcome, accepted, refused, attached, begun, begun_on, begun_at, with_live, without_live, ended, went as went_by, went_at, step_of, first_place}
+use Rattle.step_core.specs.Going.{After, gone, after_load, after_take, after_bind, after_publish, after_told, after_act, after_look, after_go, action_of, bind_cause, stays, turns, moved, replied, returned}
+use Rattle.step_core.specs.Stepping.{Outcome, accepted, refused, attached, begun, begun_on, begun_at, with_live, without_live, ended, went as went_by, went_at, step_of, first_place, gathered}
 use Rattle.step_core.specs.Shown.{shown}
-use Rattle.step_core.specs.Patience.{left_at, left_of_seat, left_of, HasMet, Advances, IsPatient}
-use Rattle.step_core.proofs.Frames.{within, is_at}
+use Rattle.step_core.specs.Patience.{left_at, left_of_seat, left_of, HasMet, HasParked, Advances, IsPatient}
+use Rattle.step_core.proofs.Frames.{within, is_at, out_at}
 
 -- an accepted step is patient
 abbrev Patient : WorldState → Step → Outcome → Type 0
 Patient w s o = IfOk o.answer (λ d. IsPatient w s d o.after)
 
+-- the action of a call is never refused
+abbrev IsDone : FatOutcome → Type 0
+IsDone o = OnErr o.answer ⊥
+
+owner_done : (f : FatState) (m : ℕ) (t : ThreadId) (o : FatOutcome) → IsDone o → IsDone (by_owner f m t o)
+owner_done f m t o h = cond_both (is_owned_by (monitor_at f m).owner t) o (fat_replied f reply.IllegalMonitorState) IsDone (λ _. h) (λ _. tt)
+
+done : (f : FatState) (t : ThreadId) (c : Call) (m : ℕ) → IsDone (acted f t (action_of c m))
+done f t (call.Enter o) m = at (monitor_at f m).owner
+  where
+    at : (owner : Option ThreadId) → IsDone (entered f t m owner)
+    at None = tt
+    at (Some u) = cond_both (u.0 == t.0) _ _ IsDone (λ _. cond_both (nat_lt (monitor_at f m).holds 65535) _ _ IsDone (λ _. tt) (λ _. tt)) (λ _. tt)
+done f t (call.Exit o) m = owner_done f m t (exited f t m) (cond_both (nat_lt 1 (monitor_at f m).holds) _ _ IsDone (λ _. tt) (λ _. tt))
+done f t (call.Wait o millis nanos) m = owner_done f m t (waited f t m millis nanos) (cond_both (are_good millis nanos) _ _ IsDone (λ _. tt) (λ _. tt))
+done f t (call.Notify o) m = owner_done f m t (notified f (first_of f m WaitSet)) (at (first_of f m WaitSet))
+  where
+    at : (first : Option ThreadId) → IsDone (notified f first)
+    at None = tt
+    at (Some u) = tt
+done f t (call.NotifyAll o) m = owner_done f m t (fat_replied (all_removed f (line_of f m WaitSet)) reply.Notified) tt
+done f t (call.Holds o) m = tt
+done f t call.End m = cond_both (owns_one f.monitors t) _ _ IsDone (λ _. tt) (λ _. tt)
+
 module _ (w : WorldState) (sound : IsSound w) (k : ℕ) (t : ThreadId) (seat : seat_of w.seats t ≡ Some k) where
   -- what a Go from a place with n steps left does to them
   abbrev Goes : ℕ → After → Type 0
-  Goes n a = IsSome a.did.reply ⊎ (HasMet w t a.did.atomic ⊎ ((left_at (length a.words) a.place < n) × (1 ≤ left_at (length a.words) a.place)))
+  Goes n a = IsSome a.did.reply ⊎ (HasParked a.did.atomic ⊎ (HasMet w t a.did.atomic ⊎ ((left_at (length a.words) a.place < n) × (1 ≤ left_at (length a.words) a.place))))
 
   loads : (c : Call) (b : Bool) (n : Next) → place_at w k ≡ Begun c b → IsSome (object_of c) → next_of c (lock_at w (target c).0) (k + 1) ≡ n → Goes 4 (after_load w t c b n)
   loads c b (next.Reply r) at names e = inl refl
-  loads c b (next.Cas l) at names e = inr (inr (omega arith, omega arith))
-  loads c b (next.Store l) at names e = inr (inr (omega arith, omega arith))
-  loads c b next.Bind at names e = inr (inr (omega arith, omega arith))
-  loads c b (next.Fat m) at names e = inr (inr (omega arith, omega arith))
+  loads c b (next.Cas l) at names e = inr (inr (inr (omega arith, omega arith)))
+  loads c b (next.Store l) at names e = inr (inr (inr (omega arith, omega arith)))
+  loads c b next.Bind at names e = inr (inr (inr (omega arith, omega arith)))
+  loads c b (next.Fat m) at names e = inr (inr (inr (omega arith, omega arith)))
   loads c b next.Spin at names e =
       let fact = spin_fact c (lock_at w (target c).0) (k + 1) names e in
-      let wants : Is (shown w) t false (doing.Wants c) = is_at w sound k t seat (Begun c b) at in
-      inr (inl ((fact.0, rw fact.1 at wants), (fact.2.0, fact.2.1, fact.2.2, λ i. fact.2.3 (same_Some fact.2.0 (k + 1) (sym i ∙ rw seat refl)))))
+      let wants : Is (shown w) t false (doing.Wants c) = is_at w sound k t seat (Begun c b) at (out_at w sound k t seat (Begun c b) at (λ i. cc)) in
+      inr (inr (inl ((fact.0, rw fact.1 at wants), (fact.2.0, fact.2.1, fact.2.2, λ i. fact.2.3 (same_Some fact.2.0 (k + 1) (sym i ∙ rw seat refl))))))
 
   takes : (o : ObjectId) (b : Bool) (l : Lock) → Goes 3 (after_take w k t o b l)
-  takes o true Free = inr (inr (omega arith, omega arith))
+  takes o true Free = inr (inr (inr (omega arith, omega arith)))
   takes o false Free = inl refl
-  takes o b (Thin i n) = inr (inl tt)
-  takes o b (Fat m) = inr (inl tt)
+  takes o b (Thin i n) = inr (inr (inl tt))
+  takes o b (Fat m) = inr (inr (inl tt))
 
   binds : (c : Call) (n : ℕ) (refusal : Option Cause) → Goes 3 (after_bind w t c false n refusal)
-  binds c n None = inr (inr (omega arith, omega arith))
+  binds c n None = inr (inr (inr (omega arith, omega arith)))
   binds c n (Some x) = inl refl
 
   binds_won : (c : Call) (n : ℕ) (refusal : Option Cause) → Goes 2 (after_bind w t c true n refusal)
-  binds_won c n None = inr (inr (omega arith, omega arith))
+  binds_won c n None = inr (inr (inr (omega arith, omega arith)))
   binds_won c n (Some x) = inl refl
 
   publishes : (c : Call) (won : Bool) (m : ℕ) → Goes (left_at (length w.words) (Bound c won m)) (after_publish w t c won m)
   publishes c true m = inl refl
-  publishes c false m = inr (inr (omega arith, omega arith))
+  publishes c false m = inr (inr (inr (omega arith, omega arith)))
 
-  acts : (c : Call) (m n : ℕ) (a : Answer) → Goes n (after_answer w t c m a)
-  acts c m n (answer.Reply r) = inl refl
-  acts c m n answer.Quiet = inr (inl tt)
+  -- an action replies or parks
+  acts : (c : Call) (a : Action) (n : ℕ) (f : FatState) (x : Answer) (g chosen : Option ThreadId) → Goes n (after_told w t c a (Ok (record { answer = x; granted = g; chosen = chosen })) f)
+  acts c a n f (answer.Reply r) None chosen = inl refl
+  acts c a n f (answer.Reply r) (Some u) chosen = inl refl
+  acts (call.Enter o) a n f answer.Parked g chosen = inr (inl tt)
+  acts (call.Exit o) a n f answer.Parked g chosen = inr (inl tt)
+  acts (call.Wait o millis nanos) a n f answer.Parked g chosen = inr (inl tt)
+  acts (call.Notify o) a n f answer.Parked g chosen = inr (inl tt)
+  acts (call.NotifyAll o) a n f answer.Parked g chosen = inr (inl tt)
+  acts (call.Holds o) a n f answer.Parked g chosen = inr (inl tt)
+  acts call.End a n f answer.Parked g chosen = inr (inl tt)
+
+  tells : (c : Call) (a : Action) (n : ℕ) (r : Result Done ActFault) (f : FatState) → OnErr r ⊥ → Goes n (after_told w t c a r f)
+  tells c a n (Ok d) f h = acts c a n f d.answer d.granted d.chosen
+  tells c a n (Err e) f h = absurd h
+
+  acts_at : (c : Call) (m n : ℕ) → Goes n (after_act w t c m)
+  acts_at c m n = tells c (action_of c m) n (acted w.fats t (action_of c m)).answer (acted w.fats t (action_of c m)).after (done w.fats t c m)
 
   looks : (n : ℕ) (own : Bool) → n < length w.words → Goes (length w.words + 1 - n) (after_look w t n own)
   looks n true more = inl refl
-  looks n false more = inr (inr (omega arith, omega arith))
+  looks n false more = inr (inr (inr (omega arith, omega arith)))
 
-  goes : (room : Bool) (p : Place) → place_at w k ≡ p → Fitting w k p → (p ≡ Idle → ⊥) → IsBusyAt (length w.words) p → Goes (left_at (length w.words) p) (after_go room w k t p)
-  goes room Idle at fit busy more = absurd (busy refl)
-  goes room (Begun c b) at fit busy more = loads c b (next_of c (lock_at w (target c).0) (k + 1)) at fit.0 refl
-  goes room (Taking o b) at fit busy more = takes o b (lock_at w o.0)
-  goes room (Storing c l) at fit busy more = inl refl
-  goes room (Binding c n) at fit busy more = binds c (n + 1) (bind_cause room w.fats)
-  goes room (Acting c m) at fit busy more = acts c m 3 (answered w.fats t (action_of c m))
-  goes room (Won o) at fit busy more = binds_won (call.Enter o) 1 (bind_cause room w.fats)
-  goes room (Bound c won m) at fit busy more = publishes c won m
-  goes room (Inflated c m) at fit busy more = acts c m 1 (answered w.fats t (action_of c m))
-  goes room (Ending n) at fit busy more = looks n (is_own (lock_at w n) (k + 1)) more
+  goes : (room : Bool) (p : Place) → place_at w k ≡ p → Fitting w k p → (p ≡ Idle → ⊥) → (p ≡ Parked → ⊥) → IsBusyAt (length w.words) p → Goes (left_at (length w.words) p) (after_go room w k t p)
+  goes room Idle at fit busy free more = absurd (busy refl)
+  goes room (Begun c b) at fit busy free more = loads c b (next_of c (lock_at w (target c).0) (k + 1)) at fit.0 refl
+  goes room (Taking o b) at fit busy free more = takes o b (lock_at w o.0)
+  goes room (Storing c l) at fit busy free more = inl refl
+  goes room (Binding c n) at fit busy free more = binds c (n + 1) (bind_cause room w.fats)
+  goes room (Acting c m) at fit busy free more = acts_at c m 3
+  goes room (Won o) at fit busy free more = binds_won (call.Enter o) 1 (bind_cause room w.fats)
+  goes room (Bound c won m) at fit busy free more = publishes c won m
+  goes room (Inflated c m) at fit busy free more = acts_at c m 1
+  goes room Parked at fit busy free more = absurd (free refl)
+  goes room (Ending n) at fit busy free more = looks n (is_own (lock_at w n) (k + 1)) more
 
   -- the Go is one of this thread's seat
   left_here : (a : After) → left_of (gone w k a) t ≡ left_at (length a.words) a.place
   left_here a = rw (seat, get_or-set_same w.places k a.place Idle (within w sound k t seat)) refl
 
   advances : (a : After) → Goes (left_of w t) a → Advances w t a.did (gone w k a)
-  advances a (inl replied) = inl replied
-  advances a (inr (inl met)) = inr (inl met)
-  advances a (inr (inr lower)) = inr (inr (rw (left_here a) lower.0, rw (left_here a) lower.1))
+  advances a (inl has_reply) = inl has_reply
+  advances a (inr (inl parked)) = inr (inl parked)
+  advances a (inr (inr (inl met))) = inr (inr (inl met))
+  advances a (inr (inr (inr lower))) = inr (inr (inr (rw (left_here a) lower.0, rw (left_here a) lower.1)))
 
   -- another thread's place stays, and so does the number of objects
   keeps : (a : After) → length a.words ≡ length w.words → (u : ThreadId) → u.0 ≢ t.0 → left_of (gone w k a) u ≡ left_of w u
@@ -121,9 +169,12 @@ module _ (w : WorldState) (sound : IsSound w) (k : ℕ) (t : ThreadId) (seat : s
   bound c true n (Some x) = refl
   bound c false n (Some x) = refl
 
-  by_answer : (c : Call) (m : ℕ) (a : Answer) → length (after_answer w t c m a).words ≡ length w.words
-  by_answer c m (answer.Reply r) = refl
-  by_answer c m answer.Quiet = refl
+  by_told : (c : Call) (a : Action) (r : Result Done ActFault) (f : FatState) → length (after_told w t c a r f).words ≡ length w.words
+  by_told c a (Ok d) f = refl
+  by_told c a (Err e) f = refl
+
+  by_act : (c : Call) (m : ℕ) → length (after_act w t c m).words ≡ length w.words
+  by_act c m = by_told c (action_of c m) (acted w.fats t (action_of c m)).answer (acted w.fats t (action_of c m)).after
 
   -- no Go changes how many objects there are
   sizes : (room : Bool) (p : Place) → length (after_go room w k t p).words ≡ length w.words
@@ -146,11 +197,12 @@ module _ (w : WorldState) (sound : IsSound w) (k : ℕ) (t : ThreadId) (seat : s
       by_lock b (Fat m) = refl
   sizes room (Storing c l) = length-set w.words (target c).0 _
   sizes room (Binding c n) = bound c false (n + 1) (bind_cause room w.fats)
-  sizes room (Acting c m) = by_answer c m (answered w.fats t (action_of c m))
+  sizes room (Acting c m) = by_act c m
   sizes room (Won o) = bound (call.Enter o) true 1 (bind_cause room w.fats)
   sizes room (Bound c true m) = length-set w.words (target c).0 _
   sizes room (Bound c false m) = length-set w.words (target c).0 _
-  sizes room (Inflated c m) = by_answer c m (answered w.fats t (action_of c m))
+  sizes room (Inflated c m) = by_act c m
+  sizes room Parked = refl
   sizes room (Ending n) = by_own (is_own (lock_at w n) (k + 1))
     where
       by_own : (own : Bool) → length (after_look w t n own).words ≡ length w.words
@@ -181,6 +233,7 @@ module _ (w : WorldState) (sound : IsSound w) (t : ThreadId) where
   begins_at c k e (Won o) = tt
   begins_at c k e (Bound d won m) = tt
   begins_at c k e (Inflated d m) = tt
+  begins_at c k e Parked = tt
   begins_at c k e (Ending n) = tt
 
   begins_on : (c : Call) (k : ℕ) → seat_of w.seats t ≡ Some k → (o : Option ObjectId) → Patient w (step.Begin t c) (begun_on w k t c o)
@@ -194,17 +247,17 @@ module _ (w : WorldState) (sound : IsSound w) (t : ThreadId) where
   begins c (Some k) e = begins_on c k e (object_of c)
 
   -- a Go that is accepted at its place
-  went : (room : Bool) (k : ℕ) (e : seat_of w.seats t ≡ Some k) (p : Place) → place_at w k ≡ p → (p ≡ Idle → ⊥) → IsBusyAt (length w.words) p
+  went : (room : Bool) (k : ℕ) (e : seat_of w.seats t ≡ Some k) (p : Place) → place_at w k ≡ p → (p ≡ Idle → ⊥) → (p ≡ Parked → ⊥) → IsBusyAt (length w.words) p
       → Patient w (step.Go t) (accepted (gone w k (after_go room w k t p)) (after_go room w k t p).did)
-  went room k e p at busy more =
+  went room k e p at busy free more =
       let fit : Fitting w k p = subst (λ (x : Place). Fitting w k x) at (sound.places k (within w sound k t e)) in
       let left : left_of w t ≡ left_at (length w.words) p = rw (e, at) refl in (
-        advances w sound k t e (after_go room w k t p) (rw left (goes w sound k t e room p at fit busy more)),
+        advances w sound k t e (after_go room w k t p) (rw left (goes w sound k t e room p at fit busy free more)),
         keeps w sound k t e (after_go room w k t p) (sizes w sound k t e room p),
       )
 
   ends : (k : ℕ) → seat_of w.seats t ≡ Some k → (b : Bool) → Patient w (step.Go t) (ended w k t b)
-  ends k e true = (inl refl, keeps w sound k t e (stays w Idle (replied (Acted action.End (answer.Reply (reply.Refused cause.StillOwner))) t (reply.Refused cause.StillOwner))) refl)
+  ends k e true = (inl refl, keeps w sound k t e (stays w Idle (replied (Acted action.End (answer.Reply (reply.Refused cause.StillOwner))) (move.Refuse t cause.StillOwner) t (reply.Refused cause.StillOwner))) refl)
   ends k e false = (inl refl, λ u ne. by_seat u ne (seat_of w.seats u) refl)
     where
       by_seat : (u : ThreadId) → u.0 ≢ t.0 → (o : Option ℕ) → seat_of w.seats u ≡ o → left_of (without_live w k t) u ≡ left_of_seat w o
@@ -213,19 +266,28 @@ module _ (w : WorldState) (sound : IsSound w) (t : ThreadId) where
           let apart : j ≡ k → ⊥ = λ same. ne (seat_thread w.seats t u k e (rw same at i)) in
           rw (seat_given_other w.seats t u k e ne, i, get_or-set_other w.places k j Idle Idle apart) refl
 
+  -- a reply that is collected
+  gathers : (k : ℕ) → seat_of w.seats t ≡ Some k → (p : Post) → Patient w (step.Go t) (gathered w k t p)
+  gathers k e Out = tt
+  gathers k e (Entering m) = tt
+  gathers k e (Waiting m n d) = tt
+  gathers k e (Back m n y) = tt
+  gathers k e (Granted r) = (inl refl, keeps w sound k t e (turns w (with_post w.fats t Out) Idle (returned (Acted action.Collect (answer.Reply r)) t r)) refl)
+
   wents_at : (room : Bool) (k : ℕ) → seat_of w.seats t ≡ Some k → (p : Place) → place_at w k ≡ p → Patient w (step.Go t) (went_at room w k t p)
   wents_at room k e Idle at = tt
-  wents_at room k e (Begun d b) at = went room k e (Begun d b) at (λ x. cc) tt
-  wents_at room k e (Taking d b) at = went room k e (Taking d b) at (λ x. cc) tt
-  wents_at room k e (Storing d l) at = went room k e (Storing d l) at (λ x. cc) tt
-  wents_at room k e (Binding d n) at = went room k e (Binding d n) at (λ x. cc) tt
-  wents_at room k e (Acting d m) at = went room k e (Acting d m) at (λ x. cc) tt
-  wents_at room k e (Won o) at = went room k e (Won o) at (λ x. cc) tt
-  wents_at room k e (Bound d won m) at = went room k e (Bound d won m) at (λ x. cc) tt
-  wents_at room k e (Inflated d m) at = went room k e (Inflated d m) at (λ x. cc) tt
+  wents_at room k e (Begun d b) at = went room k e (Begun d b) at (λ x. cc) (λ x. cc) tt
+  wents_at room k e (Taking d b) at = went room k e (Taking d b) at (λ x. cc) (λ x. cc) tt
+  wents_at room k e (Storing d l) at = went room k e (Storing d l) at (λ x. cc) (λ x. cc) tt
+  wents_at room k e (Binding d n) at = went room k e (Binding d n) at (λ x. cc) (λ x. cc) tt
+  wents_at room k e (Acting d m) at = went room k e (Acting d m) at (λ x. cc) (λ x. cc) tt
+  wents_at room k e (Won o) at = went room k e (Won o) at (λ x. cc) (λ x. cc) tt
+  wents_at room k e (Bound d won m) at = went room k e (Bound d won m) at (λ x. cc) (λ x. cc) tt
+  wents_at room k e (Inflated d m) at = went room k e (Inflated d m) at (λ x. cc) (λ x. cc) tt
+  wents_at room k e Parked at = gathers k e (post_at w.fats t)
   wents_at room k e (Ending n) at =
       cond_both (nat_lt n (length w.words)) (accepted (gone w k (after_go room w k t (Ending n))) (after_go room w k t (Ending n)).did) (ended w k t (owns_one w.fats.monitors t)) (Patient w (step.Go t))
-      (λ h. went room k e (Ending n) at (λ x. cc) (ltb-true n (length w.words) h)) (λ h. ends k e (owns_one w.fats.monitors t))
+      (λ h. went room k e (Ending n) at (λ x. cc) (λ x. cc) (ltb-true n (length w.words) h)) (λ h. ends k e (owns_one w.fats.monitors t))
 
   wents : (room : Bool) (o : Option ℕ) → seat_of w.seats t ≡ o → Patient w (step.Go t) (went_by room w t o)
   wents room None e = tt

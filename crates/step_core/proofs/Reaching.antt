@@ -1,5 +1,5 @@
 -- Laws of every list of steps.
-use Rattle.std.specs.Prelude.{◌≡◌, ℕ, ◌+◌, ◌<◌, Bool, false, List, [], ◌∷◌, ◌++◌, length, Option, Some, None, IfOk, Result, Ok, Err}
+use Rattle.std.specs.Prelude.{◌≡◌, ◌⊎◌, ℕ, ◌+◌, ◌<◌, Bool, false, List, [], ◌∷◌, ◌++◌, length, Option, Some, None, IfOk, Result, Ok, Err}
 use Rattle.std.proofs.Common.{refl, ap, ◌∙◌}
 use Rattle.std.proofs.lemmas.List.{length-map}
 use Rattle.std.proofs.lemmas.List.Elements.{filter-append}
@@ -28,6 +28,10 @@ use Rattle.step_core.proofs.Opening.{opened_sound, opened_run}
 use Rattle.step_core.proofs.Labelings.{step_labels}
 use Rattle.step_core.proofs.Bytes.{step_keeps}
 use Rattle.step_core.proofs.Lingering.{within_four, within_all}
+use Rattle.step_core.specs.Lasting.{IsNotified, HasReply, NeverReturns}
+use Rattle.step_core.proofs.Lasting.{all_notified, all_replied}
+use Rattle.fat_monitor.specs.declared.actions.Reply.TheVariants.{WaitOver}
+use Rattle.lock_word.specs.declared.ObjectId.{ObjectId}
 
 -- the labels of one step
 ends_labels : (t : ThreadId) (ms : List Move) (r : Option Reply) → EndsWith t ms r → labels_of ms ≡ returned_with t r
@@ -41,12 +45,12 @@ one_labels (step.Begin t c) (Ok d) h = ap labels_of h.0
 one_labels (step.Go t) (Ok d) h = ends_labels t (given d.moves) d.reply h
 
 -- and of a list
-all_labels : (w : WorldState) (ss : List (Step × Bool)) → labels_of (moves_after w ss) ≡ labels_after w ss
-all_labels w [] = refl
-all_labels w (s ∷ ss) =
+all_labels : (w : WorldState) → IsSound w → (ss : List (Step × Bool)) → labels_of (moves_after w ss) ≡ labels_after w ss
+all_labels w sound [] = refl
+all_labels w sound (s ∷ ss) =
     filter-append is_label (moves_of (step_of s.1 w s.0).answer) (moves_after (step_of s.1 w s.0).after ss)
-    ∙ ap (λ xs. xs ++ labels_of (moves_after (step_of s.1 w s.0).after ss)) (one_labels s.0 (step_of s.1 w s.0).answer (step_labels s.1 w s.0))
-    ∙ ap (λ xs. labels_for s.0 (step_of s.1 w s.0).answer ++ xs) (all_labels (step_of s.1 w s.0).after ss)
+    ∙ ap (λ xs. xs ++ labels_of (moves_after (step_of s.1 w s.0).after ss)) (one_labels s.0 (step_of s.1 w s.0).answer (step_labels w sound s.1 s.0))
+    ∙ ap (λ xs. labels_for s.0 (step_of s.1 w s.0).answer ++ xs) (all_labels (step_of s.1 w s.0).after (step_right w sound s.1 s.0).0 ss)
 
 -- a list of steps keeps a world sound, its objects and its low bytes
 all_sound : (w : WorldState) → IsSound w → (ss : List (Step × Bool)) → IsSound (world_after w ss)
@@ -68,7 +72,7 @@ module _ (lows : List ℕ) (monitors indices : ℕ) (steps : List (Step × Bool)
   reached_run = opened_run lows monitors indices steps limits.bytes limits.objects limits.bounded limits.few
 
   pub reached_labels : labels_of (moves_after (opened lows monitors indices) steps) ≡ labels_after (opened lows monitors indices) steps
-  reached_labels = all_labels (opened lows monitors indices) steps
+  reached_labels = all_labels (opened lows monitors indices) start steps
 
   pub reached_sound : IsSound (reached lows monitors indices steps)
   reached_sound = all_sound (opened lows monitors indices) start steps
@@ -88,3 +92,12 @@ module _ (lows : List ℕ) (monitors indices : ℕ) (steps : List (Step × Bool)
   reached_all t more is all =
       let size : length (reached lows monitors indices steps).words ≡ length lows = reached_keeps.objects ∙ length-map lows low_word in
       rw (← size) (within_all (reached lows monitors indices steps) reached_sound t is more all)
+
+  pub reached_notified : (u : ThreadId) (o : ObjectId) (n : ℕ) (more : List (Step × Bool)) → IsNotified (shown (reached lows monitors indices steps)) u o n
+      → NeverReturns (reached lows monitors indices steps) u WaitOver more
+      → IsNotified (shown (world_after (reached lows monitors indices steps) more)) u o n ⊎ HasReply (shown (world_after (reached lows monitors indices steps) more)) u WaitOver
+  reached_notified u o n more note never = all_notified (reached lows monitors indices steps) reached_sound u o n more note never
+
+  pub reached_kept : (u : ThreadId) (r : Reply) (more : List (Step × Bool)) → HasReply (shown (reached lows monitors indices steps)) u r
+      → NeverReturns (reached lows monitors indices steps) u r more → HasReply (shown (world_after (reached lows monitors indices steps) more)) u r
+  reached_kept u r more has never = all_replied (reached lows monitors indices steps) reached_sound u r more has never

@@ -1,54 +1,71 @@
--- A call that is refused leaves every owner and count as it was.
-use Rattle.std.specs.Prelude.{◌≡◌, Bool, List, [], ◌∷◌, Option, Some, None, IfOk, Result, Ok, Err}
-use Rattle.std.proofs.Common.{inl, inr, sym, ap, subst, ◌∙◌}
+-- A call that is refused leaves every owner, count, wait set and flag as it was.
+use Rattle.std.specs.Prelude.{◌≡◌, ◌⊎◌, Bool, [], ◌∷◌, Option, Some, None, IfOk, Result, Ok, Err}
+use Rattle.std.specs.Option.{option_map}
+use Rattle.std.proofs.Common.{refl, inl, inr, sym, ap, subst, ◌∙◌}
+use Rattle.std.proofs.lemmas.Bool.{cases_eq, eq-eqb, ne_eqb}
+use Rattle.std.proofs.lemmas.Option.{same_Some}
 use Rattle.lock_word.specs.declared.ThreadId.{ThreadId}
+use Rattle.lock_word.specs.declared.ObjectId.{ObjectId}
 use Rattle.thread_index.specs.Indices.{seat_of}
 use Rattle.fat_monitor.specs.declared.actions.Cause.{Cause}
 use Rattle.fat_monitor.specs.declared.actions.Reply.{Reply}
 use Rattle.fat_monitor.specs.declared.actions.Reply.TheVariants as reply
 use Rattle.fast_path.specs.declared.Call.{Call}
+use Rattle.step_core.specs.declared.moves.Doing.TheVariants.{Idle, Wants, Has}
 use Rattle.step_core.specs.declared.moves.Move.TheVariants as move
 use Rattle.step_core.specs.declared.events.Did.{Did}
+use Rattle.step_core.specs.declared.events.Fault.{Fault}
 use Rattle.step_core.specs.declared.events.Step.{Step}
 use Rattle.step_core.specs.declared.events.Step.TheVariants as step
-use Rattle.step_core.specs.WorldState.{WorldState}
-use Rattle.step_core.specs.Stepping.{step_of, given}
+use Rattle.step_core.specs.Machine.{State, Thread, Run, Is, Calls, now_is, answered, is_waiting}
+use Rattle.step_core.specs.WorldState.{WorldState, IsSound}
+use Rattle.step_core.specs.Stepping.{step_of, moves_of}
 use Rattle.step_core.specs.Labels.{HasLabels}
-use Rattle.step_core.specs.declared.moves.Move.{Move}
-use Rattle.step_core.specs.declared.events.Fault.{Fault}
-use Rattle.step_core.specs.Machine.{State, Run}
-use Rattle.step_core.specs.WorldState.{IsSound}
-use Rattle.step_core.specs.Stepping.{moves_of}
 use Rattle.step_core.specs.Shown.{shown}
-use Rattle.step_core.specs.Refusals.{Spares}
+use Rattle.step_core.specs.Refusals.{IsSpared, Spares}
+use Rattle.step_core.proofs.Machines.{now_is-Is}
 use Rattle.step_core.proofs.Steps.{step_right}
-use Rattle.step_core.proofs.Labelings.{Shape, Shapely, go_shape, step_labels}
+use Rattle.step_core.proofs.Labelings.{Shapely, go_shape, step_labels}
+
+module _ (s : State) (t : ThreadId) (flag : Bool) (c : Call) (x : Cause) (calls : Calls s t flag c) where
+  -- t's call was refused, and is over
+  abbrev over : State
+  over = now_is (answered s t flag (reply.Refused x)) t flag Idle
+
+  -- a thread with the number of t was calling
+  was_calling : (u : ThreadId) → u.0 ≡ t.0 → s.thread u ≡ Some (record { flag = flag; act = Wants c })
+  was_calling u e = ap (λ n. s.thread (record { 0 = n })) e ∙ calls
+
+  waiting_kept : (u : ThreadId) (o : ObjectId) → (u.0 ≡ t.0) ⊎ (u.0 ≡ t.0 → ⊥) → is_waiting (over.thread u) o ≡ is_waiting (s.thread u) o
+  waiting_kept u o (inl same) = rw (eq-eqb u.0 t.0 same, was_calling u same) refl
+  waiting_kept u o (inr other) = rw (ne_eqb u.0 t.0 other) refl
+
+  flag_kept : (u : ThreadId) → (u.0 ≡ t.0) ⊎ (u.0 ≡ t.0 → ⊥) → option_map (λ (y : Thread). y.flag) (over.thread u) ≡ option_map (λ (y : Thread). y.flag) (s.thread u)
+  flag_kept u (inl same) = rw (eq-eqb u.0 t.0 same, was_calling u same) refl
+  flag_kept u (inr other) = rw (ne_eqb u.0 t.0 other) refl
+
+  over_spared : IsSpared s over
+  over_spared = record { monitors = λ o. refl; wait_sets = λ u o. waiting_kept u o (cases_eq u.0 t.0); flags = λ u. flag_kept u (cases_eq u.0 t.0) }
+
+-- a refusal and its return spare the state
+refusal_spares : (s s' : State) (t : ThreadId) (x : Cause) → Run s (move.Refuse t x ∷ move.Return t (reply.Refused x) ∷ []) s' → IsSpared s s'
+refusal_spares s s' t x (mid, (flag, c, calls, may, e), (last, (again, has, g), h)) =
+    subst (IsSpared s) (sym (h ∙ g ∙ ends)) (over_spared s t flag c x calls)
+  where
+    has_there : Is (answered s t flag (reply.Refused x)) t again (Has (reply.Refused x))
+    has_there = subst (λ (y : State). Is y t again (Has (reply.Refused x))) e has
+
+    same_flag : flag ≡ again
+    same_flag = ap (λ (y : Thread). y.flag) (same_Some (record { flag = flag; act = Has (reply.Refused x) }) (record { flag = again; act = Has (reply.Refused x) })
+        (sym (now_is-Is s t flag (Has (reply.Refused x))) ∙ has_there))
+
+    ends : now_is mid t again Idle ≡ now_is (answered s t flag (reply.Refused x)) t flag Idle
+    ends = ap (λ (y : State). now_is y t again Idle) e ∙ ap (λ (b : Bool). now_is (answered s t flag (reply.Refused x)) t b Idle) (sym same_flag)
 
 module _ (w w' : WorldState) where
-  -- a run of such moves spares owners and counts
-  refusing : (t : ThreadId) (ms : List Move) (c : Cause) → Shape t ms (Some (reply.Refused c)) → Run (shown w) ms (shown w') → Spares w (Some (reply.Refused c)) w'
-  refusing t ms c (inl p) run o =
-      let moves : Run (shown w) (move.Refuse t c ∷ move.Return t (reply.Refused c) ∷ []) (shown w') = subst (λ xs. Run (shown w) xs (shown w')) p run in
-      let (mid, refuse, rest) = moves in
-      let (flag, call, is, may, e) = refuse in
-      let (last, back, h) = rest in
-      let (f, has, g) = back in
-      ap (λ (s : State). s.monitor o) (h ∙ g) ∙ ap (λ (s : State). s.monitor o) e
-  refusing t ms c (inr p) run o = absurd (let e = p.1 in cc)
-
-  sparing : (t : ThreadId) (ms : List Move) (r : Option Reply) → Shape t ms r → Run (shown w) ms (shown w') → Spares w r w'
-  sparing t ms None p run = tt
-  sparing t ms (Some reply.Entered) p run = tt
-  sparing t ms (Some reply.Exited) p run = tt
-  sparing t ms (Some reply.Yes) p run = tt
-  sparing t ms (Some reply.No) p run = tt
-  sparing t ms (Some reply.Ended) p run = tt
-  sparing t ms (Some reply.IllegalMonitorState) p run = tt
-  sparing t ms (Some (reply.Refused c)) p run = refusing t ms c p run
-
-  -- a step that replies nothing spares them too
+  -- a step that replies nothing refuses no call
   silent : (r : Option Reply) → r ≡ None → Spares w r w'
-  silent r e = subst (λ x. Spares w x w') (sym e) tt
+  silent r e x h = let never : None ≡ Some (reply.Refused x) = sym e ∙ h in absurd (cc)
 
   attach_spares : (t : ThreadId) (r : Result Did Fault) → IfOk r (HasLabels (step.Attach t)) → IfOk r (λ d. Spares w d.reply w')
   attach_spares t (Ok d) h = silent d.reply h.1
@@ -59,14 +76,14 @@ module _ (w w' : WorldState) where
   begin_spares t c (Err f) h = tt
 
   go_spares : (t : ThreadId) (r : Result Did Fault) → IfOk r (Shapely t) → Run (shown w) (moves_of r) (shown w') → IfOk r (λ d. Spares w d.reply w')
-  go_spares t (Ok d) h run = sparing t (given d.moves) d.reply h run
+  go_spares t (Ok d) h run = λ x e. refusal_spares (shown w) (shown w') t x (subst (λ ms. Run (shown w) ms (shown w')) (h.1 x e) run)
   go_spares t (Err f) h run = tt
 
--- A call that is refused leaves every owner and count as it was.
+-- A call that is refused spares what is shown.
 pub step_spares : (w : WorldState) → IsSound w → (room : Bool) (s : Step) → IfOk (step_of room w s).answer (λ d. Spares w d.reply (step_of room w s).after)
 step_spares w sound room (step.Attach t) =
-    attach_spares w (step_of room w (step.Attach t)).after t (step_of room w (step.Attach t)).answer (step_labels room w (step.Attach t))
+    attach_spares w (step_of room w (step.Attach t)).after t (step_of room w (step.Attach t)).answer (step_labels w sound room (step.Attach t))
 step_spares w sound room (step.Begin t c) =
-    begin_spares w (step_of room w (step.Begin t c)).after t c (step_of room w (step.Begin t c)).answer (step_labels room w (step.Begin t c))
+    begin_spares w (step_of room w (step.Begin t c)).after t c (step_of room w (step.Begin t c)).answer (step_labels w sound room (step.Begin t c))
 step_spares w sound room (step.Go t) =
-    go_spares w (step_of room w (step.Go t)).after t (step_of room w (step.Go t)).answer (go_shape room w t (seat_of w.seats t)) (step_right w sound room (step.Go t)).1
+    go_spares w (step_of room w (step.Go t)).after t (step_of room w (step.Go t)).answer (go_shape room w sound t (seat_of w.seats t)) (step_right w sound room (step.Go t)).1

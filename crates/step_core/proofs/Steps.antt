@@ -2,65 +2,88 @@
 use Rattle.step_core.specs.Parts.{IsBusyAt}
 use Rattle.lock_word.specs.declared.ObjectId.{ObjectId}
 use Rattle.step_core.proofs.Endings.{Right, ended_right}
-use Rattle.std.specs.Prelude.{◌≡◌, ◌⊎◌, ℕ, ◌-◌, ◌<◌, Bool, true, false, if◌then◌else◌, ◌==◌, nat_lt, List, [], ◌∷◌, ◌++◌, length, set, get_or, Option, Some, None, IsSome, is_some, Result, ◌+◌}
+use Rattle.std.specs.Prelude.{◌≡◌, ◌⊎◌, ℕ, ◌-◌, ◌<◌, Bool, true, false, if◌then◌else◌, ◌==◌, nat_lt, List, [], ◌∷◌, ◌++◌, length, set, get_or, Option, Some, None, IsSome, is_some, count_by, Result, ◌+◌, ◌≤◌}
+use Rattle.std.specs.Option.{unwrap_or}
 use Rattle.std.proofs.Common.{arith, refl, sym, ◌∙◌, subst, inl, inr, get_or-set_same, get_or-set_other, length-set, ap}
 use Rattle.std.proofs.Math.Path.{fun_ext}
 use Rattle.std.proofs.lemmas.Bool.{cases_eq, eq-eqb, ne_eqb, cond_both, ltb-true, ltb-false}
+use Rattle.std.proofs.lemmas.Option.{same_Some}
 use Rattle.lock_word.specs.declared.ThreadId.{ThreadId}
 use Rattle.lock_word.specs.declared.Lock.{Lock}
 use Rattle.lock_word.specs.declared.Lock.TheVariants.{Free, Thin, Fat}
 use Rattle.thread_index.specs.Indices.{seat_of, free_seat, holder_at}
 use Rattle.thread_index.proofs.Seats.{seat_found, seat_same, free_found, seat_taken_same, seat_taken_other, IsOneToOne-taken}
-use Rattle.fat_monitor.specs.declared.actions.Post.TheVariants.{Out}
+use Rattle.fat_monitor.specs.declared.actions.Post.{Post}
+use Rattle.fat_monitor.specs.declared.actions.Post.TheVariants.{Out, Entering, Waiting, Back, Granted}
+use Rattle.fat_monitor.specs.declared.actions.Action.TheVariants as action
+use Rattle.fat_monitor.specs.declared.actions.Answer.TheVariants as answer
 use Rattle.fat_monitor.specs.declared.monitors.Monitor as fat
-use Rattle.fat_monitor.specs.FatState.{IsAttached, owns_one, monitor_at}
-use Rattle.fat_monitor.proofs.Posts.{get-insert_by}
+use Rattle.fat_monitor.specs.FatState.{IsAttached, owns_one, monitor_at, post_of, thread_count}
+use Rattle.fat_monitor.proofs.PostMaps.{get-insert_by}
+use Rattle.fat_monitor.proofs.Soundness.{IsSound-with_thread}
+use Rattle.fat_monitor.proofs.Effects.{count-with_thread}
 use Rattle.fast_path.specs.declared.Call.{Call}
 use Rattle.fast_path.specs.declared.Call.TheVariants as call
 use Rattle.step_core.specs.declared.moves.Doing.{Doing}
 use Rattle.fast_path.specs.Table.{object_of}
 use Rattle.step_core.specs.declared.moves.Doing.TheVariants as doing
 use Rattle.step_core.specs.declared.places.Place.{Place}
-use Rattle.step_core.specs.declared.places.Place.TheVariants.{Idle, Begun, Taking, Storing, Binding, Acting, Won, Bound, Inflated, Ending}
+use Rattle.step_core.specs.declared.places.Place.TheVariants.{Idle, Begun, Taking, Storing, Binding, Acting, Won, Bound, Inflated, Parked, Ending}
 use Rattle.step_core.specs.declared.moves.Move.{Move}
 use Rattle.step_core.specs.declared.moves.Move.TheVariants as move
-use Rattle.step_core.specs.declared.events.Atomic.TheVariants.{Label}
+use Rattle.step_core.specs.declared.events.Atomic.TheVariants.{Label, Acted}
 use Rattle.step_core.specs.declared.events.Step.{Step}
 use Rattle.step_core.specs.declared.events.Step.TheVariants as step
 use Rattle.step_core.specs.declared.events.Did.{Did}
 use Rattle.step_core.specs.declared.events.Fault.{Fault}
 use Rattle.step_core.specs.declared.events.Fault.TheVariants as fault
 use Rattle.step_core.specs.Machine.{State, Run, now_is, Exists}
-use Rattle.step_core.specs.WorldState.{WorldState, IsSound, Stands, Fitting, place_at, lock_at, bound_by, IsPublished}
-use Rattle.step_core.specs.Going.{gone, stays, moved, after_go}
-use Rattle.step_core.specs.Stepping.{Outcome, refused, accepted, with_live, attached, begun, begun_at, went, went_at, step_of, moves_of, world_after, moves_after, ended, first_place}
+use Rattle.step_core.specs.WorldState.{WorldState, IsSound, Stands, Fitting, Agrees, place_at, lock_at, bound_by, IsPublished}
+use Rattle.step_core.specs.Going.{gone, moved, returned, after_go}
+use Rattle.step_core.specs.Stepping.{Outcome, refused, accepted, with_live, attached, begun, begun_at, went, went_at, gathered, step_of, moves_of, world_after, moves_after, ended, first_place}
 use Rattle.step_core.specs.Shown.{shown, thread_of, monitor_of, doing_of}
-use Rattle.step_core.proofs.Shows.{shown_kept}
-use Rattle.step_core.proofs.Frames.{stands_at, within, is_at}
+use Rattle.step_core.proofs.Shows.{ActsAlike, acts_alike}
+use Rattle.step_core.proofs.Frames.{stands_at, is_at, out_at, shown_stays}
+use Rattle.step_core.proofs.NotifyRuns.{collect_run}
 use Rattle.step_core.proofs.Runs.{go_run}
-use Rattle.step_core.proofs.Keeps.{go_sound, sound_stays}
+use Rattle.step_core.proofs.KeepsPosts.{count_taken, count_below}
+use Rattle.step_core.proofs.Keeps.{go_sound, collect_sound, sound_stays}
 
 module _ (w : WorldState) (sound : IsSound w) (t : ThreadId) where
   -- a Go from a place in a call
-  busy_right : (room : Bool) (k : ℕ) → seat_of w.seats t ≡ Some k → (p : Place) → place_at w k ≡ p → (p ≡ Idle → ⊥) → IsBusyAt (length w.words) p
+  busy_right : (room : Bool) (k : ℕ) → seat_of w.seats t ≡ Some k → (p : Place) → place_at w k ≡ p → (p ≡ Idle → ⊥) → (p ≡ Parked → ⊥) → IsBusyAt (length w.words) p
       → Right w (accepted (gone w k (after_go room w k t p)) (after_go room w k t p).did)
-  busy_right room k seat p e busy more =
-      subst (λ (x : Place). Right w (accepted (gone w k (after_go room w k t x)) (after_go room w k t x).did)) e
-      (go_sound w sound k t seat room (subst (IsBusyAt (length w.words)) (sym e) more), go_run w sound k t seat room (λ idle. busy (sym e ∙ idle)))
+  busy_right room k seat p e busy back more =
+      subst (λ (x : Place). Right w (accepted (gone w k (after_go room w k t x)) (after_go room w k t x).did)) e (
+        go_sound w sound k t seat room (λ idle. busy (sym e ∙ idle)) (λ parked. back (sym e ∙ parked)) (subst (IsBusyAt (length w.words)) (sym e) more),
+        go_run w sound k t seat room (λ idle. busy (sym e ∙ idle)) (λ parked. back (sym e ∙ parked)),
+      )
+
+  -- a collect, by the post of the thread
+  gathered_right : (k : ℕ) → seat_of w.seats t ≡ Some k → place_at w k ≡ Parked → (o : Option Post) → post_of w.fats t ≡ o
+      → Right w (gathered w k t (unwrap_or o Out))
+  gathered_right k seat e None post = (sound, refl)
+  gathered_right k seat e (Some Out) post = (sound, refl)
+  gathered_right k seat e (Some (Entering m)) post = (sound, refl)
+  gathered_right k seat e (Some (Waiting m n d)) post = (sound, refl)
+  gathered_right k seat e (Some (Back m n y)) post = (sound, refl)
+  gathered_right k seat e (Some (Granted r)) post =
+      (collect_sound w sound k t seat r e post (returned (Acted action.Collect (answer.Reply r)) t r), collect_run w sound k t seat r e post)
 
   went_right_at : (room : Bool) (k : ℕ) → seat_of w.seats t ≡ Some k → (p : Place) → place_at w k ≡ p → Right w (went_at room w k t p)
   went_right_at room k seat Idle e = (sound, refl)
-  went_right_at room k seat (Begun c b) e = busy_right room k seat (Begun c b) e (λ x. cc) tt
-  went_right_at room k seat (Taking c b) e = busy_right room k seat (Taking c b) e (λ x. cc) tt
-  went_right_at room k seat (Storing c l) e = busy_right room k seat (Storing c l) e (λ x. cc) tt
-  went_right_at room k seat (Binding c n) e = busy_right room k seat (Binding c n) e (λ x. cc) tt
-  went_right_at room k seat (Acting c m) e = busy_right room k seat (Acting c m) e (λ x. cc) tt
-  went_right_at room k seat (Won o) e = busy_right room k seat (Won o) e (λ x. cc) tt
-  went_right_at room k seat (Bound c won m) e = busy_right room k seat (Bound c won m) e (λ x. cc) tt
-  went_right_at room k seat (Inflated c m) e = busy_right room k seat (Inflated c m) e (λ x. cc) tt
+  went_right_at room k seat (Begun c b) e = busy_right room k seat (Begun c b) e (λ x. cc) (λ x. cc) tt
+  went_right_at room k seat (Taking c b) e = busy_right room k seat (Taking c b) e (λ x. cc) (λ x. cc) tt
+  went_right_at room k seat (Storing c l) e = busy_right room k seat (Storing c l) e (λ x. cc) (λ x. cc) tt
+  went_right_at room k seat (Binding c n) e = busy_right room k seat (Binding c n) e (λ x. cc) (λ x. cc) tt
+  went_right_at room k seat (Acting c m) e = busy_right room k seat (Acting c m) e (λ x. cc) (λ x. cc) tt
+  went_right_at room k seat (Won o) e = busy_right room k seat (Won o) e (λ x. cc) (λ x. cc) tt
+  went_right_at room k seat (Bound c won m) e = busy_right room k seat (Bound c won m) e (λ x. cc) (λ x. cc) tt
+  went_right_at room k seat (Inflated c m) e = busy_right room k seat (Inflated c m) e (λ x. cc) (λ x. cc) tt
+  went_right_at room k seat Parked e = gathered_right k seat e (post_of w.fats t) refl
   went_right_at room k seat (Ending n) e =
       cond_both (nat_lt n (length w.words)) (accepted (gone w k (after_go room w k t (Ending n))) (after_go room w k t (Ending n)).did) (ended w k t (owns_one w.fats.monitors t)) (Right w)
-      (λ h. busy_right room k seat (Ending n) e (λ x. cc) (ltb-true n (length w.words) h))
+      (λ h. busy_right room k seat (Ending n) e (λ x. cc) (λ x. cc) (ltb-true n (length w.words) h))
       (λ h. ended_right w sound k t seat n e (ltb-false n (length w.words) h))
 
   went_right : (room : Bool) (o : Option ℕ) → seat_of w.seats t ≡ o → Right w (went room w t o)
@@ -70,25 +93,40 @@ module _ (w : WorldState) (sound : IsSound w) (t : ThreadId) where
   first_fits : (c : Call) (k : ℕ) → Exists (length w.words) c → Fitting w k (first_place c (object_of c))
   first_fits (call.Enter o) k h = (refl, h)
   first_fits (call.Exit o) k h = (refl, h)
+  first_fits (call.Wait o millis nanos) k h = (refl, h)
+  first_fits (call.Notify o) k h = (refl, h)
+  first_fits (call.NotifyAll o) k h = (refl, h)
   first_fits (call.Holds o) k h = (refl, h)
   first_fits call.End k h = (omega arith, λ p l. absurd (omega arith))
 
   first_wants : (c : Call) → doing_of (first_place c (object_of c)) ≡ doing.Wants c
   first_wants (call.Enter o) = refl
   first_wants (call.Exit o) = refl
+  first_wants (call.Wait o millis nanos) = refl
+  first_wants (call.Notify o) = refl
+  first_wants (call.NotifyAll o) = refl
   first_wants (call.Holds o) = refl
   first_wants call.End = refl
 
+  first_agrees : (c : Call) (p : Option Post) → p ≡ Some Out → Agrees (first_place c (object_of c)) p
+  first_agrees (call.Enter o) p h = h
+  first_agrees (call.Exit o) p h = h
+  first_agrees (call.Wait o millis nanos) p h = h
+  first_agrees (call.Notify o) p h = h
+  first_agrees (call.NotifyAll o) p h = h
+  first_agrees (call.Holds o) p h = h
+  first_agrees call.End p h = h
+
   begun_right_at : (c : Call) (k : ℕ) → seat_of w.seats t ≡ Some k → Exists (length w.words) c → (p : Place) → place_at w k ≡ p → Right w (begun_at w k t c p)
-  begun_right_at c k seat h Idle e = (
-    sound_stays w sound k t seat (first_place c (object_of c)) (moved Label (move.Call t c)) (rw e refl) (first_fits c k h),
-    (
-      now_is (shown w) t false (doing.Wants c),
-      (false, is_at w sound k t seat Idle e, h, refl),
-      shown_kept w k t (stays w (first_place c (object_of c)) (moved Label (move.Call t c))) seat (within w sound k t seat) refl (λ q. refl)
-          ∙ ap (λ (d : Doing). now_is (shown w) t false d) (first_wants c),
-    ),
-  )
+  begun_right_at c k seat h Idle e =
+      let out : post_of w.fats t ≡ Some Out = out_at w sound k t seat Idle e (λ x. cc) in (
+        sound_stays w sound k t seat (first_place c (object_of c)) (moved Label (move.Call t c)) (rw e refl) (first_agrees c (post_of w.fats t) out) (first_fits c k h),
+        (
+          now_is (shown w) t false (doing.Wants c),
+          (false, is_at w sound k t seat Idle e out, h, refl),
+          shown_stays w sound k t seat (first_place c (object_of c)) (moved Label (move.Call t c)) out ∙ ap (λ (d : Doing). now_is (shown w) t false d) (first_wants c),
+        ),
+      )
   begun_right_at c k seat h (Begun d b) e = (sound, refl)
   begun_right_at c k seat h (Taking d b) e = (sound, refl)
   begun_right_at c k seat h (Storing d l) e = (sound, refl)
@@ -97,6 +135,7 @@ module _ (w : WorldState) (sound : IsSound w) (t : ThreadId) where
   begun_right_at c k seat h (Won o) e = (sound, refl)
   begun_right_at c k seat h (Bound d won m) e = (sound, refl)
   begun_right_at c k seat h (Inflated d m) e = (sound, refl)
+  begun_right_at c k seat h Parked e = (sound, refl)
   begun_right_at c k seat h (Ending n) e = (sound, refl)
 
   -- a call that names an object that exists, and one that names none
@@ -110,6 +149,9 @@ module _ (w : WorldState) (sound : IsSound w) (t : ThreadId) where
   begun_right c None e = (sound, refl)
   begun_right (call.Enter o) (Some k) e = begun_right_on (call.Enter o) o k e (λ h. h)
   begun_right (call.Exit o) (Some k) e = begun_right_on (call.Exit o) o k e (λ h. h)
+  begun_right (call.Wait o millis nanos) (Some k) e = begun_right_on (call.Wait o millis nanos) o k e (λ h. h)
+  begun_right (call.Notify o) (Some k) e = begun_right_on (call.Notify o) o k e (λ h. h)
+  begun_right (call.NotifyAll o) (Some k) e = begun_right_on (call.NotifyAll o) o k e (λ h. h)
   begun_right (call.Holds o) (Some k) e = begun_right_on (call.Holds o) o k e (λ h. h)
   begun_right call.End (Some k) e = begun_right_at call.End k e tt (place_at w k) refl
 
@@ -135,16 +177,27 @@ module _ (w : WorldState) (sound : IsSound w) (t : ThreadId) where
     seat_now_other : (u : ThreadId) → (u.0 ≡ t.0 → ⊥) → seat_of now.seats u ≡ seat_of w.seats u
     seat_now_other u ne = seat_taken_other w.seats t u k free ne
 
-    thread_kept : (u : ThreadId) (o : Option ℕ) → seat_of w.seats u ≡ o → thread_of now o ≡ thread_of w o
-    thread_kept u None e = refl
-    thread_kept u (Some j) e =
+    -- another thread has the post that it had, and shows what it showed
+    post_kept : (u : ThreadId) → (u.0 ≡ t.0 → ⊥) → post_of now.fats u ≡ post_of w.fats u
+    post_kept u ne = rw (get-insert_by w.fats.threads t.0 Out u.0, ne_eqb u.0 t.0 ne) refl
+
+    post_own : (u : ThreadId) → u.0 ≡ t.0 → post_of now.fats u ≡ Some Out
+    post_own u same = rw (get-insert_by w.fats.threads t.0 Out u.0, eq-eqb u.0 t.0 same) refl
+
+    alike : (u : ThreadId) → (u.0 ≡ t.0 → ⊥) → ActsAlike w.fats now.fats u
+    alike u ne = acts_alike w.fats now.fats u sound.fats (ap (λ (o : Option Post). unwrap_or o Out) (post_kept u ne)) (λ m h. refl)
+
+    thread_kept : (u : ThreadId) → (u.0 ≡ t.0 → ⊥) → (o : Option ℕ) → seat_of w.seats u ≡ o → thread_of now u o ≡ thread_of w u o
+    thread_kept u ne None e = refl
+    thread_kept u ne (Some j) e =
         let found : holder_at w.seats j ≡ Some u = (seat_found w.seats u j e).1 in
-        rw (get_or-set_other w.places k j Idle Idle (taken_elsewhere j (rw found refl))) refl
+        rw (get_or-set_other w.places k j Idle Idle (taken_elsewhere j (rw found refl)))
+        (ap (λ (x : Doing). Some (record { flag = false; act = x })) (alike u ne (place_at w j)))
 
     new_thread : (u : ThreadId) → (u.0 ≡ t.0) ⊎ (u.0 ≡ t.0 → ⊥)
-        → thread_of now (seat_of now.seats u) ≡ (if u.0 == t.0 then Some (record { flag = false; act = doing.Idle }) else thread_of w (seat_of w.seats u))
-    new_thread u (inl same) = rw (seat_now_same u same, eq-eqb u.0 t.0 same, get_or-set_same w.places k Idle Idle has_place) refl
-    new_thread u (inr ne) = rw (seat_now_other u ne, ne_eqb u.0 t.0 ne) (thread_kept u (seat_of w.seats u) refl)
+        → thread_of now u (seat_of now.seats u) ≡ (if u.0 == t.0 then Some (record { flag = false; act = doing.Idle }) else thread_of w u (seat_of w.seats u))
+    new_thread u (inl same) = rw (seat_now_same u same, eq-eqb u.0 t.0 same, get_or-set_same w.places k Idle Idle has_place, post_own u same) refl
+    new_thread u (inr ne) = rw (seat_now_other u ne, ne_eqb u.0 t.0 ne) (thread_kept u ne (seat_of w.seats u) refl)
 
     old_monitor : (q : ℕ) (l : Lock) → Stands w q l → monitor_of now l ≡ monitor_of w l
     old_monitor q Free st = refl
@@ -166,15 +219,53 @@ module _ (w : WorldState) (sound : IsSound w) (t : ThreadId) where
     old_fits j ne (Won o) fit = fit
     old_fits j ne (Bound c won m) fit = (fit.0, fit.1, (fit.2.0, fit.2.1, rw (holder_kept j ne) fit.2.2))
     old_fits j ne (Inflated c m) fit = fit
+    old_fits j ne Parked fit = fit
     old_fits j ne (Ending n) fit = fit
 
     attached_now : (u : ThreadId) → (u.0 ≡ t.0) ⊎ (u.0 ≡ t.0 → ⊥) → IsSome (seat_of now.seats u) → IsAttached now.fats u
-    attached_now u (inl same) h = rw (get-insert_by w.fats.threads t.0 Out u.0, eq-eqb u.0 t.0 same) refl
-    attached_now u (inr ne) h = rw (get-insert_by w.fats.threads t.0 Out u.0, ne_eqb u.0 t.0 ne) (sound.attached u (rw (seat_now_other u ne) at h))
+    attached_now u (inl same) h = rw (post_own u same) refl
+    attached_now u (inr ne) h = rw (post_kept u ne) (sound.attached u (rw (seat_now_other u ne) at h))
 
     live_now : (u : ThreadId) → (u.0 ≡ t.0) ⊎ (u.0 ≡ t.0 → ⊥) → IsAttached now.fats u → IsSome (seat_of now.seats u)
     live_now u (inl same) h = rw (seat_now_same u same) refl
-    live_now u (inr ne) h = rw (seat_now_other u ne) (sound.live u (rw (get-insert_by w.fats.threads t.0 Out u.0, ne_eqb u.0 t.0 ne) at h))
+    live_now u (inr ne) h = rw (seat_now_other u ne) (sound.live u (rw (post_kept u ne) at h))
+
+    -- nobody was attached under this thread's number
+    fresh : post_of w.fats t ≡ None
+    fresh = by_post (post_of w.fats t) refl
+      where
+        by_post : (o : Option Post) → post_of w.fats t ≡ o → o ≡ None
+        by_post None e = refl
+        by_post (Some p) e =
+            let here : IsAttached w.fats t = rw e refl in
+            let never : is_some {T = ℕ} None ≡ true = rw none at (sound.live t here) in
+            absurd (cc)
+
+    posted_now : (u : ThreadId) (j : ℕ) → (u.0 ≡ t.0) ⊎ (u.0 ≡ t.0 → ⊥) → seat_of now.seats u ≡ Some j → Agrees (place_at now j) (post_of now.fats u)
+    posted_now u j (inl same) h =
+        let here : k ≡ j = same_Some k j (sym (seat_now_same u same) ∙ h) in
+        rw (← here, get_or-set_same w.places k Idle Idle has_place) (post_own u same)
+    posted_now u j (inr ne) h =
+        let before : seat_of w.seats u ≡ Some j = sym (seat_now_other u ne) ∙ h in
+        let found : holder_at w.seats j ≡ Some u = (seat_found w.seats u j before).1 in
+        rw (get_or-set_other w.places k j Idle Idle (taken_elsewhere j (rw found refl)), post_kept u ne) (sound.posted u j before)
+
+    counted_now : thread_count now.fats ≡ count_by is_some now.seats
+    counted_now =
+        let found = free_found w.seats k free in
+        let more : thread_count now.fats ≡ thread_count w.fats + 1 = count-with_thread w.fats t fresh in
+        let taken : count_by is_some now.seats ≡ count_by is_some w.seats + 1 = count_taken w.seats k t found.0 found.1 in
+        let before : thread_count w.fats ≡ count_by is_some w.seats = sound.counted in
+        omega arith
+
+    -- there is room for one more thread
+    has_room : thread_count w.fats < 32767
+    has_room =
+        let found = free_found w.seats k free in
+        let below : count_by is_some w.seats < length w.seats = count_below w.seats k t found.0 found.1 in
+        let few : length w.seats ≤ 32767 = sound.few in
+        let before : thread_count w.fats ≡ count_by is_some w.seats = sound.counted in
+        omega arith
 
     -- a free seat has bound nothing: a monitor that it had bound would have no owner
     none_bound : (p : Place) → Fitting w k p → bound_by p ≡ None
@@ -191,6 +282,7 @@ module _ (w : WorldState) (sound : IsSound w) (t : ThreadId) where
         let nothing : (monitor_at w.fats m).holds ≡ 0 = (sound.fats.fair m f.1).1.0 owner in
         absurd (omega arith)
     none_bound (Inflated c m) f = refl
+    none_bound Parked f = refl
     none_bound (Ending n) f = refl
 
     published_now : (m : ℕ) → IsPublished w m → IsPublished now m
@@ -210,10 +302,12 @@ module _ (w : WorldState) (sound : IsSound w) (t : ThreadId) where
       one_to_one = IsOneToOne-taken w.seats t k sound.one_to_one none free;
       formed = sound.formed;
       words = λ p h. old_stands p (lock_at w p) (sound.words p h);
-      fats = record { few = sound.fats.few; limit = sound.fats.limit; fair = sound.fats.fair };
+      fats = IsSound-with_thread w.fats t sound.fats fresh has_room;
       published = λ m h. published_now m (sound.published m h);
       attached = λ u h. attached_now u (cases_eq u.0 t.0) h;
       live = λ u h. live_now u (cases_eq u.0 t.0) h;
+      posted = λ u j h. posted_now u j (cases_eq u.0 t.0) h;
+      counted = counted_now;
       places = λ j h. at_seat j h (cases_eq j k);
     } where
       at_seat : (j : ℕ) → j < length (set w.places k Idle) → (j ≡ k) ⊎ (j ≡ k → ⊥) → Fitting now j (get_or (set w.places k Idle) j Idle)

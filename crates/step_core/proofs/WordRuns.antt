@@ -1,7 +1,9 @@
 -- Each Go on a word, and each bind, is a run of the machine on the shown states.
-use Rattle.std.specs.Prelude.{zero, suc, ◌≡◌, ℕ, ◌+◌, ◌-◌, ◌<◌, ◌≤◌, Bool, true, false, if◌then◌else◌, ◌==◌, nat_lt, [], ◌∷◌, length, Option, Some, None, MatchOption}
+use Rattle.std.specs.Prelude.{T, ℤ, pos, int_le, ◌&&◌, zero, suc, ◌≡◌, ℕ, ◌+◌, ◌-◌, ◌<◌, ◌≤◌, Bool, true, false, if◌then◌else◌, ◌==◌, nat_lt, [], ◌∷◌, length, Option, Some, None, MatchOption}
 use Rattle.std.proofs.Common.{arith, refl, ap, sym, ◌∙◌, subst, inl, inr, length-set}
-use Rattle.std.proofs.lemmas.Bool.{cond_both, eqb-true, eqb-false, ne_eqb, lt-ltb}
+use Rattle.std.proofs.lemmas.Option.{same_Some}
+use lib.Signed.{le_z_yes}
+use Rattle.std.proofs.lemmas.Bool.{and_parts, cond_both, eqb-true, eqb-false, ne_eqb, lt-ltb}
 use Rattle.std.proofs.lemmas.List.{get_or_append_left}
 use Rattle.lock_word.specs.declared.ThreadId.{ThreadId}
 use Rattle.lock_word.specs.declared.ObjectId.{ObjectId}
@@ -13,83 +15,187 @@ use Rattle.fat_monitor.specs.declared.actions.Cause.{Cause}
 use Rattle.fat_monitor.specs.declared.actions.Cause.TheVariants as cause
 use Rattle.fat_monitor.specs.declared.actions.Reply.{Reply}
 use Rattle.fat_monitor.specs.declared.actions.Reply.TheVariants as reply
-use Rattle.fat_monitor.specs.FatState.{bound_with, unbound}
+use Rattle.fat_monitor.specs.declared.monitors.Monitor as fat
+use Rattle.fat_monitor.specs.declared.actions.Post.{Post}
+use Rattle.fat_monitor.specs.declared.actions.Post.TheVariants.{Out, Entering, Waiting, Back, Granted}
+use Rattle.fat_monitor.specs.FatState.{bound_with, unbound, monitor_at, post_of, post_at, IsProper}
+use Rattle.fat_monitor.specs.Acting.{are_good}
 use Rattle.fast_path.specs.declared.Call.{Call}
 use Rattle.fast_path.specs.declared.Call.TheVariants as call
 use Rattle.fast_path.specs.declared.Next.{Next}
 use Rattle.fast_path.specs.declared.Next.TheVariants as next
-use Rattle.fast_path.specs.Table.{target, next_of}
-use Rattle.fast_path.proofs.Tables.{IsEnter, StoresOwn}
+use Rattle.fast_path.specs.Table.{target, next_of, when_free, when_own, when_anothers}
+use Rattle.fast_path.proofs.Tables.{StoresOwn}
 use Rattle.step_core.specs.declared.moves.Doing.TheVariants as doing
 use Rattle.step_core.specs.declared.places.Place.{Place}
-use Rattle.step_core.specs.declared.places.Place.TheVariants.{Idle, Begun, Taking, Storing, Binding, Acting, Won, Bound, Inflated, Ending}
+use Rattle.step_core.specs.declared.places.Place.TheVariants.{Idle, Begun, Taking, Storing, Binding, Acting, Won, Bound, Inflated, Parked, Ending}
+use Rattle.step_core.specs.declared.moves.Move.{Move}
 use Rattle.step_core.specs.declared.moves.Move.TheVariants as move
 use Rattle.step_core.specs.declared.events.Atomic.{Atomic}
 use Rattle.step_core.specs.declared.events.Atomic.TheVariants as atomic
 use Rattle.step_core.specs.declared.events.Did.{Did}
-use Rattle.step_core.specs.Machine.{State, Monitor, Run, free, held, Is, now_is}
-use Rattle.step_core.specs.WorldState.{WorldState, IsSound, Stands, Fitting, place_at, lock_at, is_own}
+use Rattle.step_core.specs.Machine.{State, Thread, Monitor, Run, free, held, Is, now_is, OwnedBy, NobodyWaits, MayRefuse, AreGood, owner_only}
+use Rattle.step_core.specs.WorldState.{WorldState, IsSound, Stands, Fitting, place_at, lock_at, is_own, bound_by, IsPublished}
 use Rattle.step_core.specs.Going.{gone, stays, turns, writes, new_word, silent, moved, replied, returned, move_for, load_of, lost_at, won_at, stored_at, after_load, after_take, after_store, after_bind, after_publish, bind_cause, after_look}
 use Rattle.step_core.specs.Stepping.{given}
-use Rattle.step_core.specs.Shown.{shown, monitor_of, doing_of}
-use Rattle.step_core.proofs.Machines.{run_entered, run_exited, run_illegal, run_yes, run_no, run_refused, run_returned, run_lock}
-use Rattle.step_core.proofs.Shows.{shown_kept}
-use Rattle.step_core.proofs.Frames.{now_is_same, lock_of-new_word, stands_at, within, thin_fits, is_at, mine, other, owned, not_owned, written, shown_written, as_it_was}
+use Rattle.step_core.specs.Shown.{shown, monitor_of, doing_of, act_of, thread_of}
+use Rattle.step_core.proofs.Machines.{run_entered, run_exited, run_illegal, run_bad, run_unnoticed, run_unnoticed_all, run_yes, run_no, run_refused, run_returned, run_lock}
+use Rattle.step_core.proofs.Shows.{shown_kept, ActsAlike, acts_alike, proper_at}
+use Rattle.step_core.proofs.Frames.{now_is_same, act_out, shown_stays, lock_of-new_word, stands_at, within, thin_fits, is_at, mine, other, owned, not_owned, written, shown_written, as_it_was}
 
 -- a load found what the call may do next
 abbrev LoadFact : State → ThreadId → Call → Next → Type 0
-LoadFact s t c (next.Reply r) = Run s (move_for r t ∷ move.Return t r ∷ []) (now_is s t false doing.Idle)
+LoadFact s t c (next.Reply r) = Run s (move_for c r None t ∷ move.Return t r ∷ []) (now_is s t false doing.Idle)
 LoadFact s t c (next.Cas l) = doing.Wants (call.Enter (target c)) ≡ doing.Wants c
 LoadFact s t c (next.Store l) = Unit {0}
 LoadFact s t c next.Bind = Unit {0}
 LoadFact s t c (next.Fat m) = Unit {0}
 LoadFact s t c next.Spin = Unit {0}
 
--- why a bind may be refused
-abbrev pub IsBindCause : Cause → Type 0
-IsBindCause cause.NoMonitor = Unit {0}
-IsBindCause cause.Memory = Unit {0}
-IsBindCause cause.TooDeep = ⊥
-IsBindCause cause.StillOwner = ⊥
+-- the index of a thin lock, and the object of a wait
+pub thin_index : (j k m n : ℕ) → Thin (j + 1) m ≡ Thin (k + 1) n → j ≡ k
+thin_index j k m n e = let same : j + 1 ≡ k + 1 = cc in omega arith
 
-module _ (w : WorldState) (sound : IsSound w) (k : ℕ) (t : ThreadId) (seat : seat_of w.seats t ≡ Some k) where
+pub waits_object : (p o : ObjectId) (m n : ℕ) (c d : Option ℕ) → doing.Waits p m c ≡ doing.Waits o n d → p ≡ o
+waits_object p o m n c d e = cc
+
+-- a thread that is out of every fat action does not wait
+pub not_waiting : (q : Place) {o : ObjectId} {n : ℕ} {d : Option ℕ} → doing_of q ≡ doing.Waits o n d → ⊥
+not_waiting Idle e = absurd (cc)
+not_waiting (Begun c b) e = absurd (cc)
+not_waiting (Taking o b) e = absurd (cc)
+not_waiting (Storing c l) e = absurd (cc)
+not_waiting (Binding c n) e = absurd (cc)
+not_waiting (Acting c m) e = absurd (cc)
+not_waiting (Won o) e = absurd (cc)
+not_waiting (Bound c true m) e = absurd (cc)
+not_waiting (Bound c false m) e = absurd (cc)
+not_waiting (Inflated c m) e = absurd (cc)
+not_waiting Parked e = absurd (cc)
+not_waiting (Ending n) e = absurd (cc)
+
+-- the time of a wait is in its range where the test says so, and only there
+is_true : (b : Bool) → T b → b ≡ true
+is_true true h = refl
+is_true false h = absurd h
+
+pub good_time : (millis nanos : ℤ) → are_good millis nanos ≡ true → AreGood millis nanos
+good_time millis nanos e =
+    let p = and_parts (int_le (pos 0) millis && int_le (pos 0) nanos) (int_le nanos (pos 999999)) e in
+    let q = and_parts (int_le (pos 0) millis) (int_le (pos 0) nanos) p.0 in
+    (le_z_yes (subst T (sym q.0) tt), le_z_yes (subst T (sym q.1) tt), le_z_yes (subst T (sym p.1) tt))
+
+pub not_good : (millis nanos : ℤ) → are_good millis nanos ≡ false → AreGood millis nanos → ⊥
+not_good millis nanos e (a, b, c) =
+    let never : true ≡ false = rw (is_true (int_le (pos 0) millis) a.le, is_true (int_le (pos 0) nanos) b.le, is_true (int_le nanos (pos 999999)) c.le) at e in absurd (cc)
+
+module _ (w : WorldState) (sound : IsSound w) (k : ℕ) (t : ThreadId) (seat : seat_of w.seats t ≡ Some k) (out : post_of w.fats t ≡ Some Out) where
   -- nothing is shown of this Go
   pub quiet : (p p' : Place) (a : Atomic) → place_at w k ≡ p → doing_of p' ≡ doing_of p
       → Run (shown w) [] (shown (gone w k (stays w p' (silent a))))
   quiet p p' a e same =
-      shown_kept w k t (stays w p' (silent a)) seat (within w sound k t seat) refl (λ q. refl) ∙ (rw same (now_is_same (shown w) t (doing_of p) (is_at w sound k t seat p e)))
+      shown_stays w sound k t seat p' (silent a) out ∙ (rw same (now_is_same (shown w) t (doing_of p) (is_at w sound k t seat p e out)))
 
-  -- a reply that changes no monitor
-  pub told : (a : Atomic) (r : Reply) → Run (shown w) (move_for r t ∷ move.Return t r ∷ []) (now_is (shown w) t false doing.Idle)
-      → Run (shown w) (given (replied a t r).moves) (shown (gone w k (stays w Idle (replied a t r))))
-  told a r run =
-      subst (λ (s : State). Run (shown w) (move_for r t ∷ move.Return t r ∷ []) s)
-      (sym (shown_kept w k t (stays w Idle (replied a t r)) seat (within w sound k t seat) refl (λ q. refl))) run
+  -- a reply by this move that changes no monitor
+  pub told : (a : Atomic) (m : Move) (r : Reply) → Run (shown w) (m ∷ move.Return t r ∷ []) (now_is (shown w) t false doing.Idle)
+      → Run (shown w) (given (replied a m t r).moves) (shown (gone w k (stays w Idle (replied a m t r))))
+  told a m r run =
+      subst (λ (s : State). Run (shown w) (m ∷ move.Return t r ∷ []) s) (sym (shown_stays w sound k t seat Idle (replied a m t r) out)) run
 
-  pub load_facts : (c : Call) (l : Lock) → Is (shown w) t false (doing.Wants c) → lock_at w (target c).0 ≡ l → Stands w (target c).0 l
+  -- the owner of a thin word of one's own
+  owned_by : (o : ObjectId) (n : ℕ) → lock_at w o.0 ≡ Thin (k + 1) n → OwnedBy (shown w) o t
+  owned_by o n e = owned w sound k t seat o (Thin (k + 1) n) e (ap (λ (m : Monitor). m.owner) (mine w sound k t seat n))
+
+  -- nobody waits on an object whose word is one's own thin one: who waits, waits on a monitor that its
+  -- object shows, or that its binder is to store
+  unbound_here : (o : ObjectId) (n m : ℕ) → lock_at w o.0 ≡ Thin (k + 1) n → bound_by (place_at w k) ≡ None → (monitor_at w.fats m).object ≡ o
+      → IsPublished w m → ⊥
+  unbound_here o n m e none same (inl fat) =
+      let never : Fat m ≡ Thin (k + 1) n = sym (rw same at fat) ∙ e in absurd (cc)
+  unbound_here o n m e none same (inr (j, there, bound)) = by_place (place_at w j) refl bound (sound.places j there)
+    where
+      by_place : (p : Place) → place_at w j ≡ p → bound_by p ≡ Some m → Fitting w j p → ⊥
+      by_place Idle at b fit = absurd (cc)
+      by_place (Begun c x) at b fit = absurd (cc)
+      by_place (Taking q x) at b fit = absurd (cc)
+      by_place (Storing c l) at b fit = absurd (cc)
+      by_place (Binding c x) at b fit = absurd (cc)
+      by_place (Acting c x) at b fit = absurd (cc)
+      by_place (Won q) at b fit = absurd (cc)
+      by_place (Bound c won i) at b fit =
+          let number : i ≡ m = same_Some i m b in
+          let object : target c ≡ o = sym (ap (λ (x : fat.Monitor). x.object) fit.2.2) ∙ ap (λ (x : ℕ). (monitor_at w.fats x).object) number ∙ same in
+          let index : Thin (j + 1) fit.2.0 ≡ Thin (k + 1) n = sym fit.2.1 ∙ ap (λ (x : ObjectId). lock_at w x.0) object ∙ e in
+          let seat_same : j ≡ k = thin_index j k fit.2.0 n index in
+          let never : None ≡ Some i = sym none ∙ ap (λ (x : ℕ). bound_by (place_at w x)) (sym seat_same) ∙ ap bound_by at in absurd (cc)
+      by_place (Inflated c x) at b fit = absurd (cc)
+      by_place Parked at b fit = absurd (cc)
+      by_place (Ending x) at b fit = absurd (cc)
+
+  nobody_waits : (o : ObjectId) (n : ℕ) → lock_at w o.0 ≡ Thin (k + 1) n → bound_by (place_at w k) ≡ None → NobodyWaits (shown w) o
+  nobody_waits o n e none u flag x d is = by_seat (seat_of w.seats u) is
+    where
+      by_post : (p : Post) (q : Place) → IsProper w.fats p → act_of w.fats p q ≡ doing.Waits o x d → ⊥
+      by_post Out q h same = not_waiting q same
+      by_post (Entering m) q h same = absurd (cc)
+      by_post (Waiting m y z) q h same = unbound_here o n m e none (waits_object (monitor_at w.fats m).object o y x z d same) (sound.published m h.0)
+      by_post (Back m y r) q h same = absurd (cc)
+      by_post (Granted r) q h same = absurd (cc)
+
+      by_seat : (s : Option ℕ) → thread_of w u s ≡ Some (record { flag = flag; act = doing.Waits o x d }) → ⊥
+      by_seat None same = absurd (cc)
+      by_seat (Some j) same =
+          by_post (post_at w.fats u) (place_at w j) (proper_at w.fats u sound.fats) (ap (λ (y : Thread). y.act) (same_Some _ _ same))
+
+  -- an owner of a thin word: its notify finds nobody, since who waits on an object waits on its fat monitor
+  own_facts : (c : Call) (n : ℕ) → Is (shown w) t false (doing.Wants c) → lock_at w (target c).0 ≡ Thin (k + 1) n → bound_by (place_at w k) ≡ None
+      → LoadFact (shown w) t c (when_own c (k + 1) n)
+  own_facts (call.Enter o) n is e none = cond_both (nat_lt n 255) _ _ (LoadFact (shown w) t (call.Enter o)) (λ _. tt) (λ _. tt)
+  own_facts (call.Exit o) n is e none = cond_both (nat_lt 0 n) _ _ (LoadFact (shown w) t (call.Exit o)) (λ _. tt) (λ _. tt)
+  own_facts (call.Wait o millis nanos) n is e none =
+      cond_both (are_good millis nanos) next.Bind (next.Reply reply.IllegalArgument) (LoadFact (shown w) t (call.Wait o millis nanos)) (λ _. tt)
+      (λ bad. run_bad (shown w) t false o millis nanos is (owned_by o n e) (not_good millis nanos bad))
+  own_facts (call.Notify o) n is e none = run_unnoticed (shown w) t false o is (owned_by o n e) (nobody_waits o n e none)
+  own_facts (call.NotifyAll o) n is e none = run_unnoticed_all (shown w) t false o is (owned_by o n e) (nobody_waits o n e none)
+  own_facts (call.Holds o) n is e none = run_yes (shown w) t false o is (owned_by o n e)
+  own_facts call.End n is e none = tt
+
+  pub load_facts : (c : Call) (l : Lock) → Is (shown w) t false (doing.Wants c) → lock_at w (target c).0 ≡ l → Stands w (target c).0 l → bound_by (place_at w k) ≡ None
       → LoadFact (shown w) t c (next_of c l (k + 1))
-  load_facts (call.Enter o) Free is e stands = refl
-  load_facts (call.Exit o) Free is e stands = run_illegal (shown w) t false o is (not_owned w sound k t seat o Free e (λ h. cc))
-  load_facts (call.Holds o) Free is e stands = run_no (shown w) t false o is (not_owned w sound k t seat o Free e (λ h. cc))
-  load_facts (call.Enter o) (Thin i c) is e stands =
-      cond_both (i == k + 1) _ _ (LoadFact (shown w) t (call.Enter o))
-      (λ same. cond_both (nat_lt c 255) _ _ (LoadFact (shown w) t (call.Enter o)) (λ _. tt) (λ _. tt)) (λ _. tt)
-  load_facts (call.Exit o) (Thin i c) is e stands =
-      cond_both (i == k + 1) _ _ (LoadFact (shown w) t (call.Exit o))
-      (λ same. cond_both (nat_lt 0 c) _ _ (LoadFact (shown w) t (call.Exit o)) (λ _. tt) (λ _. tt))
-      (λ ne. run_illegal (shown w) t false o is (not_owned w sound k t seat o (Thin i c) e (other w sound k t seat i c (eqb-false i (k + 1) ne) stands.0)))
-  load_facts (call.Holds o) (Thin i c) is e stands =
-      cond_both (i == k + 1) _ _ (LoadFact (shown w) t (call.Holds o))
-      (λ same. run_yes (shown w) t false o is (owned w sound k t seat o (Thin i c) e (rw (eqb-true i (k + 1) same) (ap (λ (m : Monitor). m.owner) (mine w sound k t seat c)))))
-      (λ ne. run_no (shown w) t false o is (not_owned w sound k t seat o (Thin i c) e (other w sound k t seat i c (eqb-false i (k + 1) ne) stands.0)))
-  load_facts (call.Enter o) (Fat m) is e stands = tt
-  load_facts (call.Exit o) (Fat m) is e stands = tt
-  load_facts (call.Holds o) (Fat m) is e stands = tt
-  load_facts call.End l is e stands = tt
+  load_facts c Free is e stands none = by_call c is e
+    where
+      illegal : (c : Call) (o : ObjectId) → owner_only c ≡ Some o → Is (shown w) t false (doing.Wants c) → lock_at w o.0 ≡ Free
+          → Run (shown w) (move.Illegal t ∷ move.Return t reply.IllegalMonitorState ∷ []) (now_is (shown w) t false doing.Idle)
+      illegal c o only is e = run_illegal (shown w) t false c o only is (not_owned w sound k t seat o Free e (λ h. cc))
+
+      by_call : (c : Call) → Is (shown w) t false (doing.Wants c) → lock_at w (target c).0 ≡ Free → LoadFact (shown w) t c (when_free c (k + 1))
+      by_call (call.Enter o) is e = refl
+      by_call (call.Exit o) is e = illegal (call.Exit o) o refl is e
+      by_call (call.Wait o millis nanos) is e = illegal (call.Wait o millis nanos) o refl is e
+      by_call (call.Notify o) is e = illegal (call.Notify o) o refl is e
+      by_call (call.NotifyAll o) is e = illegal (call.NotifyAll o) o refl is e
+      by_call (call.Holds o) is e = run_no (shown w) t false o is (not_owned w sound k t seat o Free e (λ h. cc))
+      by_call call.End is e = tt
+  load_facts c (Thin i n) is e stands none =
+      cond_both (i == k + 1) (when_own c (k + 1) n) (when_anothers c) (LoadFact (shown w) t c)
+      (λ same. own_facts c n is (e ∙ ap (λ (j : ℕ). Thin j n) (eqb-true i (k + 1) same)) none) (λ ne. others c is e ne)
+    where
+      not_mine : (o : ObjectId) → lock_at w o.0 ≡ Thin i n → (i == k + 1) ≡ false → OwnedBy (shown w) o t → ⊥
+      not_mine o e ne = not_owned w sound k t seat o (Thin i n) e (other w sound k t seat i n (eqb-false i (k + 1) ne) stands.0)
+
+      others : (c : Call) → Is (shown w) t false (doing.Wants c) → lock_at w (target c).0 ≡ Thin i n → (i == k + 1) ≡ false → LoadFact (shown w) t c (when_anothers c)
+      others (call.Enter o) is e ne = tt
+      others (call.Exit o) is e ne = run_illegal (shown w) t false (call.Exit o) o refl is (not_mine o e ne)
+      others (call.Wait o millis nanos) is e ne = run_illegal (shown w) t false (call.Wait o millis nanos) o refl is (not_mine o e ne)
+      others (call.Notify o) is e ne = run_illegal (shown w) t false (call.Notify o) o refl is (not_mine o e ne)
+      others (call.NotifyAll o) is e ne = run_illegal (shown w) t false (call.NotifyAll o) o refl is (not_mine o e ne)
+      others (call.Holds o) is e ne = run_no (shown w) t false o is (not_mine o e ne)
+      others call.End is e ne = tt
+  load_facts c (Fat m) is e stands none = tt
 
   pub load_run : (c : Call) (contended : Bool) (n : Next) → place_at w k ≡ Begun c contended → LoadFact (shown w) t c n
       → Run (shown w) (given (after_load w t c contended n).did.moves) (shown (gone w k (after_load w t c contended n)))
-  load_run c b (next.Reply r) e fact = told (load_of w (target c)) r fact
+  load_run c b (next.Reply r) e fact = told (load_of w (target c)) (move_for c r None t) r fact
   load_run c b (next.Cas l) e fact = quiet (Begun c b) (Taking (target c) b) (load_of w (target c)) e fact
   load_run c b (next.Store l) e fact = quiet (Begun c b) (Storing c l) (load_of w (target c)) e refl
   load_run c b next.Bind e fact = quiet (Begun c b) (Binding c (count_of (lock_at w (target c).0))) (load_of w (target c)) e refl
@@ -100,12 +206,12 @@ module _ (w : WorldState) (sound : IsSound w) (k : ℕ) (t : ThreadId) (seat : s
       → Run (shown w) (given (after_take w k t o contended l).did.moves) (shown (gone w k (after_take w k t o contended l)))
   take_run o true Free e h el =
       subst (λ (s : State). Run (shown w) (move.Lock t ∷ []) s)
-      (sym (shown_written w sound k t seat o (Thin (k + 1) 0) (held t 1) (Won o) (moved (won_at w o (Thin (k + 1) 0)) (move.Lock t)) h (thin_fits w sound k t seat 0 (omega arith)) (mine w sound k t seat 0)))
-      (run_lock (shown w) t false o 0 (is_at w sound k t seat (Taking o true) e) (inl (rw el refl)) (rw el refl) (omega arith))
+      (sym (shown_written w sound k t seat o (Thin (k + 1) 0) (held t 1) (Won o) (moved (won_at w o (Thin (k + 1) 0)) (move.Lock t)) out h (thin_fits w sound k t seat 0 (omega arith)) (mine w sound k t seat 0)))
+      (run_lock (shown w) t false o 0 (is_at w sound k t seat (Taking o true) e out) (inl (rw el refl)) (rw el refl) (omega arith))
   take_run o false Free e h el =
       subst (λ (s : State). Run (shown w) (move.Lock t ∷ move.Return t reply.Entered ∷ []) s)
-      (sym (shown_written w sound k t seat o (Thin (k + 1) 0) (held t 1) Idle (replied (won_at w o (Thin (k + 1) 0)) t reply.Entered) h (thin_fits w sound k t seat 0 (omega arith)) (mine w sound k t seat 0)))
-      (run_entered (shown w) t false o 0 (is_at w sound k t seat (Taking o false) e) (inl (rw el refl)) (rw el refl) (omega arith))
+      (sym (shown_written w sound k t seat o (Thin (k + 1) 0) (held t 1) Idle (replied (won_at w o (Thin (k + 1) 0)) (move.Lock t) t reply.Entered) out h (thin_fits w sound k t seat 0 (omega arith)) (mine w sound k t seat 0)))
+      (run_entered (shown w) t false o 0 (is_at w sound k t seat (Taking o false) e out) (inl (rw el refl)) (rw el refl) (omega arith))
   take_run o b (Thin i c) e h el = quiet (Taking o b) (Begun (call.Enter o) true) (lost_at w o) e refl
   take_run o b (Fat m) e h el = quiet (Taking o b) (Begun (call.Enter o) true) (lost_at w o) e refl
 
@@ -114,13 +220,13 @@ module _ (w : WorldState) (sound : IsSound w) (k : ℕ) (t : ThreadId) (seat : s
       → Run (shown w) (given (after_store w t c l).did.moves) (shown (gone w k (after_store w t c l)))
   store_run (call.Enter o) l e h (n, old, few, new) =
       subst (λ (s : State). Run (shown w) (move.Lock t ∷ move.Return t reply.Entered ∷ []) s)
-      (sym (shown_written w sound k t seat o l (held t (n + 1 + 1)) Idle (replied (stored_at w o l) t reply.Entered) h (rw new (thin_fits w sound k t seat (n + 1) (omega arith))) (rw new (mine w sound k t seat (n + 1)))))
-      (run_entered (shown w) t false o (n + 1) (is_at w sound k t seat (Storing (call.Enter o) l) e)
+      (sym (shown_written w sound k t seat o l (held t (n + 1 + 1)) Idle (replied (stored_at w o l) (move.Lock t) t reply.Entered) out h (rw new (thin_fits w sound k t seat (n + 1) (omega arith))) (rw new (mine w sound k t seat (n + 1)))))
+      (run_entered (shown w) t false o (n + 1) (is_at w sound k t seat (Storing (call.Enter o) l) e out)
       (inr (owned w sound k t seat o (Thin (k + 1) n) old (ap (λ (m : Monitor). m.owner) (mine w sound k t seat n)))) (rw old refl) (omega arith))
   store_run (call.Exit o) l e h (n, old, new) =
       subst (λ (s : State). Run (shown w) (move.Unlock t ∷ move.Return t reply.Exited ∷ []) s)
-      (sym (shown_written w sound k t seat o l (if n == 0 then free else held t n) Idle (replied (stored_at w o l) t reply.Exited) h (rw new (less_fits n (rw old at (stands_at w sound o.0)).2)) (rw new (less n))))
-      (run_exited (shown w) t false o n (is_at w sound k t seat (Storing (call.Exit o) l) e) (rw old (mine w sound k t seat n)))
+      (sym (shown_written w sound k t seat o l (if n == 0 then free else held t n) Idle (replied (stored_at w o l) (move.Unlock t) t reply.Exited) out h (rw new (less_fits n (rw old at (stands_at w sound o.0)).2)) (rw new (less n))))
+      (run_exited (shown w) t false o n (is_at w sound k t seat (Storing (call.Exit o) l) e out) (rw old (mine w sound k t seat n)))
     where
       less : (n : ℕ) → monitor_of w (if nat_lt 0 n then Thin (k + 1) (n - 1) else Free) ≡ (if n == 0 then free else held t n)
       less zero = refl
@@ -133,6 +239,9 @@ module _ (w : WorldState) (sound : IsSound w) (k : ℕ) (t : ThreadId) (seat : s
       less_fits : (n : ℕ) → n ≤ 255 → Fits (if nat_lt 0 n then Thin (k + 1) (n - 1) else Free)
       less_fits zero b = tt
       less_fits (suc m) b = rw (lt-ltb 0 (suc m) (omega arith)) (thin_fits w sound k t seat (suc m - 1) (omega arith))
+  store_run (call.Wait o millis nanos) l e h fact = absurd fact
+  store_run (call.Notify o) l e h fact = absurd fact
+  store_run (call.NotifyAll o) l e h fact = absurd fact
   store_run (call.Holds o) l e h fact = absurd fact
   store_run call.End l e h fact = absurd fact
 
@@ -147,7 +256,8 @@ module _ (w : WorldState) (sound : IsSound w) (k : ℕ) (t : ThreadId) (seat : s
 
       kept : (won : Bool) (p : Place) (d : Did) → Fitting w k (Bound c won m)
           → shown (gone w k (writes w (target c) (new_word w (target c) (Fat m)) p d)) ≡ now_is (shown w) t false (doing_of p)
-      kept won p d fit = shown_kept w k t (writes w (target c) (new_word w (target c) (Fat m)) p d) seat (within w sound k t seat) (length-set w.words (target c).0 (new_word w (target c) (Fat m)))
+      kept won p d fit = shown_kept w k t (writes w (target c) (new_word w (target c) (Fat m)) p d) (doing_of p) seat (within w sound k t seat) (length-set w.words (target c).0 (new_word w (target c) (Fat m)))
+          (act_out w.fats t p out) (λ u ne x. refl)
           (λ q. written w sound k t seat (target c) (new_word w (target c) (Fat m)) p d (Fat m) fit.0.1 (lock_of-new_word w (target c) (Fat m) few) q
           ∙ as_it_was w sound k t seat (target c) (monitor_of w (Fat m)) (same won fit) q)
 
@@ -155,8 +265,8 @@ module _ (w : WorldState) (sound : IsSound w) (k : ℕ) (t : ThreadId) (seat : s
           → Run (shown w) (given (after_publish w t c won m).did.moves) (shown (gone w k (after_publish w t c won m)))
       by_win true e fit = subst (λ (s : State). Run (shown w) (move.Return t reply.Entered ∷ []) s)
           (sym (kept true Idle (returned (stored_at w (target c) (Fat m)) t reply.Entered) fit))
-          (run_returned (shown w) t false (is_at w sound k t seat (Bound c true m) e))
-      by_win false e fit = kept false (Inflated c m) (silent (stored_at w (target c) (Fat m))) fit ∙ now_is_same (shown w) t (doing.Wants c) (is_at w sound k t seat (Bound c false m) e)
+          (run_returned (shown w) t false reply.Entered tt (is_at w sound k t seat (Bound c true m) e out))
+      by_win false e fit = kept false (Inflated c m) (silent (stored_at w (target c) (Fat m))) fit ∙ now_is_same (shown w) t (doing.Wants c) (is_at w sound k t seat (Bound c false m) e out)
 
   -- a new monitor is shown by no word
   after_bound : (o : ObjectId) (n : ℕ) (p : Place) (d : Did) (l : Lock) (q : ℕ) → Stands w q l
@@ -165,40 +275,42 @@ module _ (w : WorldState) (sound : IsSound w) (k : ℕ) (t : ThreadId) (seat : s
   after_bound o n p d (Thin i c) q st = refl
   after_bound o n p d (Fat m) q st = rw (get_or_append_left w.fats.monitors (record { object = o; owner = Some t; holds = n } ∷ []) unbound m st.0) refl
 
+  -- what a bind that is refused tells
+  refused_run : (c : Call) (x : Cause) → Is (shown w) t false (doing.Wants c) → MayRefuse (shown w) t c x
+      → Run (shown w) (given (replied (atomic.NotBound (target c) x) (move.Refuse t x) t (reply.Refused x)).moves)
+      (shown (gone w k (stays w Idle (replied (atomic.NotBound (target c) x) (move.Refuse t x) t (reply.Refused x)))))
+  refused_run c x is may = told (atomic.NotBound (target c) x) (move.Refuse t x) (reply.Refused x) (run_refused (shown w) t false c x is may)
+
+  -- a new monitor changes nothing that another thread shows
+  alike_bound : (o : ObjectId) (n : ℕ) (u : ThreadId) → ActsAlike w.fats (bound_with w.fats o t n) u
+  alike_bound o n u = acts_alike w.fats (bound_with w.fats o t n) u sound.fats refl
+      (λ m h. ap (λ (b : fat.Monitor). b.object) (get_or_append_left w.fats.monitors (record { object = o; owner = Some t; holds = n } ∷ []) unbound m h))
+
   pub bind_run : (c : Call) (won : Bool) (n : ℕ) (p : Place) (refused : Option Cause) → place_at w k ≡ p
       → doing_of p ≡ (if won then doing.Has reply.Entered else doing.Wants c)
-      → IsEnter c → (monitor_of w (lock_at w (target c).0)).owner ≡ Some t
-      → MatchOption refused (Unit {0}) IsBindCause
+      → MatchOption refused (Unit {0}) (λ x. won ≡ false → MayRefuse (shown w) t c x)
       → Run (shown w) (given (after_bind w t c won n refused).did.moves) (shown (gone w k (after_bind w t c won n refused)))
-  bind_run c won n p None e same enter own h =
-      shown_kept w k t (after_bind w t c won n None) seat (within w sound k t seat) refl
+  bind_run c won n p None e same may =
+      shown_kept w k t (after_bind w t c won n None) (doing_of p) seat (within w sound k t seat) refl (act_out (bound_with w.fats (target c) t n) t (Bound c won (length w.fats.monitors)) out ∙ sym same) (λ u ne. alike_bound (target c) n u)
       (λ q. after_bound (target c) n (Bound c won (length w.fats.monitors)) (silent (atomic.Bound (target c) (length w.fats.monitors))) (lock_at w q.0) q.0 (stands_at w sound q.0))
-      ∙ (rw (← same) (now_is_same (shown w) t (doing_of p) (is_at w sound k t seat p e)))
-  bind_run c true n p (Some x) e same enter own h =
+      ∙ now_is_same (shown w) t (doing_of p) (is_at w sound k t seat p e out)
+  bind_run c true n p (Some x) e same may =
       subst (λ (s : State). Run (shown w) (move.Return t reply.Entered ∷ []) s)
-      (sym (shown_kept w k t (after_bind w t c true n (Some x)) seat (within w sound k t seat) refl (λ q. refl)))
-      (run_returned (shown w) t false (rw same at (is_at w sound k t seat p e)))
-  bind_run (call.Enter o) false n p (Some cause.NoMonitor) e same enter own h =
-      told (atomic.NotBound o cause.NoMonitor) (reply.Refused cause.NoMonitor) (run_refused (shown w) t false (call.Enter o) cause.NoMonitor (rw same at (is_at w sound k t seat p e)) own)
-  bind_run (call.Enter o) false n p (Some cause.Memory) e same enter own h =
-      told (atomic.NotBound o cause.Memory) (reply.Refused cause.Memory) (run_refused (shown w) t false (call.Enter o) cause.Memory (rw same at (is_at w sound k t seat p e)) own)
-  bind_run (call.Enter o) false n p (Some cause.TooDeep) e same enter own h = absurd h
-  bind_run (call.Enter o) false n p (Some cause.StillOwner) e same enter own h = absurd h
-  bind_run (call.Exit o) false n p (Some x) e same enter own h = absurd enter
-  bind_run (call.Holds o) false n p (Some x) e same enter own h = absurd enter
-  bind_run call.End false n p (Some x) e same enter own h = absurd enter
+      (sym (shown_stays w sound k t seat Idle (returned (atomic.NotBound (target c) x) t reply.Entered) out))
+      (run_returned (shown w) t false reply.Entered tt (rw same at (is_at w sound k t seat p e out)))
+  bind_run c false n p (Some x) e same may = refused_run c x (rw same at (is_at w sound k t seat p e out)) (may refl)
 
   -- a bind is refused for want of a monitor or of memory
-  pub causes : (room : Bool) → MatchOption (bind_cause room w.fats) (Unit {0}) IsBindCause
-  causes true = cond_both (nat_lt (length w.fats.monitors) w.fats.limit) _ _ (λ x. MatchOption x (Unit {0}) IsBindCause) (λ _. tt) (λ _. tt)
-  causes false = cond_both (nat_lt (length w.fats.monitors) w.fats.limit) _ _ (λ x. MatchOption x (Unit {0}) IsBindCause) (λ _. tt) (λ _. tt)
+  pub causes : (room : Bool) (P : Cause → Type 0) → P cause.NoMonitor → P cause.Memory → MatchOption (bind_cause room w.fats) (Unit {0}) P
+  causes true P no_monitor memory = cond_both (nat_lt (length w.fats.monitors) w.fats.limit) _ _ (λ x. MatchOption x (Unit {0}) P) (λ _. tt) (λ _. no_monitor)
+  causes false P no_monitor memory = cond_both (nat_lt (length w.fats.monitors) w.fats.limit) _ _ (λ x. MatchOption x (Unit {0}) P) (λ _. memory) (λ _. no_monitor)
 
   -- a load by a thread that is to end
   pub look_run : (n : ℕ) (own : Bool) → place_at w k ≡ Ending n → is_own (lock_at w n) (k + 1) ≡ own
       → Run (shown w) (given (after_look w t n own).did.moves) (shown (gone w k (after_look w t n own)))
   look_run n true e found =
-      told (load_of w (record { 0 = n })) (reply.Refused cause.StillOwner)
-      (run_refused (shown w) t false call.End cause.StillOwner (is_at w sound k t seat (Ending n) e) (record { 0 = n }, owned_thinly (lock_at w n) found))
+      told (load_of w (record { 0 = n })) (move.Refuse t cause.StillOwner) (reply.Refused cause.StillOwner)
+      (run_refused (shown w) t false call.End cause.StillOwner (is_at w sound k t seat (Ending n) e out) (record { 0 = n }, owned_thinly (lock_at w n) found))
     where
       owned_thinly : (l : Lock) → is_own l (k + 1) ≡ true → (monitor_of w l).owner ≡ Some t
       owned_thinly Free h = absurd (cc)

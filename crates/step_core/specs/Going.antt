@@ -1,5 +1,5 @@
 -- What a Go does at each place in a call.
-use Rattle.std.specs.Prelude.{ℕ, ◌+◌, Bool, true, false, if◌then◌else◌, nat_lt, List, [], ◌∷◌, length, slice_set, Option, Some, None}
+use Rattle.std.specs.Prelude.{ℕ, ◌+◌, Bool, true, false, if◌then◌else◌, nat_lt, List, [], ◌∷◌, length, slice_set, Option, Some, None, Result, Ok, Err}
 use Rattle.lock_word.specs.declared.ThreadId.{ThreadId}
 use Rattle.lock_word.specs.declared.ObjectId.{ObjectId}
 use Rattle.lock_word.specs.declared.Word.{Word}
@@ -14,14 +14,19 @@ use Rattle.fat_monitor.specs.declared.actions.Action.{Action}
 use Rattle.fat_monitor.specs.declared.actions.Action.TheVariants as action
 use Rattle.fat_monitor.specs.declared.actions.Answer.{Answer}
 use Rattle.fat_monitor.specs.declared.actions.Answer.TheVariants as answer
-use Rattle.fat_monitor.specs.FatState.{FatState, bound_with, answered, acted}
+use Rattle.fat_monitor.specs.declared.actions.Post.{Post}
+use Rattle.fat_monitor.specs.declared.actions.Post.TheVariants.{Granted}
+use Rattle.fat_monitor.specs.declared.actions.Done.{Done}
+use Rattle.fat_monitor.specs.declared.actions.ActFault.{ActFault}
+use Rattle.fat_monitor.specs.FatState.{FatState, bound_with, post_at}
+use Rattle.fat_monitor.specs.Acting.{acted}
 use Rattle.fast_path.specs.declared.Call.{Call}
 use Rattle.fast_path.specs.declared.Call.TheVariants as call
 use Rattle.fast_path.specs.declared.Next.{Next}
 use Rattle.fast_path.specs.declared.Next.TheVariants as next
 use Rattle.fast_path.specs.Table.{target, next_of}
 use Rattle.step_core.specs.declared.places.Place.{Place}
-use Rattle.step_core.specs.declared.places.Place.TheVariants.{Idle, Begun, Taking, Storing, Binding, Acting, Won, Bound, Inflated, Ending}
+use Rattle.step_core.specs.declared.places.Place.TheVariants.{Idle, Begun, Taking, Storing, Binding, Acting, Won, Bound, Inflated, Parked, Ending}
 use Rattle.step_core.specs.declared.moves.Move.{Move}
 use Rattle.step_core.specs.declared.moves.Move.TheVariants as move
 use Rattle.step_core.specs.declared.events.Atomic.{Atomic}
@@ -40,15 +45,19 @@ pub record After : Type 0 where
 abbrev pub gone : WorldState → ℕ → After → WorldState
 gone w k a = record w { words = a.words; fats = a.fats; places = slice_set w.places k a.place }
 
--- the move by which a call gets this reply
-abbrev pub move_for : Reply → ThreadId → Move
-move_for reply.Entered t = move.Lock t
-move_for reply.Exited t = move.Unlock t
-move_for reply.Yes t = move.Ask t
-move_for reply.No t = move.Ask t
-move_for reply.Ended t = move.End t
-move_for reply.IllegalMonitorState t = move.Illegal t
-move_for (reply.Refused c) t = move.Refuse t c
+-- the move by which a call gets this reply; a Notify tells whom it chose
+abbrev pub move_for : Call → Reply → Option ThreadId → ThreadId → Move
+move_for c reply.Entered u t = move.Lock t
+move_for c reply.Exited u t = move.Unlock t
+move_for c reply.WaitOver u t = move.Relock t
+move_for (call.NotifyAll o) reply.Notified u t = move.NotifyAll t
+move_for c reply.Notified u t = move.Notify t u
+move_for c reply.Yes u t = move.Ask t
+move_for c reply.No u t = move.Ask t
+move_for c reply.Ended u t = move.End t
+move_for c reply.IllegalMonitorState u t = move.Illegal t
+move_for c reply.IllegalArgument u t = move.BadArgument t
+move_for c (reply.Refused x) u t = move.Refuse t x
 
 -- no move is made
 abbrev pub silent : Atomic → Did
@@ -58,9 +67,9 @@ silent a = record { atomic = a; moves = None ∷ None ∷ None ∷ []; reply = N
 abbrev pub moved : Atomic → Move → Did
 moved a m = record { atomic = a; moves = Some m ∷ None ∷ None ∷ []; reply = None }
 
--- the call gets its reply and returns with it
-abbrev pub replied : Atomic → ThreadId → Reply → Did
-replied a t r = record { atomic = a; moves = Some (move_for r t) ∷ Some (move.Return t r) ∷ None ∷ []; reply = Some r }
+-- the call gets its reply by this move, and returns with it
+abbrev pub replied : Atomic → Move → ThreadId → Reply → Did
+replied a m t r = record { atomic = a; moves = Some m ∷ Some (move.Return t r) ∷ None ∷ []; reply = Some r }
 
 -- the call returns with the reply that it has
 abbrev pub returned : Atomic → ThreadId → Reply → Did
@@ -99,7 +108,7 @@ stored_at w o l = atomic.Stored o (word_at w o.0) (new_word w o l)
 
 -- a load of a word that calls for this
 abbrev pub after_load : WorldState → ThreadId → Call → Bool → Next → After
-after_load w t c contended (next.Reply r) = stays w Idle (replied (load_of w (target c)) t r)
+after_load w t c contended (next.Reply r) = stays w Idle (replied (load_of w (target c)) (move_for c r None t) t r)
 after_load w t c contended (next.Cas l) = stays w (Taking (target c) contended) (silent (load_of w (target c)))
 after_load w t c contended (next.Store l) = stays w (Storing c l) (silent (load_of w (target c)))
 after_load w t c contended next.Bind = stays w (Binding c (count_of (lock_at w (target c).0))) (silent (load_of w (target c)))
@@ -111,21 +120,24 @@ abbrev pub after_take : WorldState → ℕ → ThreadId → ObjectId → Bool �
 after_take w k t o true Free =
     writes w o (new_word w o (Thin (k + 1) 0)) (Won o) (moved (won_at w o (Thin (k + 1) 0)) (move.Lock t))
 after_take w k t o false Free =
-    writes w o (new_word w o (Thin (k + 1) 0)) Idle (replied (won_at w o (Thin (k + 1) 0)) t reply.Entered)
+    writes w o (new_word w o (Thin (k + 1) 0)) Idle (replied (won_at w o (Thin (k + 1) 0)) (move.Lock t) t reply.Entered)
 after_take w k t o contended (Thin i c) = stays w (Begun (call.Enter o) true) (silent (lost_at w o))
 after_take w k t o contended (Fat m) = stays w (Begun (call.Enter o) true) (silent (lost_at w o))
 
--- what a call replies when its word is stored; a Holds and an End store none
+-- what a call replies when its thin or free word is stored: only an enter and an exit store one
 abbrev pub stored_reply : Call → Reply
-stored_reply (call.Enter o) = reply.Entered
 stored_reply (call.Exit o) = reply.Exited
-stored_reply (call.Holds o) = reply.Yes
-stored_reply call.End = reply.Ended
+stored_reply (call.Enter o) = reply.Entered
+stored_reply (call.Wait o millis nanos) = reply.Entered
+stored_reply (call.Notify o) = reply.Entered
+stored_reply (call.NotifyAll o) = reply.Entered
+stored_reply (call.Holds o) = reply.Entered
+stored_reply call.End = reply.Entered
 
 -- the store of a thin or free word
 abbrev pub after_store : WorldState → ThreadId → Call → Lock → After
 after_store w t c l =
-    writes w (target c) (new_word w (target c) l) Idle (replied (stored_at w (target c) l) t (stored_reply c))
+    writes w (target c) (new_word w (target c) l) Idle (replied (stored_at w (target c) l) (move_for c (stored_reply c) None t) t (stored_reply c))
 
 -- A bind of an object that is held n times; refused for a cause, or not. A contended enter that has won
 -- has its reply, and drops the inflation where it is refused.
@@ -133,7 +145,7 @@ abbrev pub after_bind : WorldState → ThreadId → Call → Bool → ℕ → Op
 after_bind w t c won n None =
     turns w (bound_with w.fats (target c) t n) (Bound c won (length w.fats.monitors)) (silent (atomic.Bound (target c) (length w.fats.monitors)))
 after_bind w t c true n (Some cause) = stays w Idle (returned (atomic.NotBound (target c) cause) t reply.Entered)
-after_bind w t c false n (Some cause) = stays w Idle (replied (atomic.NotBound (target c) cause) t (reply.Refused cause))
+after_bind w t c false n (Some cause) = stays w Idle (replied (atomic.NotBound (target c) cause) (move.Refuse t cause) t (reply.Refused cause))
 
 -- the store of a fat word
 abbrev pub after_publish : WorldState → ThreadId → Call → Bool → ℕ → After
@@ -146,19 +158,52 @@ after_publish w t c false m =
 abbrev pub action_of : Call → ℕ → Action
 action_of (call.Enter o) m = action.Enter m
 action_of (call.Exit o) m = action.Exit m
+action_of (call.Wait o millis nanos) m = action.Wait m millis nanos
+action_of (call.Notify o) m = action.Notify m
+action_of (call.NotifyAll o) m = action.NotifyAll m
 action_of (call.Holds o) m = action.Holds m
 action_of call.End m = action.End
 
--- a fat action that answers this; where it is Quiet the call is at its load again
-abbrev pub after_answer : WorldState → ThreadId → Call → ℕ → Answer → After
-after_answer w t c m (answer.Reply r) =
-    turns w (acted w.fats t (action_of c m)) Idle (replied (atomic.Acted (action_of c m) (answer.Reply r)) t r)
-after_answer w t c m answer.Quiet =
-    turns w (acted w.fats t (action_of c m)) (Begun c false) (silent (atomic.Acted (action_of c m) answer.Quiet))
+-- the move by which thread u became the owner: for an enter it locks, and back from a wait it relocks
+abbrev pub granting : ThreadId → Post → Move
+granting u (Granted reply.Entered) = move.Lock u
+granting u p = move.Relock u
 
--- a fat action
+abbrev pub grant_of : FatState → Option ThreadId → Option Move
+grant_of f None = None
+grant_of f (Some u) = Some (granting u (post_at f u))
+
+-- the call gets its reply, after which another thread may have become the owner, and returns with it
+abbrev pub granted_and_replied : Atomic → Move → Option Move → ThreadId → Reply → Did
+granted_and_replied a m None t r = replied a m t r
+granted_and_replied a m (Some g) t r = record { atomic = a; moves = Some m ∷ Some g ∷ Some (move.Return t r) ∷ []; reply = Some r }
+
+-- the call parks: an enter makes no move then, and a wait joins the wait set, after which another thread
+-- may have become the owner
+abbrev pub parked_by : Call → Atomic → ThreadId → Option Move → Did
+parked_by (call.Wait o millis nanos) a t g = record { atomic = a; moves = Some (move.Wait t) ∷ g ∷ None ∷ []; reply = None }
+parked_by c a t g = silent a
+
+-- what the fat action of a call told
+abbrev pub did_act : Call → Action → FatState → ThreadId → Done → Did
+did_act c a f t d = elim d.answer [
+  | answer.Reply r ↦ granted_and_replied (atomic.Acted a (answer.Reply r)) (move_for c r d.chosen t) (grant_of f d.granted) t r
+  | answer.Parked ↦ parked_by c (atomic.Acted a answer.Parked) t (grant_of f d.granted)
+]
+
+-- where the call stands then
+abbrev pub place_after : Answer → Place
+place_after (answer.Reply r) = Idle
+place_after answer.Parked = Parked
+
+-- The fat action of a call. Only a Collect may be refused.
+abbrev pub after_told : WorldState → ThreadId → Call → Action → Result Done ActFault → FatState → After
+after_told w t c a (Ok d) f = turns w f (place_after d.answer) (did_act c a f t d)
+after_told w t c a (Err e) f = stays w Idle (silent atomic.Label)
+
 abbrev pub after_act : WorldState → ThreadId → Call → ℕ → After
-after_act w t c m = after_answer w t c m (answered w.fats t (action_of c m))
+after_act w t c m =
+    after_told w t c (action_of c m) (acted w.fats t (action_of c m)).answer (acted w.fats t (action_of c m)).after
 
 -- why a bind is refused, if it is; room says whether the memory is granted
 abbrev pub bind_cause : Bool → FatState → Option Cause
@@ -166,10 +211,12 @@ bind_cause room f = if nat_lt (length f.monitors) f.limit then (if room then Non
 
 -- a load by a thread that is to end, of a word that is its own thin one or not
 abbrev pub after_look : WorldState → ThreadId → ℕ → Bool → After
-after_look w t n true = stays w Idle (replied (load_of w (record { 0 = n })) t (reply.Refused cause.StillOwner))
+after_look w t n true =
+    stays w Idle (replied (load_of w (record { 0 = n })) (move.Refuse t cause.StillOwner) t (reply.Refused cause.StillOwner))
 after_look w t n false = stays w (Ending (n + 1)) (silent (load_of w (record { 0 = n })))
 
--- What a Go does at each place. At Idle no Go is made, and a thread that has loaded all words acts otherwise.
+-- What a Go does at each place. At Idle no Go is made; a parked thread, and one that has loaded all words,
+-- act otherwise.
 abbrev pub after_go : Bool → WorldState → ℕ → ThreadId → Place → After
 after_go room w k t Idle = stays w Idle (silent atomic.Label)
 after_go room w k t (Begun c contended) = after_load w t c contended (next_of c (lock_at w (target c).0) (k + 1))
@@ -180,4 +227,5 @@ after_go room w k t (Acting c m) = after_act w t c m
 after_go room w k t (Won o) = after_bind w t (call.Enter o) true 1 (bind_cause room w.fats)
 after_go room w k t (Bound c won m) = after_publish w t c won m
 after_go room w k t (Inflated c m) = after_act w t c m
+after_go room w k t Parked = stays w Parked (silent atomic.Label)
 after_go room w k t (Ending n) = after_look w t n (is_own (lock_at w n) (k + 1))

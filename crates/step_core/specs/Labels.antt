@@ -5,7 +5,7 @@ use Rattle.std.specs.Prelude.{◌≡◌, Bool, true, false, List, [], ◌∷◌,
 use Rattle.lock_word.specs.declared.ThreadId.{ThreadId}
 use Rattle.fat_monitor.specs.declared.actions.Reply.{Reply}
 use Rattle.step_core.specs.declared.moves.Move.{Move}
-use Rattle.step_core.specs.declared.moves.Move.TheVariants.{Attach, Call, Return, Lock, Unlock, Illegal, Ask, Refuse, End}
+use Rattle.step_core.specs.declared.moves.Move.TheVariants.{Attach, Call, Return, Lock, Unlock, Illegal, BadArgument, Wait, Notify, NotifyAll, Relock, Ask, Refuse, End}
 use Rattle.step_core.specs.declared.events.Did.{Did}
 use Rattle.step_core.specs.declared.events.Step.{Step}
 use Rattle.step_core.specs.declared.events.Step.TheVariants as step
@@ -18,6 +18,11 @@ is_label (Return t r) = true
 is_label (Lock t) = false
 is_label (Unlock t) = false
 is_label (Illegal t) = false
+is_label (BadArgument t) = false
+is_label (Wait t) = false
+is_label (Notify t u) = false
+is_label (NotifyAll t) = false
+is_label (Relock t) = false
 is_label (Ask t) = false
 is_label (Refuse t c) = false
 is_label (End t) = false

@@ -7,6 +7,7 @@ pub mod Labels
 pub mod Refusals
 pub mod Patience
 pub mod Kept
+pub mod Lasting
 pub mod Parts
 pub mod View
 pub mod Laws

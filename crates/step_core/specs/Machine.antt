@@ -1,16 +1,19 @@
--- The abstract machine of object monitors (JLS SE 8, 17.1): its states, its moves and its runs. It knows
+-- The abstract machine of object monitors (JLS SE 8, 17.1 and 17.2): its states, its moves and its runs. It knows
 -- no header word, thread index, inflation, place in a call or number of a monitor.
-use Rattle.std.specs.Prelude.{◌≡◌, ◌⊎◌, ◌↔◌, ℕ, ◌+◌, ◌<◌, Bool, true, false, if◌then◌else◌, ◌==◌, List, [], ◌∷◌, Option, Some, None}
+use Rattle.std.specs.Prelude.{◌≡◌, ◌⊎◌, ◌↔◌, ℕ, ◌+◌, ◌*◌, ◌<◌, Bool, true, false, if◌then◌else◌, ◌==◌, List, [], ◌∷◌, ℤ, pos, ◌≤ℤ◌, nat_abs, Option, Some, None}
+use Rattle.std.specs.Option.{option_map}
 use Rattle.lock_word.specs.declared.ThreadId.{ThreadId}
 use Rattle.lock_word.specs.declared.ObjectId.{ObjectId}
 use Rattle.fat_monitor.specs.declared.actions.Cause.{Cause}
 use Rattle.fat_monitor.specs.declared.actions.Cause.TheVariants.{NoMonitor, Memory, TooDeep, StillOwner}
 use Rattle.fat_monitor.specs.declared.actions.Reply.{Reply}
 use Rattle.fat_monitor.specs.declared.actions.Reply.TheVariants as reply
+use Rattle.fat_monitor.specs.declared.actions.Why.{Why}
+use Rattle.fat_monitor.specs.declared.actions.Why.TheVariants as why
 use Rattle.fast_path.specs.declared.Call.{Call}
 use Rattle.fast_path.specs.declared.Call.TheVariants as call
 use Rattle.step_core.specs.declared.moves.Doing.{Doing}
-use Rattle.step_core.specs.declared.moves.Doing.TheVariants.{Idle, Wants, Has}
+use Rattle.step_core.specs.declared.moves.Doing.TheVariants.{Idle, Wants, Waits, Back, Has}
 use Rattle.step_core.specs.declared.moves.Move.{Move}
 use Rattle.step_core.specs.declared.moves.Move.TheVariants as move
 
@@ -24,7 +27,8 @@ pub record Monitor : Type 0 where
   pub owner : Option ThreadId
   pub count : ℕ
 
--- the live threads, how many objects there are, the monitor of each, and the moment
+-- The live threads, how many objects there are, the monitor of each, and the moment. The wait set of an
+-- object (JLS 17.2) is the threads whose act is Waits on it.
 pub record State : Type 0 where
   pub thread : ThreadId → Option Thread
   pub objects : ℕ
@@ -77,9 +81,53 @@ abbrev pub yes_or_no : Bool → Reply
 yes_or_no true = reply.Yes
 yes_or_no false = reply.No
 
+-- the arguments of a wait are in their ranges (JLS 17.2.1)
+abbrev pub AreGood : ℤ → ℤ → Type 0
+AreGood millis nanos = (pos 0 ≤ℤ millis) × (pos 0 ≤ℤ nanos) × (nanos ≤ℤ pos 999999)
+
+-- when a wait that begins at this moment is over; none for a wait of no limit
+abbrev pub over_at : ℕ → ℤ → ℤ → Option ℕ
+over_at moment millis nanos =
+    let time = nat_abs millis * 1000000 + nat_abs nanos in if time == 0 then None else Some (moment + time)
+
+-- whether a thread is in the wait set of o
+abbrev pub waits_on : Doing → ObjectId → Bool
+waits_on (Waits p n d) o = p.0 == o.0
+waits_on Idle o = false
+waits_on (Wants c) o = false
+waits_on (Back p n w) o = false
+waits_on (Has r) o = false
+
+abbrev pub is_waiting : Option Thread → ObjectId → Bool
+is_waiting None o = false
+is_waiting (Some x) o = waits_on x.act o
+
+-- nobody is in the wait set of o
+abbrev pub NobodyWaits : State → ObjectId → Type 0
+NobodyWaits s o = (u : ThreadId) (flag : Bool) (n : ℕ) (d : Option ℕ) → Is s u flag (Waits o n d) → ⊥
+
+-- what a thread does once all have been taken out of the wait set of o: it comes back, if it was there
+abbrev pub woken : ObjectId → Doing → Doing
+woken o (Waits p n d) = if p.0 == o.0 then Back p n why.Notified else Waits p n d
+woken o Idle = Idle
+woken o (Wants c) = Wants c
+woken o (Back p n w) = Back p n w
+woken o (Has r) = Has r
+
+-- every member of the wait set of o leaves it
+abbrev pub all_woken : State → ObjectId → State
+all_woken s o = record s { thread = λ u. option_map (λ x. record { flag = x.flag; act = woken o x.act }) (s.thread u) }
+
+-- what a thread that comes back replies
+abbrev pub reply_of : Why → Reply
+reply_of why.Notified = reply.WaitOver
+
 -- the object whose owner alone may make this call
 abbrev pub owner_only : Call → Option ObjectId
 owner_only (call.Exit o) = Some o
+owner_only (call.Wait o millis nanos) = Some o
+owner_only (call.Notify o) = Some o
+owner_only (call.NotifyAll o) = Some o
 owner_only (call.Enter o) = None
 owner_only (call.Holds o) = None
 owner_only call.End = None
@@ -88,6 +136,9 @@ owner_only call.End = None
 abbrev pub Exists : ℕ → Call → Type 0
 Exists n (call.Enter o) = o.0 < n
 Exists n (call.Exit o) = o.0 < n
+Exists n (call.Wait o millis nanos) = o.0 < n
+Exists n (call.Notify o) = o.0 < n
+Exists n (call.NotifyAll o) = o.0 < n
 Exists n (call.Holds o) = o.0 < n
 Exists n call.End = Unit {0}
 
@@ -97,7 +148,13 @@ MayRefuse s t (call.Enter o) NoMonitor = OwnedBy s o t
 MayRefuse s t (call.Enter o) Memory = OwnedBy s o t
 MayRefuse s t (call.Enter o) TooDeep = OwnedBy s o t × ((s.monitor o).count ≡ 65535)
 MayRefuse s t (call.Enter o) StillOwner = ⊥
+MayRefuse s t (call.Wait o millis nanos) NoMonitor = OwnedBy s o t × AreGood millis nanos
+MayRefuse s t (call.Wait o millis nanos) Memory = OwnedBy s o t × AreGood millis nanos
+MayRefuse s t (call.Wait o millis nanos) TooDeep = ⊥
+MayRefuse s t (call.Wait o millis nanos) StillOwner = ⊥
 MayRefuse s t (call.Exit o) cause = ⊥
+MayRefuse s t (call.Notify o) cause = ⊥
+MayRefuse s t (call.NotifyAll o) cause = ⊥
 MayRefuse s t (call.Holds o) cause = ⊥
 MayRefuse s t call.End NoMonitor = ⊥
 MayRefuse s t call.End Memory = ⊥
@@ -120,6 +177,25 @@ Steps s (move.Unlock t) s' =
 Steps s (move.Illegal t) s' =
     (flag : Bool) × (c : Call) × (o : ObjectId) × Calls s t flag c × (owner_only c ≡ Some o) × (OwnedBy s o t → ⊥)
     × (s' ≡ answered s t flag reply.IllegalMonitorState)
+Steps s (move.BadArgument t) s' =
+    (flag : Bool) × (o : ObjectId) × (millis nanos : ℤ) × Calls s t flag (call.Wait o millis nanos) × OwnedBy s o t × (AreGood millis nanos → ⊥)
+    × (s' ≡ answered s t flag reply.IllegalArgument)
+Steps s (move.Wait t) s' =
+    (o : ObjectId) × (millis nanos : ℤ) × Calls s t false (call.Wait o millis nanos) × OwnedBy s o t × AreGood millis nanos
+    × (s' ≡ with_monitor (now_is s t false (Waits o (s.monitor o).count (over_at s.moment millis nanos))) o free)
+Steps s (move.Notify t (Some u)) s' =
+    (flag : Bool) × (o : ObjectId) × Calls s t flag (call.Notify o) × OwnedBy s o t
+    × (other : Bool) × (n : ℕ) × (d : Option ℕ) × Is s u other (Waits o n d)
+    × (s' ≡ now_is (answered s t flag reply.Notified) u other (Back o n why.Notified))
+Steps s (move.Notify t None) s' =
+    (flag : Bool) × (o : ObjectId) × Calls s t flag (call.Notify o) × OwnedBy s o t × NobodyWaits s o
+    × (s' ≡ answered s t flag reply.Notified)
+Steps s (move.NotifyAll t) s' =
+    (flag : Bool) × (o : ObjectId) × Calls s t flag (call.NotifyAll o) × OwnedBy s o t
+    × (s' ≡ answered (all_woken s o) t flag reply.Notified)
+Steps s (move.Relock t) s' =
+    (flag : Bool) × (o : ObjectId) × (n : ℕ) × (w : Why) × Is s t flag (Back o n w) × Unowned s o
+    × (s' ≡ with_monitor (answered s t flag (reply_of w)) o (held t n))
 Steps s (move.Ask t) s' =
     (flag answer : Bool) × (o : ObjectId) × Calls s t flag (call.Holds o) × ((answer ≡ true) ↔ OwnedBy s o t)
     × (s' ≡ answered s t flag (yes_or_no answer))

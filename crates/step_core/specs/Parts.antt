@@ -6,7 +6,7 @@ use Rattle.lock_word.specs.Layout.{Fits, IsMalformed}
 use Rattle.fat_monitor.specs.FatState.{FatState}
 use Rattle.fast_path.specs.Table.{object_of, target}
 use Rattle.step_core.specs.declared.places.Place.{Place}
-use Rattle.step_core.specs.declared.places.Place.TheVariants.{Idle, Begun, Taking, Storing, Binding, Acting, Won, Bound, Inflated, Ending}
+use Rattle.step_core.specs.declared.places.Place.TheVariants.{Idle, Begun, Taking, Storing, Binding, Acting, Won, Bound, Inflated, Parked, Ending}
 use Rattle.step_core.specs.WorldState.{WorldState, low_word}
 
 -- a world of these parts
@@ -32,6 +32,7 @@ IsReady words f (Acting c m) = IsSome (object_of c) × (m < length f.monitors)
 IsReady words f (Won o) = Unit {0}
 IsReady words f (Bound c won m) = IsSome (object_of c) × ((target c).0 < length words) × (m ≤ 8388607)
 IsReady words f (Inflated c m) = IsSome (object_of c) × (m < length f.monitors)
+IsReady words f Parked = ⊥
 IsReady words f (Ending n) = n < length words
 
 -- a thread at this place that is to end has a word to load still, where there are so many objects
@@ -45,4 +46,5 @@ IsBusyAt objects (Acting c m) = Unit {0}
 IsBusyAt objects (Won o) = Unit {0}
 IsBusyAt objects (Bound c won m) = Unit {0}
 IsBusyAt objects (Inflated c m) = Unit {0}
+IsBusyAt objects Parked = Unit {0}
 IsBusyAt objects (Ending n) = n < objects

@@ -3,15 +3,18 @@ use Rattle.lock_word.specs.declared.ObjectId.{ObjectId}
 use Rattle.std.specs.Prelude.{◌≡◌, ◌≢◌, ℕ, ◌<◌, ◌≤◌, length, Option, Some, None, IsSome}
 use Rattle.lock_word.specs.declared.ThreadId.{ThreadId}
 use Rattle.fat_monitor.specs.declared.actions.Reply.{Reply}
-use Rattle.fat_monitor.specs.declared.actions.Reply.TheVariants.{Refused, Entered, Exited, Yes, No, Ended, IllegalMonitorState}
+use Rattle.fat_monitor.specs.declared.actions.Reply.TheVariants.{Refused}
 use Rattle.thread_index.specs.Indices.{holder_at}
+use Rattle.wait_lines.specs.Lines.{Stands}
 use Rattle.fast_path.specs.Table.{object_of}
 use Rattle.step_core.specs.declared.moves.Doing.TheVariants.{Idle}
 use Rattle.step_core.specs.declared.events.Step.{Step}
 use Rattle.step_core.specs.declared.events.Step.TheVariants as step
 use Rattle.step_core.specs.declared.events.Fault.{Fault}
-use Rattle.step_core.specs.declared.events.Fault.TheVariants.{NoIndex, Memory, Known, NoThread, NoObject, InCall, NotCalling}
-use Rattle.step_core.specs.Machine.{Thread, Exists}
+use Rattle.step_core.specs.declared.events.Fault.TheVariants.{NoIndex, Memory, Known, NoThread, NoObject, InCall, NotCalling, Parked}
+use Rattle.fat_monitor.specs.declared.actions.Cause.{Cause}
+use Rattle.std.specs.Option.{option_map}
+use Rattle.step_core.specs.Machine.{State, Thread, Exists, is_waiting}
 use Rattle.step_core.specs.WorldState.{WorldState}
 use Rattle.step_core.specs.Shown.{shown}
 
@@ -27,6 +30,10 @@ IsBusy w t = (x : Thread) × ((shown w).thread t ≡ Some x) × (x.act ≢ Idle)
 
 abbrev pub IsIdle : WorldState → ThreadId → Type 0
 IsIdle w t = (x : Thread) × ((shown w).thread t ≡ Some x) × (x.act ≡ Idle)
+
+-- t stands in an entry line or a wait set
+abbrev pub IsParked : WorldState → ThreadId → Type 0
+IsParked w t = Stands w.fats.standing.lines t
 
 -- every index is a live thread's
 abbrev pub IsFull : WorldState → Type 0
@@ -44,6 +51,7 @@ IsRefused w (step.Attach t) NoThread = ⊥
 IsRefused w (step.Attach t) NoObject = ⊥
 IsRefused w (step.Attach t) InCall = ⊥
 IsRefused w (step.Attach t) NotCalling = ⊥
+IsRefused w (step.Attach t) Parked = ⊥
 IsRefused w (step.Begin t c) NoThread = IsNotLive w t
 IsRefused w (step.Begin t c) NoObject = IsLive w t × ((o : ObjectId) × (object_of c ≡ Some o) × ((shown w).objects ≤ o.0))
 IsRefused w (step.Begin t c) InCall = IsBusy w t × Exists (shown w).objects c
@@ -51,8 +59,10 @@ IsRefused w (step.Begin t c) Known = ⊥
 IsRefused w (step.Begin t c) NoIndex = ⊥
 IsRefused w (step.Begin t c) Memory = ⊥
 IsRefused w (step.Begin t c) NotCalling = ⊥
+IsRefused w (step.Begin t c) Parked = ⊥
 IsRefused w (step.Go t) NoThread = IsNotLive w t
 IsRefused w (step.Go t) NotCalling = IsIdle w t
+IsRefused w (step.Go t) Parked = IsLive w t × IsParked w t
 IsRefused w (step.Go t) Known = ⊥
 IsRefused w (step.Go t) NoIndex = ⊥
 IsRefused w (step.Go t) Memory = ⊥
@@ -63,13 +73,12 @@ IsRefused w (step.Go t) InCall = ⊥
 abbrev pub IsAcceptable : WorldState → Step → Type 0
 IsAcceptable w s = (f : Fault) → IsRefused w s f → f ≡ Memory
 
--- a call that is refused leaves every owner and count as it was
+-- these two states have the same owners, counts, wait sets and flags
+pub record IsSpared (s s' : State) : Type 0 where
+  pub monitors : (o : ObjectId) → s'.monitor o ≡ s.monitor o
+  pub wait_sets : (u : ThreadId) (o : ObjectId) → is_waiting (s'.thread u) o ≡ is_waiting (s.thread u) o
+  pub flags : (u : ThreadId) → option_map (λ (x : Thread). x.flag) (s'.thread u) ≡ option_map (λ (x : Thread). x.flag) (s.thread u)
+
+-- a call that is refused leaves them
 abbrev pub Spares : WorldState → Option Reply → WorldState → Type 0
-Spares w None w' = Unit {0}
-Spares w (Some Entered) w' = Unit {0}
-Spares w (Some Exited) w' = Unit {0}
-Spares w (Some Yes) w' = Unit {0}
-Spares w (Some No) w' = Unit {0}
-Spares w (Some Ended) w' = Unit {0}
-Spares w (Some IllegalMonitorState) w' = Unit {0}
-Spares w (Some (Refused c)) w' = (o : ObjectId) → (shown w').monitor o ≡ (shown w).monitor o
+Spares w d w' = (c : Cause) → d ≡ Some (Refused c) → IsSpared (shown w) (shown w')

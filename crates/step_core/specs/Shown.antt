@@ -3,17 +3,21 @@ use Rattle.std.specs.Prelude.{ℕ, ◌+◌, ◌-◌, false, if◌then◌else◌,
 use Rattle.lock_word.specs.declared.Lock.{Lock}
 use Rattle.lock_word.specs.declared.Lock.TheVariants.{Free, Thin, Fat}
 use Rattle.thread_index.specs.Indices.{seat_of, holder_at}
-use Rattle.fat_monitor.specs.FatState.{monitor_at}
+use Rattle.lock_word.specs.declared.ThreadId.{ThreadId}
+use Rattle.fat_monitor.specs.FatState.{FatState, monitor_at, post_at}
+use Rattle.fat_monitor.specs.declared.actions.Post.{Post}
+use Rattle.fat_monitor.specs.declared.actions.Post.TheVariants.{Out, Entering, Waiting, Back, Granted}
 use Rattle.fat_monitor.specs.declared.actions.Reply.TheVariants.{Entered}
 use Rattle.fast_path.specs.declared.Call.TheVariants.{Enter, End}
 use Rattle.step_core.specs.declared.moves.Doing.{Doing}
 use Rattle.step_core.specs.declared.moves.Doing.TheVariants as doing
 use Rattle.step_core.specs.declared.places.Place.{Place}
-use Rattle.step_core.specs.declared.places.Place.TheVariants.{Idle, Begun, Taking, Storing, Binding, Acting, Won, Bound, Inflated, Ending}
+use Rattle.step_core.specs.declared.places.Place.TheVariants.{Idle, Begun, Taking, Storing, Binding, Acting, Won, Bound, Inflated, Parked, Ending}
 use Rattle.step_core.specs.Machine.{State, Thread, Monitor, free}
 use Rattle.step_core.specs.WorldState.{WorldState, place_at, lock_at}
 
--- what a thread at this place is doing: a contended enter that has won has its reply
+-- What a thread at this place is doing, where it is out of every fat action: a contended enter that has
+-- won has its reply. A parked thread is not out.
 abbrev pub doing_of : Place → Doing
 doing_of Idle = doing.Idle
 doing_of (Begun c contended) = doing.Wants c
@@ -24,12 +28,22 @@ doing_of (Acting c m) = doing.Wants c
 doing_of (Won o) = doing.Has Entered
 doing_of (Bound c won m) = if won then doing.Has Entered else doing.Wants c
 doing_of (Inflated c m) = doing.Wants c
+doing_of Parked = doing.Idle
 doing_of (Ending n) = doing.Wants End
 
+-- What a thread is doing with this post, and at this place in its call: in an entry line for an enter it
+-- still wants to enter, and once it is granted it has its reply.
+abbrev pub act_of : FatState → Post → Place → Doing
+act_of f Out p = doing_of p
+act_of f (Entering m) p = doing.Wants (Enter (monitor_at f m).object)
+act_of f (Waiting m n d) p = doing.Waits (monitor_at f m).object n d
+act_of f (Back m n w) p = doing.Back (monitor_at f m).object n w
+act_of f (Granted r) p = doing.Has r
+
 -- the thread at a seat: nobody is interrupted yet
-abbrev pub thread_of : WorldState → Option ℕ → Option Thread
-thread_of w None = None
-thread_of w (Some k) = Some (record { flag = false; act = doing_of (place_at w k) })
+abbrev pub thread_of : WorldState → ThreadId → Option ℕ → Option Thread
+thread_of w t None = None
+thread_of w t (Some k) = Some (record { flag = false; act = act_of w.fats (post_at w.fats t) (place_at w k) })
 
 -- who owns an object with this lock, and how often: its word says it alone
 abbrev pub monitor_of : WorldState → Lock → Monitor
@@ -40,7 +54,7 @@ monitor_of w (Fat m) = record { owner = (monitor_at w.fats m).owner; count = (mo
 -- the shown state
 abbrev pub shown : WorldState → State
 shown w = record {
-  thread = λ t. thread_of w (seat_of w.seats t);
+  thread = λ t. thread_of w t (seat_of w.seats t);
   objects = length w.words;
   monitor = λ o. monitor_of w (lock_at w o.0);
   moment = 0;

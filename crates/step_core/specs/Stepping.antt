@@ -2,7 +2,9 @@
 use Rattle.std.specs.Prelude.{ℕ, Bool, true, false, if◌then◌else◌, nat_lt, List, [], ◌∷◌, ◌++◌, length, slice_set, Option, Some, None, Result, Ok, Err}
 use Rattle.lock_word.specs.declared.ThreadId.{ThreadId}
 use Rattle.thread_index.specs.Indices.{seat_of, free_seat}
-use Rattle.fat_monitor.specs.FatState.{with_thread, without_thread, owns_one}
+use Rattle.fat_monitor.specs.FatState.{FatState, with_thread, without_thread, owns_one, with_post, post_at}
+use Rattle.fat_monitor.specs.declared.actions.Post.{Post}
+use Rattle.fat_monitor.specs.declared.actions.Post.TheVariants.{Out, Entering, Waiting, Back, Granted}
 use Rattle.fat_monitor.specs.declared.actions.Action.TheVariants as action
 use Rattle.fat_monitor.specs.declared.actions.Answer.TheVariants as answer
 use Rattle.fat_monitor.specs.declared.actions.Reply.TheVariants as reply
@@ -11,7 +13,7 @@ use Rattle.lock_word.specs.declared.ObjectId.{ObjectId}
 use Rattle.fast_path.specs.declared.Call.{Call}
 use Rattle.fast_path.specs.Table.{object_of}
 use Rattle.step_core.specs.declared.places.Place.{Place}
-use Rattle.step_core.specs.declared.places.Place.TheVariants.{Idle, Begun, Ending}
+use Rattle.step_core.specs.declared.places.Place.TheVariants.{Idle, Begun, Parked as ParkedPlace, Ending}
 use Rattle.step_core.specs.declared.moves.Move.{Move}
 use Rattle.step_core.specs.declared.moves.Move.TheVariants as move
 use Rattle.step_core.specs.declared.events.Atomic.TheVariants.{Label, Acted}
@@ -19,9 +21,9 @@ use Rattle.step_core.specs.declared.events.Did.{Did}
 use Rattle.step_core.specs.declared.events.Step.{Step}
 use Rattle.step_core.specs.declared.events.Step.TheVariants as step
 use Rattle.step_core.specs.declared.events.Fault.{Fault}
-use Rattle.step_core.specs.declared.events.Fault.TheVariants.{NoIndex, Memory, Known, NoThread, NoObject, InCall, NotCalling}
+use Rattle.step_core.specs.declared.events.Fault.TheVariants.{NoIndex, Memory, Known, NoThread, NoObject, InCall, NotCalling, Parked}
 use Rattle.step_core.specs.WorldState.{WorldState, place_at}
-use Rattle.step_core.specs.Going.{moved, replied, after_go, gone}
+use Rattle.step_core.specs.Going.{moved, replied, returned, turns, after_go, gone}
 
 -- the answer of a step, and the world after it
 pub record Outcome : Type 0 where
@@ -72,8 +74,31 @@ without_live w k t = record w { seats = slice_set w.seats k None; places = slice
 abbrev pub ended : WorldState → ℕ → ThreadId → Bool → Outcome
 ended w k t true =
     accepted (record w { places = slice_set w.places k Idle })
-    (replied (Acted action.End (answer.Reply (reply.Refused cause.StillOwner))) t (reply.Refused cause.StillOwner))
-ended w k t false = accepted (without_live w k t) (replied (Acted action.End (answer.Reply reply.Ended)) t reply.Ended)
+    (replied (Acted action.End (answer.Reply (reply.Refused cause.StillOwner))) (move.Refuse t cause.StillOwner) t (reply.Refused cause.StillOwner))
+ended w k t false = accepted (without_live w k t) (replied (Acted action.End (answer.Reply reply.Ended)) (move.End t) t reply.Ended)
+
+-- what a collect by thread t, which has this post, answers and leaves of the fat state
+pub record Gathered : Type 0 where
+  pub answer : Result Did Fault
+  pub after : FatState
+
+abbrev pub gathered_by : FatState → ThreadId → Post → Gathered
+gathered_by f t (Granted r) =
+    record { answer = Ok (returned (Acted action.Collect (answer.Reply r)) t r); after = with_post f t Out }
+gathered_by f t Out = record { answer = Err Parked; after = f }
+gathered_by f t (Entering m) = record { answer = Err Parked; after = f }
+gathered_by f t (Waiting m n d) = record { answer = Err Parked; after = f }
+gathered_by f t (Back m n y) = record { answer = Err Parked; after = f }
+
+-- the thread at seat k takes the reply that it was granted, or is parked still
+abbrev pub gathered : WorldState → ℕ → ThreadId → Post → Outcome
+gathered w k t (Granted r) =
+    accepted (gone w k (turns w (with_post w.fats t Out) Idle (returned (Acted action.Collect (answer.Reply r)) t r)))
+    (returned (Acted action.Collect (answer.Reply r)) t r)
+gathered w k t Out = refused w Parked
+gathered w k t (Entering m) = refused w Parked
+gathered w k t (Waiting m n d) = refused w Parked
+gathered w k t (Back m n y) = refused w Parked
 
 -- a Go of the thread at seat k, which stands at this place
 abbrev pub went_at : Bool → WorldState → ℕ → ThreadId → Place → Outcome
@@ -82,6 +107,7 @@ went_at room w k t (Ending n) =
     if nat_lt n (length w.words)
     then accepted (gone w k (after_go room w k t (Ending n))) (after_go room w k t (Ending n)).did
     else ended w k t (owns_one w.fats.monitors t)
+went_at room w k t ParkedPlace = gathered w k t (post_at w.fats t)
 went_at room w k t p = accepted (gone w k (after_go room w k t p)) (after_go room w k t p).did
 
 abbrev pub went : Bool → WorldState → ThreadId → Option ℕ → Outcome

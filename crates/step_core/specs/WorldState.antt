@@ -1,18 +1,20 @@
 -- What a world is: header words, the threads by index, the place of each in its call, and the fat state.
-use Rattle.std.specs.Prelude.{Some, ◌≡◌, ℕ, ◌+◌, ◌-◌, ◌<◌, ◌≤◌, List, length, slice_index_or, Option, None, IsSome, map, replicate, Bool, false, ◌==◌, ◌⊎◌}
+use Rattle.std.specs.Prelude.{Some, ◌≢◌, is_some, count_by, ◌≡◌, ℕ, ◌+◌, ◌-◌, ◌<◌, ◌≤◌, List, length, slice_index_or, Option, None, IsSome, map, replicate, Bool, false, ◌==◌, ◌⊎◌}
 use Rattle.lock_word.specs.declared.ThreadId.{ThreadId}
 use Rattle.lock_word.specs.declared.Word.{Word}
 use Rattle.lock_word.specs.declared.Lock.{Lock}
 use Rattle.lock_word.specs.declared.Lock.TheVariants.{Free, Thin, Fat}
 use Rattle.lock_word.specs.Layout.{lock_of, IsMalformed}
 use Rattle.thread_index.specs.Indices.{seat_of, holder_at, IsOneToOne}
-use Rattle.fat_monitor.specs.FatState.{FatState, monitor_at, IsAttached}
+use Rattle.fat_monitor.specs.FatState.{FatState, monitor_at, IsAttached, post_of, thread_count}
+use Rattle.fat_monitor.specs.declared.actions.Post.{Post}
+use Rattle.fat_monitor.specs.declared.actions.Post.TheVariants.{Out}
 use Rattle.fat_monitor.specs.FatState as fat
 use Rattle.fast_path.specs.declared.Call.{Call}
 use Rattle.fast_path.specs.declared.Next.TheVariants as next
 use Rattle.fast_path.specs.Table.{object_of, target, next_of}
 use Rattle.step_core.specs.declared.places.Place.{Place}
-use Rattle.step_core.specs.declared.places.Place.TheVariants.{Idle, Begun, Taking, Storing, Binding, Acting, Won, Bound, Inflated, Ending}
+use Rattle.step_core.specs.declared.places.Place.TheVariants.{Idle, Begun, Taking, Storing, Binding, Acting, Won, Bound, Inflated, Parked, Ending}
 
 -- the word of each object; who has each index, by seat, which is the index less one; the place of the
 -- thread at each seat; and the fat state
@@ -73,6 +75,7 @@ Fitting w k (Bound c won m) =
     × ((n : ℕ) × (lock_at w (target c).0 ≡ Thin (k + 1) n)
     × (monitor_at w.fats m ≡ record { object = target c; owner = holder_at w.seats k; holds = n + 1 }))
 Fitting w k (Inflated c m) = Reaches w c × (lock_at w (target c).0 ≡ Fat m)
+Fitting w k Parked = Unit {0}
 Fitting w k (Ending n) = (n ≤ length w.words) × ((p : ℕ) → p < n → is_own (lock_at w p) (k + 1) ≡ false)
 
 -- the monitor that a thread at this place has bound and is to store
@@ -86,7 +89,22 @@ bound_by (Acting c m) = None
 bound_by (Won o) = None
 bound_by (Bound c won m) = Some m
 bound_by (Inflated c m) = None
+bound_by Parked = None
 bound_by (Ending n) = None
+
+-- a thread at this place is out of every fat action, or is not
+abbrev pub Agrees : Place → Option Post → Type 0
+Agrees Idle p = p ≡ Some Out
+Agrees (Begun c contended) p = p ≡ Some Out
+Agrees (Taking o contended) p = p ≡ Some Out
+Agrees (Storing c l) p = p ≡ Some Out
+Agrees (Binding c n) p = p ≡ Some Out
+Agrees (Acting c m) p = p ≡ Some Out
+Agrees (Won o) p = p ≡ Some Out
+Agrees (Bound c won m) p = p ≡ Some Out
+Agrees (Inflated c m) p = p ≡ Some Out
+Agrees Parked p = p ≢ Some Out
+Agrees (Ending n) p = p ≡ Some Out
 
 -- a monitor that is bound is shown by its object, or somebody is to store it
 abbrev pub IsPublished : WorldState → ℕ → Type 0
@@ -106,4 +124,6 @@ pub record IsSound (w : WorldState) : Type 0 where
   -- the attached threads are the live ones
   pub attached : (t : ThreadId) → IsSome (seat_of w.seats t) → IsAttached w.fats t
   pub live : (t : ThreadId) → IsAttached w.fats t → IsSome (seat_of w.seats t)
+  pub posted : (t : ThreadId) (k : ℕ) → seat_of w.seats t ≡ Some k → Agrees (place_at w k) (post_of w.fats t)
+  pub counted : thread_count w.fats ≡ count_by is_some w.seats
   pub places : (k : ℕ) → k < length w.places → Fitting w k (place_at w k)

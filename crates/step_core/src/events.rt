@@ -75,7 +75,7 @@ pub struct Did {
 /// Why a step was refused. The world is then unchanged.
 ///
 /// Attach answers the first of Known, NoIndex and Memory whose cause holds; Begin of NoThread, NoObject
-/// and InCall; Go of NoThread and NotCalling.
+/// and InCall; Go of NoThread, NotCalling and Parked.
 #[derive(Clone, Copy, PartialEq, Eq, Hash, Debug)]
 pub enum Fault {
     /// Every index belongs to a live thread.
@@ -92,6 +92,8 @@ pub enum Fault {
     InCall = 6,
     /// The thread is in no call.
     NotCalling = 7,
+    /// The thread stands in an entry line or a wait set.
+    Parked = 8,
 }
 
 impl fmt::Display for Fault {
@@ -109,6 +111,7 @@ impl fmt::Display for Fault {
             Fault::NoObject => "NoObject",
             Fault::InCall => "InCall",
             Fault::NotCalling => "NotCalling",
+            Fault::Parked => "Parked",
         })
     }
 }

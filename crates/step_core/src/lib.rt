@@ -7,6 +7,7 @@
 //! (JLS SE 8, 17.1) that it made.
 #![tactic(auto)]
 
+mod deeds;
 mod events;
 mod laws;
 mod moves;
@@ -20,6 +21,7 @@ mod worlds;
 pub use events::{Atomic, Did, Fault, Step};
 pub use laws::{
     every_call_is_patient, every_list_of_steps_is_a_run, every_list_of_steps_keeps_the_world,
+    every_notified_thread_comes_back,
 };
 pub use moves::{Doing, Move};
 pub use places::Place;

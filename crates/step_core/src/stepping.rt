@@ -1,18 +1,20 @@
 //! Steps over the parts of a world.
 
-ghost use Rattle.std.specs.Prelude.{◌≡◌, ℕ, ◌+◌, ◌-◌, ◌<◌, ◌≤◌, List, length, Bool, true, false, Option, IsSome, Some, Ok};
+ghost use Rattle.std.specs.Prelude.{◌≡◌, ℕ, ◌+◌, ◌-◌, ◌<◌, ◌≤◌, List, length, Bool, true, false, Option, IsSome, is_some, count_by, Some, Ok};
 ghost use Rattle.lock_word.specs.declared.Word.{Word};
 ghost use Rattle.thread_index.specs.Indices.{seat_of, free_seat};
-ghost use Rattle.fat_monitor.specs.FatState.{FatState, IsAttached, owns_one};
+ghost use Rattle.fat_monitor.specs.declared.actions.Post.TheVariants.{Out};
+ghost use Rattle.fat_monitor.specs.FatState.{FatState, IsAttached, post_of, post_at, thread_count, owns_one};
 ghost use Rattle.step_core.specs.WorldState.{IsSound};
-ghost use Rattle.step_core.specs.Stepping.{Outcome, attached, begun, went, ended};
+ghost use Rattle.step_core.specs.Stepping.{Outcome, attached, begun, went, ended, gathered_by};
 ghost use Rattle.step_core.specs.Parts.{world_of, IsBusyAt};
 ghost use Rattle.step_core.specs.declared.places.Place.{Place};
 
-use crate::turns::{go_from, move_on, reply_to};
+use crate::deeds::{hand_out, move_on, reply_to};
+use crate::turns::go_from;
 use crate::{Atomic, Did, Fault, Move, Place};
 use fast_path::Call;
-use fat_monitor::{Action, Answer, AttachFault, Done, Fats, Reply};
+use fat_monitor::{ActFault, Action, Answer, AttachFault, Cause, Done, Fats, Reply};
 use lock_word::{ThreadId, Word};
 use thread_index::{Indices, TakeFault};
 
@@ -25,6 +27,8 @@ pub(crate) fn attach(
 ) -> Result<Did, Fault>
     requires seated { length places.old.items ≡ length indices.old }
     requires live { IsAttached fats.old thread → IsSome (seat_of indices.old thread) }
+    requires counted { thread_count fats.old ≡ count_by is_some indices.old }
+    requires few { length indices.old ≤ 32767 }
     ensures { (words : List Word) → (room : Bool) × (record { answer = result; after = world_of words indices.new places.new.items fats.new } ≡ attached room (world_of words indices.old places.old.items fats.old) thread (seat_of indices.old thread) (free_seat indices.old)) }
 {
     let index = match indices.take(thread) {
@@ -95,12 +99,34 @@ pub(crate) fn go(
     if let Place::Idle = place {
         return Err(Fault::NotCalling);
     }
+    if let Place::Parked = place {
+        let did = collect(fats, thread)?;
+        places[seat] = Place::Idle;
+        return Ok(did);
+    }
     if has_looked(place, words.len()) {
         return Ok(end(indices, places, fats, thread, seat));
     }
     let (next, did) = go_from(words, fats, index, thread, place);
     places[seat] = next;
     Ok(did)
+}
+
+/// Takes the reply that a parked thread was granted, if it was granted one.
+fn collect(fats: &mut Fats, thread: ThreadId) -> Result<Did, Fault>
+    requires { IsAttached fats.old thread }
+    ensures { record { answer = result; after = fats.new } ≡ gathered_by fats.old thread (post_at fats.old thread) }
+{
+    let action = Action::Collect;
+    match fats.act(thread, action) {
+        Ok(Done { answer, .. }) => {
+            let Answer::Reply(reply) = answer else {
+                unreachable!();
+            };
+            Ok(hand_out(Atomic::Acted { action, answer }, thread, reply))
+        }
+        Err(ActFault::Parked) => Err(Fault::Parked),
+    }
 }
 
 /// Whether a thread at this place is to end and has loaded the words of all objects.
@@ -125,19 +151,20 @@ fn end(
 ) -> Did
     requires seated { seat < length places.old }
     requires here { seat_of indices.old thread ≡ Some seat }
-    requires attached { IsAttached fats.old thread }
+    requires out { post_of fats.old thread ≡ Some Out }
     ensures { (words : List Word) → record { answer = Ok result; after = world_of words indices.new places.new fats.new } ≡ ended (world_of words indices.old places.old fats.old) seat thread (owns_one fats.old.monitors thread) }
 {
     places[seat] = Place::Idle;
     let action = Action::End;
-    let Ok(Done { answer, .. }) = fats.act(thread, action);
+    let Ok(Done { answer, .. }) = fats.act(thread, action) else {
+        unreachable!();
+    };
     let atomic = Atomic::Acted { action, answer };
-    match answer {
-        Answer::Reply(Reply::Ended) => {
-            let _ = indices.give(thread);
-            reply_to(atomic, thread, Reply::Ended)
-        }
-        Answer::Reply(reply) => reply_to(atomic, thread, reply),
-        Answer::Quiet => unreachable!(),
+    if let Answer::Reply(Reply::Ended) = answer {
+        let _ = indices.give(thread);
+        return reply_to(atomic, Move::End { thread }, thread, Reply::Ended);
     }
+    let cause = Cause::StillOwner;
+    let made = Move::Refuse { thread, cause };
+    reply_to(atomic, made, thread, Reply::Refused(cause))
 }

@@ -2,7 +2,7 @@
 
 use crate::{Atomic, Did, Doing, Fault, Move, Step, World};
 use fast_path::Call;
-use fat_monitor::{Action, Answer, Cause, Reply};
+use fat_monitor::{Action, Answer, Cause, Reply, Why};
 use lock_word::{ObjectId, ThreadId, Word};
 use std::process::Abort;
 use std::test::Fail;
@@ -13,6 +13,7 @@ mod faults;
 mod inflation;
 mod memory;
 mod nesting;
+mod waits;
 
 const X: ThreadId = ThreadId(0);
 

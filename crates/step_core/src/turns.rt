@@ -1,17 +1,21 @@
 //! What a Go does at each place in a call: one function for each kind of atomic step.
 
-ghost use Rattle.std.specs.Prelude.{IsSome, ◌≡◌, ℕ, ◌+◌, ◌-◌, ◌<◌, ◌≤◌, List, length, Bool, true, false};
+ghost use Rattle.std.specs.Prelude.{Some, IsSome, ◌≡◌, ℕ, ◌+◌, ◌-◌, ◌<◌, ◌≤◌, List, length, Bool, true, false};
 ghost use Rattle.lock_word.specs.declared.Word.{Word};
 ghost use Rattle.lock_word.specs.Layout.{Fits, IsMalformed, lock_of, low_of, with_lock, count_of};
-ghost use Rattle.fat_monitor.specs.FatState.{FatState, IsAttached};
+ghost use Rattle.fat_monitor.specs.declared.actions.Post.TheVariants.{Out};
+ghost use Rattle.fat_monitor.specs.FatState.{FatState, IsAttached, post_of};
 ghost use Rattle.fast_path.specs.Table.{object_of, target, next_of};
 ghost use Rattle.step_core.specs.WorldState.{lock_at, is_own};
-ghost use Rattle.step_core.specs.Going.{move_for, silent, moved, replied, returned, after_load, after_take, after_store, after_bind, after_publish, after_act, after_look, after_go, action_of, bind_cause};
+ghost use Rattle.step_core.specs.Going.{after_load, after_take, after_store, after_bind, after_publish, after_act, after_look, after_go, action_of, bind_cause};
 ghost use Rattle.step_core.specs.Parts.{bare, AreFormed, IsReady};
 
+use crate::deeds::{
+    grant_and_reply, grant_of, hand_out, move_on, move_to, park, quietly, reply_to,
+};
 use crate::{Atomic, Did, Move, Place};
 use fast_path::{Call, Next, decide};
-use fat_monitor::{Action, Answer, Cause, Done, Fats, Reply};
+use fat_monitor::{Action, Answer, Cause, Fats, Reply};
 use lock_word::{Lock, ObjectId, ThreadId, Word, decode, encode};
 
 /// One Go of the thread with index `me` from a place in its call: where it stands then, and what it did.
@@ -25,7 +29,7 @@ pub(crate) fn go_from(
     requires ready { IsReady words.old fats.old place }
     requires few { length words.old ≤ 65535 }
     requires formed { AreFormed words.old }
-    requires attached { IsAttached fats.old thread }
+    requires out { post_of fats.old thread ≡ Some Out }
     requires low { 1 ≤ me }
     requires high { me ≤ 32767 }
     ensures { (room : Bool) × (record { words = words.new; fats = fats.new; place = result.0; did = result.1 } ≡ after_go room (bare words.old fats.old) (me - 1) thread place) }
@@ -40,6 +44,7 @@ pub(crate) fn go_from(
         Place::Won { object } => bind(fats, thread, Call::Enter(object), true, 1),
         Place::Bound { call, won, monitor } => publish(words, thread, call, won, monitor),
         Place::Inflated { call, monitor } => act(fats, thread, call, monitor),
+        Place::Parked => unreachable!(),
         Place::Ending { loaded } => look(words, me, thread, loaded),
     }
 }
@@ -56,7 +61,10 @@ fn load(words: &[Word], me: u16, thread: ThreadId, call: Call, contended: bool) 
     let lock = lock_in(word);
     let atomic = Atomic::Load { object, word };
     match decide(call, lock, me) {
-        Next::Reply(reply) => (Place::Idle, reply_to(atomic, thread, reply)),
+        Next::Reply(reply) => {
+            let made = move_to(call, reply, None, thread);
+            (Place::Idle, reply_to(atomic, made, thread, reply))
+        }
         Next::Cas(_) => (Place::Taking { object, contended }, quietly(atomic)),
         Next::Store(lock) => (Place::Storing { call, lock }, quietly(atomic)),
         Next::Bind => {
@@ -113,7 +121,8 @@ fn take(
             move_on(atomic, Move::Lock { thread }),
         )
     } else {
-        (Place::Idle, reply_to(atomic, thread, Reply::Entered))
+        let made = Move::Lock { thread };
+        (Place::Idle, reply_to(atomic, made, thread, Reply::Entered))
     }
 }
 
@@ -130,14 +139,13 @@ fn store(words: &mut [Word], thread: ThreadId, call: Call, lock: Lock) -> (Place
     let new = changed(old, lock);
     words[at] = new;
     let reply = match call {
-        Call::Enter(_) => Reply::Entered,
         Call::Exit(_) => Reply::Exited,
-        Call::Holds(_) => Reply::Yes,
-        Call::End => unreachable!(),
+        _ => Reply::Entered,
     };
+    let made = move_to(call, reply, None, thread);
     (
         Place::Idle,
-        reply_to(Atomic::Stored { object, old, new }, thread, reply),
+        reply_to(Atomic::Stored { object, old, new }, made, thread, reply),
     )
 }
 
@@ -164,7 +172,11 @@ fn bind(fats: &mut Fats, thread: ThreadId, call: Call, won: bool, holds: u16) ->
             if won {
                 (Place::Idle, hand_out(atomic, thread, Reply::Entered))
             } else {
-                (Place::Idle, reply_to(atomic, thread, Reply::Refused(cause)))
+                let made = Move::Refuse { thread, cause };
+                (
+                    Place::Idle,
+                    reply_to(atomic, made, thread, Reply::Refused(cause)),
+                )
             }
         }
     }
@@ -196,27 +208,50 @@ fn publish(
     }
 }
 
-/// Makes the call's own action on a fat monitor.
+/// Makes the call's own action on a fat monitor: the call has its reply then, or is parked.
 fn act(fats: &mut Fats, thread: ThreadId, call: Call, monitor: u32) -> (Place, Did)
-    requires attached { IsAttached fats.old thread }
+    requires out { post_of fats.old thread ≡ Some Out }
     requires named { IsSome (object_of call) }
     requires bound { monitor < length fats.old.monitors }
     ensures { (ws : List Word) → record { words = ws; fats = fats.new; place = result.0; did = result.1 } ≡ after_act (bare ws fats.old) thread call monitor }
 {
-    let action = match call {
+    let action = action_of(call, monitor);
+    let Ok(done) = fats.act(thread, action) else {
+        unreachable!();
+    };
+    let granted = grant_of(fats, done.granted);
+    let atomic = Atomic::Acted {
+        action,
+        answer: done.answer,
+    };
+    match done.answer {
+        Answer::Reply(reply) => {
+            let made = move_to(call, reply, done.chosen, thread);
+            (
+                Place::Idle,
+                grant_and_reply(atomic, made, granted, thread, reply),
+            )
+        }
+        Answer::Parked => (Place::Parked, park(call, atomic, thread, granted)),
+    }
+}
+
+/// The fat action of the call's own name.
+fn action_of(call: Call, monitor: u32) -> Action
+    ensures { result ≡ action_of call monitor }
+{
+    match call {
         Call::Enter(_) => Action::Enter { monitor },
         Call::Exit(_) => Action::Exit { monitor },
+        Call::Wait { millis, nanos, .. } => Action::Wait {
+            monitor,
+            millis,
+            nanos,
+        },
+        Call::Notify(_) => Action::Notify { monitor },
+        Call::NotifyAll(_) => Action::NotifyAll { monitor },
         Call::Holds(_) => Action::Holds { monitor },
-        Call::End => unreachable!(),
-    };
-    let Ok(Done { answer, .. }) = fats.act(thread, action);
-    let atomic = Atomic::Acted { action, answer };
-    match answer {
-        Answer::Reply(reply) => (Place::Idle, reply_to(atomic, thread, reply)),
-        Answer::Quiet => {
-            let contended = false;
-            (Place::Begun { call, contended }, quietly(atomic))
-        }
+        Call::End => Action::End,
     }
 }
 
@@ -232,9 +267,11 @@ fn look(words: &[Word], me: u16, thread: ThreadId, loaded: u32) -> (Place, Did)
     let word = words[loaded as usize];
     let atomic = Atomic::Load { object, word };
     if is_thin_of(lock_in(word), me) {
+        let cause = Cause::StillOwner;
+        let made = Move::Refuse { thread, cause };
         (
             Place::Idle,
-            reply_to(atomic, thread, Reply::Refused(Cause::StillOwner)),
+            reply_to(atomic, made, thread, Reply::Refused(cause)),
         )
     } else {
         let loaded = loaded + 1;
@@ -290,66 +327,4 @@ fn changed(word: Word, lock: Lock) -> Word
     ensures { result.0 ≡ with_lock word.0 lock }
 {
     encode(lock, (word.0 % 256) as u8)
-}
-
-/// The move by which a call gets this reply.
-fn move_to(reply: Reply, thread: ThreadId) -> Move
-    ensures { result ≡ move_for reply thread }
-{
-    match reply {
-        Reply::Entered => Move::Lock { thread },
-        Reply::Exited => Move::Unlock { thread },
-        Reply::Ended => Move::End { thread },
-        Reply::Yes | Reply::No => Move::Ask { thread },
-        Reply::IllegalMonitorState => Move::Illegal { thread },
-        Reply::Refused(cause) => Move::Refuse { thread, cause },
-    }
-}
-
-/// No move is made.
-fn quietly(atomic: Atomic) -> Did
-    ensures { result ≡ silent atomic }
-{
-    Did {
-        atomic,
-        moves: [None, None, None],
-        reply: None,
-    }
-}
-
-/// One move is made, and the call goes on.
-pub(crate) fn move_on(atomic: Atomic, made: Move) -> Did
-    ensures { result ≡ moved atomic made }
-{
-    Did {
-        atomic,
-        moves: [Some(made), None, None],
-        reply: None,
-    }
-}
-
-/// The call gets its reply and returns with it.
-pub(crate) fn reply_to(atomic: Atomic, thread: ThreadId, reply: Reply) -> Did
-    ensures { result ≡ replied atomic thread reply }
-{
-    Did {
-        atomic,
-        moves: [
-            Some(move_to(reply, thread)),
-            Some(Move::Return { thread, reply }),
-            None,
-        ],
-        reply: Some(reply),
-    }
-}
-
-/// The call returns with the reply that it has.
-fn hand_out(atomic: Atomic, thread: ThreadId, reply: Reply) -> Did
-    ensures { result ≡ returned atomic thread reply }
-{
-    Did {
-        atomic,
-        moves: [Some(Move::Return { thread, reply }), None, None],
-        reply: Some(reply),
-    }
 }

@@ -2,19 +2,21 @@
 
 ghost use Rattle.std.specs.Prelude.{◌≡◌, ℕ, ◌+◌, ◌<◌, ◌≤◌, List, length, Bool, Option, IfOk, IfErr, OnOk, OnErr, slice_index_or, Some, None};
 ghost use Rattle.std.specs.Option.{option_map};
+ghost use Rattle.fat_monitor.specs.FatState.{monitor_at, StandBehindOwners};
 ghost use Rattle.thread_index.specs.Indices.{seat_of, free_seat, index_of, holder_of};
-ghost use Rattle.step_core.specs.Machine.{Run, opening, Thread};
+ghost use Rattle.step_core.specs.Machine.{Run, opening, Thread, is_waiting};
 ghost use Rattle.step_core.specs.WorldState.{IsSound, opened, word_at, lock_at};
 ghost use Rattle.step_core.specs.Stepping.{Outcome, attached, begun, went, step_of, moves_of};
-ghost use Rattle.step_core.specs.Shown.{shown};
+ghost use Rattle.step_core.specs.Shown.{shown, doing_of};
 ghost use Rattle.step_core.specs.Labels.{HasLabels};
 ghost use Rattle.step_core.specs.Refusals.{IsRefused, IsAcceptable, Spares};
 ghost use Rattle.step_core.specs.Patience.{IsPatient};
 ghost use Rattle.step_core.specs.Kept.{Keeps};
+ghost use Rattle.step_core.specs.Lasting.{Lasts};
 
 use crate::{Did, Doing, Fault, Place, Step, stepping};
 use fast_path::Call;
-use fat_monitor::{Fats, Reply};
+use fat_monitor::{Fats, Post, Reply};
 use lock_word::{Lock, Memory, ObjectId, ThreadId, Word, decode};
 use std::alloc::Global;
 use std::marker::Model;
@@ -90,13 +92,19 @@ impl World {
         ensures accepted { OnOk result (IsAcceptable self.old step) }
         ensures unchanged { OnErr result (self.new ≡ self.old) }
 
-        // A call that is refused leaves every owner and count.
+        // A call that is refused leaves every owner, count, wait set and flag.
         ensures spared { IfOk result (λ d. Spares self.old d.reply self.new) }
 
-        // A Go replies, meets another thread, or lowers the steps that its call has left; no other thread's
+        // A notified thread stays so until it has its reply, and a reply stays until it is returned.
+        ensures lasting { IfOk result (λ d. Lasts (shown self.old) step d.reply (shown self.new)) }
+
+        // A Go replies, parks, meets another thread, or lowers the steps that its call has left; no other thread's
         // step changes them. The objects stay, and so does the low byte of each word.
         ensures patient { IfOk result (λ d. IsPatient self.old step d self.new) }
         ensures kept { Keeps self.old self.new }
+
+        // A thread stands in an entry line only while another thread owns that monitor.
+        ensures behind { StandBehindOwners self.new.fats }
     {
         self.advance(step)
     }
@@ -199,21 +207,54 @@ impl World {
         ensures { result ≡ option_map (λ (x : Thread). x.act) ((shown self.now).thread thread) }
     {
         let index = self.indices.index_of(thread)?;
-        let doing = match self.places[index as usize - 1] {
-            Place::Idle => Doing::Idle,
-            Place::Begun { call, .. } | Place::Storing { call, .. } | Place::Binding { call, .. } =>
-                Doing::Wants(call),
-            Place::Acting { call, .. } | Place::Inflated { call, .. } => Doing::Wants(call),
-            Place::Taking { object, .. } => Doing::Wants(Call::Enter(object)),
-            Place::Won { .. } | Place::Bound { won: true, .. } => Doing::Has(Reply::Entered),
-            Place::Bound {
-                call,
-                won: false,
-                ..
-            } => Doing::Wants(call),
-            Place::Ending { .. } => Doing::Wants(Call::End),
+        let doing = match self.fats.post(thread) {
+            Some(Post::Entering { monitor }) => Doing::Wants(Call::Enter(self.object(monitor))),
+            Some(
+                Post::Waiting {
+                    monitor,
+                    holds,
+                    deadline,
+                },
+            ) => {
+                let object = self.object(monitor);
+                Doing::Waits {
+                    object,
+                    holds,
+                    deadline,
+                }
+            }
+            Some(
+                Post::Back {
+                    monitor,
+                    holds,
+                    why,
+                },
+            ) => {
+                let object = self.object(monitor);
+                Doing::Back { object, holds, why }
+            }
+            Some(Post::Granted(reply)) => Doing::Has(reply),
+            Some(Post::Out) | None => doing_at(self.places[index as usize - 1]),
         };
         Some(doing)
+    }
+
+    /// Whether a thread is in an object's wait set.
+    pub fn waiting(&self, object: ObjectId, thread: ThreadId) -> bool
+        requires { object.0 < length self.now.words }
+        ensures { result ≡ is_waiting ((shown self.now).thread thread) object }
+    {
+        match self.fats.post(thread) {
+            Some(Post::Waiting { monitor, .. }) => self.object(monitor) == object,
+            _ => false,
+        }
+    }
+
+    /// The object of a bound monitor.
+    fn object(&self, monitor: u32) -> ObjectId
+        ensures { result ≡ (monitor_at self.now.fats monitor).object }
+    {
+        self.fats.object(monitor).unwrap_or(ObjectId(0))
     }
 
     /// The lock that an object's word shows.
@@ -225,5 +266,25 @@ impl World {
             Some((lock, _)) => lock,
             None => unreachable!(),
         }
+    }
+}
+
+/// What a thread at this place is doing, where it is out of every fat action.
+fn doing_at(place: Place) -> Doing
+    ensures { result ≡ doing_of place }
+{
+    match place {
+        Place::Idle | Place::Parked => Doing::Idle,
+        Place::Begun { call, .. } | Place::Storing { call, .. } | Place::Binding { call, .. } =>
+            Doing::Wants(call),
+        Place::Acting { call, .. } | Place::Inflated { call, .. } => Doing::Wants(call),
+        Place::Taking { object, .. } => Doing::Wants(Call::Enter(object)),
+        Place::Won { .. } | Place::Bound { won: true, .. } => Doing::Has(Reply::Entered),
+        Place::Bound {
+            call,
+            won: false,
+            ..
+        } => Doing::Wants(call),
+        Place::Ending { .. } => Doing::Wants(Call::End),
     }
 }

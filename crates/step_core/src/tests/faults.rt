@@ -76,6 +76,7 @@ fn faults_have_numbers_and_names(rt: HostRuntime) -> Result<(), Fail> {
         (Fault::NoObject, 5, "NoObject"),
         (Fault::InCall, 6, "InCall"),
         (Fault::NotCalling, 7, "NotCalling"),
+        (Fault::Parked, 8, "Parked"),
     ];
     for (fault, number, name) in faults {
         assert_eq!(rt; fault as u8, number);

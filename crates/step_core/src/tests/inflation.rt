@@ -105,19 +105,18 @@ fn the_65536th_enter_is_too_deep(rt: HostRuntime) -> Result<(), Fail> {
 }
 
 #[test]
-fn an_enter_behind_another_owner_is_at_its_load_again(rt: HostRuntime) -> Result<(), Fail> {
+fn an_enter_behind_another_owner_stands_in_line(rt: HostRuntime) -> Result<(), Fail> {
     let mut world = inflated(&rt, rt.alloc())?;
     attach(&rt, &mut world, Y, 2);
     begin(&rt, &mut world, Y, ENTER);
     goes(&rt, &mut world, Y, load(0x8000_00A5));
-    let quiet = Atomic::Acted {
+    let parked = Atomic::Acted {
         action: FAT_ENTER,
-        answer: Answer::Quiet,
+        answer: Answer::Parked,
     };
-    goes(&rt, &mut world, Y, quiet);
+    goes(&rt, &mut world, Y, parked);
     assert_eq!(rt; world.doing(Y), Some(Doing::Wants(ENTER)));
-    goes(&rt, &mut world, Y, load(0x8000_00A5));
-    goes(&rt, &mut world, Y, quiet);
+    refuses(&rt, &mut world, Step::Go { thread: Y }, Fault::Parked);
     shows(&rt, &world, A, 0x8000_00A5, Some(X), 257);
     Ok(())
 }

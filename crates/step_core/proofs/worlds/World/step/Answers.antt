@@ -28,3 +28,9 @@ returns-clause-kept c = let e = c.advance.ensures.exact in (tells c.args.self.no
 
 pub returns-clause-spared : goal.returns-clause-spared
 returns-clause-spared c = let e = c.advance.ensures.exact in (tells c.args.self.now c.advance.new.self c.args.step c.advance.result e.0 c.advance.ensures.was e.1).spared
+
+pub returns-clause-lasting : goal.returns-clause-lasting
+returns-clause-lasting c = let e = c.advance.ensures.exact in (tells c.args.self.now c.advance.new.self c.args.step c.advance.result e.0 c.advance.ensures.was e.1).lasting
+
+pub returns-clause-behind : goal.returns-clause-behind
+returns-clause-behind c = let e = c.advance.ensures.exact in (tells c.args.self.now c.advance.new.self c.args.step c.advance.result e.0 c.advance.ensures.was e.1).behind

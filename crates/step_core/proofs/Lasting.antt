@@ -1,0 +1,343 @@
+-- A notified thread stays so until it has its reply, and a reply stays until it is returned.
+use Rattle.std.specs.Prelude.{◌≡◌, ◌⊎◌, ℕ, Bool, true, false, ◌==◌, if◌then◌else◌, List, [], ◌∷◌, ◌++◌, Option, Some, None, IfOk, OnErr, MatchResult, Result, Ok, Err}
+use Rattle.std.specs.Option.{unwrap_or}
+use Rattle.std.proofs.Common.{refl, inl, inr, sym, ap, subst, ◌∙◌}
+use Rattle.std.proofs.lemmas.Bool.{cases_eq, eq-eqb, ne_eqb}
+use Rattle.std.proofs.lemmas.Option.{same_Some}
+use Rattle.lock_word.specs.declared.ThreadId.{ThreadId}
+use Rattle.lock_word.specs.declared.ObjectId.{ObjectId}
+use Rattle.thread_index.specs.Indices.{seat_of}
+use Rattle.wait_lines.specs.declared.Role.TheVariants.{Entry}
+use Rattle.fat_monitor.specs.declared.actions.Reply.{Reply}
+use Rattle.fat_monitor.specs.declared.actions.Reply.TheVariants as reply
+use Rattle.fat_monitor.specs.declared.actions.Why.{Why}
+use Rattle.fat_monitor.specs.declared.actions.Why.TheVariants as why
+use Rattle.fat_monitor.specs.declared.actions.Post.{Post}
+use Rattle.fat_monitor.specs.declared.actions.Post.TheVariants as post
+use Rattle.fat_monitor.specs.FatState.{post_of}
+use Rattle.fast_path.specs.declared.Call.{Call}
+use Rattle.fast_path.specs.declared.Call.TheVariants as call
+use Rattle.step_core.specs.declared.moves.Doing.{Doing}
+use Rattle.step_core.specs.declared.moves.Doing.TheVariants.{Idle, Wants, Waits, Back, Has}
+use Rattle.step_core.specs.declared.moves.Move.{Move}
+use Rattle.step_core.specs.declared.moves.Move.TheVariants as move
+use Rattle.step_core.specs.declared.places.Place.{Place}
+use Rattle.step_core.specs.declared.places.Place.TheVariants as place
+use Rattle.step_core.specs.declared.events.Did.{Did}
+use Rattle.step_core.specs.declared.events.Fault.{Fault}
+use Rattle.step_core.specs.declared.events.Fault.TheVariants.{Memory, Parked}
+use Rattle.step_core.specs.declared.events.Step.{Step}
+use Rattle.step_core.specs.declared.events.Step.TheVariants as step
+use Rattle.step_core.specs.Machine.{State, Thread, Steps, Run, Is, Calls, now_is, woken, reply_of}
+use Rattle.step_core.specs.WorldState.{WorldState, IsSound, place_at}
+use Rattle.step_core.specs.Stepping.{step_of, given, moves_of, world_after}
+use Rattle.step_core.specs.Shown.{shown, doing_of, act_of}
+use Rattle.step_core.specs.Labels.{is_label, labels_of, EndsWith, HasLabels}
+use Rattle.step_core.specs.Refusals.{IsParked, IsRefused, IsAcceptable}
+use Rattle.step_core.specs.Lasting.{IsNotified, HasReply, Returns, Lasts, NeverReturns}
+use Rattle.step_core.proofs.Steps.{step_right}
+use Rattle.step_core.proofs.Labelings.{step_labels}
+use Rattle.step_core.proofs.Refusing.{step_judged, shows}
+
+-- a thread is back from a wait, or has its reply
+abbrev IsSteady : Doing → Type 0
+IsSteady Idle = ⊥
+IsSteady (Wants c) = ⊥
+IsSteady (Waits o n d) = ⊥
+IsSteady (Back o n w) = Unit {0}
+IsSteady (Has r) = Unit {0}
+
+-- it was back from a wait, and now has its reply
+abbrev Relocked : State → ThreadId → Bool → Doing → Type 0
+Relocked s u flag d = (o : ObjectId) × (n : ℕ) × (w : Why) × (d ≡ Back o n w) × Is s u flag (Has (reply_of w))
+
+-- the move returns with the reply that it had
+abbrev Returned : Move → ThreadId → Doing → Type 0
+Returned m u d = (t : ThreadId) × (r : Reply) × (m ≡ move.Return t r) × (t.0 ≡ u.0) × (d ≡ Has r)
+
+-- what a move leaves of such a thread
+abbrev Leaves : State → Move → ThreadId → Bool → Doing → Type 0
+Leaves s m u flag d = Is s u flag d ⊎ (Relocked s u flag d ⊎ Returned m u d)
+
+-- taking all out of a wait set leaves it
+woken_steady : (o : ObjectId) (d : Doing) → IsSteady d → woken o d ≡ d
+woken_steady o Idle steady = refl
+woken_steady o (Wants c) steady = refl
+woken_steady o (Waits p n d) steady = absurd steady
+woken_steady o (Back p n w) steady = refl
+woken_steady o (Has r) steady = refl
+
+module _ (s : State) (u : ThreadId) (flag : Bool) (d : Doing) (steady : IsSteady d) (is : Is s u flag d) where
+  -- a thread of the same number is the same thread
+  same_as : (t : ThreadId) (f : Bool) (x : Doing) → Is s t f x → u.0 ≡ t.0 → ◌≡◌ {A = Thread} (record { flag = flag; act = d }) (record { flag = f; act = x })
+  same_as t f x h same =
+      same_Some (record { flag = flag; act = d }) (record { flag = f; act = x }) (sym is ∙ ap (λ n. s.thread (record { 0 = n })) same ∙ h)
+
+  -- so a thread that does something else is another one
+  others : (t : ThreadId) (f : Bool) (x : Doing) → Is s t f x → (IsSteady x → ⊥) → u.0 ≡ t.0 → ⊥
+  others t f x h loose same = loose (subst IsSteady (ap (λ (y : Thread). y.act) (same_as t f x h same)) steady)
+
+  caller : (t : ThreadId) (f : Bool) (c : Call) → Calls s t f c → u.0 ≡ t.0 → ⊥
+  caller t f c h = others t f (Wants c) h (λ no. no)
+
+  -- what another thread's move leaves
+  kept : (t : ThreadId) (f : Bool) (x : Doing) → (u.0 ≡ t.0 → ⊥) → Is (now_is s t f x) u flag d
+  kept t f x other = rw (ne_eqb u.0 t.0 other) is
+
+  -- a return
+  returning : (t : ThreadId) (f : Bool) (r : Reply) (s' : State) → Is s t f (Has r) → ((u.0 ≡ t.0 → ⊥) → s'.thread u ≡ s.thread u) → (u.0 ≡ t.0) ⊎ (u.0 ≡ t.0 → ⊥)
+      → Leaves s' (move.Return t r) u flag d
+  returning t f r s' has rest (inl same) = inr (inr (t, r, refl, sym same, ap (λ (y : Thread). y.act) (same_as t f (Has r) has same)))
+  returning t f r s' has rest (inr other) = inl (rest other ∙ is)
+
+  returning_idle : (t : ThreadId) (f : Bool) (r : Reply) (s' : State) → Is s t f (Has r) → s' ≡ now_is s t f Idle → Leaves s' (move.Return t r) u flag d
+  returning_idle t f r s' has e = returning t f r s' has (λ other. rw (e, ne_eqb u.0 t.0 other) refl) (cases_eq u.0 t.0)
+
+  -- a grant of a monitor to a thread that is back
+  relocking : (t : ThreadId) (f : Bool) (o : ObjectId) (n : ℕ) (w : Why) (s' : State) → Is s t f (Back o n w)
+      → s'.thread u ≡ (if u.0 == t.0 then Some (record { flag = f; act = Has (reply_of w) }) else s.thread u) → (u.0 ≡ t.0) ⊎ (u.0 ≡ t.0 → ⊥)
+      → Leaves s' (move.Relock t) u flag d
+  relocking t f o n w s' back e (inl same) =
+      let one = same_as t f (Back o n w) back same in
+      let flags : flag ≡ f = ap (λ (y : Thread). y.flag) one in
+      inr (inl (o, n, w, ap (λ (y : Thread). y.act) one, rw (e, eq-eqb u.0 t.0 same, flags) refl))
+  relocking t f o n w s' back e (inr other) = inl (rw (e, ne_eqb u.0 t.0 other) is)
+
+  one_step : (m : Move) (s' : State) → Steps s m s' → Leaves s' m u flag d
+  one_step (move.Attach t) s' (none, e) = inl (rw e (kept t false Idle fresh))
+    where
+      fresh : u.0 ≡ t.0 → ⊥
+      fresh same = let never : ◌≡◌ {A = Option Thread} (Some (record { flag = flag; act = d })) None = sym is ∙ ap (λ n. s.thread (record { 0 = n })) same ∙ none in absurd (cc)
+  one_step (move.Call t c) s' (f, idle, there, e) = inl (rw e (kept t f (Wants c) (others t f Idle idle (λ no. no))))
+  one_step (move.Return t reply.Ended) s' (f, has, e) = returning t f reply.Ended s' has (λ other. rw (e, ne_eqb u.0 t.0 other) refl) (cases_eq u.0 t.0)
+  one_step (move.Return t reply.Entered) s' (f, has, e) = returning_idle t f reply.Entered s' has e
+  one_step (move.Return t reply.Exited) s' (f, has, e) = returning_idle t f reply.Exited s' has e
+  one_step (move.Return t reply.WaitOver) s' (f, has, e) = returning_idle t f reply.WaitOver s' has e
+  one_step (move.Return t reply.Notified) s' (f, has, e) = returning_idle t f reply.Notified s' has e
+  one_step (move.Return t reply.Yes) s' (f, has, e) = returning_idle t f reply.Yes s' has e
+  one_step (move.Return t reply.No) s' (f, has, e) = returning_idle t f reply.No s' has e
+  one_step (move.Return t reply.IllegalMonitorState) s' (f, has, e) = returning_idle t f reply.IllegalMonitorState s' has e
+  one_step (move.Return t reply.IllegalArgument) s' (f, has, e) = returning_idle t f reply.IllegalArgument s' has e
+  one_step (move.Return t (reply.Refused x)) s' (f, has, e) = returning_idle t f (reply.Refused x) s' has e
+  one_step (move.Lock t) s' (f, o, calls, may, few, e) = inl (rw e (kept t f (Has reply.Entered) (caller t f (call.Enter o) calls)))
+  one_step (move.Unlock t) s' (f, o, n, calls, owned, e) = inl (rw e (kept t f (Has reply.Exited) (caller t f (call.Exit o) calls)))
+  one_step (move.Illegal t) s' (f, c, o, calls, only, other, e) = inl (rw e (kept t f (Has reply.IllegalMonitorState) (caller t f c calls)))
+  one_step (move.BadArgument t) s' (f, o, millis, nanos, calls, owned, bad, e) =
+      inl (rw e (kept t f (Has reply.IllegalArgument) (caller t f (call.Wait o millis nanos) calls)))
+  one_step (move.Wait t) s' (o, millis, nanos, calls, owned, good, e) = inl (rw e (kept t false _ (caller t false (call.Wait o millis nanos) calls)))
+  one_step (move.Notify t (Some v)) s' (f, o, calls, owned, g, n, over, waits, e) =
+      inl (rw (e, ne_eqb u.0 v.0 (others v g (Waits o n over) waits (λ no. no))) (kept t f (Has reply.Notified) (caller t f (call.Notify o) calls)))
+  one_step (move.Notify t None) s' (f, o, calls, owned, nobody, e) = inl (rw e (kept t f (Has reply.Notified) (caller t f (call.Notify o) calls)))
+  one_step (move.NotifyAll t) s' (f, o, calls, owned, e) =
+      inl (rw (e, ne_eqb u.0 t.0 (caller t f (call.NotifyAll o) calls), is) (ap (λ (x : Doing). Some (record { flag = flag; act = x })) (woken_steady o d steady)))
+  one_step (move.Relock t) s' (f, o, n, w, back, free, e) = relocking t f o n w s' back (rw e refl) (cases_eq u.0 t.0)
+  one_step (move.Ask t) s' (f, is_own, o, calls, iff, e) = inl (rw e (kept t f _ (caller t f (call.Holds o) calls)))
+  one_step (move.Refuse t x) s' (f, c, calls, may, e) = inl (rw e (kept t f (Has (reply.Refused x)) (caller t f c calls)))
+  one_step (move.End t) s' (f, calls, none, e) = inl (rw e (kept t f (Has reply.Ended) (caller t f call.End calls)))
+
+-- the first of some moves without a label, and the others
+no_first : (m : Move) (ms : List Move) → labels_of (m ∷ ms) ≡ [] → (is_label m ≡ false) × (labels_of ms ≡ [])
+no_first m ms e = by_label (is_label m) refl
+  where
+    by_label : (b : Bool) → is_label m ≡ b → (is_label m ≡ false) × (labels_of ms ≡ [])
+    by_label true h = let never : m ∷ labels_of ms ≡ [] = rw h at e in absurd (cc)
+    by_label false h = (h, rw h at e)
+
+-- a move without a label is no return
+no_return : (m : Move) (u : ThreadId) (d : Doing) → is_label m ≡ false → Returned m u d → ⊥
+no_return m u d plain (t, r, e, same, has) = let never : true ≡ false = ap is_label (sym e) ∙ plain in cc
+
+-- a reply is kept over moves without a label
+reply_kept : (s : State) (ms : List Move) (s' : State) (u : ThreadId) (r : Reply) → labels_of ms ≡ [] → Run s ms s' → HasReply s u r → HasReply s' u r
+reply_kept s [] s' u r plain run has = (has.0, rw run has.1)
+reply_kept s (m ∷ ms) s' u r plain (mid, one, rest) has =
+    by_case (one_step s u has.0 (Has r) tt has.1 m mid one) (λ h. reply_kept mid ms s' u r (no_first m ms plain).1 rest h)
+  where
+    by_case : Leaves mid m u has.0 (Has r) → (HasReply mid u r → HasReply s' u r) → HasReply s' u r
+    by_case (inl stays) later = later (has.0, stays)
+    by_case (inr (inl (o, n, w, e, h))) later = absurd (cc)
+    by_case (inr (inr back)) later = absurd (no_return m u (Has r) (no_first m ms plain).0 back)
+
+-- what became of a notified thread
+abbrev Comes : State → ThreadId → ObjectId → ℕ → Type 0
+Comes s u o n = IsNotified s u o n ⊎ HasReply s u reply.WaitOver
+
+notified_kept : (s : State) (ms : List Move) (s' : State) (u : ThreadId) (o : ObjectId) (n : ℕ) → labels_of ms ≡ [] → Run s ms s' → IsNotified s u o n → Comes s' u o n
+notified_kept s [] s' u o n plain run note = inl (note.0, rw run note.1)
+notified_kept s (m ∷ ms) s' u o n plain (mid, one, rest) note =
+    by_case (one_step s u note.0 (Back o n why.Notified) tt note.1 m mid one) (λ h. notified_kept mid ms s' u o n (no_first m ms plain).1 rest h)
+  where
+    by_case : Leaves mid m u note.0 (Back o n why.Notified) → (IsNotified mid u o n → Comes s' u o n) → Comes s' u o n
+    by_case (inl stays) later = later (note.0, stays)
+    by_case (inr (inl (p, k, why.Notified, e, h))) later = inr (reply_kept mid ms s' u reply.WaitOver (no_first m ms plain).1 rest (note.0, h))
+    by_case (inr (inr back)) later = absurd (no_return m u (Back o n why.Notified) (no_first m ms plain).0 back)
+
+-- the last move of a run
+run_split : (s : State) (ms : List Move) (m : Move) (s' : State) → Run s (ms ++ m ∷ []) s' → (mid : State) × Run s ms mid × Steps mid m s'
+run_split s [] m s' (mid, one, e) = (s, refl, subst (Steps s m) (sym e) one)
+run_split s (x ∷ xs) m s' (mid, one, rest) = let r = run_split mid xs m s' rest in (r.0, (mid, one, r.1), r.2)
+
+-- a return with a reply, where u has one, or is notified
+module _ (s s' : State) (t : ThreadId) (r : Reply) (last : Steps s (move.Return t r) s') (u : ThreadId) where
+  reply_returned : (x : Reply) → HasReply s u x → HasReply s' u x ⊎ Returns (step.Go t) (Some r) u x
+  reply_returned x has = by_case (one_step s u has.0 (Has x) tt has.1 (move.Return t r) s' last)
+    where
+      by_case : Leaves s' (move.Return t r) u has.0 (Has x) → HasReply s' u x ⊎ Returns (step.Go t) (Some r) u x
+      by_case (inl stays) = inl (has.0, stays)
+      by_case (inr (inl (o, n, w, e, h))) = absurd (cc)
+      by_case (inr (inr (v, q, e, same, h))) =
+          let thread : t ≡ v = cc in let answer : r ≡ q = cc in let own : x ≡ q = cc in
+          inr (ap (λ (y : ThreadId). y.0) thread ∙ same, ap (λ (y : Reply). Some y) (answer ∙ sym own))
+
+  notified_returned : (o : ObjectId) (n : ℕ) → IsNotified s u o n → Comes s' u o n
+  notified_returned o n note = by_case (one_step s u note.0 (Back o n why.Notified) tt note.1 (move.Return t r) s' last)
+    where
+      by_case : Leaves s' (move.Return t r) u note.0 (Back o n why.Notified) → Comes s' u o n
+      by_case (inl stays) = inl (note.0, stays)
+      by_case (inr (inl (p, k, why.Notified, e, h))) = inr (note.0, h)
+      by_case (inr (inr (v, q, e, same, h))) = absurd (cc)
+
+-- The moves of a Go of t, where t itself is not notified.
+go_lasts : (s s' : State) (t : ThreadId) (ms : List Move) (r : Option Reply) → EndsWith t ms r → Run s ms s'
+    → ((u : ThreadId) (o : ObjectId) (n : ℕ) → u.0 ≡ t.0 → IsNotified s u o n → ⊥) → Lasts s (step.Go t) r s'
+go_lasts s s' t ms None plain run free = record {
+  notified = λ u o n note. notified_kept s ms s' u o n plain run note;
+  replied = λ u x has. inl (reply_kept s ms s' u x plain run has);
+}
+go_lasts s s' t ms (Some r) (inner, e, plain) run free = record { notified = notes; replied = replies }
+  where
+    parts : (mid : State) × Run s inner mid × Steps mid (move.Return t r) s'
+    parts = run_split s inner (move.Return t r) s' (subst (λ xs. Run s xs s') e run)
+
+    replies : (u : ThreadId) (x : Reply) → HasReply s u x → HasReply s' u x ⊎ Returns (step.Go t) (Some r) u x
+    replies u x has = reply_returned parts.0 s' t r parts.2 u x (reply_kept s inner parts.0 u x plain parts.1 has)
+
+    by_return : (u : ThreadId) (o : ObjectId) (n : ℕ) → IsNotified s u o n → HasReply s' u reply.WaitOver ⊎ Returns (step.Go t) (Some r) u reply.WaitOver → Comes s' u o n
+    by_return u o n note (inl has) = inr has
+    by_return u o n note (inr back) = absurd (free u o n (sym back.0) note)
+
+    by_case : (u : ThreadId) (o : ObjectId) (n : ℕ) → IsNotified s u o n → Comes parts.0 u o n → Comes s' u o n
+    by_case u o n note (inl still) = notified_returned parts.0 s' t r parts.2 u o n still
+    by_case u o n note (inr has) = by_return u o n note (reply_returned parts.0 s' t r parts.2 u reply.WaitOver has)
+
+    notes : (u : ThreadId) (o : ObjectId) (n : ℕ) → IsNotified s u o n → Comes s' u o n
+    notes u o n note = by_case u o n note (notified_kept s inner parts.0 u o n plain parts.1 note)
+
+-- one move that is no return
+module _ (s s' : State) (m : Move) (other : (t : ThreadId) (r : Reply) → m ≡ move.Return t r → ⊥) (run : Run s (m ∷ []) s') (did : Step) (d : Option Reply) where
+  one_lasts : Lasts s did d s'
+  one_lasts = record { notified = notes; replied = replies }
+    where
+      one : Steps s m s'
+      one = subst (Steps s m) (sym run.2) run.1
+
+      notes : (u : ThreadId) (o : ObjectId) (n : ℕ) → IsNotified s u o n → Comes s' u o n
+      notes u o n note = by_case (one_step s u note.0 (Back o n why.Notified) tt note.1 m s' one)
+        where
+          by_case : Leaves s' m u note.0 (Back o n why.Notified) → Comes s' u o n
+          by_case (inl stays) = inl (note.0, stays)
+          by_case (inr (inl (p, k, why.Notified, e, h))) = inr (note.0, h)
+          by_case (inr (inr (v, q, e, same, h))) = absurd (other v q e)
+
+      replies : (u : ThreadId) (x : Reply) → HasReply s u x → HasReply s' u x ⊎ Returns did d u x
+      replies u x has = by_case (one_step s u has.0 (Has x) tt has.1 m s' one)
+        where
+          by_case : Leaves s' m u has.0 (Has x) → HasReply s' u x ⊎ Returns did d u x
+          by_case (inl stays) = inl (has.0, stays)
+          by_case (inr (inl (o, n, w, e, h))) = absurd (cc)
+          by_case (inr (inr (v, q, e, same, h))) = absurd (other v q e)
+
+-- only a post shows that a thread is back
+never_back : (p : Place) (o : ObjectId) (n : ℕ) (w : Why) → doing_of p ≡ Back o n w → ⊥
+never_back place.Idle o n w e = cc
+never_back (place.Begun c b) o n w e = cc
+never_back (place.Taking q b) o n w e = cc
+never_back (place.Storing c l) o n w e = cc
+never_back (place.Binding c k) o n w e = cc
+never_back (place.Acting c m) o n w e = cc
+never_back (place.Won q) o n w e = cc
+never_back (place.Bound c true m) o n w e = cc
+never_back (place.Bound c false m) o n w e = cc
+never_back (place.Inflated c m) o n w e = cc
+never_back place.Parked o n w e = cc
+never_back (place.Ending k) o n w e = cc
+
+module _ (w : WorldState) (sound : IsSound w) (t : ThreadId) where
+  back_parked : (p : Place) (o : ObjectId) (n : ℕ) (y : Why) (x : Option Post) → post_of w.fats t ≡ x → act_of w.fats (unwrap_or x post.Out) p ≡ Back o n y → IsParked w t
+  back_parked p o n y None there e = absurd (never_back p o n y e)
+  back_parked p o n y (Some post.Out) there e = absurd (never_back p o n y e)
+  back_parked p o n y (Some (post.Entering m)) there e = absurd (cc)
+  back_parked p o n y (Some (post.Waiting m k d)) there e = absurd (cc)
+  back_parked p o n y (Some (post.Back m k z)) there e = (m, Entry, sound.fats.posted t (post.Back m k z) m Entry there refl)
+  back_parked p o n y (Some (post.Granted r)) there e = absurd (cc)
+
+  -- so a Go of a thread that is back is refused
+  back_refused : (flag : Bool) (o : ObjectId) (n : ℕ) (y : Why) → Is (shown w) t flag (Back o n y) → IsRefused w (step.Go t) Parked
+  back_refused flag o n y is = by_seat (seat_of w.seats t) refl
+    where
+      by_seat : (k : Option ℕ) → seat_of w.seats t ≡ k → IsRefused w (step.Go t) Parked
+      by_seat None e = let never : ◌≡◌ {A = Option Thread} None (Some (record { flag = flag; act = Back o n y })) = rw e at is in absurd (cc)
+      by_seat (Some k) e =
+          (rw e refl, back_parked (place_at w k) o n y (post_of w.fats t) refl (shows w sound t k e (record { flag = flag; act = Back o n y }) is))
+
+  not_notified : IsAcceptable w (step.Go t) → (u : ThreadId) (o : ObjectId) (n : ℕ) → u.0 ≡ t.0 → IsNotified (shown w) u o n → ⊥
+  not_notified all u o n same note =
+      let here : Is (shown w) t note.0 (Back o n why.Notified) = ap (λ k. (shown w).thread (record { 0 = k })) (sym same) ∙ note.1 in
+      let never : Parked ≡ Memory = all Parked (back_refused note.0 o n why.Notified here) in cc
+
+-- the answers of a step
+attach_lasts : (s s' : State) (t : ThreadId) (r : Result Did Fault) → IfOk r (HasLabels (step.Attach t)) → Run s (moves_of r) s' → IfOk r (λ d. Lasts s (step.Attach t) d.reply s')
+attach_lasts s s' t (Ok d) h run = one_lasts s s' (move.Attach t) (λ v r e. cc) (subst (λ ms. Run s ms s') h.0 run) (step.Attach t) d.reply
+attach_lasts s s' t (Err f) h run = tt
+
+begin_lasts : (s s' : State) (t : ThreadId) (c : Call) (r : Result Did Fault) → IfOk r (HasLabels (step.Begin t c)) → Run s (moves_of r) s' → IfOk r (λ d. Lasts s (step.Begin t c) d.reply s')
+begin_lasts s s' t c (Ok d) h run = one_lasts s s' (move.Call t c) (λ v r e. cc) (subst (λ ms. Run s ms s') h.0 run) (step.Begin t c) d.reply
+begin_lasts s s' t c (Err f) h run = tt
+
+went_lasts : (w : WorldState) → IsSound w → (s' : State) (t : ThreadId) (r : Result Did Fault) → IfOk r (HasLabels (step.Go t)) → Run (shown w) (moves_of r) s'
+    → MatchResult r (λ d. IsAcceptable w (step.Go t)) (λ f. IsRefused w (step.Go t) f) → IfOk r (λ d. Lasts (shown w) (step.Go t) d.reply s')
+went_lasts w sound s' t (Ok d) h run all = go_lasts (shown w) s' t (given d.moves) d.reply h run (not_notified w sound t all)
+went_lasts w sound s' t (Err f) h run all = tt
+
+-- Each accepted step leaves what lasts.
+pub step_lasts : (w : WorldState) → IsSound w → (room : Bool) (s : Step) → IfOk (step_of room w s).answer (λ d. Lasts (shown w) s d.reply (shown (step_of room w s).after))
+step_lasts w sound room (step.Attach t) =
+    attach_lasts (shown w) (shown (step_of room w (step.Attach t)).after) t (step_of room w (step.Attach t)).answer (step_labels w sound room (step.Attach t)) (step_right w sound room (step.Attach t)).1
+step_lasts w sound room (step.Begin t c) =
+    begin_lasts (shown w) (shown (step_of room w (step.Begin t c)).after) t c (step_of room w (step.Begin t c)).answer (step_labels w sound room (step.Begin t c)) (step_right w sound room (step.Begin t c)).1
+step_lasts w sound room (step.Go t) =
+    went_lasts w sound (shown (step_of room w (step.Go t)).after) t (step_of room w (step.Go t)).answer (step_labels w sound room (step.Go t)) (step_right w sound room (step.Go t)).1 (step_judged w sound room (step.Go t)).0
+
+-- Over more steps, a reply is kept while none of them returns with it,
+pub all_replied : (w : WorldState) → IsSound w → (u : ThreadId) (r : Reply) (ss : List (Step × Bool)) → HasReply (shown w) u r → NeverReturns w u r ss → HasReply (shown (world_after w ss)) u r
+all_replied w sound u r [] has never = has
+all_replied w sound u r (s ∷ ss) has never =
+    all_replied (step_of s.1 w s.0).after (step_right w sound s.1 s.0).0 u r ss
+    (by_answer (step_of s.1 w s.0).answer refl (step_lasts w sound s.1 s.0) (step_judged w sound s.1 s.0).1) never.1
+  where
+    by_case : (d : Did) → (step_of s.1 w s.0).answer ≡ Ok d → HasReply (shown (step_of s.1 w s.0).after) u r ⊎ Returns s.0 d.reply u r → HasReply (shown (step_of s.1 w s.0).after) u r
+    by_case d e (inl kept) = kept
+    by_case d e (inr back) = absurd (never.0 d e back)
+
+    by_answer : (a : Result Did Fault) → (step_of s.1 w s.0).answer ≡ a → IfOk a (λ d. Lasts (shown w) s.0 d.reply (shown (step_of s.1 w s.0).after))
+        → OnErr a ((step_of s.1 w s.0).after ≡ w) → HasReply (shown (step_of s.1 w s.0).after) u r
+    by_answer (Ok d) e lasts same = by_case d e (lasts.replied u r has)
+    by_answer (Err f) e lasts same = rw same has
+
+-- and a notified thread stays so, or has the reply of its wait.
+pub all_notified : (w : WorldState) → IsSound w → (u : ThreadId) (o : ObjectId) (n : ℕ) (ss : List (Step × Bool)) → IsNotified (shown w) u o n → NeverReturns w u reply.WaitOver ss
+    → IsNotified (shown (world_after w ss)) u o n ⊎ HasReply (shown (world_after w ss)) u reply.WaitOver
+all_notified w sound u o n [] note never = inl note
+all_notified w sound u o n (s ∷ ss) note never =
+    by_case (by_answer (step_of s.1 w s.0).answer (step_lasts w sound s.1 s.0) (step_judged w sound s.1 s.0).1)
+    (λ still. all_notified (step_of s.1 w s.0).after (step_right w sound s.1 s.0).0 u o n ss still never.1)
+  where
+    by_case : Comes (shown (step_of s.1 w s.0).after) u o n → (IsNotified (shown (step_of s.1 w s.0).after) u o n → Comes (shown (world_after (step_of s.1 w s.0).after ss)) u o n)
+        → Comes (shown (world_after (step_of s.1 w s.0).after ss)) u o n
+    by_case (inl still) later = later still
+    by_case (inr has) later = inr (all_replied (step_of s.1 w s.0).after (step_right w sound s.1 s.0).0 u reply.WaitOver ss has never.1)
+
+    by_answer : (a : Result Did Fault) → IfOk a (λ d. Lasts (shown w) s.0 d.reply (shown (step_of s.1 w s.0).after))
+        → OnErr a ((step_of s.1 w s.0).after ≡ w) → Comes (shown (step_of s.1 w s.0).after) u o n
+    by_answer (Ok d) lasts same = lasts.notified u o n note
+    by_answer (Err f) lasts same = inl (rw same note)

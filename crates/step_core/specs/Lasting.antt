@@ -1,0 +1,39 @@
+-- What lasts: a notified thread comes back from its wait, and a reply is kept until it is returned.
+use Rattle.std.specs.Prelude.{◌≡◌, ◌⊎◌, ℕ, Bool, List, [], ◌∷◌, Option, Some, Ok}
+use Rattle.lock_word.specs.declared.ThreadId.{ThreadId}
+use Rattle.lock_word.specs.declared.ObjectId.{ObjectId}
+use Rattle.fat_monitor.specs.declared.actions.Reply.{Reply}
+use Rattle.fat_monitor.specs.declared.actions.Reply.TheVariants.{WaitOver}
+use Rattle.fat_monitor.specs.declared.actions.Why.TheVariants.{Notified}
+use Rattle.step_core.specs.declared.moves.Doing.TheVariants.{Back, Has}
+use Rattle.step_core.specs.declared.events.Did.{Did}
+use Rattle.step_core.specs.declared.events.Step.{Step}
+use Rattle.step_core.specs.declared.events.Step.TheVariants as step
+use Rattle.step_core.specs.Machine.{State, Is}
+use Rattle.step_core.specs.WorldState.{WorldState}
+use Rattle.step_core.specs.Stepping.{step_of}
+
+-- u was notified: it is back from the wait set of o, with n holds
+abbrev pub IsNotified : State → ThreadId → ObjectId → ℕ → Type 0
+IsNotified s u o n = (flag : Bool) × Is s u flag (Back o n Notified)
+
+-- the call of u has this reply
+abbrev pub HasReply : State → ThreadId → Reply → Type 0
+HasReply s u r = (flag : Bool) × Is s u flag (Has r)
+
+-- the step is a Go of u that returns with this reply
+abbrev pub Returns : Step → Option Reply → ThreadId → Reply → Type 0
+Returns (step.Attach t) d u r = ⊥
+Returns (step.Begin t c) d u r = ⊥
+Returns (step.Go t) d u r = (t.0 ≡ u.0) × (d ≡ Some r)
+
+-- what a step with this reply leaves of notified threads and of replies
+pub record Lasts (s : State) (did : Step) (d : Option Reply) (s' : State) : Type 0 where
+  pub notified : (u : ThreadId) (o : ObjectId) (n : ℕ) → IsNotified s u o n → IsNotified s' u o n ⊎ HasReply s' u WaitOver
+  pub replied : (u : ThreadId) (r : Reply) → HasReply s u r → HasReply s' u r ⊎ Returns did d u r
+
+-- none of these steps returns from the call of u with this reply
+abbrev pub NeverReturns : WorldState → ThreadId → Reply → List (Step × Bool) → Type 0
+NeverReturns w u r [] = Unit {0}
+NeverReturns w u r (s ∷ ss) =
+    ((d : Did) → (step_of s.1 w s.0).answer ≡ Ok d → Returns s.0 d.reply u r → ⊥) × NeverReturns (step_of s.1 w s.0).after u r ss
