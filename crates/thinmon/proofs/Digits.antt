@@ -45,17 +45,20 @@ only_zero : (c : ℕ) (cs : List ℕ) → c ≡ 48 → (eqb (length cs) 0 ≡ tr
 only_zero c cs e (inl one) = let none : length cs ≡ 0 = eqb-true _ _ one in omega arith
 only_zero c cs e (inr other) = let ne = not-true _ other in let is = eq-eqb c 48 e in absurd (cc)
 
-pub number_takes : (word : List ℕ) (n : ℕ) → number_from word ≡ Some n → (word ≡ decimal n) × (n < 2 ^ 32)
-number_takes [] n e = absurd (cc)
-number_takes (c ∷ cs) n e =
+pub numeral_spelled : (word : List ℕ) → is_numeral word ≡ true → digits_value 10 word < 2 ^ 64 → decimal (digits_value 10 word) ≡ word
+numeral_spelled [] form small = absurd (cc)
+numeral_spelled (c ∷ cs) form small =
     let long : 0 < length (c ∷ cs) = omega arith in
+    let parts = and_parts _ _ form in
+    decimal-digits_value own (c ∷ cs) parts.1 long (λ zero_first. only_zero c cs zero_first (or_cases _ _ parts.0)) small
+
+pub number_takes : (word : List ℕ) (n : ℕ) → number_from word ≡ Some n → (word ≡ decimal n) × (n < 2 ^ 32)
+number_takes word n e =
     let found = cond_some _ _ _ e in
-    let tests = and_parts (is_numeral (c ∷ cs)) _ found.0 in
-    let small : digits_value 10 (c ∷ cs) < 2 ^ 32 = ltb-true _ _ tests.1 in
-    let wide : digits_value 10 (c ∷ cs) < 2 ^ 64 = omega (arith, small) in
-    let form = and_parts _ _ tests.0 in
-    let written = decimal-digits_value own (c ∷ cs) form.1 long (λ zero_first. only_zero c cs zero_first (or_cases _ _ form.0)) wide in
-    (subst (λ (m : ℕ). (c ∷ cs) ≡ decimal m) found.1 (sym written), subst (λ (m : ℕ). m < 2 ^ 32) found.1 small)
+    let tests = and_parts (is_numeral word) _ found.0 in
+    let small : digits_value 10 word < 2 ^ 32 = ltb-true _ _ tests.1 in
+    let wide : digits_value 10 word < 2 ^ 64 = omega (arith, small) in
+    (subst (λ (m : ℕ). word ≡ decimal m) found.1 (sym (numeral_spelled word tests.0 wide)), subst (λ (m : ℕ). m < 2 ^ 32) found.1 small)
 
 numeral_by : (n : ℕ) (ds : List ℕ) → 0 < length ds → list_all is_ascii_digit ds ≡ true → (0 < n → 48 < get_or ds 0 0) → (n ≡ 0 → length ds ≡ 1) → is_numeral ds ≡ true
 numeral_by n [] long all first none = absurd (omega arith)
@@ -68,7 +71,7 @@ numeral_by n (c ∷ cs) long all first none = and_from _ _ (by_zero (cases_eq n 
 one_digit : (n : ℕ) → n ≡ 0 → length (decimal n) ≡ 1
 one_digit n e = let small : n < 10 = omega arith in rw (decimal_digit n small) refl
 
-is_numeral_decimal : (n : ℕ) → n < 2 ^ 64 → is_numeral (decimal n) ≡ true
+pub is_numeral_decimal : (n : ℕ) → n < 2 ^ 64 → is_numeral (decimal n) ≡ true
 is_numeral_decimal n small = numeral_by n (decimal n) (decimal_nonempty n small) (digits_decimal own n small) (λ above. first_decimal n above small) (one_digit n)
 
 pub number_again : (n : ℕ) → n < 2 ^ 32 → number_from (decimal n) ≡ Some n

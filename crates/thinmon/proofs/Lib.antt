@@ -1,3 +1,4 @@
 pub mod Digits
 pub mod Namings
 pub mod Pieces
+pub mod Signs

@@ -1,5 +1,5 @@
 -- Names, numbers and low bytes as words.
-use Rattle.std.specs.Prelude.{ℕ, ◌+◌, ◌/◌, ◌%◌, ◌^◌, List, [], ◌∷◌, length, Bool, false, not, ◌&&◌, ◌||◌, ◌==◌, nat_lt, if◌then◌else◌, Option, None, Some}
+use Rattle.std.specs.Prelude.{ℕ, ◌+◌, ◌/◌, ◌%◌, ◌^◌, List, [], ◌∷◌, length, Bool, false, not, ◌&&◌, ◌||◌, ◌==◌, nat_lt, slice_index, if◌then◌else◌, Option, None, Some}
 use Rattle.std.specs.List.{list_all}
 use Rattle.std.specs.Int.{is_in_range}
 use Rattle.std.specs.Char.{is_ascii_digit}
@@ -18,6 +18,11 @@ is_name (c ∷ cs) = is_in_range 97 122 c && nat_lt (length cs) 32 && list_all i
 abbrev pub is_numeral : List ℕ → Bool
 is_numeral [] = false
 is_numeral (c ∷ cs) = (length cs == 0 || not (c == 48)) && list_all is_ascii_digit (c ∷ cs)
+
+-- a numeral, or a `-` and a numeral that does not begin with 0
+abbrev pub is_signed_numeral : List ℕ → Bool
+is_signed_numeral [] = false
+is_signed_numeral (c ∷ cs) = if c == 45 then (not (slice_index cs 0 == 48) && is_numeral cs) else is_numeral (c ∷ cs)
 
 -- the number of 32 bits that a word is
 abbrev pub number_from : List ℕ → Option ℕ

@@ -89,6 +89,13 @@ impl Names {
         Some(ObjectId(place_of(&self.objects, word)))
     }
 
+    /// How many threads have a name: they are numbered from 0.
+    pub fn thread_count(&self) -> u32
+        ensures { result ≡ length self.now.threads }
+    {
+        self.threads.len() as u32
+    }
+
     /// The name of a thread, or `-` where it has none.
     pub fn name_of_thread(&self, thread: ThreadId) -> &str
         ensures { result.now ≡ name_at self.now.threads thread.0 }

@@ -3,10 +3,11 @@
 use crate::faults::FileFault;
 use crate::names::Names;
 use crate::scripts::Script;
+use fat_monitor::Answer;
 use lock_word::{Memory, ObjectId, ThreadId};
 use std::alloc::{AllocError, Global};
 use std::fmt::Write;
-use step_core::{Atomic, Did, Fault, Step, World};
+use step_core::{Atomic, Did, Doing, Fault, Step, World};
 
 /// Plays a script and writes its report: a line for each step, then a line for each object.
 pub fn report_of(alloc: Global, script: &Script) -> Result<String, Memory> {
@@ -22,7 +23,7 @@ pub fn report_of(alloc: Global, script: &Script) -> Result<String, Memory> {
             Err(fault) => writeln!(report, "fault {} {fault}", fault as u8)?,
         }
     }
-    put_objects(&mut report, &script.names, &world)?;
+    put_objects(alloc, &mut report, &script.names, &world)?;
     Ok(report)
 }
 
@@ -48,9 +49,19 @@ fn put_step(
             let name = names.name_of_thread(thread);
             write!(report, "go {name} ")?;
             put_atomic(report, names, did.atomic)?;
-            match did.reply {
-                Some(reply) => writeln!(report, " = {reply}"),
-                None => writeln!(report),
+            match did {
+                Did {
+                    reply: Some(reply),
+                    ..
+                } => writeln!(report, " = {reply}"),
+                Did {
+                    atomic: Atomic::Acted {
+                        answer: Answer::Parked,
+                        ..
+                    },
+                    ..
+                } => writeln!(report, " = parked"),
+                Did { .. } => writeln!(report),
             }
         }
     }
@@ -89,7 +100,13 @@ fn put_atomic(report: &mut String, names: &Names, atomic: Atomic) -> Result<(), 
 }
 
 /// Writes a line for each object of a world.
-fn put_objects(report: &mut String, names: &Names, world: &World) -> Result<(), AllocError> {
+fn put_objects(
+    alloc: Global,
+    report: &mut String,
+    names: &Names,
+    world: &World,
+) -> Result<(), AllocError> {
+    let wait_sets = wait_sets_of(alloc, names, world)?;
     for number in 0..world.objects() {
         let object = ObjectId(number);
         let name = names.name_of_object(object);
@@ -99,10 +116,54 @@ fn put_objects(report: &mut String, names: &Names, world: &World) -> Result<(), 
             None => "-",
         };
         let holds = world.holds(object);
-        writeln!(
+        write!(
             report,
-            "object {name} {word} owner {owner} holds {holds} waiting -"
+            "object {name} {word} owner {owner} holds {holds} waiting "
         )?;
+        match wait_sets.get(number as usize) {
+            Some(threads) => put_threads(report, names, threads)?,
+            None => write!(report, "-")?,
+        }
+        writeln!(report)?;
+    }
+    Ok(())
+}
+
+/// The threads in the wait set of each object, by rising number.
+fn wait_sets_of(
+    alloc: Global,
+    names: &Names,
+    world: &World,
+) -> Result<Vec<Vec<ThreadId>>, AllocError> {
+    let mut wait_sets = Vec::new(alloc);
+    for _ in 0..world.objects() {
+        wait_sets.push(Vec::new(alloc))?;
+    }
+    for number in 0..names.thread_count() {
+        let thread = ThreadId(number);
+        let Some(Doing::Waits { object, .. }) = world.doing(thread) else {
+            continue;
+        };
+        let Some(threads) = wait_sets.get_mut(object.0 as usize) else {
+            continue;
+        };
+        if object.0 < world.objects() && world.waiting(object, thread) {
+            threads.push(thread)?;
+        }
+    }
+    Ok(wait_sets)
+}
+
+/// Writes the names of some threads between commas, or `-` where there is none.
+fn put_threads(report: &mut String, names: &Names, threads: &[ThreadId]) -> Result<(), AllocError> {
+    if threads.is_empty() {
+        return write!(report, "-");
+    }
+    let mut separator = "";
+    for thread in threads {
+        let name = names.name_of_thread(*thread);
+        write!(report, "{separator}{name}")?;
+        separator = ",";
     }
     Ok(())
 }

@@ -1,14 +1,14 @@
 //! Scripts: the numbers and objects of a world, and the steps to play on it.
 
 ghost use Rattle.std.specs.Prelude.{◌≡◌, ◌<◌, ◌≤◌, ◌+◌, length, vec_len, if◌then◌else◌, None, IfSome, IfErr};
-ghost use Rattle.thinmon.specs.Calls.{call_alone, call_on};
+ghost use Rattle.thinmon.specs.Calls.{IsWait, call_alone, call_on};
 ghost use Rattle.thinmon.specs.Faults.{IsOfLines};
 ghost use Rattle.thinmon.specs.NameLists.{number_of};
 ghost use Rattle.thinmon.specs.Words.{is_name};
 
 use crate::faults::FileFault;
 use crate::names::Names;
-use crate::numerals::{low_byte_in, number_in};
+use crate::numerals::{low_byte_in, number_in, signed_in};
 use fast_path::Call;
 use lock_word::{Memory, ThreadId};
 use std::alloc::Global;
@@ -24,8 +24,8 @@ const MOST_INDICES: u32 = 32_767;
 /// The most objects that a script declares.
 const MOST_OBJECTS: usize = 65_535;
 
-/// The words of a line: the first five.
-type Words<'a> = [Option<&'a str>; 5];
+/// The words of a line: the first seven.
+type Words<'a> = [Option<&'a str>; 7];
 
 /// A script: the world to make, and the steps to play on it.
 #[derive(Drop)]
@@ -47,7 +47,7 @@ impl Script {
     /// The script whose first line this is; None where it is no `world` line.
     fn opened_by(alloc: Global, line: &[u8]) -> Option<Script> {
         let text = str::from_utf8(line).ok()?;
-        let [Some("world"), Some(monitors), Some(indices), None, _] = words_of(text) else {
+        let [Some("world"), Some(monitors), Some(indices), None, ..] = words_of(text) else {
             return None;
         };
         let monitors = number_in(monitors, MOST_MONITORS)?;
@@ -70,7 +70,7 @@ impl Script {
             return Ok(false);
         };
         let words = words_of(text);
-        if let [Some("object"), Some(name), Some(low), None, _] = words {
+        if let [Some("object"), Some(name), Some(low), None, ..] = words {
             return self.take_object(name, low);
         }
         let Some(step) = self.step_in(words)? else {
@@ -99,21 +99,36 @@ impl Script {
     /// The step that some words are.
     fn step_in(&mut self, words: Words<'_>) -> Result<Option<Step>, Memory> {
         match words {
-            [Some("attach"), Some(thread), None, _, _] => {
+            [Some("attach"), Some(thread), None, ..] => {
                 let thread = self.names.thread(thread)?;
                 Ok(thread.map(|thread| Step::Attach { thread }))
             }
-            [Some("begin"), Some(thread), Some(verb), object, None] => {
+            [
+                Some("begin"),
+                Some(thread),
+                Some(verb),
+                object,
+                millis,
+                nanos,
+                None,
+            ] => {
                 let Some(thread) = self.names.thread(thread)? else {
                     return Ok(None);
                 };
-                let call = match object {
-                    Some(object) => call_with(&self.names, verb, object),
-                    None => call_without_object(verb),
+                let call = match (object, millis, nanos) {
+                    (None, ..) => call_without_object(verb),
+                    (Some(object), None, _) => call_with(&self.names, verb, object),
+                    (Some(object), Some(millis), Some(nanos)) if verb == "wait" => wait_for(
+                        &self.names,
+                        object,
+                        millis,
+                        nanos,
+                    ),
+                    _ => None,
                 };
                 Ok(call.map(|call| Step::Begin { thread, call }))
             }
-            [Some("go"), Some(thread), None, _, _] => {
+            [Some("go"), Some(thread), None, ..] => {
                 let thread = self.names.thread(thread)?;
                 Ok(thread.map(|thread| Step::Go { thread }))
             }
@@ -130,9 +145,26 @@ fn call_with(names: &Names, verb: &str, object: &str) -> Option<Call>
     match verb {
         "enter" => Some(Call::Enter(object)),
         "exit" => Some(Call::Exit(object)),
+        "notify" => Some(Call::Notify(object)),
+        "notifyall" => Some(Call::NotifyAll(object)),
         "holds" => Some(Call::Holds(object)),
         _ => None,
     }
+}
+
+/// The wait that an object's name and a time in milliseconds and nanoseconds are. Every number of 64 and
+/// of 32 bits may stand there: the wait itself finds out whether they are in their ranges.
+fn wait_for(names: &Names, object: &str, millis: &str, nanos: &str) -> Option<Call>
+    ensures { IfSome result (IsWait (record { 0 = number_of names.now.objects object.now }) millis.now nanos.now) }
+{
+    let object = names.object(object)?;
+    let millis = signed_in(millis, i64::MIN, i64::MAX)?;
+    let nanos = signed_in(nanos, i64::from(i32::MIN), i64::from(i32::MAX))?;
+    Some(Call::Wait {
+        object,
+        millis,
+        nanos: nanos as i32,
+    })
 }
 
 /// The call that a verb is which stands alone.
@@ -175,6 +207,8 @@ pub fn read_script(alloc: Global, bytes: &[u8]) -> Result<Script, FileFault>
 fn words_of(text: &str) -> Words<'_> {
     let mut words = text.split(' ');
     [
+        words.next(),
+        words.next(),
         words.next(),
         words.next(),
         words.next(),

@@ -6,6 +6,7 @@ mod endings;
 mod examples;
 mod faults;
 mod memory;
+mod numbers;
 mod plays;
 mod words;
 

@@ -63,7 +63,7 @@ fn a_script_that_is_cut(rt: HostRuntime) {
 
 #[test]
 fn later_lines(rt: HostRuntime) {
-    let scripts: [(&[u8], u64); 30] = [
+    let scripts: [(&[u8], u64); 40] = [
         (b"world 4 4\nworld 4 4\n", 2),
         (b"world 4 4\n\n", 2),
         (b"world 4 4\nobject a a5\n", 2),
@@ -84,7 +84,17 @@ fn later_lines(rt: HostRuntime) {
         (b"world 4 4\nbegin x enter\n", 2),
         (b"world 4 4\nbegin x enter a b\n", 2),
         (b"world 4 4\nbegin x leave a\n", 2),
-        (b"world 4 4\nbegin x wait a 0 0\n", 2),
+        (b"world 4 4\nbegin x wait a\n", 2),
+        (b"world 4 4\nbegin x wait a 0\n", 2),
+        (b"world 4 4\nbegin x wait a 0 0 0\n", 2),
+        (b"world 4 4\nbegin x wait a -0 0\n", 2),
+        (b"world 4 4\nbegin x wait a 01 0\n", 2),
+        (b"world 4 4\nbegin x wait a 9223372036854775808 0\n", 2),
+        (b"world 4 4\nbegin x wait a 0 2147483648\n", 2),
+        (b"world 4 4\nbegin x wait a 0 -2147483649\n", 2),
+        (b"world 4 4\nbegin x notify a 0 0\n", 2),
+        (b"world 4 4\nbegin x notify\n", 2),
+        (b"world 4 4\nbegin x notifyAll a\n", 2),
         (b"world 4 4\nobject a A5\nattach x\nbegin x end a\n", 4),
         (b"world 4 4\nbegin x end a b\n", 2),
         (b"world 4 4\nbegin x end \n", 2),

@@ -216,3 +216,53 @@ fn two_sets_of_names(rt: HostRuntime) -> Result<(), Fail> {
         "attach a index 1\nbegin a\ngo a load x 0000000F\ngo a won x 0000000F 0001000F = Entered\nobject x 0001000F owner a holds 1 waiting -\nobject a 000000A5 owner - holds 0 waiting -\n",
     )
 }
+
+#[test]
+fn a_wait_out_of_range(rt: HostRuntime) -> Result<(), Fail> {
+    let steps = [
+        ("attach x", "attach x index 1"),
+        ("begin x wait a -1 0", "begin x"),
+        ("go x", "go x load a 000000A5 = IllegalMonitorState"),
+        ("begin x enter a", "begin x"),
+        ("go x", "go x load a 000000A5"),
+        ("go x", "go x won a 000000A5 000100A5 = Entered"),
+        ("begin x wait a -1 0", "begin x"),
+        ("go x", "go x load a 000100A5 = IllegalArgument"),
+        ("begin x wait a 0 1000000", "begin x"),
+        ("go x", "go x load a 000100A5 = IllegalArgument"),
+        ("begin x wait a 0 -1", "begin x"),
+        ("go x", "go x load a 000100A5 = IllegalArgument"),
+        ("begin x wait a 0 999999", "begin x"),
+        ("go x", "go x load a 000100A5"),
+        ("go x", "go x bind a 0"),
+        ("go x", "go x store a 000100A5 800000A5"),
+        ("go x", "go x act Wait = parked"),
+        ("go x", "fault 8 Parked"),
+    ];
+    let waits = "object a 800000A5 owner - holds 0 waiting x\n";
+    check_play(&rt, WORLD, &steps, waits)
+}
+
+#[test]
+fn two_that_wait(rt: HostRuntime) -> Result<(), Fail> {
+    let steps = [
+        ("attach x", "attach x index 1"),
+        ("attach w", "attach w index 2"),
+        ("begin x enter a", "begin x"),
+        ("go x", "go x load a 000000A5"),
+        ("go x", "go x won a 000000A5 000100A5 = Entered"),
+        ("begin x wait a 0 0", "begin x"),
+        ("go x", "go x load a 000100A5"),
+        ("go x", "go x bind a 0"),
+        ("go x", "go x store a 000100A5 800000A5"),
+        ("go x", "go x act Wait = parked"),
+        ("begin w enter a", "begin w"),
+        ("go w", "go w load a 800000A5"),
+        ("go w", "go w act Enter = Entered"),
+        ("begin w wait a 0 1", "begin w"),
+        ("go w", "go w load a 800000A5"),
+        ("go w", "go w act Wait = parked"),
+    ];
+    let both = "object a 800000A5 owner - holds 0 waiting x,w\n";
+    check_play(&rt, WORLD, &steps, both)
+}
