@@ -137,29 +137,8 @@ impl Headers {
         false
     }
 
-    // An owner's plain store, and the row of depths after it: nobody else changes the word while the pass
-    // holds the object thinly.
-    fn store_then_note<D: Kind>(&self, pass: &mut Pass, object: ObjectId, lock: Lock, depth: u16)
-        requires belongs { pass.old.opening ≡ self.now }
-        requires object { object.0 < length self.now.lows }
-        requires fits { Fits lock }
-        requires most { depth ≤ 256 }
-        requires legal { MayStore pass.old.index (depth_at pass.old object.0)
-            (D.deed (word_at self.now object.0 lock)) (low_at self.now object.0) lock depth }
-        ensures { MakesEvent object.0 (D.deed (word_at self.now object.0 lock))
-            (word_at self.now object.0 lock) pass.old pass.new }
-    {
-        let at = object.0 as usize;
-        let low = pass.lows[at];
-        let word = encode(lock, low);
-        self.table
-            .shared
-            .store::<Stored<D>>(&mut pass.seat, at + 1, u64::from(word.0));
-        pass.depths[at] = depth;
-    }
-
-    // The same for a deed that takes no lock. The row is written first: between the steps of a pair of
-    // calls, so that the processor waits once for both rows.
+    // An owner's plain store: nobody else changes the word while the pass holds the object thinly. The row
+    // of depths is written first, so that the store is the last step of the call.
     fn note_then_store<D: Kind>(&self, pass: &mut Pass, object: ObjectId, lock: Lock, left: u16)
         requires belongs { pass.old.opening ≡ self.now }
         requires object { object.0 < length self.now.lows }
@@ -194,7 +173,7 @@ impl Headers {
             index,
             count: depth as u8,
         };
-        self.store_then_note::<Nests>(pass, object, lock, depth + 1);
+        self.note_then_store::<Nests>(pass, object, lock, depth + 1);
     }
 
     /// Takes one of several locks from the thin word of the pass, by one plain store.
