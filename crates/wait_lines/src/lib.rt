@@ -1,7 +1,8 @@
 //! The entry lines and the wait sets of monitors (JLS SE 8, 17.2).
 //!
 //! Each monitor has two lines: the threads that ask for it, and its wait set, the threads that wait
-//! until they are notified. JLS SE 8 gives neither an order. Here each keeps the order of joining.
+//! until they are notified or interrupted, or their time is over. JLS SE 8 gives neither an order. Here
+//! each keeps the order of joining.
 #![tactic(auto)]
 
 ghost use Rattle.std.specs.Prelude.{◌≡◌, ◌↔◌, ◌+◌, ◌<◌, ◌≤◌, ℕ, length, IsTrue, OnOk, OnErr, slice_get};
@@ -22,7 +23,7 @@ use std::marker::Model;
 /// Which of a monitor's two lines.
 #[derive(Clone, Copy, PartialEq, Eq, Hash, Debug)]
 pub enum Role {
-    /// The threads that ask for the monitor.
+    /// The threads that ask for the monitor, or ask for it again after a wait.
     Entry,
     /// The monitor's wait set.
     Waiting,
