@@ -1,41 +1,34 @@
 -- What an action changes of a fat state, and what it leaves.
-use Rattle.std.specs.Prelude.{◌≡◌, ◌≢◌, ◌⊎◌, ◌↔◌, ℕ, ◌<◌, ◌≤◌, ◌+◌, ◌-◌, ◌==◌, Bool, true, false, if◌then◌else◌, nat_lt, List, [], ◌∷◌, length, slice_get, slice_index_or, slice_set, Contains, Option, Some, None, IsSome, is_some}
-use Rattle.std.specs.Option.{option_map, unwrap_or}
+use Rattle.std.specs.Prelude.{◌≡◌, ◌≢◌, ◌⊎◌, ◌↔◌, ℕ, ◌+◌, ◌-◌, ◌==◌, Bool, true, if◌then◌else◌, nat_lt, List, [], ◌∷◌, Option, Some, None, IsSome, is_some}
+use Rattle.std.specs.Option.{unwrap_or}
 use Rattle.std.specs.Ordering.{nat_cmp}
 use Rattle.std.specs.Cmp.{nat_cmp_total}
 use Rattle.std.specs.FinMap as map
 use Rattle.std.specs.FinMap.{get-empty, len-insert, len-remove, empty_of_len}
-use Rattle.std.proofs.Common.{refl, sym, ap, ◌∙◌, inl, inr, arith, length-set, get_or-set_same, get_or-set_other}
-use Rattle.std.proofs.lemmas.Bool.{cases_eq, cases_lt, eq-eqb, ne_eqb, cond-true, cond-false}
-use Rattle.std.proofs.lemmas.List.{set_past}
+use Rattle.std.proofs.Common.{refl, sym, ap, ◌∙◌, inl, inr, arith, subst}
+use Rattle.std.proofs.lemmas.Bool.{cases_eq, eq-eqb, ne_eqb, cond-true, cond-false}
 use Rattle.std.proofs.lemmas.Option.{same_Some}
 use Rattle.lock_word.specs.declared.ThreadId.{ThreadId}
 use Rattle.wait_lines.specs.declared.Role.{Role}
 use Rattle.wait_lines.specs.declared.Role.TheVariants.{Entry, Waiting as WaitSet}
 use Rattle.wait_lines.specs.Lines.{Key, key}
 use Rattle.wait_lines.proofs.LineLemmas.{StandsIn-first}
-use Rattle.wait_lines.proofs.ThreadLemmas.{same_thread, contains_none, cases_contains, Contains-cons_first, Contains-cons_later, Contains-cons_cases}
+use Rattle.wait_lines.proofs.ThreadLemmas.{same_thread}
 use Rattle.fat_monitor.specs.declared.actions.Post.{Post}
 use Rattle.fat_monitor.specs.declared.actions.Post.TheVariants.{Out, Entering, Waiting, Back, Granted}
 use Rattle.fat_monitor.specs.declared.actions.Why.{Why}
-use Rattle.fat_monitor.specs.declared.actions.Why.TheVariants.{Notified}
+use Rattle.fat_monitor.specs.declared.actions.Why.TheVariants as why
 use Rattle.fat_monitor.specs.declared.actions.Action.{Action}
 use Rattle.fat_monitor.specs.declared.actions.Action.TheVariants as action
-use Rattle.fat_monitor.specs.declared.monitors.Monitor.{Monitor}
-use Rattle.fat_monitor.specs.FatState.{FatState, IsSound, IsProper, IsAttached, IsHeld, monitor_at, unbound, post_of, post_at, thread_count, line_of, first_of, with_owner, with_post, with_thread, without_thread, place_of, is_owned_by, owns_one}
-use Rattle.fat_monitor.specs.Acting.{Outcome, acted, entered, exited, waited, notified, collected, are_good, handed_on, all_removed, parked, removed, reply_granted, holds_granted, MayAct}
+use Rattle.fat_monitor.specs.FatState.{FatState, IsSound, IsAttached, monitor_at, post_of, post_at, thread_count, line_of, first_of, flag_at, flag_of, with_post, with_flag, with_thread, without_thread, place_of, is_owned_by, owns_one}
+use Rattle.fat_monitor.specs.Acting.{Outcome, acted, entered, exited, waited, notified, interrupted, asked, expired, collected, are_good, handed_on, sent_back, all_removed, parked, removed, reply_back, reply_granted, MayAct}
 use Rattle.fat_monitor.proofs.PostMaps.{get-insert_by, get-remove_by}
+use Rattle.fat_monitor.proofs.SoundGrants.{granted-is}
 use Rattle.fat_monitor.proofs.MonitorEffects.{either}
-pub use Rattle.fat_monitor.proofs.MonitorEffects.{named, monitors-all_removed, length-acted, limit-acted, object-acted, other-acted}
+pub use Rattle.fat_monitor.proofs.MonitorEffects.{named, monitors-all_removed, moment-all_removed, length-acted, object-acted, other-acted, moment-acted}
+pub use Rattle.fat_monitor.proofs.LineEffects.{post-with_post_same, post-with_post_other, first_entering, first_waiting, nobody_waiting, called_back, post-all_removed}
 
 -- ---- posts
-
--- the post of a thread after one was written
-pub post-with_post_same : (f : FatState) (t : ThreadId) (p : Post) → post_of (with_post f t p) t ≡ Some p
-post-with_post_same f t p = get-insert_by f.threads t.0 p t.0 ∙ cond-true (t.0 == t.0) _ _ (eq-eqb t.0 t.0 refl)
-
-pub post-with_post_other : (f : FatState) (t u : ThreadId) (p : Post) → u ≢ t → post_of (with_post f t p) u ≡ post_of f u
-post-with_post_other f t u p other = get-insert_by f.threads t.0 p u.0 ∙ cond-false (u.0 == t.0) _ _ (ne_eqb u.0 t.0 (λ e. other (same_thread t u e)))
 
 abbrev Posts : Type 0
 Posts = map.FinMap nat_cmp Post
@@ -72,21 +65,29 @@ KeepsPosts-insert t p k v here why =
         rw (same, get-insert_by p k v k, eq-eqb k k refl) ((λ h. absurd (not_out.1 (same_Some v Out h))), (λ h. absurd (not_out.0 h)))
     out u other (inr apart) w = rw (get-insert_by p k v u, ne_eqb u k apart) ((λ h. h), (λ h. h))
 
--- u, which has the post o, leaves its wait set, and stays attached in a line
-KeepsPosts-removed : (t : ℕ) (f : FatState) (u : ThreadId) (o : Option Post) → post_of f u ≡ o → KeepsPosts t f.threads (removed f u (unwrap_or o Out)).threads
-KeepsPosts-removed t f u None e = KeepsPosts-same t f.threads
-KeepsPosts-removed t f u (Some Out) e = KeepsPosts-same t f.threads
-KeepsPosts-removed t f u (Some (Entering m)) e = KeepsPosts-same t f.threads
-KeepsPosts-removed t f u (Some (Waiting m n d)) e =
-    KeepsPosts-insert t f.threads u.0 (Back m n Notified) (rw e refl) (inr ((λ h. let x : Some (Waiting m n d) ≡ Some Out = sym e ∙ h in cc), (λ h. cc)))
-KeepsPosts-removed t f u (Some (Back m n w)) e = KeepsPosts-same t f.threads
-KeepsPosts-removed t f u (Some (Granted r)) e = KeepsPosts-same t f.threads
+-- a waiter that gets a reply, or another place in a line, stays attached, and is not out
+KeepsPosts-sent_back : (t : ℕ) (f : FatState) (u : ThreadId) (m n : ℕ) (d : Option ℕ) (w : Why) (o : Option ThreadId) → post_of f u ≡ Some (Waiting m n d)
+    → KeepsPosts t f.threads (sent_back f u m (Back m n w) o).threads
+KeepsPosts-sent_back t f u m n d w None e =
+    subst (λ (g : FatState). KeepsPosts t f.threads g.threads) (sym (granted-is f m u (Back m n w) WaitSet))
+    (KeepsPosts-insert t f.threads u.0 (Granted (reply_back w)) (rw e refl) (inr ((λ h. let x : Some (Waiting m n d) ≡ Some Out = sym e ∙ h in cc), (λ h. cc))))
+KeepsPosts-sent_back t f u m n d w (Some v) e =
+    KeepsPosts-insert t f.threads u.0 (Back m n w) (rw e refl) (inr ((λ h. let x : Some (Waiting m n d) ≡ Some Out = sym e ∙ h in cc), (λ h. cc)))
+
+-- u, which has the post o, leaves its wait set
+KeepsPosts-removed : (t : ℕ) (f : FatState) (u : ThreadId) (w : Why) (o : Option Post) → post_of f u ≡ o → KeepsPosts t f.threads (removed f u w (unwrap_or o Out)).threads
+KeepsPosts-removed t f u w None e = KeepsPosts-same t f.threads
+KeepsPosts-removed t f u w (Some Out) e = KeepsPosts-same t f.threads
+KeepsPosts-removed t f u w (Some (Entering m)) e = KeepsPosts-same t f.threads
+KeepsPosts-removed t f u w (Some (Waiting m n d)) e = KeepsPosts-sent_back t f u m n d w (monitor_at f m).owner e
+KeepsPosts-removed t f u w (Some (Back m n x)) e = KeepsPosts-same t f.threads
+KeepsPosts-removed t f u w (Some (Granted r)) e = KeepsPosts-same t f.threads
 
 KeepsPosts-all_removed : (t : ℕ) (f : FatState) (us : List ThreadId) → KeepsPosts t f.threads (all_removed f us).threads
 KeepsPosts-all_removed t f [] = KeepsPosts-same t f.threads
 KeepsPosts-all_removed t f (u ∷ us) =
-    KeepsPosts-then t f.threads (removed f u (post_at f u)).threads (all_removed f (u ∷ us)).threads
-    (KeepsPosts-removed t f u (post_of f u) refl) (KeepsPosts-all_removed t (removed f u (post_at f u)) us)
+    KeepsPosts-then t f.threads (removed f u why.Notified (post_at f u)).threads (all_removed f (u ∷ us)).threads
+    (KeepsPosts-removed t f u why.Notified (post_of f u) refl) (KeepsPosts-all_removed t (removed f u why.Notified (post_at f u)) us)
 
 -- whoever has a place in a line is not out
 not_out : (o : Option Post) (p : Post) (k : Key) → o ≡ Some p → place_of p ≡ Some k → o ≢ Some Out
@@ -98,7 +99,8 @@ KeepsPosts-handed_on : (t : ℕ) (f : FatState) (m : ℕ) (o : Option ThreadId) 
 KeepsPosts-handed_on t f m None sound e = KeepsPosts-same t f.threads
 KeepsPosts-handed_on t f m (Some u) sound e =
     let stood = sound.standing u m Entry (StandsIn-first f.standing.lines u m Entry e) in
-    KeepsPosts-insert t f.threads u.0 (Granted (reply_granted (post_at f u))) (rw stood.1 refl) (inr (not_out (post_of f u) stood.0 (key m Entry) stood.1 stood.2, (λ h. cc)))
+    subst (λ (g : FatState). KeepsPosts t f.threads g.threads) (sym (granted-is f m u (post_at f u) Entry))
+    (KeepsPosts-insert t f.threads u.0 (Granted (reply_granted (post_at f u))) (rw stood.1 refl) (inr (not_out (post_of f u) stood.0 (key m Entry) stood.1 stood.2, (λ h. cc))))
 
 -- t has another post
 KeepsPosts-own : (f : FatState) (t : ThreadId) (p : Post) → IsAttached f t → KeepsPosts t.0 f.threads (with_post f t p).threads
@@ -125,7 +127,25 @@ KeepsThreads-parked f g t p m r here kept = KeepsPosts-then t.0 f.threads g.thre
 
 KeepsThreads-notified : (f : FatState) (t : ThreadId) (o : Option ThreadId) → KeepsThreads f t (notified f o).after
 KeepsThreads-notified f t None = KeepsPosts-same t.0 f.threads
-KeepsThreads-notified f t (Some u) = KeepsPosts-removed t.0 f u (post_of f u) refl
+KeepsThreads-notified f t (Some u) = KeepsPosts-removed t.0 f u why.Notified (post_of f u) refl
+
+KeepsThreads-interrupted : (f : FatState) (t u : ThreadId) (o : Option Post) → post_of f u ≡ o → KeepsThreads f t (interrupted f u o).after
+KeepsThreads-interrupted f t u None e = KeepsPosts-same t.0 f.threads
+KeepsThreads-interrupted f t u (Some p) e = KeepsPosts-removed t.0 (with_flag f u true) u why.Interrupted (Some p) e
+
+KeepsThreads-asked : (f : FatState) (t : ThreadId) (o : Option Bool) → KeepsThreads f t (asked f o).after
+KeepsThreads-asked f t None = KeepsPosts-same t.0 f.threads
+KeepsThreads-asked f t (Some flag) = KeepsPosts-same t.0 f.threads
+
+KeepsThreads-expired : (f : FatState) (t : ThreadId) (o : Option Post) → post_of f t ≡ o → KeepsThreads f t (expired f t (unwrap_or o Out)).after
+KeepsThreads-expired f t None e = KeepsPosts-same t.0 f.threads
+KeepsThreads-expired f t (Some Out) e = KeepsPosts-same t.0 f.threads
+KeepsThreads-expired f t (Some (Entering m)) e = KeepsPosts-same t.0 f.threads
+KeepsThreads-expired f t (Some (Waiting m n None)) e = KeepsPosts-same t.0 f.threads
+KeepsThreads-expired f t (Some (Waiting m n (Some d))) e =
+    either (KeepsThreads f t) (nat_lt f.moment d) _ _ (KeepsPosts-same t.0 f.threads) (KeepsPosts-removed t.0 f t why.Elapsed (Some (Waiting m n (Some d))) e)
+KeepsThreads-expired f t (Some (Back m n w)) e = KeepsPosts-same t.0 f.threads
+KeepsThreads-expired f t (Some (Granted r)) e = KeepsPosts-same t.0 f.threads
 
 KeepsThreads-collected : (f : FatState) (t : ThreadId) (p : Post) → IsAttached f t → KeepsThreads f t (collected f t p).after
 KeepsThreads-collected f t Out here = KeepsPosts-same t.0 f.threads
@@ -146,11 +166,16 @@ KeepsThreads-acted f t (action.Exit m) sound may other = KeepsThreads-by_owner f
 KeepsThreads-acted f t (action.Wait m millis nanos) sound may other =
     KeepsThreads-by_owner f t m (waited f t m millis nanos) _
     (either (KeepsThreads f t) (are_good millis nanos) _ _
-    (KeepsThreads-parked f (handed_on f m (first_of f m Entry)) t _ m WaitSet (attached_out f t may) (KeepsPosts-handed_on t.0 f m (first_of f m Entry) sound refl))
+    (either (KeepsThreads f t) (flag_at f t) _ _ (KeepsPosts-same t.0 f.threads)
+    (KeepsThreads-parked f (handed_on f m (first_of f m Entry)) t _ m WaitSet (attached_out f t may) (KeepsPosts-handed_on t.0 f m (first_of f m Entry) sound refl)))
     (KeepsPosts-same t.0 f.threads)) refl
 KeepsThreads-acted f t (action.Notify m) sound may other = KeepsThreads-by_owner f t m (notified f (first_of f m WaitSet)) _ (KeepsThreads-notified f t (first_of f m WaitSet)) refl
 KeepsThreads-acted f t (action.NotifyAll m) sound may other = KeepsThreads-by_owner f t m _ _ (KeepsPosts-all_removed t.0 f (line_of f m WaitSet)) refl
 KeepsThreads-acted f t (action.Holds m) sound may other = KeepsPosts-same t.0 f.threads
+KeepsThreads-acted f t (action.Interrupt u) sound may other = KeepsThreads-interrupted f t u (post_of f u) refl
+KeepsThreads-acted f t action.Interrupted sound may other = KeepsPosts-same t.0 f.threads
+KeepsThreads-acted f t (action.IsInterrupted u) sound may other = KeepsThreads-asked f t (flag_of f u)
+KeepsThreads-acted f t action.Expire sound may other = KeepsThreads-expired f t (post_of f t) refl
 KeepsThreads-acted f t action.Collect sound may other = KeepsThreads-collected f t (post_at f t) may
 KeepsThreads-acted f t action.End sound may other = absurd (other refl)
 
@@ -176,6 +201,10 @@ out-acted f t u (action.Wait m millis nanos) sound may apart = out_kept f t u (a
 out-acted f t u (action.Notify m) sound may apart = out_kept f t u (action.Notify m) sound may apart (λ e. cc)
 out-acted f t u (action.NotifyAll m) sound may apart = out_kept f t u (action.NotifyAll m) sound may apart (λ e. cc)
 out-acted f t u (action.Holds m) sound may apart = out_kept f t u (action.Holds m) sound may apart (λ e. cc)
+out-acted f t u (action.Interrupt v) sound may apart = out_kept f t u (action.Interrupt v) sound may apart (λ e. cc)
+out-acted f t u action.Interrupted sound may apart = out_kept f t u action.Interrupted sound may apart (λ e. cc)
+out-acted f t u (action.IsInterrupted v) sound may apart = out_kept f t u (action.IsInterrupted v) sound may apart (λ e. cc)
+out-acted f t u action.Expire sound may apart = out_kept f t u action.Expire sound may apart (λ e. cc)
 out-acted f t u action.Collect sound may apart = out_kept f t u action.Collect sound may apart (λ e. cc)
 out-acted f t u action.End sound may apart =
     either (λ (g : FatState). (post_of g u ≡ Some Out) ↔ (post_of f u ≡ Some Out)) (owns_one f.monitors t) _ _ ((λ h. h), (λ h. h))
@@ -197,138 +226,3 @@ count-without_thread f t here = at (cases_eq (thread_count f) 0)
     at : (thread_count f ≡ 0) ⊎ (thread_count f ≡ 0 → ⊥) → thread_count (without_thread f t) + 1 ≡ thread_count f
     at (inl e) = let none : is_some {T = Post} None ≡ true = rw (nobody_here e) at here in absurd (cc)
     at (inr some) = let e = fewer in omega arith
-
--- ---- lines
-
--- who is first in an entry line, and in a wait set
-pub first_entering : (f : FatState) (m : ℕ) (u : ThreadId) → IsSound f → first_of f m Entry ≡ Some u → (post_of f u ≡ Some (Entering m)) ⊎ ((n : ℕ) × (w : Why) × (post_of f u ≡ Some (Back m n w)) × IsHeld n)
-first_entering f m u sound first =
-    let stood = sound.standing u m Entry (StandsIn-first f.standing.lines u m Entry first) in by_post stood.0 stood.1 stood.2 (sound.proper u stood.0 stood.1)
-  where
-    by_post : (p : Post) → post_of f u ≡ Some p → place_of p ≡ Some (key m Entry) → IsProper f p → (post_of f u ≡ Some (Entering m)) ⊎ ((n : ℕ) × (w : Why) × (post_of f u ≡ Some (Back m n w)) × IsHeld n)
-    by_post Out e place proper = absurd (cc)
-    by_post (Entering k) e place proper =
-        let same : k ≡ m = ap (λ (j : Key). j.0) (same_Some (key k Entry) (key m Entry) place) in inl (e ∙ ap (λ (j : ℕ). Some (Entering j)) same)
-    by_post (Waiting k n d) e place proper =
-        let same : WaitSet ≡ Entry = ap (λ (j : Key). j.1) (same_Some (key k WaitSet) (key m Entry) place) in absurd (cc)
-    by_post (Back k n w) e place proper =
-        let same : k ≡ m = ap (λ (j : Key). j.0) (same_Some (key k Entry) (key m Entry) place) in inr (n, w, e ∙ ap (λ (j : ℕ). Some (Back j n w)) same, proper.1)
-    by_post (Granted r) e place proper = absurd (cc)
-
-pub first_waiting : (f : FatState) (m : ℕ) (u : ThreadId) → IsSound f → first_of f m WaitSet ≡ Some u → (n : ℕ) × (d : Option ℕ) × (post_of f u ≡ Some (Waiting m n d)) × IsHeld n
-first_waiting f m u sound first =
-    let stood = sound.standing u m WaitSet (StandsIn-first f.standing.lines u m WaitSet first) in by_post stood.0 stood.1 stood.2 (sound.proper u stood.0 stood.1)
-  where
-    by_post : (p : Post) → post_of f u ≡ Some p → place_of p ≡ Some (key m WaitSet) → IsProper f p → (n : ℕ) × (d : Option ℕ) × (post_of f u ≡ Some (Waiting m n d)) × IsHeld n
-    by_post Out e place proper = absurd (cc)
-    by_post (Entering k) e place proper =
-        let same : Entry ≡ WaitSet = ap (λ (j : Key). j.1) (same_Some (key k Entry) (key m WaitSet) place) in absurd (cc)
-    by_post (Waiting k n d) e place proper =
-        let same : k ≡ m = ap (λ (j : Key). j.0) (same_Some (key k WaitSet) (key m WaitSet) place) in (n, d, e ∙ ap (λ (j : ℕ). Some (Waiting j n d)) same, proper.1)
-    by_post (Back k n w) e place proper =
-        let same : Entry ≡ WaitSet = ap (λ (j : Key). j.1) (same_Some (key k Entry) (key m WaitSet) place) in absurd (cc)
-    by_post (Granted r) e place proper = absurd (cc)
-
--- a list with no first thread has none
-empty_line : (us : List ThreadId) (u : ThreadId) → slice_get us 0 ≡ None → Contains us u → ⊥
-empty_line [] u none h = contains_none u h
-empty_line (v ∷ us) u none h = cc
-
-pub nobody_waiting : (f : FatState) (m : ℕ) → IsSound f → first_of f m WaitSet ≡ None → (u : ThreadId) (n : ℕ) (d : Option ℕ) → post_of f u ≢ Some (Waiting m n d)
-nobody_waiting f m sound none u n d e = empty_line (line_of f m WaitSet) u none (sound.posted u (Waiting m n d) m WaitSet e refl)
-
--- what a notifyAll of m makes of a post
-abbrev pub called_back : ℕ → Post → Post
-called_back m Out = Out
-called_back m (Entering k) = Entering k
-called_back m (Waiting k n d) = if k == m then Back k n Notified else Waiting k n d
-called_back m (Back k n w) = Back k n w
-called_back m (Granted r) = Granted r
-
--- what leaving its wait set makes of a post, whichever wait set it is
-abbrev called : Post → Post
-called Out = Out
-called (Entering k) = Entering k
-called (Waiting k n d) = Back k n Notified
-called (Back k n w) = Back k n w
-called (Granted r) = Granted r
-
-called_twice : (o : Option Post) → option_map called (option_map called o) ≡ option_map called o
-called_twice None = refl
-called_twice (Some Out) = refl
-called_twice (Some (Entering k)) = refl
-called_twice (Some (Waiting k n d)) = refl
-called_twice (Some (Back k n w)) = refl
-called_twice (Some (Granted r)) = refl
-
--- the post of the thread that is removed, and of another one
-post-removed_same : (f : FatState) (u : ThreadId) (o : Option Post) → post_of f u ≡ o → post_of (removed f u (unwrap_or o Out)) u ≡ option_map called o
-post-removed_same f u None e = e
-post-removed_same f u (Some Out) e = e
-post-removed_same f u (Some (Entering m)) e = e
-post-removed_same f u (Some (Waiting m n d)) e = post-with_post_same f u (Back m n Notified)
-post-removed_same f u (Some (Back m n w)) e = e
-post-removed_same f u (Some (Granted r)) e = e
-
-post-removed_other : (f : FatState) (u v : ThreadId) (p : Post) → v ≢ u → post_of (removed f u p) v ≡ post_of f v
-post-removed_other f u v Out other = refl
-post-removed_other f u v (Entering m) other = refl
-post-removed_other f u v (Waiting m n d) other = post-with_post_other f u v (Back m n Notified) other
-post-removed_other f u v (Back m n w) other = refl
-post-removed_other f u v (Granted r) other = refl
-
--- a thread that is not in the list keeps its post
-post-unlisted : (f : FatState) (us : List ThreadId) (v : ThreadId) → (Contains us v → ⊥) → post_of (all_removed f us) v ≡ post_of f v
-post-unlisted f [] v absent = refl
-post-unlisted f (u ∷ us) v absent =
-    post-unlisted (removed f u (post_at f u)) us v (λ h. absent (Contains-cons_later u us v h))
-    ∙ post-removed_other f u v (post_at f u) (λ e. absent (Contains-cons_first u us v (sym e)))
-
--- a thread of the list leaves its wait set, and only once, however often it is in the list
-post-listed : (f : FatState) (us : List ThreadId) (v : ThreadId) → Contains us v → post_of (all_removed f us) v ≡ option_map called (post_of f v)
-post-listed f [] v h = absurd (contains_none v h)
-post-listed f (u ∷ us) v h = at (λ k. post-listed (removed f u (post_at f u)) us v k) (cases_contains us v) (cases_eq v.0 u.0)
-  where
-    own : v.0 ≡ u.0 → post_of (removed f u (post_at f u)) v ≡ option_map called (post_of f v)
-    own e = rw (same_thread u v e) (post-removed_same f u (post_of f u) refl)
-
-    later : (u ≡ v) ⊎ Contains us v → (v.0 ≡ u.0 → ⊥) → Contains us v
-    later (inl same) other = absurd (other (ap (λ (x : ThreadId). x.0) (sym same)))
-    later (inr rest) other = rest
-
-    at : (Contains us v → post_of (all_removed (removed f u (post_at f u)) us) v ≡ option_map called (post_of (removed f u (post_at f u)) v))
-        → Contains us v ⊎ (Contains us v → ⊥) → (v.0 ≡ u.0) ⊎ (v.0 ≡ u.0 → ⊥) → post_of (all_removed (removed f u (post_at f u)) us) v ≡ option_map called (post_of f v)
-    at again (inl rest) (inl same) = again rest ∙ ap (λ (o : Option Post). option_map called o) (own same) ∙ called_twice (post_of f v)
-    at again (inr absent) (inl same) = post-unlisted (removed f u (post_at f u)) us v absent ∙ own same
-    at again rest (inr other) =
-        again (later (Contains-cons_cases u us v h) other)
-        ∙ ap (λ (o : Option Post). option_map called o) (post-removed_other f u v (post_at f u) (λ e. other (ap (λ (x : ThreadId). x.0) e)))
-
--- a notifyAll calls back exactly those whose post is in the wait set of m
-pub post-all_removed : (f : FatState) (m : ℕ) (u : ThreadId) → IsSound f → post_of (all_removed f (line_of f m WaitSet)) u ≡ option_map (called_back m) (post_of f u)
-post-all_removed f m u sound = at (cases_contains (line_of f m WaitSet) u)
-  where
-    here : (p : Post) → place_of p ≡ Some (key m WaitSet) → called p ≡ called_back m p
-    here Out place = refl
-    here (Entering k) place = refl
-    here (Waiting k n d) place =
-        let same : k ≡ m = ap (λ (j : Key). j.0) (same_Some (key k WaitSet) (key m WaitSet) place) in
-        sym (cond-true (k == m) (Back k n Notified) (Waiting k n d) (eq-eqb k m same))
-    here (Back k n w) place = refl
-    here (Granted r) place = refl
-
-    elsewhere : (Contains (line_of f m WaitSet) u → ⊥) → (o : Option Post) → post_of f u ≡ o → o ≡ option_map (called_back m) o
-    elsewhere absent None e = refl
-    elsewhere absent (Some Out) e = refl
-    elsewhere absent (Some (Entering k)) e = refl
-    elsewhere absent (Some (Waiting k n d)) e =
-        let other : k ≡ m → ⊥ = λ same. absent (sound.posted u (Waiting k n d) m WaitSet e (ap (λ (j : ℕ). Some (key j WaitSet)) same)) in
-        sym (ap (λ (p : Post). Some p) (cond-false (k == m) (Back k n Notified) (Waiting k n d) (ne_eqb k m other)))
-    elsewhere absent (Some (Back k n w)) e = refl
-    elsewhere absent (Some (Granted r)) e = refl
-
-    at : Contains (line_of f m WaitSet) u ⊎ (Contains (line_of f m WaitSet) u → ⊥) → post_of (all_removed f (line_of f m WaitSet)) u ≡ option_map (called_back m) (post_of f u)
-    at (inl waits) =
-        let stood = sound.standing u m WaitSet waits in
-        post-listed f (line_of f m WaitSet) u waits ∙ rw stood.1 (ap (λ (p : Post). Some p) (here stood.0 stood.2))
-    at (inr absent) = post-unlisted f (line_of f m WaitSet) u absent ∙ elsewhere absent (post_of f u) refl

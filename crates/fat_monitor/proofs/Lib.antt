@@ -2,7 +2,11 @@ pub mod PostMaps
 pub mod SoundCounts
 pub mod SoundSteps
 pub mod SoundOwners
+pub mod SoundGrants
+pub mod WaitSets
 pub mod Soundness
 pub mod MonitorEffects
+pub mod LineEffects
+pub mod Flags
 pub mod Effects
 pub mod Steps

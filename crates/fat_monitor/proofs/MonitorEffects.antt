@@ -13,18 +13,16 @@ use Rattle.lock_word.specs.declared.ThreadId.{ThreadId}
 use Rattle.wait_lines.specs.declared.Role.{Role}
 use Rattle.wait_lines.specs.declared.Role.TheVariants.{Entry, Waiting as WaitSet}
 use Rattle.wait_lines.specs.Lines.{Key, key}
-use Rattle.wait_lines.proofs.LineLemmas.{StandsIn-first}
-use Rattle.wait_lines.proofs.ThreadLemmas.{same_thread, contains_none, cases_contains, Contains-cons_first, Contains-cons_later, Contains-cons_cases}
 use Rattle.fat_monitor.specs.declared.actions.Post.{Post}
 use Rattle.fat_monitor.specs.declared.actions.Post.TheVariants.{Out, Entering, Waiting, Back, Granted}
 use Rattle.fat_monitor.specs.declared.actions.Why.{Why}
-use Rattle.fat_monitor.specs.declared.actions.Why.TheVariants.{Notified}
+use Rattle.fat_monitor.specs.declared.actions.Why.TheVariants.{Notified, Interrupted, Elapsed}
 use Rattle.fat_monitor.specs.declared.actions.Action.{Action}
 use Rattle.fat_monitor.specs.declared.actions.Action.TheVariants as action
 use Rattle.fat_monitor.specs.declared.monitors.Monitor.{Monitor}
-use Rattle.fat_monitor.specs.FatState.{FatState, IsSound, IsProper, IsAttached, IsHeld, monitor_at, unbound, post_of, post_at, thread_count, line_of, first_of, with_owner, with_post, with_thread, without_thread, place_of, is_owned_by, owns_one}
-use Rattle.fat_monitor.specs.Acting.{Outcome, acted, entered, exited, waited, notified, collected, are_good, handed_on, all_removed, parked, removed, reply_granted, holds_granted, MayAct}
-use Rattle.fat_monitor.proofs.PostMaps.{get-insert_by, get-remove_by}
+use Rattle.fat_monitor.specs.FatState.{FatState, IsSound, IsProper, IsAttached, IsHeld, monitor_at, unbound, post_of, post_at, thread_count, line_of, first_of, with_owner, with_post, with_flag, with_thread, without_thread, flag_at, flag_of, place_of, is_owned_by, owns_one}
+use Rattle.fat_monitor.proofs.WaitSets.{wait_set-queued, monitors-all_queued}
+use Rattle.fat_monitor.specs.Acting.{Outcome, acted, entered, exited, waited, notified, collected, are_good, handed_on, all_removed, parked, removed, sent_back, granted, settled, interrupted, asked, expired, reply_granted, holds_granted, MayAct}
 
 -- the monitor that an action names
 abbrev pub named : Action → Option ℕ
@@ -34,6 +32,10 @@ named (action.Wait m millis nanos) = Some m
 named (action.Notify m) = Some m
 named (action.NotifyAll m) = Some m
 named (action.Holds m) = Some m
+named (action.Interrupt u) = None
+named action.Interrupted = None
+named (action.IsInterrupted u) = None
+named action.Expire = None
 named action.Collect = None
 named action.End = None
 
@@ -44,22 +46,35 @@ either P false x y h k = k
 
 -- ---- monitors
 
--- as many monitors under the same limit, each with its object, and all but the named one as before
+-- as many monitors under the same limit, each with its object, and all but the named one as before that had an owner
 abbrev KeepsMonitors : FatState → Option ℕ → FatState → Type 0
 KeepsMonitors f a g =
     (length g.monitors ≡ length f.monitors)
     × (g.limit ≡ f.limit)
     × ((j : ℕ) → (monitor_at g j).object ≡ (monitor_at f j).object)
-    × ((j : ℕ) → a ≢ Some j → monitor_at g j ≡ monitor_at f j)
+    × ((j : ℕ) → a ≢ Some j → IsSome (monitor_at f j).owner → monitor_at g j ≡ monitor_at f j)
+    × (g.moment ≡ f.moment)
 
 -- so it is where the monitors and the limit are the same
-KeepsMonitors-same : (f : FatState) (a : Option ℕ) (g : FatState) → g.monitors ≡ f.monitors → g.limit ≡ f.limit → KeepsMonitors f a g
-KeepsMonitors-same f a g e l = (
+KeepsMonitors-same : (f : FatState) (a : Option ℕ) (g : FatState) → g.monitors ≡ f.monitors → g.limit ≡ f.limit → g.moment ≡ f.moment → KeepsMonitors f a g
+KeepsMonitors-same f a g e l now = (
   ap (λ (ms : List Monitor). length ms) e,
   l,
   (λ j. ap (λ (ms : List Monitor). (slice_index_or ms j unbound).object) e),
-  (λ j other. ap (λ (ms : List Monitor). slice_index_or ms j unbound) e),
+  (λ j other owned. ap (λ (ms : List Monitor). slice_index_or ms j unbound) e),
+  now,
 )
+
+-- one after the other, where the monitors with an owner keep one
+KeepsMonitors-after : (f g h : FatState) (a : Option ℕ) → g.monitors ≡ f.monitors → g.limit ≡ f.limit → g.moment ≡ f.moment → KeepsMonitors g a h → KeepsMonitors f a h
+KeepsMonitors-after f g h a e l now k =
+    let at : (j : ℕ) → monitor_at g j ≡ monitor_at f j = λ j. ap (λ (ms : List Monitor). slice_index_or ms j unbound) e in (
+      k.0 ∙ ap (λ (ms : List Monitor). length ms) e,
+      k.1 ∙ l,
+      (λ j. k.2 j ∙ ap (λ (b : Monitor). b.object) (at j)),
+      (λ j other owned. k.3 j other (rw (at j) owned) ∙ at j),
+      k.4 ∙ now,
+    )
 
 -- a write of a monitor with its object keeps all objects
 object_set : (ms : List Monitor) (m j : ℕ) (b : Monitor) → b.object ≡ (slice_index_or ms m unbound).object → (slice_index_or (slice_set ms m b) j unbound).object ≡ (slice_index_or ms j unbound).object
@@ -75,78 +90,153 @@ KeepsMonitors-with_owner f m o n = (
   length-set f.monitors m _,
   refl,
   (λ j. object_set f.monitors m j _ refl),
-  (λ j other. get_or-set_other f.monitors m j _ unbound (λ e. other (ap (λ (i : ℕ). Some i) (sym e)))),
+  (λ j other owned. get_or-set_other f.monitors m j _ unbound (λ e. other (ap (λ (i : ℕ). Some i) (sym e)))),
+  refl,
 )
+
+-- a wait that is settled changes the flag of its thread alone
+pub monitors-settled : (f : FatState) (u : ThreadId) (p : Post) → (settled f u p).monitors ≡ f.monitors
+monitors-settled f u Out = refl
+monitors-settled f u (Entering m) = refl
+monitors-settled f u (Waiting m n d) = refl
+monitors-settled f u (Back m n Notified) = refl
+monitors-settled f u (Back m n Interrupted) = refl
+monitors-settled f u (Back m n Elapsed) = refl
+monitors-settled f u (Granted r) = refl
+
+pub limit-settled : (f : FatState) (u : ThreadId) (p : Post) → (settled f u p).limit ≡ f.limit
+limit-settled f u Out = refl
+limit-settled f u (Entering m) = refl
+limit-settled f u (Waiting m n d) = refl
+limit-settled f u (Back m n Notified) = refl
+limit-settled f u (Back m n Interrupted) = refl
+limit-settled f u (Back m n Elapsed) = refl
+limit-settled f u (Granted r) = refl
+
+pub moment-settled : (f : FatState) (u : ThreadId) (p : Post) → (settled f u p).moment ≡ f.moment
+moment-settled f u Out = refl
+moment-settled f u (Entering m) = refl
+moment-settled f u (Waiting m n d) = refl
+moment-settled f u (Back m n Notified) = refl
+moment-settled f u (Back m n Interrupted) = refl
+moment-settled f u (Back m n Elapsed) = refl
+moment-settled f u (Granted r) = refl
+
+KeepsMonitors-granted : (f : FatState) (m : ℕ) (u : ThreadId) (p : Post) (r : Role) → KeepsMonitors f (Some m) (granted f m u p r)
+KeepsMonitors-granted f m u p r =
+    KeepsMonitors-after f (settled f u p) (granted f m u p r) (Some m) (monitors-settled f u p) (limit-settled f u p) (moment-settled f u p)
+    (KeepsMonitors-with_owner (settled f u p) m (Some u) (holds_granted p))
 
 KeepsMonitors-handed_on : (f : FatState) (m : ℕ) (o : Option ThreadId) → KeepsMonitors f (Some m) (handed_on f m o)
 KeepsMonitors-handed_on f m None = KeepsMonitors-with_owner f m None 0
-KeepsMonitors-handed_on f m (Some u) = KeepsMonitors-with_owner f m (Some u) (holds_granted (post_at f u))
+KeepsMonitors-handed_on f m (Some u) = KeepsMonitors-granted f m u (post_at f u) Entry
 
-monitors-removed : (f : FatState) (u : ThreadId) (p : Post) → (removed f u p).monitors ≡ f.monitors
-monitors-removed f u Out = refl
-monitors-removed f u (Entering m) = refl
-monitors-removed f u (Waiting m n d) = refl
-monitors-removed f u (Back m n w) = refl
-monitors-removed f u (Granted r) = refl
+-- whoever leaves its wait set takes a monitor that nobody owned, at most
+KeepsMonitors-sent_back : (f : FatState) (u : ThreadId) (m : ℕ) (p : Post) (o : Option ThreadId) → (monitor_at f m).owner ≡ o → KeepsMonitors f None (sent_back f u m p o)
+KeepsMonitors-sent_back f u m p (Some owner) e = KeepsMonitors-same f None (sent_back f u m p (Some owner)) refl refl refl
+KeepsMonitors-sent_back f u m p None e =
+    let k = KeepsMonitors-granted f m u p WaitSet in (
+      k.0,
+      k.1,
+      k.2,
+      (λ j other owned. k.3 j (λ same. absurd (let here : m ≡ j = same_Some m j same in let none : is_some {T = ThreadId} None ≡ true = rw (← here, e) at owned in cc)) owned),
+      k.4,
+    )
 
-limit-removed : (f : FatState) (u : ThreadId) (p : Post) → (removed f u p).limit ≡ f.limit
-limit-removed f u Out = refl
-limit-removed f u (Entering m) = refl
-limit-removed f u (Waiting m n d) = refl
-limit-removed f u (Back m n w) = refl
-limit-removed f u (Granted r) = refl
+pub KeepsMonitors-removed : (f : FatState) (u : ThreadId) (w : Why) (p : Post) → KeepsMonitors f None (removed f u w p)
+KeepsMonitors-removed f u w Out = KeepsMonitors-same f None f refl refl refl
+KeepsMonitors-removed f u w (Entering m) = KeepsMonitors-same f None f refl refl refl
+KeepsMonitors-removed f u w (Waiting m n d) = KeepsMonitors-sent_back f u m (Back m n w) (monitor_at f m).owner refl
+KeepsMonitors-removed f u w (Back m n x) = KeepsMonitors-same f None f refl refl refl
+KeepsMonitors-removed f u w (Granted r) = KeepsMonitors-same f None f refl refl refl
 
-pub monitors-all_removed : (f : FatState) (us : List ThreadId) → (all_removed f us).monitors ≡ f.monitors
-monitors-all_removed f [] = refl
-monitors-all_removed f (u ∷ us) = monitors-all_removed (removed f u (post_at f u)) us ∙ monitors-removed f u (post_at f u)
+-- one after the other
+KeepsMonitors-then : (f g h : FatState) → KeepsMonitors f None g → KeepsMonitors g None h → KeepsMonitors f None h
+KeepsMonitors-then f g h a b = (
+  b.0 ∙ a.0,
+  b.1 ∙ a.1,
+  (λ j. b.2 j ∙ a.2 j),
+  (λ j other owned. let same = a.3 j other owned in b.3 j other (rw same owned) ∙ same),
+  b.4 ∙ a.4,
+)
 
-limit-all_removed : (f : FatState) (us : List ThreadId) → (all_removed f us).limit ≡ f.limit
-limit-all_removed f [] = refl
-limit-all_removed f (u ∷ us) = limit-all_removed (removed f u (post_at f u)) us ∙ limit-removed f u (post_at f u)
+KeepsMonitors-all_removed : (f : FatState) (us : List ThreadId) → KeepsMonitors f None (all_removed f us)
+KeepsMonitors-all_removed f [] = KeepsMonitors-same f None f refl refl refl
+KeepsMonitors-all_removed f (u ∷ us) =
+    KeepsMonitors-then f (removed f u Notified (post_at f u)) (all_removed f (u ∷ us)) (KeepsMonitors-removed f u Notified (post_at f u))
+    (KeepsMonitors-all_removed (removed f u Notified (post_at f u)) us)
+
+-- of the named monitor nothing is said
+KeepsMonitors-weaker : (f : FatState) (a : Option ℕ) (g : FatState) → KeepsMonitors f None g → KeepsMonitors f a g
+KeepsMonitors-weaker f a g k = (k.0, k.1, k.2, (λ j other owned. k.3 j (λ e. cc) owned), k.4)
 
 KeepsMonitors-entered : (f : FatState) (t : ThreadId) (m : ℕ) (o : Option ThreadId) → KeepsMonitors f (Some m) (entered f t m o).after
 KeepsMonitors-entered f t m None = KeepsMonitors-with_owner f m (Some t) 1
 KeepsMonitors-entered f t m (Some u) =
     either (KeepsMonitors f (Some m)) (u.0 == t.0) _ _
-    (either (KeepsMonitors f (Some m)) (nat_lt (monitor_at f m).holds 65535) _ _ (KeepsMonitors-with_owner f m (Some u) ((monitor_at f m).holds + 1)) (KeepsMonitors-same f (Some m) f refl refl))
-    (KeepsMonitors-same f (Some m) (parked f t (Entering m) m Entry) refl refl)
+    (either (KeepsMonitors f (Some m)) (nat_lt (monitor_at f m).holds 65535) _ _ (KeepsMonitors-with_owner f m (Some u) ((monitor_at f m).holds + 1)) (KeepsMonitors-same f (Some m) f refl refl refl))
+    (KeepsMonitors-same f (Some m) (parked f t (Entering m) m Entry) refl refl refl)
 
 KeepsMonitors-exited : (f : FatState) (t : ThreadId) (m : ℕ) → KeepsMonitors f (Some m) (exited f t m).after
 KeepsMonitors-exited f t m =
     either (KeepsMonitors f (Some m)) (nat_lt 1 (monitor_at f m).holds) _ _ (KeepsMonitors-with_owner f m (Some t) ((monitor_at f m).holds - 1)) (KeepsMonitors-handed_on f m (first_of f m Entry))
 
 KeepsMonitors-notified : (f : FatState) (m : ℕ) (o : Option ThreadId) → KeepsMonitors f (Some m) (notified f o).after
-KeepsMonitors-notified f m None = KeepsMonitors-same f (Some m) f refl refl
-KeepsMonitors-notified f m (Some u) = KeepsMonitors-same f (Some m) (removed f u (post_at f u)) (monitors-removed f u (post_at f u)) (limit-removed f u (post_at f u))
+KeepsMonitors-notified f m None = KeepsMonitors-same f (Some m) f refl refl refl
+KeepsMonitors-notified f m (Some u) = KeepsMonitors-weaker f (Some m) (removed f u Notified (post_at f u)) (KeepsMonitors-removed f u Notified (post_at f u))
 
 KeepsMonitors-collected : (f : FatState) (t : ThreadId) (p : Post) → KeepsMonitors f None (collected f t p).after
-KeepsMonitors-collected f t Out = KeepsMonitors-same f None f refl refl
-KeepsMonitors-collected f t (Entering m) = KeepsMonitors-same f None f refl refl
-KeepsMonitors-collected f t (Waiting m n d) = KeepsMonitors-same f None f refl refl
-KeepsMonitors-collected f t (Back m n w) = KeepsMonitors-same f None f refl refl
-KeepsMonitors-collected f t (Granted r) = KeepsMonitors-same f None (with_post f t Out) refl refl
+KeepsMonitors-collected f t Out = KeepsMonitors-same f None f refl refl refl
+KeepsMonitors-collected f t (Entering m) = KeepsMonitors-same f None f refl refl refl
+KeepsMonitors-collected f t (Waiting m n d) = KeepsMonitors-same f None f refl refl refl
+KeepsMonitors-collected f t (Back m n w) = KeepsMonitors-same f None f refl refl refl
+KeepsMonitors-collected f t (Granted r) = KeepsMonitors-same f None (with_post f t Out) refl refl refl
+
+KeepsMonitors-interrupted : (f : FatState) (u : ThreadId) (o : Option Post) → KeepsMonitors f None (interrupted f u o).after
+KeepsMonitors-interrupted f u None = KeepsMonitors-same f None f refl refl refl
+KeepsMonitors-interrupted f u (Some p) =
+    KeepsMonitors-after f (with_flag f u true) (removed (with_flag f u true) u Interrupted p) None refl refl refl (KeepsMonitors-removed (with_flag f u true) u Interrupted p)
+
+KeepsMonitors-asked : (f : FatState) (o : Option Bool) → KeepsMonitors f None (asked f o).after
+KeepsMonitors-asked f None = KeepsMonitors-same f None f refl refl refl
+KeepsMonitors-asked f (Some b) = KeepsMonitors-same f None f refl refl refl
+
+KeepsMonitors-expired : (f : FatState) (t : ThreadId) (p : Post) → KeepsMonitors f None (expired f t p).after
+KeepsMonitors-expired f t (Waiting m n (Some d)) =
+    either (KeepsMonitors f None) (nat_lt f.moment d) _ _ (KeepsMonitors-same f None f refl refl refl) (KeepsMonitors-removed f t Elapsed (Waiting m n (Some d)))
+KeepsMonitors-expired f t (Waiting m n None) = KeepsMonitors-same f None f refl refl refl
+KeepsMonitors-expired f t Out = KeepsMonitors-same f None f refl refl refl
+KeepsMonitors-expired f t (Entering m) = KeepsMonitors-same f None f refl refl refl
+KeepsMonitors-expired f t (Back m n w) = KeepsMonitors-same f None f refl refl refl
+KeepsMonitors-expired f t (Granted r) = KeepsMonitors-same f None f refl refl refl
 
 -- another than the owner changes nothing
 KeepsMonitors-by_owner : (f : FatState) (t : ThreadId) (m : ℕ) (x y : Outcome) → KeepsMonitors f (Some m) x.after → y.after ≡ f → KeepsMonitors f (Some m) (if is_owned_by (monitor_at f m).owner t then x else y).after
 KeepsMonitors-by_owner f t m x y h e =
     either (KeepsMonitors f (Some m)) (is_owned_by (monitor_at f m).owner t) x y h
-    (KeepsMonitors-same f (Some m) y.after (ap (λ (g : FatState). g.monitors) e) (ap (λ (g : FatState). g.limit) e))
+    (KeepsMonitors-same f (Some m) y.after (ap (λ (g : FatState). g.monitors) e) (ap (λ (g : FatState). g.limit) e) (ap (λ (g : FatState). g.moment) e))
 
 KeepsMonitors-acted : (f : FatState) (t : ThreadId) (a : Action) → KeepsMonitors f (named a) (acted f t a).after
 KeepsMonitors-acted f t (action.Enter m) = KeepsMonitors-entered f t m (monitor_at f m).owner
 KeepsMonitors-acted f t (action.Exit m) = KeepsMonitors-by_owner f t m (exited f t m) _ (KeepsMonitors-exited f t m) refl
 KeepsMonitors-acted f t (action.Wait m millis nanos) =
     KeepsMonitors-by_owner f t m (waited f t m millis nanos) _
-    (either (KeepsMonitors f (Some m)) (are_good millis nanos) _ _ (KeepsMonitors-handed_on f m (first_of f m Entry)) (KeepsMonitors-same f (Some m) f refl refl)) refl
+    (either (KeepsMonitors f (Some m)) (are_good millis nanos) _ _
+    (either (KeepsMonitors f (Some m)) (flag_at f t) _ _ (KeepsMonitors-same f (Some m) (with_flag f t false) refl refl refl) (KeepsMonitors-handed_on f m (first_of f m Entry)))
+    (KeepsMonitors-same f (Some m) f refl refl refl)) refl
 KeepsMonitors-acted f t (action.Notify m) = KeepsMonitors-by_owner f t m (notified f (first_of f m WaitSet)) _ (KeepsMonitors-notified f m (first_of f m WaitSet)) refl
 KeepsMonitors-acted f t (action.NotifyAll m) =
     KeepsMonitors-by_owner f t m _ _
-    (KeepsMonitors-same f (Some m) (all_removed f (line_of f m WaitSet)) (monitors-all_removed f (line_of f m WaitSet)) (limit-all_removed f (line_of f m WaitSet))) refl
-KeepsMonitors-acted f t (action.Holds m) = KeepsMonitors-same f (Some m) f refl refl
+    (KeepsMonitors-weaker f (Some m) (all_removed f (line_of f m WaitSet)) (KeepsMonitors-all_removed f (line_of f m WaitSet))) refl
+KeepsMonitors-acted f t (action.Holds m) = KeepsMonitors-same f (Some m) f refl refl refl
+KeepsMonitors-acted f t (action.Interrupt u) = KeepsMonitors-interrupted f u (post_of f u)
+KeepsMonitors-acted f t action.Interrupted = KeepsMonitors-same f None (with_flag f t false) refl refl refl
+KeepsMonitors-acted f t (action.IsInterrupted u) = KeepsMonitors-asked f (flag_of f u)
+KeepsMonitors-acted f t action.Expire = KeepsMonitors-expired f t (post_at f t)
 KeepsMonitors-acted f t action.Collect = KeepsMonitors-collected f t (post_at f t)
-KeepsMonitors-acted f t action.End = either (KeepsMonitors f None) (owns_one f.monitors t) _ _ (KeepsMonitors-same f None f refl refl) (KeepsMonitors-same f None (without_thread f t) refl refl)
+KeepsMonitors-acted f t action.End = either (KeepsMonitors f None) (owns_one f.monitors t) _ _ (KeepsMonitors-same f None f refl refl refl) (KeepsMonitors-same f None (without_thread f t) refl refl refl)
 
--- no monitor comes or goes, each keeps its object, and only the named one changes
+-- no monitor comes or goes, each keeps its object, and of those with an owner only the named one changes
 pub length-acted : (f : FatState) (t : ThreadId) (a : Action) → length (acted f t a).after.monitors ≡ length f.monitors
 length-acted f t a = (KeepsMonitors-acted f t a).0
 
@@ -156,5 +246,16 @@ limit-acted f t a = (KeepsMonitors-acted f t a).1
 pub object-acted : (f : FatState) (t : ThreadId) (a : Action) (j : ℕ) → (monitor_at (acted f t a).after j).object ≡ (monitor_at f j).object
 object-acted f t a j = (KeepsMonitors-acted f t a).2 j
 
-pub other-acted : (f : FatState) (t : ThreadId) (a : Action) (j : ℕ) → named a ≢ Some j → monitor_at (acted f t a).after j ≡ monitor_at f j
-other-acted f t a j other = (KeepsMonitors-acted f t a).3 j other
+pub other-acted : (f : FatState) (t : ThreadId) (a : Action) (j : ℕ) → named a ≢ Some j → IsSome (monitor_at f j).owner → monitor_at (acted f t a).after j ≡ monitor_at f j
+other-acted f t a j other owned = (KeepsMonitors-acted f t a).3 j other owned
+
+-- no action moves the moment
+pub moment-acted : (f : FatState) (t : ThreadId) (a : Action) → (acted f t a).after.moment ≡ f.moment
+moment-acted f t a = (KeepsMonitors-acted f t a).4
+
+pub moment-all_removed : (f : FatState) (us : List ThreadId) → (all_removed f us).moment ≡ f.moment
+moment-all_removed f us = (KeepsMonitors-all_removed f us).4
+
+-- a notifyAll of a monitor with an owner changes no monitor
+pub monitors-all_removed : (f : FatState) (m : ℕ) → IsSound f → IsSome (monitor_at f m).owner → (all_removed f (line_of f m WaitSet)).monitors ≡ f.monitors
+monitors-all_removed f m sound owned = ap (λ (g : FatState). g.monitors) (wait_set-queued f m sound owned) ∙ monitors-all_queued f (line_of f m WaitSet)

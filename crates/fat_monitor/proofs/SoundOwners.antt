@@ -1,10 +1,10 @@
 -- Fat states stay sound where threads come and go, and where monitors change their owners.
-use Rattle.std.specs.Prelude.{◌≡◌, ◌≢◌, ◌⊎◌, ◌↔◌, ℕ, ◌+◌, ◌-◌, ◌<◌, ◌≤◌, ◌==◌, Bool, true, false, if◌then◌else◌, nat_lt, ℤ, List, [], ◌∷◌, ◌++◌, length, get_or, slice_get, Contains, Option, Some, None, IsSome}
+use Rattle.std.specs.Prelude.{◌≡◌, ◌≢◌, ◌⊎◌, ◌↔◌, ℕ, ◌+◌, ◌<◌, ◌≤◌, ◌==◌, Bool, true, false, if◌then◌else◌, nat_lt, List, [], ◌∷◌, ◌++◌, length, get_or, slice_get, Contains, Option, Some, None, IsSome}
 use Rattle.std.specs.Option.{unwrap_or}
 use Rattle.std.specs.Ordering.{nat_cmp}
 use Rattle.std.specs.FinMap as map
 use Rattle.std.specs.FinMap.{get-empty, len-empty}
-use Rattle.std.proofs.Common.{refl, sym, ap, ◌∙◌, subst, inl, inr, arith, length-append, length-set}
+use Rattle.std.proofs.Common.{refl, sym, ap, ◌∙◌, subst, inl, inr, arith, length-append}
 use Rattle.std.proofs.lemmas.Bool.{cases_eq, eq-eqb, ne_eqb, ltb-true, ltb-false, eqb-true, eqb-false}
 use Rattle.std.proofs.lemmas.List.{get_or_at, get_or_append_left, get_or_past}
 use Rattle.std.proofs.lemmas.Option.{same_Some}
@@ -12,21 +12,18 @@ use Rattle.lock_word.specs.declared.ThreadId.{ThreadId}
 use Rattle.lock_word.specs.declared.ObjectId.{ObjectId}
 use Rattle.wait_lines.specs.declared.Role.{Role}
 use Rattle.wait_lines.specs.declared.Role.TheVariants.{Entry, Waiting as WaitSet}
-use Rattle.wait_lines.specs.Lines.{Key, key, line, times_in, without, StandsIn, StandsNowhere, left, total_count, IsOrderly}
-use Rattle.wait_lines.proofs.ThreadLemmas.{same_thread, is_same, contains_none, Contains-cons_first, Contains-cons_later, times_in-cons, times_in-present, without-absent}
-use Rattle.wait_lines.proofs.LineLemmas.{key-other_role, line-with_line_same, line-with_line_other, line-empty, total_count-empty, StandsIn-first, StandsNowhere-left, IsOrderly-nobody, IsOrderly-reserved}
+use Rattle.wait_lines.specs.Lines.{key, StandsIn, StandsNowhere, total_count, IsOrderly}
+use Rattle.wait_lines.proofs.ThreadLemmas.{same_thread, contains_none}
+use Rattle.wait_lines.proofs.LineLemmas.{line-empty, total_count-empty, IsOrderly-nobody, IsOrderly-reserved}
 use Rattle.fat_monitor.specs.declared.actions.Post.{Post}
-use Rattle.fat_monitor.specs.declared.actions.Post.TheVariants.{Out, Entering, Waiting, Back, Granted}
+use Rattle.fat_monitor.specs.declared.actions.Post.TheVariants.{Out, Entering, Waiting, Granted}
 use Rattle.fat_monitor.specs.declared.actions.Reply.{Reply}
-use Rattle.fat_monitor.specs.declared.actions.Action.{Action}
-use Rattle.fat_monitor.specs.declared.actions.Action.TheVariants as action
-use Rattle.fat_monitor.specs.declared.actions.Why.TheVariants as why
 use Rattle.fat_monitor.specs.declared.monitors.Monitor.{Monitor}
-use Rattle.fat_monitor.specs.FatState.{FatState, IsSound, IsFair, IsProper, IsHeld, unbound, opened, monitor_at, post_of, post_at, thread_count, line_of, first_of, with_owner, with_post, with_lines, with_thread, without_thread, bound_with, is_owned_by, owns_one, place_of, stand_count, StandBehindOwners}
-use Rattle.fat_monitor.specs.Acting.{acted, granted, handed_on, parked, removed, all_removed, holds_granted, reply_granted, entered, exited, waited, notified, collected, by_owner, are_good, deadline, Outcome, NamesBound, MayAct}
+use Rattle.fat_monitor.specs.FatState.{FatState, IsSound, IsFair, IsHeld, unbound, opened, monitor_at, post_of, post_at, thread_count, line_of, first_of, with_owner, with_post, with_thread, without_thread, bound_with, place_of, stand_count, StandBehindOwners}
+use Rattle.fat_monitor.specs.Acting.{parked}
 use Rattle.fat_monitor.proofs.PostMaps.{get-remove_by}
-use Rattle.fat_monitor.proofs.SoundCounts.{stand_count-empty, stand_count-insert, stand_count-remove, insert_twice, len-insert_new, len-remove_le}
-use Rattle.fat_monitor.proofs.SoundSteps.{get-written, get-written_other, written_cases, no_place, IsProper-kept, standing_bound, nowhere, room_for_one, proper_after, monitor-written, IsSound-with_post, IsSound-left, IsSound-parked, IsSound-with_owner}
+use Rattle.fat_monitor.proofs.SoundCounts.{stand_count-empty, stand_count-insert, stand_count-remove, len-insert_new, len-remove_le}
+use Rattle.fat_monitor.proofs.SoundSteps.{get-written_other, written_cases, no_place, IsProper-kept, standing_bound, nowhere, room_for_one, proper_after, IsSound-with_post, IsSound-parked, IsSound-with_owner}
 
 -- ---- facts of a sound state
 
@@ -207,7 +204,7 @@ holds_owned f m u sound owned =
     at (inr some) free = omega arith
 
 -- a monitor that is held has an owner
-owned_holds : (t : ThreadId) (n : ℕ) → 1 ≤ n → (Some t ≡ None) ↔ (n ≡ 0)
+pub owned_holds : (t : ThreadId) (n : ℕ) → 1 ≤ n → (Some t ≡ None) ↔ (n ≡ 0)
 owned_holds t n low = ((λ e. absurd (cc)), (λ e. absurd (omega arith)))
 
 -- a thread that is out takes a monitor that nobody owns
@@ -244,80 +241,3 @@ IsSound-waiting f t m n d sound bound out other held =
 -- a thread takes the reply that it was granted
 pub IsSound-collected : (f : FatState) (t : ThreadId) (r : Reply) → IsSound f → post_of f t ≡ Some (Granted r) → IsSound (with_post f t Out)
 IsSound-collected f t r sound here = IsSound-with_post f t (Granted r) Out sound here refl tt refl
-
--- what a thread comes back to is held, and its reply is one of a grant
-holds_granted-held : (f : FatState) (p : Post) → IsProper f p → IsHeld (holds_granted p)
-holds_granted-held f Out proper = (omega arith, omega arith)
-holds_granted-held f (Entering m) proper = (omega arith, omega arith)
-holds_granted-held f (Waiting m n d) proper = (omega arith, omega arith)
-holds_granted-held f (Back m n w) proper = proper.1
-holds_granted-held f (Granted r) proper = (omega arith, omega arith)
-
--- the reply of a grant is of an enter or of a wait
-reply_granted-proper : (f : FatState) (p : Post) → IsProper f (Granted (reply_granted p))
-reply_granted-proper f Out = inl refl
-reply_granted-proper f (Entering m) = inl refl
-reply_granted-proper f (Waiting m n d) = inl refl
-reply_granted-proper f (Back m n w) = inr refl
-reply_granted-proper f (Granted r) = inl refl
-
--- a thread of the entry line leaves it and owns the monitor
-granted_post : (f : FatState) (m : ℕ) (u : ThreadId) (p : Post) → IsSound f → post_of f u ≡ Some p → place_of p ≡ Some (key m Entry) → IsSound (granted f m u p)
-granted_post f m u p sound here place =
-    IsSound-with_owner outside m (Some u) (holds_granted p) (IsSound-left f u p (Granted (reply_granted p)) m Entry sound here place (reply_granted-proper f p) refl)
-    (standing_bound f u m Entry sound stood) held.1 (owned_holds u (holds_granted p) held.0) (λ v stands_in. refl)
-    (λ v r stands_in owns. StandsNowhere-left f.standing u m Entry sound.orderly stood m r (subst (λ x. StandsIn outside.standing.lines x m r) (sym (same_Some u v owns)) stands_in))
-  where
-    outside : FatState
-    outside = with_lines (with_post f u (Granted (reply_granted p))) (left f.standing.lines u m Entry)
-
-    stood : StandsIn f.standing.lines u m Entry
-    stood = sound.posted u p m Entry here place
-
-    held : IsHeld (holds_granted p)
-    held = holds_granted-held f p (sound.proper u p here)
-
--- the same, of whoever stands in the entry line
-pub IsSound-granted : (f : FatState) (m : ℕ) (u : ThreadId) → IsSound f → StandsIn f.standing.lines u m Entry → IsSound (granted f m u (post_at f u))
-IsSound-granted f m u sound stands_in =
-    let post = sound.standing u m Entry stands_in in
-    subst (λ p. IsSound (granted f m u p)) (sym (post_at-is f u post.0 post.1)) (granted_post f m u post.0 sound post.1 post.2)
-
--- a monitor goes to the first of its entry line, or to nobody
-pub IsSound-handed_on : (f : FatState) (m : ℕ) → IsSound f → m < length f.monitors → IsSound (handed_on f m (first_of f m Entry))
-IsSound-handed_on f m sound bound = by_first (first_of f m Entry) refl
-  where
-    by_first : (o : Option ThreadId) → first_of f m Entry ≡ o → IsSound (handed_on f m o)
-    by_first None first = IsSound-freed f m sound bound first
-    by_first (Some u) first = IsSound-granted f m u sound (StandsIn-first f.standing.lines u m Entry first)
-
--- no monitor comes or goes when one is handed on
-pub length-handed_on : (f : FatState) (m : ℕ) (o : Option ThreadId) → length (handed_on f m o).monitors ≡ length f.monitors
-length-handed_on f m None = length-set f.monitors m (record (monitor_at f m) { owner = None; holds = 0 })
-length-handed_on f m (Some u) = length-set f.monitors m (record (monitor_at f m) { owner = Some u; holds = holds_granted (post_at f u) })
-
--- its owner is then the thread to which it went
-pub owner-handed_on : (f : FatState) (m : ℕ) (o : Option ThreadId) → m < length f.monitors → (monitor_at (handed_on f m o) m).owner ≡ o
-owner-handed_on f m None bound = ap (λ (b : Monitor). b.owner) (monitor-written f m None 0 bound)
-owner-handed_on f m (Some u) bound = ap (λ (b : Monitor). b.owner) (monitor-written f m (Some u) (holds_granted (post_at f u)) bound)
-
--- a thread that is out is first in no line
-pub first_other : (f : FatState) (t : ThreadId) (m : ℕ) (r : Role) → IsSound f → post_of f t ≡ Some Out → first_of f m r ≢ Some t
-first_other f t m r sound out first = stands_nowhere f t sound out m r (StandsIn-first f.standing.lines t m r first)
-
--- and it stays out when a monitor is handed on
-pub out-handed_on : (f : FatState) (t : ThreadId) (m : ℕ) → IsSound f → post_of f t ≡ Some Out → post_of (handed_on f m (first_of f m Entry)) t ≡ Some Out
-out-handed_on f t m sound out = by_first (first_of f m Entry) (first_other f t m Entry sound out)
-  where
-    by_first : (o : Option ThreadId) → o ≢ Some t → post_of (handed_on f m o) t ≡ Some Out
-    by_first None other = out
-    by_first (Some u) other = get-written_other f.threads u t (Granted (reply_granted (post_at f u))) (λ same. other (ap (λ x. Some x) (sym same))) ∙ out
-
--- the owner waits: it hands the monitor on, and joins the wait set
-pub IsSound-waited : (f : FatState) (t : ThreadId) (m : ℕ) (d : Option ℕ) → IsSound f → post_of f t ≡ Some Out → (monitor_at f m).owner ≡ Some t
-    → IsSound (parked (handed_on f m (first_of f m Entry)) t (Waiting m (monitor_at f m).holds d) m WaitSet)
-IsSound-waited f t m d sound out owned =
-    let bound = owned_bound f m t owned in
-    IsSound-waiting (handed_on f m (first_of f m Entry)) t m (monitor_at f m).holds d (IsSound-handed_on f m sound bound)
-    (let same = length-handed_on f m (first_of f m Entry) in omega arith) (out-handed_on f t m sound out)
-    (λ owns. first_other f t m Entry sound out (sym (owner-handed_on f m (first_of f m Entry) bound) ∙ owns)) (holds_owned f m t sound owned)

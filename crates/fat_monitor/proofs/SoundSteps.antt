@@ -109,6 +109,37 @@ room_for_one f t p sound here none =
 
 -- ---- steps
 
+-- interrupt flags and the moment are free of all that fat states keep
+pub IsSound-flags : (f : FatState) (flags : map.FinMap nat_cmp Bool) → IsSound f → IsSound (record f { flags = flags })
+IsSound-flags f flags sound = record {
+  few = sound.few;
+  limit = sound.limit;
+  fair = sound.fair;
+  proper = λ t p e. IsProper-kept f (record f { flags = flags }) p (omega arith) (sound.proper t p e);
+  posted = sound.posted;
+  standing = sound.standing;
+  behind = sound.behind;
+  apart = sound.apart;
+  room = sound.room;
+  counted = sound.counted;
+  orderly = sound.orderly;
+}
+
+pub IsSound-moment : (f : FatState) (moment : ℕ) → IsSound f → IsSound (record f { moment = moment })
+IsSound-moment f moment sound = record {
+  few = sound.few;
+  limit = sound.limit;
+  fair = sound.fair;
+  proper = λ t p e. IsProper-kept f (record f { moment = moment }) p (omega arith) (sound.proper t p e);
+  posted = sound.posted;
+  standing = sound.standing;
+  behind = sound.behind;
+  apart = sound.apart;
+  room = sound.room;
+  counted = sound.counted;
+  orderly = sound.orderly;
+}
+
 -- every post is proper after a proper one was written
 pub proper_after : (f g : FatState) (t : ThreadId) (q : Post) → IsSound f → length f.monitors ≤ length g.monitors → g.threads ≡ map.insert f.threads t.0 q → IsProper f q
     → (u : ThreadId) (p : Post) → post_of g u ≡ Some p → IsProper g p

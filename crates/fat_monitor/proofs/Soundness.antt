@@ -1,102 +1,60 @@
 -- Fat states stay sound.
-use Rattle.std.specs.Prelude.{◌≡◌, ◌≢◌, ◌⊎◌, ◌↔◌, ℕ, ◌+◌, ◌-◌, ◌<◌, ◌≤◌, ◌==◌, Bool, true, false, if◌then◌else◌, nat_lt, ℤ, List, [], ◌∷◌, ◌++◌, length, get_or, slice_get, Contains, Option, Some, None, IsSome}
+use Rattle.std.specs.Prelude.{◌≡◌, ℕ, ◌+◌, ◌-◌, ◌<◌, ◌≤◌, ◌==◌, Bool, true, false, if◌then◌else◌, nat_lt, ℤ, List, [], ◌∷◌, ◌++◌, length, slice_get, Contains, Option, Some, None, IsSome}
 use Rattle.std.specs.Option.{unwrap_or}
 use Rattle.std.specs.Ordering.{nat_cmp}
 use Rattle.std.specs.FinMap as map
-use Rattle.std.specs.FinMap.{get-empty, len-empty}
-use Rattle.std.proofs.Common.{refl, sym, ap, ◌∙◌, subst, inl, inr, arith, length-append, length-set}
-use Rattle.std.proofs.lemmas.Bool.{cases_eq, eq-eqb, ne_eqb, ltb-true, ltb-false, eqb-true, eqb-false}
-use Rattle.std.proofs.lemmas.List.{get_or_at, get_or_append_left, get_or_past}
+use Rattle.std.proofs.Common.{refl, sym, ap, ◌∙◌, subst, arith}
+use Rattle.std.proofs.lemmas.Bool.{ltb-true, eqb-true, eqb-false}
 use Rattle.std.proofs.lemmas.Option.{same_Some}
 use Rattle.lock_word.specs.declared.ThreadId.{ThreadId}
-use Rattle.lock_word.specs.declared.ObjectId.{ObjectId}
-use Rattle.wait_lines.specs.declared.Role.{Role}
 use Rattle.wait_lines.specs.declared.Role.TheVariants.{Entry, Waiting as WaitSet}
-use Rattle.wait_lines.specs.Lines.{Key, key, line, times_in, without, StandsIn, StandsNowhere, left, total_count, IsOrderly}
-use Rattle.wait_lines.proofs.ThreadLemmas.{same_thread, is_same, contains_none, Contains-cons_first, Contains-cons_later, times_in-cons, times_in-present, without-absent}
-use Rattle.wait_lines.proofs.LineLemmas.{key-other_role, line-with_line_same, line-with_line_other, line-empty, total_count-empty, StandsIn-first, StandsNowhere-left, IsOrderly-nobody, IsOrderly-reserved}
+use Rattle.wait_lines.specs.Lines.{Key, key, line, times_in, without, StandsIn, left}
+use Rattle.wait_lines.proofs.ThreadLemmas.{same_thread, is_same, Contains-cons_first, times_in-cons, times_in-present, without-absent}
+use Rattle.wait_lines.proofs.LineLemmas.{key-other_role, line-with_line_same, line-with_line_other, StandsIn-first}
 use Rattle.fat_monitor.specs.declared.actions.Post.{Post}
 use Rattle.fat_monitor.specs.declared.actions.Post.TheVariants.{Out, Entering, Waiting, Back, Granted}
-use Rattle.fat_monitor.specs.declared.actions.Reply.{Reply}
 use Rattle.fat_monitor.specs.declared.actions.Action.{Action}
 use Rattle.fat_monitor.specs.declared.actions.Action.TheVariants as action
+use Rattle.fat_monitor.specs.declared.actions.Why.{Why}
 use Rattle.fat_monitor.specs.declared.actions.Why.TheVariants as why
-use Rattle.fat_monitor.specs.declared.monitors.Monitor.{Monitor}
-use Rattle.fat_monitor.specs.FatState.{FatState, IsSound, IsFair, IsProper, IsHeld, unbound, opened, monitor_at, post_of, post_at, thread_count, line_of, first_of, with_owner, with_post, with_lines, with_thread, without_thread, bound_with, is_owned_by, owns_one, place_of, stand_count, StandBehindOwners}
-use Rattle.fat_monitor.specs.Acting.{acted, granted, handed_on, parked, removed, all_removed, holds_granted, reply_granted, entered, exited, waited, notified, collected, by_owner, are_good, deadline, Outcome, NamesBound, MayAct}
-use Rattle.fat_monitor.proofs.PostMaps.{get-remove_by}
-use Rattle.fat_monitor.proofs.SoundCounts.{stand_count-empty, stand_count-insert, stand_count-remove, insert_twice, len-insert_new, len-remove_le}
-use Rattle.fat_monitor.proofs.SoundSteps.{get-written, get-written_other, written_cases, no_place, IsProper-kept, standing_bound, nowhere, room_for_one, proper_after, monitor-written, IsSound-with_post, IsSound-left, IsSound-parked, IsSound-with_owner}
-pub use Rattle.fat_monitor.proofs.SoundOwners.{stands_nowhere, room_to_join, some_owner, is_some_owner, stand_behind, nobody_first, post_at-is, IsSound-opened, IsSound-with_thread, IsSound-without_thread, IsSound-bound_with, owned_bound, holds_owned, IsSound-taken, IsSound-held, IsSound-freed, IsSound-entering, IsSound-waiting, IsSound-collected, IsSound-granted, IsSound-handed_on, length-handed_on, owner-handed_on, first_other, out-handed_on, IsSound-waited}
+use Rattle.fat_monitor.specs.FatState.{FatState, IsSound, IsHeld, monitor_at, post_of, post_at, line_of, first_of, flag_at, flag_of, with_post, with_flag, with_lines, is_owned_by, owns_one, place_of}
+use Rattle.fat_monitor.specs.Acting.{acted, sent_back, removed, all_removed, entered, exited, waited, notified, interrupted, asked, expired, collected, by_owner, are_good, deadline, Outcome, NamesBound, MayAct}
+use Rattle.fat_monitor.proofs.SoundCounts.{insert_twice}
+use Rattle.fat_monitor.proofs.SoundSteps.{get-written, IsSound-flags, IsSound-left, IsSound-parked}
+pub use Rattle.fat_monitor.proofs.SoundOwners.{stands_nowhere, room_to_join, some_owner, is_some_owner, stand_behind, nobody_first, post_at-is, IsSound-opened, IsSound-with_thread, IsSound-without_thread, IsSound-bound_with, owned_bound, holds_owned, IsSound-taken, IsSound-held, IsSound-freed, IsSound-entering, IsSound-waiting, IsSound-collected}
+pub use Rattle.fat_monitor.proofs.SoundGrants.{comes_back, granted_with, granted_flags, granted-is, IsSound-granted, IsSound-handed_on, length-handed_on, owner-handed_on, first_other, out-handed_on, IsSound-waited}
+use Rattle.fat_monitor.proofs.WaitSets.{queued, removed-queued, monitors-queued, waits_there}
 
 -- ---- wait sets
 
--- a thread of a wait set joins the entry line of its monitor, which has an owner
-called_back : (f : FatState) (u : ThreadId) (m n : ℕ) (d : Option ℕ) → IsSound f → post_of f u ≡ Some (Waiting m n d) → IsSome (monitor_at f m).owner → IsSound (removed f u (Waiting m n d))
-called_back f u m n d sound here owned =
-    subst (λ (threads : map.FinMap nat_cmp Post). IsSound (record (removed f u (Waiting m n d)) { threads = threads })) (insert_twice f.threads u.0 Out (Back m n why.Notified))
-    (IsSound-parked (with_lines (with_post f u Out) (left f.standing.lines u m WaitSet)) u Out (Back m n why.Notified) m Entry
-    (IsSound-left f u (Waiting m n d) Out m WaitSet sound here refl tt refl) (get-written f.threads u Out) refl (sound.proper u (Waiting m n d) here) refl (λ e. owned)
+-- a thread of a wait set joins the entry line behind an owner, and owns a monitor that nobody owns
+sent_back_sound : (f : FatState) (u : ThreadId) (m n : ℕ) (d : Option ℕ) (w : Why) (o : Option ThreadId) → IsSound f → post_of f u ≡ Some (Waiting m n d) → (monitor_at f m).owner ≡ o
+    → IsSound (sent_back f u m (Back m n w) o)
+sent_back_sound f u m n d w None sound here free =
+    IsSound-granted f m u (Back m n w) (Waiting m n d) WaitSet sound here refl (sound.proper u (Waiting m n d) here).1
+sent_back_sound f u m n d w (Some v) sound here owned =
+    subst (λ (threads : map.FinMap nat_cmp Post). IsSound (record (queued f u w (Waiting m n d)) { threads = threads })) (insert_twice f.threads u.0 Out (Back m n w))
+    (IsSound-parked (with_lines (with_post f u Out) (left f.standing.lines u m WaitSet)) u Out (Back m n w) m Entry
+    (IsSound-left f u (Waiting m n d) Out m WaitSet sound here refl tt refl) (get-written f.threads u Out) refl (sound.proper u (Waiting m n d) here) refl
+    (λ e. is_some_owner (monitor_at f m).owner v owned)
     (sound.apart u m WaitSet (sound.posted u (Waiting m n d) m WaitSet here refl)))
 
--- whoever waits waits for a monitor that has an owner
-abbrev IsOwnedOver : FatState → ThreadId → Type 0
-IsOwnedOver f u = (m n : ℕ) (d : Option ℕ) → post_of f u ≡ Some (Waiting m n d) → IsSome (monitor_at f m).owner
-
 -- whatever its post is, a thread is called back only from a wait set
-removed_post : (f : FatState) (u : ThreadId) (o : Option Post) → IsSound f → post_of f u ≡ o → IsOwnedOver f u → IsSound (removed f u (unwrap_or o Out))
-removed_post f u None sound here owned = sound
-removed_post f u (Some Out) sound here owned = sound
-removed_post f u (Some (Entering m)) sound here owned = sound
-removed_post f u (Some (Waiting m n d)) sound here owned = called_back f u m n d sound here (owned m n d here)
-removed_post f u (Some (Back m n w)) sound here owned = sound
-removed_post f u (Some (Granted r)) sound here owned = sound
+pub removed_post : (f : FatState) (u : ThreadId) (w : Why) (o : Option Post) → IsSound f → post_of f u ≡ o → IsSound (removed f u w (unwrap_or o Out))
+removed_post f u w None sound here = sound
+removed_post f u w (Some Out) sound here = sound
+removed_post f u w (Some (Entering m)) sound here = sound
+removed_post f u w (Some (Waiting m n d)) sound here = sent_back_sound f u m n d w (monitor_at f m).owner sound here refl
+removed_post f u w (Some (Back m n x)) sound here = sound
+removed_post f u w (Some (Granted r)) sound here = sound
 
--- a thread that stands in a wait set waits for its monitor
-waits_there : (f : FatState) (u : ThreadId) (m : ℕ) → IsSound f → StandsIn f.standing.lines u m WaitSet → IsSome (monitor_at f m).owner → IsOwnedOver f u
-waits_there f u m sound stands_in owned k n d here =
-    let there = sound.posted u (Waiting k n d) k WaitSet here refl in
-    subst (λ j. IsSome (monitor_at f j).owner) (sound.orderly.one_line u m k WaitSet WaitSet stands_in there).0 owned
-
--- a thread of a wait set whose monitor has an owner is called back
-pub IsSound-removed : (f : FatState) (u : ThreadId) (m : ℕ) → IsSound f → StandsIn f.standing.lines u m WaitSet → IsSome (monitor_at f m).owner → IsSound (removed f u (post_at f u))
-IsSound-removed f u m sound stands_in owned = removed_post f u (post_of f u) sound refl (waits_there f u m sound stands_in owned)
-
--- to call a thread back changes no monitor
-pub monitors-removed : (f : FatState) (u : ThreadId) (p : Post) → (removed f u p).monitors ≡ f.monitors
-monitors-removed f u Out = refl
-monitors-removed f u (Entering m) = refl
-monitors-removed f u (Waiting m n d) = refl
-monitors-removed f u (Back m n w) = refl
-monitors-removed f u (Granted r) = refl
-
--- whoever waits after a thread was called back waited before
-waited_before : (f : FatState) (u v : ThreadId) (p : Post) (k n : ℕ) (d : Option ℕ) → post_of (removed f u p) v ≡ Some (Waiting k n d) → post_of f v ≡ Some (Waiting k n d)
-waited_before f u v Out k n d e = e
-waited_before f u v (Entering m) k n d e = e
-waited_before f u v (Waiting m x y) k n d e = at (written_cases f.threads u v (Back m x why.Notified) (Waiting k n d) e)
-  where
-    at : ((v ≡ u) × (Back m x why.Notified ≡ Waiting k n d)) ⊎ ((v ≢ u) × (post_of f v ≡ Some (Waiting k n d))) → post_of f v ≡ Some (Waiting k n d)
-    at (inl new) = let never = new.1 in absurd (cc)
-    at (inr old) = old.1
-waited_before f u v (Back m x w) k n d e = e
-waited_before f u v (Granted r) k n d e = e
-
--- who is called back takes no owner away from the others
-IsOwnedOver-removed : (f : FatState) (u v : ThreadId) (p : Post) → IsOwnedOver f v → IsOwnedOver (removed f u p) v
-IsOwnedOver-removed f u v p owned m n d here =
-    subst (λ (monitors : List Monitor). IsSome (get_or monitors m unbound).owner) (sym (monitors-removed f u p)) (owned m n d (waited_before f u v p m n d here))
+pub IsSound-removed : (f : FatState) (u : ThreadId) (w : Why) → IsSound f → IsSound (removed f u w (post_at f u))
+IsSound-removed f u w sound = removed_post f u w (post_of f u) sound refl
 
 -- a list of threads is called back, one after another
-all_called_back : (f : FatState) (us : List ThreadId) → IsSound f → ((u : ThreadId) → Contains us u → IsOwnedOver f u) → IsSound (all_removed f us)
-all_called_back f [] sound owned = sound
-all_called_back f (u ∷ us) sound owned =
-    all_called_back (removed f u (post_at f u)) us (removed_post f u (post_of f u) sound refl (owned u (Contains-cons_first u us u refl)))
-    (λ v has. IsOwnedOver-removed f u v (post_at f u) (owned v (Contains-cons_later u us v has)))
-
--- all threads of a wait set do, one after another
-pub IsSound-all_removed : (f : FatState) (m : ℕ) → IsSound f → IsSome (monitor_at f m).owner → IsSound (all_removed f (line_of f m WaitSet))
-IsSound-all_removed f m sound owned = all_called_back f (line_of f m WaitSet) sound (λ u has. waits_there f u m sound has owned)
+pub IsSound-all_removed : (f : FatState) (us : List ThreadId) → IsSound f → IsSound (all_removed f us)
+IsSound-all_removed f [] sound = sound
+IsSound-all_removed f (u ∷ us) sound = IsSound-all_removed (removed f u why.Notified (post_at f u)) us (IsSound-removed f u why.Notified sound)
 
 -- who stands in a wait set waits with its holds
 pub post_waiting : (f : FatState) (u : ThreadId) (m : ℕ) → IsSound f → StandsIn f.standing.lines u m WaitSet → (n : ℕ) × (d : Option ℕ) × (post_of f u ≡ Some (Waiting m n d)) × IsHeld n
@@ -119,8 +77,8 @@ without-first u us once = rw (is_same u u refl) (without-absent u us absent)
     absent has = let low = times_in-present u us has in let one : times_in u (u ∷ us) ≡ 1 + times_in u us = rw (times_in-cons, is_same u u refl) refl in omega arith
 
 -- a wait set after its first thread was called back
-pub wait_set-removed : (f : FatState) (u : ThreadId) (us : List ThreadId) (m : ℕ) → IsSound f → line_of f m WaitSet ≡ u ∷ us → line_of (removed f u (post_at f u)) m WaitSet ≡ us
-wait_set-removed f u us m sound first = at (post_waiting f u m sound stands_in)
+wait_set-queued_first : (f : FatState) (u : ThreadId) (us : List ThreadId) (m : ℕ) → IsSound f → line_of f m WaitSet ≡ u ∷ us → line_of (queued f u why.Notified (post_at f u)) m WaitSet ≡ us
+wait_set-queued_first f u us m sound first = at (post_waiting f u m sound stands_in)
   where
     stands_in : StandsIn f.standing.lines u m WaitSet
     stands_in = subst (λ l. Contains l u) (sym first) (Contains-cons_first u us u refl)
@@ -128,24 +86,37 @@ wait_set-removed f u us m sound first = at (post_waiting f u m sound stands_in)
     once : times_in u (u ∷ us) ≤ 1
     once = subst (λ l. times_in u l ≤ 1) first (sound.orderly.once u m WaitSet)
 
-    at : ((n : ℕ) × (d : Option ℕ) × (post_of f u ≡ Some (Waiting m n d)) × IsHeld n) → line_of (removed f u (post_at f u)) m WaitSet ≡ us
+    at : ((n : ℕ) × (d : Option ℕ) × (post_of f u ≡ Some (Waiting m n d)) × IsHeld n) → line_of (queued f u why.Notified (post_at f u)) m WaitSet ≡ us
     at (n, d, here, held) =
-        ap (λ p. line_of (removed f u p) m WaitSet) (post_at-is f u (Waiting m n d) here)
+        ap (λ p. line_of (queued f u why.Notified p) m WaitSet) (post_at-is f u (Waiting m n d) here)
         ∙ line-with_line_other (left f.standing.lines u m WaitSet) m m Entry WaitSet (line (left f.standing.lines u m WaitSet) m Entry ++ u ∷ []) (key-other_role m m Entry WaitSet (λ e. cc))
         ∙ line-with_line_same f.standing.lines m WaitSet (without u (line f.standing.lines m WaitSet))
         ∙ ap (without u) first ∙ without-first u us once
 
+pub wait_set-removed : (f : FatState) (u : ThreadId) (us : List ThreadId) (m : ℕ) → IsSound f → IsSome (monitor_at f m).owner → line_of f m WaitSet ≡ u ∷ us
+    → line_of (removed f u why.Notified (post_at f u)) m WaitSet ≡ us
+wait_set-removed f u us m sound owned first =
+    let stands_in : StandsIn f.standing.lines u m WaitSet = subst (λ l. Contains l u) (sym first) (Contains-cons_first u us u refl) in
+    ap (λ (g : FatState). line_of g m WaitSet) (removed-queued f u why.Notified (waits_there f u m sound stands_in owned)) ∙ wait_set-queued_first f u us m sound first
+
+-- to call the first of a wait set back, whose monitor has an owner, changes no monitor
+pub monitors-removed_first : (f : FatState) (u : ThreadId) (m : ℕ) → IsSound f → IsSome (monitor_at f m).owner → first_of f m WaitSet ≡ Some u
+    → (removed f u why.Notified (post_at f u)).monitors ≡ f.monitors
+monitors-removed_first f u m sound owned first =
+    ap (λ (g : FatState). g.monitors) (removed-queued f u why.Notified (waits_there f u m sound (StandsIn-first f.standing.lines u m WaitSet first) owned))
+    ∙ monitors-queued f u why.Notified (post_at f u)
+
 -- to call all threads of a wait set back is to call back its first one, and then all that are left
-pub all_removed-first : (f : FatState) (u : ThreadId) (m : ℕ) → IsSound f → first_of f m WaitSet ≡ Some u
-    → all_removed f (line_of f m WaitSet) ≡ all_removed (removed f u (post_at f u)) (line_of (removed f u (post_at f u)) m WaitSet)
-all_removed-first f u m sound first = at (line_of f m WaitSet) refl first
+pub all_removed-first : (f : FatState) (u : ThreadId) (m : ℕ) → IsSound f → IsSome (monitor_at f m).owner → first_of f m WaitSet ≡ Some u
+    → all_removed f (line_of f m WaitSet) ≡ all_removed (removed f u why.Notified (post_at f u)) (line_of (removed f u why.Notified (post_at f u)) m WaitSet)
+all_removed-first f u m sound owned first = at (line_of f m WaitSet) refl first
   where
     at : (ts : List ThreadId) → line_of f m WaitSet ≡ ts → slice_get ts 0 ≡ Some u
-        → all_removed f (line_of f m WaitSet) ≡ all_removed (removed f u (post_at f u)) (line_of (removed f u (post_at f u)) m WaitSet)
+        → all_removed f (line_of f m WaitSet) ≡ all_removed (removed f u why.Notified (post_at f u)) (line_of (removed f u why.Notified (post_at f u)) m WaitSet)
     at [] e none = absurd (cc)
     at (x ∷ xs) e some =
         let begins : line_of f m WaitSet ≡ u ∷ xs = e ∙ ap (λ t. t ∷ xs) (same_Some x u some) in
-        ap (all_removed f) begins ∙ ap (all_removed (removed f u (post_at f u))) (sym (wait_set-removed f u xs m sound begins))
+        ap (all_removed f) begins ∙ ap (all_removed (removed f u why.Notified (post_at f u))) (sym (wait_set-removed f u xs m sound owned begins))
 
 -- an empty wait set is called back already
 pub all_removed-none : (f : FatState) (m : ℕ) → first_of f m WaitSet ≡ None → all_removed f (line_of f m WaitSet) ≡ f
@@ -156,14 +127,15 @@ all_removed-none f m none = at (line_of f m WaitSet) none
     at (x ∷ xs) e = absurd (cc)
 
 -- and each thread that is called back leaves one less
-pub length-wait_set : (f : FatState) (u : ThreadId) (m : ℕ) → IsSound f → first_of f m WaitSet ≡ Some u → length (line_of (removed f u (post_at f u)) m WaitSet) + 1 ≡ length (line_of f m WaitSet)
-length-wait_set f u m sound first = at (line_of f m WaitSet) refl first
+pub length-wait_set : (f : FatState) (u : ThreadId) (m : ℕ) → IsSound f → IsSome (monitor_at f m).owner → first_of f m WaitSet ≡ Some u
+    → length (line_of (removed f u why.Notified (post_at f u)) m WaitSet) + 1 ≡ length (line_of f m WaitSet)
+length-wait_set f u m sound owned first = at (line_of f m WaitSet) refl first
   where
-    at : (ts : List ThreadId) → line_of f m WaitSet ≡ ts → slice_get ts 0 ≡ Some u → length (line_of (removed f u (post_at f u)) m WaitSet) + 1 ≡ length (line_of f m WaitSet)
+    at : (ts : List ThreadId) → line_of f m WaitSet ≡ ts → slice_get ts 0 ≡ Some u → length (line_of (removed f u why.Notified (post_at f u)) m WaitSet) + 1 ≡ length (line_of f m WaitSet)
     at [] e none = absurd (cc)
     at (x ∷ xs) e some =
         let begins : line_of f m WaitSet ≡ u ∷ xs = e ∙ ap (λ t. t ∷ xs) (same_Some x u some) in
-        let left_over = ap length (wait_set-removed f u xs m sound begins) in
+        let left_over = ap length (wait_set-removed f u xs m sound owned begins) in
         let long = ap length begins in
         omega arith
 
@@ -201,12 +173,34 @@ exited_sound f t m sound bound owned =
 -- a wait of the owner
 waited_sound : (f : FatState) (t : ThreadId) (m : ℕ) (millis nanos : ℤ) → IsSound f → post_of f t ≡ Some Out → (monitor_at f m).owner ≡ Some t → IsSound (waited f t m millis nanos).after
 waited_sound f t m millis nanos sound out owned =
-    either_sound (are_good millis nanos) _ _ (λ good. IsSound-waited f t m (deadline 0 millis nanos) sound out owned) (λ bad. sound)
+    either_sound (are_good millis nanos) _ _
+    (λ good. either_sound (flag_at f t) _ _ (λ flagged. IsSound-flags f (map.insert f.flags t.0 false) sound) (λ clear. IsSound-waited f t m (deadline f.moment millis nanos) sound out owned))
+    (λ bad. sound)
 
 -- a notify of the owner
-notified_sound : (f : FatState) (m : ℕ) (o : Option ThreadId) → IsSound f → IsSome (monitor_at f m).owner → first_of f m WaitSet ≡ o → IsSound (notified f o).after
-notified_sound f m None sound owned first = sound
-notified_sound f m (Some u) sound owned first = IsSound-removed f u m sound (StandsIn-first f.standing.lines u m WaitSet first) owned
+notified_sound : (f : FatState) (o : Option ThreadId) → IsSound f → IsSound (notified f o).after
+notified_sound f None sound = sound
+notified_sound f (Some u) sound = IsSound-removed f u why.Notified sound
+
+-- an interrupt, and the question whether a thread is interrupted
+interrupted_sound : (f : FatState) (u : ThreadId) (o : Option Post) → IsSound f → post_of f u ≡ o → IsSound (interrupted f u o).after
+interrupted_sound f u None sound here = sound
+interrupted_sound f u (Some p) sound here = removed_post (with_flag f u true) u why.Interrupted (Some p) (IsSound-flags f (map.insert f.flags u.0 true) sound) here
+
+asked_sound : (f : FatState) (o : Option Bool) → IsSound f → IsSound (asked f o).after
+asked_sound f None sound = sound
+asked_sound f (Some flag) sound = sound
+
+-- the end of the time of a wait
+expired_sound : (f : FatState) (t : ThreadId) (o : Option Post) → IsSound f → post_of f t ≡ o → IsSound (expired f t (unwrap_or o Out)).after
+expired_sound f t None sound here = sound
+expired_sound f t (Some Out) sound here = sound
+expired_sound f t (Some (Entering m)) sound here = sound
+expired_sound f t (Some (Waiting m n None)) sound here = sound
+expired_sound f t (Some (Waiting m n (Some d))) sound here =
+    either_sound (nat_lt f.moment d) _ _ (λ early. sound) (λ due. removed_post f t why.Elapsed (Some (Waiting m n (Some d))) sound here)
+expired_sound f t (Some (Back m n w)) sound here = sound
+expired_sound f t (Some (Granted r)) sound here = sound
 
 -- a collect
 collected_sound : (f : FatState) (t : ThreadId) (o : Option Post) → IsSound f → post_of f t ≡ o → IsSound (collected f t (unwrap_or o Out)).after
@@ -226,9 +220,12 @@ pub IsSound-acted : (f : FatState) (t : ThreadId) (a : Action) → IsSound f →
 IsSound-acted f t (action.Enter m) sound may bound = entered_sound f t m (monitor_at f m).owner sound bound may refl
 IsSound-acted f t (action.Exit m) sound may bound = owner_sound f m t _ sound (λ owned. exited_sound f t m sound bound owned)
 IsSound-acted f t (action.Wait m millis nanos) sound may bound = owner_sound f m t _ sound (λ owned. waited_sound f t m millis nanos sound may owned)
-IsSound-acted f t (action.Notify m) sound may bound =
-    owner_sound f m t _ sound (λ owned. notified_sound f m (first_of f m WaitSet) sound (is_some_owner (monitor_at f m).owner t owned) refl)
-IsSound-acted f t (action.NotifyAll m) sound may bound = owner_sound f m t _ sound (λ owned. IsSound-all_removed f m sound (is_some_owner (monitor_at f m).owner t owned))
+IsSound-acted f t (action.Notify m) sound may bound = owner_sound f m t _ sound (λ owned. notified_sound f (first_of f m WaitSet) sound)
+IsSound-acted f t (action.NotifyAll m) sound may bound = owner_sound f m t _ sound (λ owned. IsSound-all_removed f (line_of f m WaitSet) sound)
 IsSound-acted f t (action.Holds m) sound may bound = sound
+IsSound-acted f t (action.Interrupt u) sound may bound = interrupted_sound f u (post_of f u) sound refl
+IsSound-acted f t action.Interrupted sound may bound = IsSound-flags f (map.insert f.flags t.0 false) sound
+IsSound-acted f t (action.IsInterrupted u) sound may bound = asked_sound f (flag_of f u) sound
+IsSound-acted f t action.Expire sound may bound = expired_sound f t (post_of f t) sound refl
 IsSound-acted f t action.Collect sound may bound = collected_sound f t (post_of f t) sound refl
 IsSound-acted f t action.End sound may bound = either_sound (owns_one f.monitors t) _ _ (λ owns. sound) (λ none. IsSound-without_thread f t sound may)

@@ -1,29 +1,33 @@
 -- What the bodies of actions make of a fat state.
 use Rattle.std.specs.Prelude.{◌≡◌, ℕ, ◌+◌, ◌<◌, ◌==◌, Bool, true, false, length, Option, Some, None, IsSome, Result, Ok, Err, OnOk, OnErr, if◌then◌else◌, slice_index_or, slice_set}
-use Rattle.std.proofs.Common.{refl, ap, ◌∙◌, subst, inl, inr}
-use Rattle.std.specs.Ordering.{nat_cmp}
+use Rattle.std.proofs.Common.{refl, sym, ap, ◌∙◌, subst}
 use Rattle.std.specs.FinMap as map
 use Rattle.std.proofs.lemmas.Bool.{ne_eqb, eq-eqb}
 use Rattle.std.proofs.lemmas.List.{get_or_default}
 use Rattle.std.specs.Result.{is_err}
 use Rattle.lock_word.specs.declared.ThreadId.{ThreadId}
-use Rattle.wait_lines.specs.Lines.{Standing, LineMap, joined, left}
+use Rattle.std.specs.Option.{unwrap_or}
+use Rattle.wait_lines.specs.Lines.{Key, Standing, LineMap, joined, left}
 use Rattle.wait_lines.specs.declared.Role.{Role}
 use Rattle.wait_lines.specs.declared.Role.TheVariants.{Entry, Waiting as WaitSet}
 use Rattle.fat_monitor.specs.declared.monitors.Monitor.{Monitor}
 use Rattle.fat_monitor.specs.declared.actions.Done.{Done}
 use Rattle.fat_monitor.specs.declared.actions.Post.{Post}
-use Rattle.fat_monitor.specs.declared.actions.Post.TheVariants.{Out, Waiting, Back, Granted}
-use Rattle.fat_monitor.specs.declared.actions.Why.TheVariants.{Notified}
+use Rattle.fat_monitor.specs.declared.actions.Post.TheVariants.{Out, Entering, Waiting, Back, Granted}
+use Rattle.fat_monitor.specs.declared.actions.Why.{Why}
+use Rattle.fat_monitor.specs.declared.actions.Why.TheVariants as why
 use Rattle.fat_monitor.specs.declared.actions.Reply.{Reply}
+use Rattle.fat_monitor.specs.declared.actions.Reply.TheVariants as reply
 use Rattle.fat_monitor.specs.declared.actions.Action.{Action}
 use Rattle.fat_monitor.specs.declared.actions.ActFault.{ActFault}
 use Rattle.fat_monitor.specs.declared.actions.Answer.{Answer}
-use Rattle.fat_monitor.specs.FatState.{FatState, IsSound, monitor_at, with_monitor, with_owner, unbound, post_of, post_at, first_of, is_owned_by, room_for, thread_count, with_thread, StandBehindOwners}
-use Rattle.fat_monitor.specs.Acting.{Outcome, acted, told, replied, parked, removed, granted, holds_granted, reply_granted, MayAct, NamesBound}
+use Rattle.fat_monitor.specs.FatState.{FatState, IsSound, monitor_at, with_monitor, with_owner, with_flag, unbound, post_of, post_at, is_owned_by, room_for, thread_count, with_thread, place_of, StandBehindOwners}
+use Rattle.fat_monitor.specs.Acting.{Outcome, acted, told, replied, interrupted, parked, granted, holds_granted, reply_granted, MayAct, NamesBound}
 use Rattle.fat_monitor.proofs.PostMaps.{get-insert_by}
+use Rattle.fat_monitor.specs.Slots.{Posted}
+use Rattle.fat_monitor.proofs.SoundGrants.{granted_flags, granted-is}
+use Rattle.fat_monitor.proofs.WaitSets.{queued}
 use Rattle.fat_monitor.proofs.Soundness.{IsSound-acted, stand_behind}
-use Rattle.fat_monitor.proofs.Effects.{first_entering}
 
 -- what a read of a monitor found
 pub monitor_read : (f : FatState) (m : ℕ) (b : Monitor) → m < length f.monitors → b ≡ slice_index_or f.monitors m b → monitor_at f m ≡ b
@@ -58,8 +62,9 @@ room_crowded threads reservations e = rw (eq-eqb threads reservations e) refl
 pub room_left : (threads reservations : ℕ) → (threads ≡ reservations → ⊥) → room_for threads reservations ≡ reservations
 room_left threads reservations e = rw (ne_eqb threads reservations e) refl
 
-pub attached_as : (f : FatState) (t : ThreadId) (posts : map.FinMap nat_cmp Post) (standing : Standing) → posts ≡ map.insert f.threads t.0 Out
-    → standing.lines ≡ f.standing.lines → standing.reservations ≡ room_for (thread_count f) f.standing.reservations → record f { threads = posts; standing = standing } ≡ with_thread f t
+pub attached_as : (f : FatState) (t : ThreadId) (posts : Posted) (standing : Standing) → posts ≡ record { posts = map.insert f.threads t.0 Out; flags = map.insert f.flags t.0 false }
+    → standing.lines ≡ f.standing.lines → standing.reservations ≡ room_for (thread_count f) f.standing.reservations
+    → record f { threads = posts.posts; flags = posts.flags; standing = standing } ≡ with_thread f t
 attached_as f t posts standing e lines room =
     let first : standing ≡ record standing { lines = f.standing.lines } = ap (λ (l : LineMap). record standing { lines = l }) lines in
     let all : standing ≡ record f.standing { reservations = room_for (thread_count f) f.standing.reservations } = first ∙ ap (λ (n : ℕ). record { lines = f.standing.lines; reservations = n }) room in
@@ -76,27 +81,54 @@ pub attached_still : (f : FatState) (t u : ThreadId) → IsSome (map.get f.threa
 attached_still f t u h = rw (get-insert_by f.threads t.0 Out u.0) (still_some (u.0 == t.0) Out (map.get f.threads u.0) h)
 
 -- a thread joined a line
-pub parked_as : (f : FatState) (t : ThreadId) (p : Post) (m : ℕ) (r : Role) (posts : map.FinMap nat_cmp Post) (standing : Standing) → posts ≡ map.insert f.threads t.0 p
-    → standing.lines ≡ joined f.standing.lines t m r → standing.reservations ≡ f.standing.reservations → record f { threads = posts; standing = standing } ≡ parked f t p m r
+pub parked_as : (f : FatState) (t : ThreadId) (p : Post) (m : ℕ) (r : Role) (posts : Posted) (standing : Standing) → posts ≡ record { posts = map.insert f.threads t.0 p; flags = f.flags }
+    → standing.lines ≡ joined f.standing.lines t m r → standing.reservations ≡ f.standing.reservations
+    → record f { threads = posts.posts; flags = posts.flags; standing = standing } ≡ parked f t p m r
 parked_as f t p m r posts standing e lines kept = rw (e, same_standing f.standing standing _ lines kept) refl
 
--- the first of an entry line was granted its monitor
-pub granted_as : (f : FatState) (m : ℕ) (u : ThreadId) (old new : Monitor) (grant : ℕ × Reply) (posts : map.FinMap nat_cmp Post) (standing : Standing)
+-- the flag of a thread was written
+pub flagged_as : (f : FatState) (t : ThreadId) (flag : Bool) (posts : Posted) → posts ≡ record { posts = f.threads; flags = map.insert f.flags t.0 flag }
+    → record f { threads = posts.posts; flags = posts.flags } ≡ with_flag f t flag
+flagged_as f t flag posts e = rw e refl
+
+-- a thread that stood in a line was granted its monitor
+pub granted_as : (f : FatState) (m : ℕ) (u : ThreadId) (p : Post) (r : Role) (old new : Monitor) (grant : ℕ × Reply) (between posts : Posted) (standing : Standing)
     → m < length f.monitors → old ≡ slice_index_or f.monitors m old → new ≡ record old { owner = Some u; holds = grant.0 }
-    → grant ≡ (holds_granted (post_at f u), reply_granted (post_at f u)) → posts ≡ map.insert f.threads u.0 (Granted grant.1)
-    → standing.lines ≡ left f.standing.lines u m Entry → standing.reservations ≡ f.standing.reservations
-    → record f { monitors = slice_set f.monitors m new; threads = posts; standing = standing } ≡ granted f m u (post_at f u)
-granted_as f m u old new grant posts standing bound read is g e lines kept =
-    ap (λ (h : FatState). record h { threads = posts; standing = standing }) (written f m old new (Some u) grant.0 bound read is)
-    ∙ rw (e, same_standing f.standing standing _ lines kept, g) refl
+    → grant ≡ (holds_granted p, reply_granted p) → between ≡ record { posts = f.threads; flags = granted_flags f u p }
+    → posts ≡ record between { posts = map.insert between.posts u.0 (Granted grant.1) }
+    → standing.lines ≡ left f.standing.lines u m r → standing.reservations ≡ f.standing.reservations
+    → record f { monitors = slice_set f.monitors m new; threads = posts.posts; flags = posts.flags; standing = standing } ≡ granted f m u p r
+granted_as f m u p r old new grant between posts standing bound read is g b e lines kept =
+    ap (λ (h : FatState). record h { threads = posts.posts; flags = posts.flags; standing = standing }) (written f m old new (Some u) grant.0 bound read is)
+    ∙ rw (e, b, same_standing f.standing standing _ lines kept, g) refl ∙ sym (granted-is f m u p r)
+
+-- a grant clears the flag of a wait that an interrupt ended, and no other
+pub flags_cleared : (f : FatState) (u : ThreadId) (p : Post) → reply_granted p ≡ reply.Interrupted → granted_flags f u p ≡ map.insert f.flags u.0 false
+flags_cleared f u Out e = absurd (cc)
+flags_cleared f u (Entering m) e = absurd (cc)
+flags_cleared f u (Waiting m n d) e = absurd (cc)
+flags_cleared f u (Back m n why.Notified) e = absurd (cc)
+flags_cleared f u (Back m n why.Interrupted) e = refl
+flags_cleared f u (Back m n why.Elapsed) e = absurd (cc)
+flags_cleared f u (Granted r) e = absurd (cc)
+
+pub flags_kept : (f : FatState) (u : ThreadId) (p : Post) → (reply_granted p ≡ reply.Interrupted → ⊥) → granted_flags f u p ≡ f.flags
+flags_kept f u Out e = refl
+flags_kept f u (Entering m) e = refl
+flags_kept f u (Waiting m n d) e = refl
+flags_kept f u (Back m n why.Notified) e = refl
+flags_kept f u (Back m n why.Interrupted) e = absurd (e refl)
+flags_kept f u (Back m n why.Elapsed) e = refl
+flags_kept f u (Granted r) e = refl
 
 -- a thread of a wait set was sent to the entry line
-pub removed_as : (f : FatState) (u : ThreadId) (m n : ℕ) (d : Option ℕ) (posts : map.FinMap nat_cmp Post) (between standing : Standing) → post_of f u ≡ Some (Waiting m n d)
-    → posts ≡ map.insert f.threads u.0 (Back m n Notified) → between.lines ≡ left f.standing.lines u m WaitSet → between.reservations ≡ f.standing.reservations
-    → standing.lines ≡ joined between.lines u m Entry → standing.reservations ≡ between.reservations → record f { threads = posts; standing = standing } ≡ removed f u (post_at f u)
-removed_as f u m n d posts between standing waits e lines kept more kept_too =
+pub queued_as : (f : FatState) (u : ThreadId) (w : Why) (m n : ℕ) (d : Option ℕ) (posts : Posted) (between standing : Standing)
+    → posts ≡ record { posts = map.insert f.threads u.0 (Back m n w); flags = f.flags } → between.lines ≡ left f.standing.lines u m WaitSet → between.reservations ≡ f.standing.reservations
+    → standing.lines ≡ joined between.lines u m Entry → standing.reservations ≡ between.reservations
+    → record f { threads = posts.posts; flags = posts.flags; standing = standing } ≡ queued f u w (Waiting m n d)
+queued_as f u w m n d posts between standing e lines kept more kept_too =
     let at : standing.lines ≡ joined (left f.standing.lines u m WaitSet) u m Entry = more ∙ ap (λ (l : LineMap). joined l u m Entry) lines in
-    rw (waits, e, same_standing f.standing standing _ at (kept_too ∙ kept)) refl
+    rw (e, same_standing f.standing standing _ at (kept_too ∙ kept)) refl
 
 -- what a reply says at a state it says at the same state
 pub replied_at : (d : Done) (r : Reply) (f g : FatState) → ((h : FatState) → record { answer = Ok d; after = h } ≡ replied h r) → f ≡ g
@@ -125,9 +157,18 @@ pub owned_by : (o : Option ThreadId) (t : ThreadId) → is_owned_by o t ≡ true
 owned_by None t e = absurd (cc)
 owned_by (Some u) t e = refl
 
--- the first of an entry line is attached
-pub first_attached : (f : FatState) (m : ℕ) (u : ThreadId) → IsSound f → first_of f m Entry ≡ Some u → IsSome (post_of f u)
-first_attached f m u sound first = elim (first_entering f m u sound first) as (λ _. IsSome (post_of f u)) [
-  | inl e ↦ rw (e) refl
-  | inr w ↦ rw (w.2) refl
-]
+-- whoever has a place is attached, at its post
+pub placed : (f : FatState) (t : ThreadId) (k : Key) → place_of (post_at f t) ≡ Some k → (p : Post) × (post_of f t ≡ Some p) × (place_of p ≡ Some k)
+placed f t k place = at (post_of f t) refl place
+  where
+    at : (o : Option Post) → post_of f t ≡ o → place_of (unwrap_or o Out) ≡ Some k → (p : Post) × (post_of f t ≡ Some p) × (place_of p ≡ Some k)
+    at None e none = absurd (cc)
+    at (Some p) e is = (p, e, is)
+
+-- an interrupt of a thread that does not wait sets its flag, and no more
+pub interrupted_outside : (f : FatState) (u : ThreadId) (p : Post) → ((m n : ℕ) (d : Option ℕ) → p ≡ Waiting m n d → ⊥) → interrupted f u (Some p) ≡ replied (with_flag f u true) reply.Done
+interrupted_outside f u Out idle = refl
+interrupted_outside f u (Entering m) idle = refl
+interrupted_outside f u (Waiting m n d) idle = absurd (idle m n d refl)
+interrupted_outside f u (Back m n w) idle = refl
+interrupted_outside f u (Granted r) idle = refl

@@ -4,7 +4,8 @@ use Rattle.lock_word.specs.declared.ThreadId.{ThreadId}
 use Rattle.wait_lines.specs.declared.Role.{Role}
 use Rattle.wait_lines.specs.declared.Role.TheVariants.{Entry, Waiting as WaitSet}
 use Rattle.wait_lines.specs.Lines.{joined, left}
-use Rattle.fat_monitor.specs.declared.actions.Cause.TheVariants.{TooDeep, StillOwner}
+use Rattle.fat_monitor.specs.declared.actions.Cause.TheVariants.{TooDeep, StillOwner, NoThread}
+use Rattle.fat_monitor.specs.declared.actions.Why.{Why}
 use Rattle.fat_monitor.specs.declared.actions.Why.TheVariants as why
 use Rattle.fat_monitor.specs.declared.actions.Reply.{Reply}
 use Rattle.fat_monitor.specs.declared.actions.Reply.TheVariants as reply
@@ -17,7 +18,7 @@ use Rattle.fat_monitor.specs.declared.actions.Post.TheVariants.{Out, Entering, W
 use Rattle.fat_monitor.specs.declared.actions.Done.{Done}
 use Rattle.fat_monitor.specs.declared.actions.ActFault.{ActFault}
 use Rattle.fat_monitor.specs.declared.actions.ActFault.TheVariants as fault
-use Rattle.fat_monitor.specs.FatState.{FatState, monitor_at, post_of, post_at, IsAttached, line_of, first_of, with_owner, with_post, with_lines, without_thread, is_owned_by, owns_one}
+use Rattle.fat_monitor.specs.FatState.{FatState, monitor_at, post_of, post_at, flag_at, flag_of, IsAttached, line_of, first_of, with_owner, with_post, with_flag, with_lines, without_thread, is_owned_by, owns_one}
 
 -- the answer of an action, and the fat state after it
 pub record Outcome : Type 0 where
@@ -35,6 +36,12 @@ replied f r = told f (answer.Reply r) None None
 abbrev pub parked : FatState → ThreadId → Post → ℕ → Role → FatState
 parked f t p m r = with_lines (with_post f t p) (joined f.standing.lines t m r)
 
+-- what a wait replies that was ended for this reason
+abbrev pub reply_back : Why → Reply
+reply_back why.Notified = reply.WaitOver
+reply_back why.Interrupted = reply.Interrupted
+reply_back why.Elapsed = reply.WaitOver
+
 -- How often a thread holds the monitor that it is granted, and what its call replies: one that comes back
 -- from a wait has all its holds back, another had asked to enter.
 abbrev pub holds_granted : Post → ℕ
@@ -45,34 +52,63 @@ holds_granted (Waiting m n d) = 1
 holds_granted (Granted r) = 1
 
 abbrev pub reply_granted : Post → Reply
-reply_granted (Back m n w) = reply.WaitOver
+reply_granted (Back m n w) = reply_back w
 reply_granted Out = reply.Entered
 reply_granted (Entering m) = reply.Entered
 reply_granted (Waiting m n d) = reply.Entered
 reply_granted (Granted r) = reply.Entered
 
--- u leaves the entry line of m and becomes its owner
-abbrev pub granted : FatState → ℕ → ThreadId → Post → FatState
-granted f m u p =
-    with_lines (with_post (with_owner f m (Some u) (holds_granted p)) u (Granted (reply_granted p))) (left f.standing.lines u m Entry)
+-- an interrupt that ended a wait is forgotten when the wait has its reply
+abbrev pub settled : FatState → ThreadId → Post → FatState
+settled f u (Back m n why.Interrupted) = with_flag f u false
+settled f u (Back m n why.Notified) = f
+settled f u (Back m n why.Elapsed) = f
+settled f u Out = f
+settled f u (Entering m) = f
+settled f u (Waiting m n d) = f
+settled f u (Granted r) = f
+
+-- u, which is to have this post, leaves this line of m and becomes the owner of m
+abbrev pub granted : FatState → ℕ → ThreadId → Post → Role → FatState
+granted f m u p r =
+    with_lines (with_post (with_owner (settled f u p) m (Some u) (holds_granted p)) u (Granted (reply_granted p))) (left f.standing.lines u m r)
 
 -- the owner gives up m, which goes to this thread, the first of the entry line; without one, nobody owns it
 abbrev pub handed_on : FatState → ℕ → Option ThreadId → FatState
 handed_on f m None = with_owner f m None 0
-handed_on f m (Some u) = granted f m u (post_at f u)
+handed_on f m (Some u) = granted f m u (post_at f u) Entry
 
--- u, which has this post, leaves its wait set, keeps its holds, and joins the end of the entry line
-abbrev pub removed : FatState → ThreadId → Post → FatState
-removed f u (Waiting m n d) = with_lines (with_post f u (Back m n why.Notified)) (joined (left f.standing.lines u m WaitSet) u m Entry)
-removed f u Out = f
-removed f u (Entering m) = f
-removed f u (Back m n w) = f
-removed f u (Granted r) = f
+-- u leaves the wait set of m with this post: behind an owner it joins the end of the entry line. A monitor that
+-- nobody owns it gets at once: nobody stands in the entry line of such a monitor, so it would be the first there
+-- to whom the monitor is handed on.
+abbrev pub sent_back : FatState → ThreadId → ℕ → Post → Option ThreadId → FatState
+sent_back f u m p (Some owner) = with_lines (with_post f u p) (joined (left f.standing.lines u m WaitSet) u m Entry)
+sent_back f u m p None = granted f m u p WaitSet
 
--- each of these threads does, one after another
+-- u, which has this post, leaves its wait set for this reason, and keeps its holds
+abbrev pub removed : FatState → ThreadId → Why → Post → FatState
+removed f u w (Waiting m n d) = sent_back f u m (Back m n w) (monitor_at f m).owner
+removed f u w Out = f
+removed f u w (Entering m) = f
+removed f u w (Back m n x) = f
+removed f u w (Granted r) = f
+
+-- u, where it gets the monitor that it waited on at once: nobody owns it
+abbrev pub served_by : ThreadId → Option ThreadId → Option ThreadId
+served_by u (Some owner) = None
+served_by u None = Some u
+
+abbrev pub served : FatState → ThreadId → Post → Option ThreadId
+served f u (Waiting m n d) = served_by u (monitor_at f m).owner
+served f u Out = None
+served f u (Entering m) = None
+served f u (Back m n w) = None
+served f u (Granted r) = None
+
+-- each of these threads is notified, one after another
 abbrev pub all_removed : FatState → List ThreadId → FatState
 all_removed f [] = f
-all_removed f (u ∷ us) = all_removed (removed f u (post_at f u)) us
+all_removed f (u ∷ us) = all_removed (removed f u why.Notified (post_at f u)) us
 
 -- the arguments of a wait are in their ranges (JLS 17.2.1)
 abbrev pub are_good : ℤ → ℤ → Bool
@@ -109,19 +145,48 @@ exited f t m =
     then replied (with_owner f m (Some t) ((monitor_at f m).holds - 1)) reply.Exited
     else told (handed_on f m (first_of f m Entry)) (answer.Reply reply.Exited) (first_of f m Entry) None
 
--- A wait joins the wait set with all its holds, and hands the monitor on.
+-- A wait of an interrupted thread ends at once, and the interrupt is forgotten. Another joins the wait set
+-- with all its holds, and hands the monitor on.
 abbrev pub waited : FatState → ThreadId → ℕ → ℤ → ℤ → Outcome
 waited f t m millis nanos =
     if are_good millis nanos
-    then
-    told (parked (handed_on f m (first_of f m Entry)) t (Waiting m (monitor_at f m).holds (deadline 0 millis nanos)) m WaitSet)
-    answer.Parked (first_of f m Entry) None
+    then (
+    if flag_at f t
+    then replied (with_flag f t false) reply.Interrupted
+    else
+    told (parked (handed_on f m (first_of f m Entry)) t (Waiting m (monitor_at f m).holds (deadline f.moment millis nanos)) m WaitSet)
+    answer.Parked (first_of f m Entry) None)
     else replied f reply.IllegalArgument
 
 -- A notify removes the thread that has waited longest, if one waits.
 abbrev pub notified : FatState → Option ThreadId → Outcome
 notified f None = replied f reply.Notified
-notified f (Some u) = told (removed f u (post_at f u)) (answer.Reply reply.Notified) None (Some u)
+notified f (Some u) = told (removed f u why.Notified (post_at f u)) (answer.Reply reply.Notified) None (Some u)
+
+-- An interrupt of a thread with this post, if it is attached, sets its flag, and removes it from its wait set.
+abbrev pub interrupted : FatState → ThreadId → Option Post → Outcome
+interrupted f u None = replied f (reply.Refused NoThread)
+interrupted f u (Some p) = told (removed (with_flag f u true) u why.Interrupted p) (answer.Reply reply.Done) (served f u p) None
+
+-- the answer to whether a thread with this flag, if it is attached, is interrupted
+abbrev pub asked : FatState → Option Bool → Outcome
+asked f None = replied f (reply.Refused NoThread)
+asked f (Some flag) = replied f (yes_or_no flag)
+
+-- A wait whose deadline has come is over.
+abbrev pub not_due : FatState → Outcome
+not_due f = record { answer = Err fault.NotDue; after = f }
+
+abbrev pub expired : FatState → ThreadId → Post → Outcome
+expired f t (Waiting m n (Some d)) =
+    if nat_lt f.moment d
+    then not_due f
+    else told (removed f t why.Elapsed (Waiting m n (Some d))) answer.Quiet (served f t (Waiting m n (Some d))) None
+expired f t (Waiting m n None) = not_due f
+expired f t Out = not_due f
+expired f t (Entering m) = not_due f
+expired f t (Back m n w) = not_due f
+expired f t (Granted r) = not_due f
 
 -- A collect takes the reply that was granted.
 abbrev pub collected : FatState → ThreadId → Post → Outcome
@@ -139,10 +204,14 @@ acted f t (action.Wait m millis nanos) = by_owner f m t (waited f t m millis nan
 acted f t (action.Notify m) = by_owner f m t (notified f (first_of f m WaitSet))
 acted f t (action.NotifyAll m) = by_owner f m t (replied (all_removed f (line_of f m WaitSet)) reply.Notified)
 acted f t (action.Holds m) = replied f (yes_or_no (is_owned_by (monitor_at f m).owner t))
+acted f t (action.Interrupt u) = interrupted f u (post_of f u)
+acted f t action.Interrupted = replied (with_flag f t false) (yes_or_no (flag_at f t))
+acted f t (action.IsInterrupted u) = asked f (flag_of f u)
+acted f t action.Expire = expired f t (post_at f t)
 acted f t action.Collect = collected f t (post_at f t)
 acted f t action.End = if owns_one f.monitors t then replied f (reply.Refused StillOwner) else replied (without_thread f t) reply.Ended
 
--- the monitor that an action names is bound; a Collect and an End name none
+-- the monitor that an action names, if it names one, is bound
 abbrev pub NamesBound : FatState → Action → Type 0
 NamesBound f (action.Enter m) = m < length f.monitors
 NamesBound f (action.Exit m) = m < length f.monitors
@@ -150,11 +219,16 @@ NamesBound f (action.Wait m millis nanos) = m < length f.monitors
 NamesBound f (action.Notify m) = m < length f.monitors
 NamesBound f (action.NotifyAll m) = m < length f.monitors
 NamesBound f (action.Holds m) = m < length f.monitors
+NamesBound f (action.Interrupt u) = Unit {0}
+NamesBound f action.Interrupted = Unit {0}
+NamesBound f (action.IsInterrupted u) = Unit {0}
+NamesBound f action.Expire = Unit {0}
 NamesBound f action.Collect = Unit {0}
 NamesBound f action.End = Unit {0}
 
--- the thread may make the action: it is attached, and out of every other action but for a Collect
+-- the thread may make the action: it is attached, and out of every other action but for an Expire and a Collect
 abbrev pub MayAct : FatState → ThreadId → Action → Type 0
+MayAct f t action.Expire = IsAttached f t
 MayAct f t action.Collect = IsAttached f t
 MayAct f t (action.Enter m) = post_of f t ≡ Some Out
 MayAct f t (action.Exit m) = post_of f t ≡ Some Out
@@ -162,4 +236,7 @@ MayAct f t (action.Wait m millis nanos) = post_of f t ≡ Some Out
 MayAct f t (action.Notify m) = post_of f t ≡ Some Out
 MayAct f t (action.NotifyAll m) = post_of f t ≡ Some Out
 MayAct f t (action.Holds m) = post_of f t ≡ Some Out
+MayAct f t (action.Interrupt u) = post_of f t ≡ Some Out
+MayAct f t action.Interrupted = post_of f t ≡ Some Out
+MayAct f t (action.IsInterrupted u) = post_of f t ≡ Some Out
 MayAct f t action.End = post_of f t ≡ Some Out

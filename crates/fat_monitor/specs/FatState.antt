@@ -16,17 +16,20 @@ use Rattle.fat_monitor.specs.declared.actions.Post.{Post}
 use Rattle.fat_monitor.specs.declared.actions.Post.TheVariants.{Out, Entering, Waiting, Back, Granted}
 use Rattle.fat_monitor.specs.declared.monitors.Monitor.{Monitor}
 
--- the bound monitors, by number; the post of each attached thread, by the thread's number; who stands in
--- which line, with the room that there is for it; and how many monitors there may be
+-- the bound monitors, by number; the post and the interrupt flag of each attached thread, by the thread's
+-- number; who stands in which line, with the room that there is for it; the moment, in nanoseconds; and how
+-- many monitors there may be
 pub record FatState : Type 0 where
   pub monitors : List Monitor
   pub threads : map.FinMap nat_cmp Post
+  pub flags : map.FinMap nat_cmp Bool
   pub standing : Standing
+  pub moment : ℕ
   pub limit : ℕ
 
--- no monitor is bound, no thread is attached
+-- no monitor is bound, no thread is attached, and the moment is 0
 abbrev pub opened : ℕ → FatState
-opened limit = record { monitors = []; threads = map.empty; standing = nobody; limit = limit }
+opened limit = record { monitors = []; threads = map.empty; flags = map.empty; standing = nobody; moment = 0; limit = limit }
 
 -- what an unbound monitor reads as
 abbrev pub unbound : Monitor
@@ -51,6 +54,14 @@ post_at f t = unwrap_or (post_of f t) Out
 abbrev pub IsAttached : FatState → ThreadId → Type 0
 IsAttached f t = IsSome (post_of f t)
 
+-- whether an attached thread is interrupted; one that is not attached is not
+abbrev pub flag_at : FatState → ThreadId → Bool
+flag_at f t = unwrap_or (map.get f.flags t.0) false
+
+-- the flag of an attached thread
+abbrev pub flag_of : FatState → ThreadId → Option Bool
+flag_of f t = option_map (λ (p : Post). flag_at f t) (post_of f t)
+
 abbrev pub thread_count : FatState → ℕ
 thread_count f = map.len f.threads
 
@@ -73,6 +84,14 @@ with_owner f m t n = with_monitor f m (record (monitor_at f m) { owner = t; hold
 abbrev pub with_post : FatState → ThreadId → Post → FatState
 with_post f t p = record f { threads = map.insert f.threads t.0 p }
 
+-- the same, with this flag of a thread
+abbrev pub with_flag : FatState → ThreadId → Bool → FatState
+with_flag f t flag = record f { flags = map.insert f.flags t.0 flag }
+
+-- the same, at this moment
+abbrev pub with_moment : FatState → ℕ → FatState
+with_moment f now = record f { moment = now }
+
 -- the same, with these lines
 abbrev pub with_lines : FatState → LineMap → FatState
 with_lines f lines = record f { standing = record f.standing { lines = lines } }
@@ -81,14 +100,17 @@ with_lines f lines = record f { standing = record f.standing { lines = lines } }
 abbrev pub room_for : ℕ → ℕ → ℕ
 room_for threads reservations = if threads == reservations then reservations + 1 else reservations
 
--- the same, with one thread more
+-- the same, with one thread more, which is not interrupted
 abbrev pub with_thread : FatState → ThreadId → FatState
-with_thread f t =
-    record f { threads = map.insert f.threads t.0 Out; standing = record f.standing { reservations = room_for (thread_count f) f.standing.reservations } }
+with_thread f t = record f {
+  threads = map.insert f.threads t.0 Out;
+  flags = map.insert f.flags t.0 false;
+  standing = record f.standing { reservations = room_for (thread_count f) f.standing.reservations };
+}
 
 -- the same, without this thread
 abbrev pub without_thread : FatState → ThreadId → FatState
-without_thread f t = record f { threads = map.remove f.threads t.0 }
+without_thread f t = record f { threads = map.remove f.threads t.0; flags = map.remove f.flags t.0 }
 
 -- the same, with one monitor more: it has this object, owner and holds
 abbrev pub bound_with : FatState → ObjectId → ThreadId → ℕ → FatState
@@ -139,7 +161,15 @@ IsProper f Out = Unit {0}
 IsProper f (Entering m) = m < length f.monitors
 IsProper f (Waiting m n d) = (m < length f.monitors) × IsHeld n
 IsProper f (Back m n w) = (m < length f.monitors) × IsHeld n
-IsProper f (Granted r) = (r ≡ reply.Entered) ⊎ (r ≡ reply.WaitOver)
+IsProper f (Granted r) = (r ≡ reply.Entered) ⊎ ((r ≡ reply.WaitOver) ⊎ (r ≡ reply.Interrupted))
+
+-- a thread with this post, of an entry line, has holds to get back that it may have
+abbrev pub ComesBack : Post → Type 0
+ComesBack Out = Unit {0}
+ComesBack (Entering m) = Unit {0}
+ComesBack (Waiting m n d) = Unit {0}
+ComesBack (Back m n w) = IsHeld n
+ComesBack (Granted r) = Unit {0}
 
 -- A thread stands in an entry line only while another thread owns that monitor.
 abbrev pub StandBehindOwners : FatState → Type 0
@@ -155,7 +185,7 @@ pub record IsSound (f : FatState) : Type 0 where
   -- a thread stands where its post says
   pub posted : (t : ThreadId) (p : Post) (m : ℕ) (r : Role) → post_of f t ≡ Some p → place_of p ≡ Some (key m r) → StandsIn f.standing.lines t m r
   pub standing : (t : ThreadId) (m : ℕ) (r : Role) → StandsIn f.standing.lines t m r → (p : Post) × (post_of f t ≡ Some p) × (place_of p ≡ Some (key m r))
-  -- an entry line is behind an owner, and nobody stands in a line of its own monitor
+  -- an entry line is behind an owner, and nobody stands in a line of a monitor that it owns
   pub behind : (t : ThreadId) (m : ℕ) → StandsIn f.standing.lines t m Entry → IsSome (monitor_at f m).owner
   pub apart : (t : ThreadId) (m : ℕ) (r : Role) → StandsIn f.standing.lines t m r → (monitor_at f m).owner ≢ Some t
   -- each attached thread has room in the lines

@@ -3,4 +3,4 @@ use Rattle.fat_monitor.specs.declared.monitors.Fats.TheInside.{Inside}
 use Rattle.fat_monitor.specs.FatState.{FatState}
 
 abbrev pub fat_state_in : Inside → FatState
-fat_state_in f = record { monitors = f.monitors.items; threads = f.posts; standing = f.lines; limit = f.limit }
+fat_state_in f = record { monitors = f.monitors.items; threads = f.posts.posts; flags = f.posts.flags; standing = f.lines; moment = f.moment; limit = f.limit }

@@ -16,15 +16,18 @@ cause_name cause.NoMonitor = codes "NoMonitor"
 cause_name cause.Memory = codes "Memory"
 cause_name cause.TooDeep = codes "TooDeep"
 cause_name cause.StillOwner = codes "StillOwner"
+cause_name cause.NoThread = codes "NoThread"
 
 -- a refusal is written with its cause behind it
 abbrev pub reply_name : Reply → List ℕ
 reply_name reply.Entered = codes "Entered"
 reply_name reply.Exited = codes "Exited"
 reply_name reply.WaitOver = codes "WaitOver"
+reply_name reply.Interrupted = codes "Interrupted"
 reply_name reply.Notified = codes "Notified"
 reply_name reply.Yes = codes "Yes"
 reply_name reply.No = codes "No"
+reply_name reply.Done = codes "Done"
 reply_name reply.Ended = codes "Ended"
 reply_name reply.IllegalMonitorState = codes "IllegalMonitorState"
 reply_name reply.IllegalArgument = codes "IllegalArgument"
@@ -38,6 +41,10 @@ action_name (action.Wait m millis nanos) = codes "Wait"
 action_name (action.Notify m) = codes "Notify"
 action_name (action.NotifyAll m) = codes "NotifyAll"
 action_name (action.Holds m) = codes "Holds"
+action_name (action.Interrupt u) = codes "Interrupt"
+action_name action.Interrupted = codes "Interrupted"
+action_name (action.IsInterrupted u) = codes "IsInterrupted"
+action_name action.Expire = codes "Expire"
 action_name action.Collect = codes "Collect"
 action_name action.End = codes "End"
 
@@ -47,3 +54,7 @@ fault_text fault.Memory = codes "out of memory"
 
 abbrev pub act_fault_text : ActFault → List ℕ
 act_fault_text act_fault.Parked = codes "no reply is granted"
+act_fault_text act_fault.NotDue = codes "no wait of the thread is over"
+
+abbrev pub backwards_text : List ℕ
+backwards_text = codes "the moment would fall"

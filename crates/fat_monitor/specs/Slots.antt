@@ -1,5 +1,5 @@
 -- The records of attached threads: what slots and keys show.
-use Rattle.std.specs.Prelude.{◌≡◌, ℕ, List, Option, Some, None, nat_eq, map as list_map}
+use Rattle.std.specs.Prelude.{◌≡◌, ℕ, Bool, false, List, Option, Some, None, nat_eq, map as list_map}
 use Rattle.std.specs.Map.{lookup}
 use Rattle.std.specs.Ordering.{nat_cmp}
 use Rattle.std.specs.FinMap as map
@@ -8,19 +8,32 @@ use Rattle.fat_monitor.specs.declared.actions.Post.{Post}
 use Rattle.fat_monitor.specs.declared.actions.Post.TheVariants.{Out}
 use Rattle.fat_monitor.specs.declared.posts.Record.{Record}
 
--- the post in a slot
-abbrev pub post_in : Option Record → Post
-post_in None = Out
-post_in (Some r) = r.post
+-- the posts and the interrupt flags of the attached threads, by the thread's number
+pub record Posted : Type 0 where
+  pub posts : map.FinMap nat_cmp Post
+  pub flags : map.FinMap nat_cmp Bool
 
--- the posts of the threads with these keys
-abbrev pub posts_of : Slab Record → List (ℕ × ℕ) → map.FinMap nat_cmp Post
-posts_of records keys = map.from_entries (list_map (λ e. (e.0, post_in (get records e.1))) keys)
+abbrev pub nobody_posted : Posted
+nobody_posted = record { posts = map.empty; flags = map.empty }
+
+-- what is read of the record in a slot, or this where there is none
+abbrev pub value_in : {X : Type 0} → (Record → X) → X → Option Record → X
+value_in read none None = none
+value_in read none (Some r) = read r
+
+-- what is read of the records of the threads with these keys
+abbrev pub values_of : {X : Type 0} → (Record → X) → X → Slab Record → List (ℕ × ℕ) → map.FinMap nat_cmp X
+values_of read none records keys = map.from_entries (list_map (λ e. (e.0, value_in read none (get records e.1))) keys)
+
+abbrev pub posted_in : Slab Record → List (ℕ × ℕ) → Posted
+posted_in records keys = record {
+  posts = values_of (λ r. r.post) Out records keys;
+  flags = values_of (λ r. r.flag) false records keys;
+}
 
 -- each key leads to the record of its thread
 abbrev pub LeadToRecords : Slab Record → List (ℕ × ℕ) → Type 0
-LeadToRecords records keys =
-    (t k : ℕ) → lookup (nat_eq t) keys ≡ Some k → (p : Post) × (get records k ≡ Some (record { thread = record { 0 = t }; post = p }))
+LeadToRecords records keys = (t k : ℕ) → lookup (nat_eq t) keys ≡ Some k → (r : Record) × (get records k ≡ Some r) × (r.thread.0 ≡ t)
 
 -- each record has the key of its thread
 abbrev pub HaveKeys : Slab Record → List (ℕ × ℕ) → Type 0

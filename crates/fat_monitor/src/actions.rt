@@ -8,13 +8,15 @@ use std::fmt;
 #[derive(Clone, Copy, PartialEq, Eq, Hash, Debug)]
 pub enum Cause {
     /// Every fat monitor is bound.
-    NoMonitor,
+    NoMonitor = 11,
     /// The system has no memory for one more fat monitor.
-    Memory,
+    Memory = 12,
     /// The thread holds the object 65,535 times already.
-    TooDeep,
+    TooDeep = 13,
     /// The thread that is to end owns an object.
-    StillOwner,
+    StillOwner = 14,
+    /// The thread that the call names is not live.
+    NoThread = 15,
 }
 
 /// What a call answers.
@@ -26,12 +28,17 @@ pub enum Reply {
     Exited,
     /// The wait is over, and the thread holds the object as often as before it.
     WaitOver,
-    /// A thread of the wait set, or all of them, have left it, if there was one.
+    /// The wait was ended by an interrupt, which is forgotten: `InterruptedException`. The thread holds the
+    /// object as often as before.
+    Interrupted,
+    /// A thread of the wait set has left it, or all have, if there was one.
     Notified,
-    /// Yes, the thread owns the object.
+    /// Yes: the thread owns the object, or the one asked about is interrupted.
     Yes,
-    /// No, it does not.
+    /// No, it does not, or is not.
     No,
+    /// The thread that the call names was interrupted.
+    Done,
     /// The thread is not live any more.
     Ended,
     /// The thread does not own the object: `IllegalMonitorStateException`.
@@ -47,6 +54,10 @@ pub enum Reply {
 pub enum Why {
     /// It was notified.
     Notified,
+    /// It was interrupted.
+    Interrupted,
+    /// Its time was over.
+    Elapsed,
 }
 
 /// Where an attached thread stands towards the fat monitors.
@@ -86,7 +97,7 @@ pub enum Action {
     Exit {
         monitor: u32,
     },
-    /// Give up the monitor, and stand in its wait set until a notify, or until the time is over:
+    /// Give up the monitor, and stand in its wait set until a notify, an interrupt, or the end of its time:
     /// milliseconds from 0 on and nanoseconds 0 to 999,999, where 0 and 0 mean no limit.
     Wait {
         monitor: u32,
@@ -105,6 +116,18 @@ pub enum Action {
     Holds {
         monitor: u32,
     },
+    /// Set the interrupt flag of the thread, which leaves the wait set that it stands in.
+    Interrupt {
+        target: ThreadId,
+    },
+    /// Is the thread interrupted? Its flag is clear then.
+    Interrupted,
+    /// Is that thread interrupted?
+    IsInterrupted {
+        target: ThreadId,
+    },
+    /// Leave the wait set, where the time of the wait is over.
+    Expire,
     /// Take the reply that was granted.
     Collect,
     /// Be attached no longer, where the thread owns no monitor.
@@ -118,6 +141,8 @@ pub enum Answer {
     Reply(Reply),
     /// The thread stands in a line, and has no reply until it is granted one.
     Parked,
+    /// The thread's time was over, and it has no reply until it is granted one.
+    Quiet,
 }
 
 /// What an action did.
@@ -125,9 +150,9 @@ pub enum Answer {
 pub struct Done {
     /// What the thread is told.
     pub answer: Answer,
-    /// The thread that the action made the owner of the monitor that it gave up.
+    /// The thread that left a line by this action, and became the owner of its monitor.
     pub granted: Option<ThreadId>,
-    /// The thread that the action took out of a wait set.
+    /// The thread that a notify took out of the wait set.
     pub chosen: Option<ThreadId>,
 }
 
@@ -136,6 +161,8 @@ pub struct Done {
 pub enum ActFault {
     /// The thread has no granted reply to collect.
     Parked,
+    /// The thread does not wait, or has no deadline, or the moment is before it.
+    NotDue,
 }
 
 impl fmt::Display for ActFault {
@@ -147,6 +174,7 @@ impl fmt::Display for ActFault {
     fn fmt<W: fmt::Write>(&self, f: &mut fmt::Formatter<W>) -> fmt::Result {
         f.write_str(match self {
             ActFault::Parked => "no reply is granted",
+            ActFault::NotDue => "no wait of the thread is over",
         })
     }
 }
@@ -165,6 +193,7 @@ impl fmt::Display for Cause {
             Cause::Memory => "Memory",
             Cause::TooDeep => "TooDeep",
             Cause::StillOwner => "StillOwner",
+            Cause::NoThread => "NoThread",
         })
     }
 }
@@ -180,9 +209,11 @@ impl fmt::Display for Reply {
             Reply::Entered => f.write_str("Entered"),
             Reply::Exited => f.write_str("Exited"),
             Reply::WaitOver => f.write_str("WaitOver"),
+            Reply::Interrupted => f.write_str("Interrupted"),
             Reply::Notified => f.write_str("Notified"),
             Reply::Yes => f.write_str("Yes"),
             Reply::No => f.write_str("No"),
+            Reply::Done => f.write_str("Done"),
             Reply::Ended => f.write_str("Ended"),
             Reply::IllegalMonitorState => f.write_str("IllegalMonitorState"),
             Reply::IllegalArgument => f.write_str("IllegalArgument"),
@@ -206,6 +237,10 @@ impl fmt::Display for Action {
             Action::Notify { .. } => "Notify",
             Action::NotifyAll { .. } => "NotifyAll",
             Action::Holds { .. } => "Holds",
+            Action::Interrupt { .. } => "Interrupt",
+            Action::Interrupted => "Interrupted",
+            Action::IsInterrupted { .. } => "IsInterrupted",
+            Action::Expire => "Expire",
             Action::Collect => "Collect",
             Action::End => "End",
         })

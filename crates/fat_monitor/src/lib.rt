@@ -1,15 +1,19 @@
-//! Fat monitors: the monitors of objects whose header word no longer has room for owner and holds.
+//! Fat monitors: owner, holds, entry line and wait set of the objects whose header word does not hold them; the
+//! attached threads, each with where it stands and whether it is interrupted; and the moment.
 //!
-//! `docs/MACHINE.md` has the rules of Java monitors (JLS SE 8, 17.1) that the actions follow.
+//! `docs/MACHINE.md` has the rules of Java monitors (JLS SE 8, 17.1 and 17.2) that the actions follow.
 #![tactic(auto)]
 
 mod actions;
 mod monitors;
 mod posts;
 mod receipts;
+mod replies;
 #[cfg(test)]
 mod tests;
+mod times;
 
 pub use actions::{ActFault, Action, Answer, Cause, Done, Post, Reply, Why};
-pub use monitors::{AttachFault, Fats, Monitor, are_good};
+pub use monitors::{AttachFault, Backwards, Fats, Monitor};
 pub use receipts::Receipt;
+pub use times::are_good;

@@ -6,11 +6,13 @@ ghost use Rattle.lock_word.specs.declared.ThreadId.{ThreadId};
 ghost use Rattle.wait_lines.specs.declared.Role.{Role};
 ghost use Rattle.fat_monitor.specs.declared.actions.Action.{Action};
 ghost use Rattle.fat_monitor.specs.declared.actions.Post.{Post};
-ghost use Rattle.wait_lines.specs.Lines.{StandsIn};
-ghost use Rattle.fat_monitor.specs.FatState.{FatState, opened, post_at, post_of, IsAttached, thread_count, with_thread, without_thread, bound_with, refusal, owns_one, monitor_at, object_at, is_owned_by, line_of, first_of, StandBehindOwners, IsHeld};
-ghost use Rattle.fat_monitor.specs.Acting.{acted, NamesBound, MayAct, entered, exited, waited, notified, all_removed, collected, handed_on, holds_granted, reply_granted, removed, replied, deadline, are_good, yes_or_no};
+ghost use Rattle.wait_lines.specs.Lines.{key};
+ghost use Rattle.fat_monitor.specs.FatState.{FatState, opened, post_at, post_of, flag_of, IsAttached, thread_count, with_thread, without_thread, with_moment, bound_with, refusal, owns_one, monitor_at, object_at, is_owned_by, line_of, first_of, place_of, StandBehindOwners, ComesBack};
+ghost use Rattle.fat_monitor.specs.Acting.{acted, NamesBound, MayAct, handed_on, granted, removed, served};
 
 use crate::posts::Posts;
+use crate::replies::{granted_to, is_owner, reply_with, tell, yes_or_no};
+use crate::times::{are_good, deadline};
 use crate::{ActFault, Action, Answer, Cause, Done, Post, Receipt, Reply, Why};
 use lock_word::{ObjectId, ThreadId};
 use std::alloc::Global;
@@ -44,6 +46,23 @@ impl fmt::Display for AttachFault {
 
 impl Error for AttachFault {}
 
+/// The moment that was told is before the one that was told last.
+#[derive(Clone, Copy, PartialEq, Eq, Hash, Debug)]
+pub struct Backwards;
+
+impl fmt::Display for Backwards {
+    ghost use Rattle.std.specs.Prelude.{Some};
+    ghost use Rattle.fat_monitor.specs.Names.{backwards_text};
+
+    ghost output = { λ x. Some backwards_text };
+
+    fn fmt<W: fmt::Write>(&self, f: &mut fmt::Formatter<W>) -> fmt::Result {
+        f.write_str("the moment would fall")
+    }
+}
+
+impl Error for Backwards {}
+
 /// A bound monitor.
 #[derive(Clone, Copy, PartialEq, Eq, Debug)]
 pub struct Monitor {
@@ -63,12 +82,14 @@ impl Monitor {
 }
 
 /// The fat monitors of a world, numbered 0, 1, 2 and so on in the order of binding, the attached threads,
-/// and the lines in which they stand.
+/// the lines in which they stand, and the moment.
 #[derive(Drop)]
 pub struct Fats {
     monitors: Vec<Monitor>,
     posts: Posts,
     lines: Lines,
+    // In nanoseconds.
+    moment: u64,
     limit: u32,
 }
 
@@ -89,7 +110,8 @@ impl Model for Fats {
 }
 
 impl Fats {
-    /// No monitor is bound and no thread attached. At most `limit` monitors, 0 to 8,388,608, will be.
+    /// No monitor is bound and no thread attached, and the moment is 0. At most `limit` monitors, 0 to
+    /// 8,388,608, will be bound.
     pub fn new(alloc: Global, limit: u32) -> Fats
         requires { limit ≤ 8388608 }
         ensures { result ≡ opened limit }
@@ -98,12 +120,13 @@ impl Fats {
             monitors: Vec::new(alloc),
             posts: Posts::new(alloc),
             lines: Lines::new(alloc),
+            moment: 0,
             limit,
         }
     }
 
-    /// Attaches a thread, which stands [`Out`](Post::Out), and makes room for it in the lines, so that no
-    /// later action asks for memory.
+    /// Attaches a thread, which stands [`Out`](Post::Out) and is not interrupted, and makes room for it in the
+    /// lines, so that no later action asks for memory.
     pub fn attach(&mut self, thread: ThreadId) -> Result<(), AttachFault>
         requires { thread_count self.old < 32767 }
         ensures attached { OnOk result (self.new ≡ with_thread self.old thread) }
@@ -157,8 +180,23 @@ impl Fats {
         }
     }
 
+    /// Tells the moment, in nanoseconds, which never falls.
+    pub fn tick(&mut self, now: u64) -> Result<(), Backwards>
+        ensures ok { OnOk result (self.new ≡ with_moment self.old now) }
+        ensures later { OnOk result (self.old.moment ≤ now) }
+        ensures earlier { OnErr result (now < self.old.moment) }
+        ensures err { OnErr result (self.new ≡ self.old) }
+    {
+        if now < self.moment {
+            return Err(Backwards);
+        }
+        self.moment = now;
+        Ok(())
+    }
+
     /// One action of an attached thread, on a bound monitor where the action names one. A thread that
-    /// stands in a line may only collect, and is refused until it is granted its reply.
+    /// stands in a line may only expire, which is refused unless its deadline has come, and collect, which
+    /// is refused until it is granted its reply.
     ///
     /// A thread stands in an entry line only while another thread owns that monitor.
     pub fn act(&mut self, thread: ThreadId, action: Action) -> Result<Done, ActFault>
@@ -179,14 +217,11 @@ impl Fats {
             } => Ok(self.wait(thread, monitor, millis, nanos)),
             Action::Notify { monitor } => Ok(self.notify(thread, monitor)),
             Action::NotifyAll { monitor } => Ok(self.notify_all(thread, monitor)),
-            Action::Holds { monitor } => {
-                let reply = if self.is_owner(monitor, thread) {
-                    Reply::Yes
-                } else {
-                    Reply::No
-                };
-                Ok(reply_with(reply))
-            }
+            Action::Holds { monitor } => Ok(reply_with(yes_or_no(self.is_owner(monitor, thread)))),
+            Action::Interrupt { target } => Ok(self.interrupt(target)),
+            Action::Interrupted => Ok(self.test_and_clear(thread)),
+            Action::IsInterrupted { target } => Ok(self.is_interrupted(target)),
+            Action::Expire => self.expire(thread),
             Action::Collect => self.collect(thread),
             Action::End => Ok(self.end(thread)),
         }
@@ -242,10 +277,14 @@ impl Fats {
         if !are_good(millis, nanos) {
             return reply_with(Reply::IllegalArgument);
         }
+        if self.posts.flag(thread) {
+            self.posts.set_flag(thread, false);
+            return reply_with(Reply::Interrupted);
+        }
         let post = Post::Waiting {
             monitor,
             holds: self.monitors[monitor as usize].holds,
-            deadline: deadline(millis, nanos),
+            deadline: deadline(self.moment, millis, nanos),
         };
         let granted = self.hand_on(monitor);
         self.posts.set(thread, post);
@@ -261,7 +300,7 @@ impl Fats {
         }
         let chosen = self.lines.first(monitor, Role::Waiting);
         if let Some(waiter) = chosen {
-            self.call_back(waiter);
+            let _ = self.call_back(waiter, Why::Notified);
         }
         tell(Answer::Reply(Reply::Notified), None, chosen)
     }
@@ -273,9 +312,64 @@ impl Fats {
             return reply_with(Reply::IllegalMonitorState);
         }
         while let Some(first) = self.lines.first(monitor, Role::Waiting) {
-            self.call_back(first);
+            let _ = self.call_back(first, Why::Notified);
         }
         reply_with(Reply::Notified)
+    }
+
+    /// Sets the flag of a thread, and takes it out of the wait set that it stands in.
+    fn interrupt(&mut self, target: ThreadId) -> Done
+        ensures { (t : ThreadId) → record { answer = Ok result; after = self.new } ≡ acted self.old t (Action.Interrupt target) }
+    {
+        let Some(post) = self.posts.get(target) else {
+            return reply_with(Reply::Refused(Cause::NoThread));
+        };
+        self.posts.set_flag(target, true);
+        let Post::Waiting { .. } = post else {
+            return reply_with(Reply::Done);
+        };
+        let granted = self.call_back(target, Why::Interrupted);
+        tell(Answer::Reply(Reply::Done), granted, None)
+    }
+
+    /// Answers whether the thread is interrupted, and clears its flag.
+    fn test_and_clear(&mut self, thread: ThreadId) -> Done
+        requires { IsAttached self.old thread }
+        ensures { record { answer = Ok result; after = self.new } ≡ acted self.old thread Action.Interrupted }
+    {
+        let flag = self.posts.flag(thread);
+        self.posts.set_flag(thread, false);
+        reply_with(yes_or_no(flag))
+    }
+
+    /// Answers whether that thread is interrupted.
+    fn is_interrupted(&self, target: ThreadId) -> Done
+        ensures { (t : ThreadId) → record { answer = Ok result; after = self.now } ≡ acted self.now t (Action.IsInterrupted target) }
+    {
+        match self.flag(target) {
+            Some(flag) => reply_with(yes_or_no(flag)),
+            None => reply_with(Reply::Refused(Cause::NoThread)),
+        }
+    }
+
+    /// Takes the thread out of the wait set that it stands in, if its deadline has come.
+    fn expire(&mut self, thread: ThreadId) -> Result<Done, ActFault>
+        ensures { record { answer = result; after = self.new } ≡ acted self.old thread Action.Expire }
+    {
+        let Some(
+            Post::Waiting {
+                deadline: Some(deadline),
+                ..
+            },
+        ) = self.posts.get(thread)
+        else {
+            return Err(ActFault::NotDue);
+        };
+        if u128::from(self.moment) < deadline {
+            return Err(ActFault::NotDue);
+        }
+        let granted = self.call_back(thread, Why::Elapsed);
+        Ok(tell(Answer::Quiet, granted, None))
     }
 
     /// Takes the reply that the thread was granted, if it was granted one.
@@ -312,17 +406,34 @@ impl Fats {
             self.monitors[monitor as usize].give(None, 0);
             return None;
         };
-        let (holds, reply) = grant(self.posts.get(next));
-        self.monitors[monitor as usize].give(Some(next), holds);
-        self.posts.set(next, Post::Granted(reply));
-        self.lines.leave(next);
+        let post = self.posts.get(next).unwrap_or(Post::Out);
+        self.grant(monitor, next, post);
         Some(next)
     }
 
-    /// Sends a thread of a wait set, whose monitor has an owner, to the end of the entry line.
-    fn call_back(&mut self, thread: ThreadId)
-        requires waits { (m : ℕ) × (n : ℕ) × (d : Option ℕ) × (post_of self.old thread ≡ Some (Post.Waiting m n d)) × IsSome (monitor_at self.old m).owner }
-        ensures { self.new ≡ removed self.old thread (post_at self.old thread) }
+    /// Makes a thread that stands in a line of a monitor its owner, with the reply that its post, or the one
+    /// that it is to have, comes back to.
+    fn grant(&mut self, monitor: u32, thread: ThreadId, post: Post)
+        requires bound { monitor < length self.old.monitors }
+        requires stands { (r : Role) × (place_of (post_at self.old thread) ≡ Some (key monitor r)) }
+        requires comes { ComesBack post }
+        ensures { (r : Role) → place_of (post_at self.old thread) ≡ Some (key monitor r) → self.new ≡ granted self.old monitor thread post r }
+    {
+        let (holds, reply) = granted_to(post);
+        self.monitors[monitor as usize].give(Some(thread), holds);
+        if let Reply::Interrupted = reply {
+            self.posts.set_flag(thread, false);
+        }
+        self.posts.set(thread, Post::Granted(reply));
+        self.lines.leave(thread);
+    }
+
+    /// Takes a thread out of its wait set: behind an owner it goes to the end of the entry line, and a
+    /// monitor that nobody owns it gets at once. It answers the thread where it got the monitor.
+    fn call_back(&mut self, thread: ThreadId, why: Why) -> Option<ThreadId>
+        requires waits { (m : ℕ) × (n : ℕ) × (d : Option ℕ) × (post_of self.old thread ≡ Some (Post.Waiting m n d)) }
+        ensures after { self.new ≡ removed self.old thread why (post_at self.old thread) }
+        ensures granted { result ≡ served self.old thread (post_at self.old thread) }
     {
         let Some(Post::Waiting { monitor, holds, .. }) = self.posts.get(thread) else {
             unreachable!();
@@ -330,11 +441,16 @@ impl Fats {
         let back = Post::Back {
             monitor,
             holds,
-            why: Why::Notified,
+            why,
         };
+        if self.owner(monitor).is_none() {
+            self.grant(monitor, thread, back);
+            return Some(thread);
+        }
         self.posts.set(thread, back);
         self.lines.leave(thread);
         self.lines.join(thread, monitor, Role::Entry);
+        None
     }
 
     /// Whether a thread owns a monitor. This looks at every bound monitor.
@@ -358,6 +474,21 @@ impl Fats {
         ensures { result ≡ post_of self.now thread }
     {
         self.posts.get(thread)
+    }
+
+    /// Whether an attached thread is interrupted; None where it is not attached.
+    pub fn flag(&self, thread: ThreadId) -> Option<bool>
+        ensures { result ≡ flag_of self.now thread }
+    {
+        self.posts.get(thread)?;
+        Some(self.posts.flag(thread))
+    }
+
+    /// The moment that was told last, in nanoseconds; 0 at first.
+    pub fn now(&self) -> u64
+        ensures { result ≡ self.now.moment }
+    {
+        self.moment
     }
 
     /// The object whose monitor has this number; None where it is not bound.
@@ -393,58 +524,5 @@ impl Fats {
         ensures most { result ≤ self.now.limit }
     {
         self.monitors.len() as u32
-    }
-}
-
-/// Whether this thread is the owner.
-fn is_owner(owner: Option<ThreadId>, thread: ThreadId) -> bool
-    ensures { result ≡ is_owned_by owner thread }
-{
-    match owner {
-        Some(other) => other.0 == thread.0,
-        None => false,
-    }
-}
-
-/// How often a thread with this post holds the monitor that it is granted, and what its call replies.
-fn grant(post: Option<Post>) -> (u16, Reply)
-    ensures { result ≡ (holds_granted (unwrap_or post Post.Out), reply_granted (unwrap_or post Post.Out)) }
-{
-    match post {
-        Some(Post::Back { holds, .. }) => (holds, Reply::WaitOver),
-        _ => (1, Reply::Entered),
-    }
-}
-
-/// Whether the time of a wait is in its range (JLS SE 8, 17.2.1).
-pub fn are_good(millis: i64, nanos: i32) -> bool
-    ensures { result ≡ are_good millis nanos }
-{
-    0 <= millis && 0 <= nanos && nanos <= 999_999
-}
-
-/// When a wait that begins at the moment 0 is over, in nanoseconds; a wait of no limit has no deadline.
-fn deadline(millis: i64, nanos: i32) -> Option<u128>
-    requires { are_good millis nanos ≡ true }
-    ensures { result ≡ deadline 0 millis nanos }
-{
-    let time = millis as u128 * 1_000_000 + nanos as u128;
-    if time == 0 { None } else { Some(time) }
-}
-
-/// The call that made the action has this reply, and no other thread is named.
-fn reply_with(reply: Reply) -> Done
-    ensures { (f : FatState) → record { answer = Ok result; after = f } ≡ replied f reply }
-{
-    tell(Answer::Reply(reply), None, None)
-}
-
-fn tell(answer: Answer, granted: Option<ThreadId>, chosen: Option<ThreadId>) -> Done
-    ensures { result ≡ record { answer = answer; granted = granted; chosen = chosen } }
-{
-    Done {
-        answer,
-        granted,
-        chosen,
     }
 }

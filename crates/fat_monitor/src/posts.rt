@@ -1,8 +1,10 @@
-//! The attached threads, and where each stands.
+//! The attached threads: where each stands, and whether it is interrupted.
 
-ghost use Rattle.std.specs.Prelude.{◌≡◌, ◌↔◌, OnOk, OnErr, IsErrOf, IsSome, None};
+ghost use Rattle.std.specs.Prelude.{◌≡◌, ◌↔◌, OnOk, OnErr, IsErrOf, IsSome, None, false};
+ghost use Rattle.std.specs.Option.{unwrap_or};
 ghost use Rattle.std.specs.FinMap as map;
 ghost use Rattle.fat_monitor.specs.declared.actions.Post.{Post};
+ghost use Rattle.fat_monitor.specs.Slots.{nobody_posted};
 
 use crate::{AttachFault, Post};
 use lock_word::ThreadId;
@@ -16,9 +18,11 @@ use std::marker::Model;
 struct Record {
     thread: ThreadId,
     post: Post,
+    // The interrupt flag (JLS SE 8, 17.2.3).
+    flag: bool,
 }
 
-/// The post of each attached thread.
+/// The post and the interrupt flag of each attached thread.
 #[derive(Drop)]
 pub(crate) struct Posts {
     records: Slab<Record>,
@@ -28,16 +32,14 @@ pub(crate) struct Posts {
 
 impl Model for Posts {
     ghost use Rattle.std.specs.Coded.{codes};
-    ghost use Rattle.std.specs.Ordering.{nat_cmp};
     ghost use Rattle.std.specs.FinMap as map;
-    ghost use Rattle.fat_monitor.specs.declared.actions.Post.{Post};
-    ghost use Rattle.fat_monitor.specs.Slots.{posts_of, LeadToRecords, HaveKeys};
+    ghost use Rattle.fat_monitor.specs.Slots.{Posted, posted_in, LeadToRecords, HaveKeys};
 
-    ghost Value = { map.FinMap nat_cmp Post };
+    ghost Value = { Posted };
 
     ghost coded = { Prim.hlevel (codes, map.code) };
 
-    ghost view = { λ p. posts_of p.records p.keys.entries };
+    ghost view = { λ p. posted_in p.records p.keys.entries };
 
     ghost invariant = { λ p. LeadToRecords p.records p.keys.entries × HaveKeys p.records p.keys.entries };
 }
@@ -45,7 +47,7 @@ impl Model for Posts {
 impl Posts {
     /// No thread is attached.
     pub(crate) fn new(alloc: Global) -> Posts
-        ensures { result ≡ map.empty }
+        ensures { result ≡ nobody_posted }
     {
         Posts {
             records: Slab::new(alloc),
@@ -55,25 +57,39 @@ impl Posts {
 
     /// How many threads are attached.
     pub(crate) fn len(&self) -> usize
-        ensures { result ≡ map.len self.now }
+        ensures { result ≡ map.len self.now.posts }
     {
         self.keys.len()
     }
 
     /// The post of an attached thread.
     pub(crate) fn get(&self, thread: ThreadId) -> Option<Post>
-        ensures { result ≡ map.get self.now thread.0 }
+        ensures { result ≡ map.get self.now.posts thread.0 }
     {
         let key = self.keys.get(&thread.0)?;
         let record = self.records.get(*key)?;
         Some(record.post)
     }
 
-    /// Attaches a thread, which stands [`Out`](Post::Out).
+    /// Whether a thread is attached and interrupted.
+    pub(crate) fn flag(&self, thread: ThreadId) -> bool
+        ensures { result ≡ unwrap_or (map.get self.now.flags thread.0) false }
+    {
+        let Some(key) = self.keys.get(&thread.0) else {
+            return false;
+        };
+        match self.records.get(*key) {
+            Some(record) => record.flag,
+            None => unreachable!(),
+        }
+    }
+
+    /// Attaches a thread, which stands [`Out`](Post::Out) and is not interrupted.
     pub(crate) fn add(&mut self, thread: ThreadId) -> Result<(), AttachFault>
-        ensures ok { OnOk result (self.new ≡ map.insert self.old thread.0 Post.Out) }
-        ensures fresh { OnOk result (map.get self.old thread.0 ≡ None) }
-        ensures known { IsErrOf result AttachFault.Known ↔ IsSome (map.get self.old thread.0) }
+        ensures ok { OnOk result (self.new ≡ record { posts = map.insert self.old.posts thread.0 Post.Out; flags = map.insert self.old.flags thread.0 false }) }
+        ensures fresh { OnOk result (map.get self.old.posts thread.0 ≡ None) }
+        ensures flagless { OnOk result (map.get self.old.flags thread.0 ≡ None) }
+        ensures known { IsErrOf result AttachFault.Known ↔ IsSome (map.get self.old.posts thread.0) }
         ensures err { OnErr result (self.new ≡ self.old) }
     {
         if self.keys.contains_key(&thread.0) {
@@ -89,6 +105,7 @@ impl Posts {
         let record = Record {
             thread,
             post: Post::Out,
+            flag: false,
         };
         let _ = self.records.insert_reserved(record);
         Ok(())
@@ -96,8 +113,8 @@ impl Posts {
 
     /// Puts an attached thread at another post.
     pub(crate) fn set(&mut self, thread: ThreadId, post: Post)
-        requires { IsSome (map.get self.old thread.0) }
-        ensures { self.new ≡ map.insert self.old thread.0 post }
+        requires { IsSome (map.get self.old.posts thread.0) }
+        ensures { self.new ≡ record self.old { posts = map.insert self.old.posts thread.0 post } }
     {
         let Some(key) = self.keys.get(&thread.0) else {
             unreachable!();
@@ -108,10 +125,24 @@ impl Posts {
         record.post = post;
     }
 
+    /// Sets or clears the interrupt flag of an attached thread.
+    pub(crate) fn set_flag(&mut self, thread: ThreadId, flag: bool)
+        requires { IsSome (map.get self.old.posts thread.0) }
+        ensures { self.new ≡ record self.old { flags = map.insert self.old.flags thread.0 flag } }
+    {
+        let Some(key) = self.keys.get(&thread.0) else {
+            unreachable!();
+        };
+        let Some(record) = self.records.get_mut(*key) else {
+            unreachable!();
+        };
+        record.flag = flag;
+    }
+
     /// Drops an attached thread.
     pub(crate) fn remove(&mut self, thread: ThreadId)
-        requires { IsSome (map.get self.old thread.0) }
-        ensures { self.new ≡ map.remove self.old thread.0 }
+        requires { IsSome (map.get self.old.posts thread.0) }
+        ensures { self.new ≡ record { posts = map.remove self.old.posts thread.0; flags = map.remove self.old.flags thread.0 } }
     {
         let Some(key) = self.keys.remove(&thread.0) else {
             unreachable!();

@@ -1,21 +1,8 @@
-use Rattle.std.proofs.Common.{w32, w64, ◌≡◌, refl, FitsSigned, rules}
+use Rattle.std.proofs.Common.{w32, w64, refl, FitsSigned, rules}
 use Rattle.std.proofs.lemmas.Int.{to_z-of_z}
-use Rattle.fat_monitor.specs.FatState.{monitor_at, is_owned_by}
-use Rattle.fat_monitor.specs.Acting.{yes_or_no}
 use Rattle.fat_monitor.specs.Fats.{fat_state_in}
 use Rattle.fat_monitor.proofs.Steps.{behind_after}
-use Rattle.fat_monitor.proofs.monitors.Fats.act.Goals.{then-is_owner, else-is_owner}
 use Rattle.fat_monitor.proofs.monitors.Fats.act.Goals as goal
-
-pub returns-after-is_owner-clause-table : goal.returns-after-is_owner-clause-table
-returns-after-is_owner-clause-table c =
-    let reply : c.if-is_owner.reply ≡ yes_or_no (is_owned_by (monitor_at c.args.self.now c.in-Holds.monitor).owner c.args.thread) =
-    elim c.if-is_owner.branch [ then-is_owner w ↦ rw (← w.if-is_owner.ensures) w.reply-is | else-is_owner w ↦ rw (← w.if-is_owner.ensures) w.reply-is ] in
-    rw (c.in-Holds.is, ← reply) (c.reply_with.ensures _)
-
-pub returns-after-is_owner-clause-behind : goal.returns-after-is_owner-clause-behind
-returns-after-is_owner-clause-behind c =
-    behind_after (fat_state_in c.self.inside) _ _ c.args.thread _ _ _ c.self.invariant c.self.view_is refl c.requires.ready c.requires.bound (returns-after-is_owner-clause-table c)
 
 pub returns-in-Enter-clause-behind : goal.returns-in-Enter-clause-behind
 returns-in-Enter-clause-behind c =
@@ -47,3 +34,32 @@ returns-in-Wait-clause-behind c =
     let short : FitsSigned w32 c.in-Wait.nanos = search rules in
     let told = simp (to_z-of_z w64 c.in-Wait.millis long, to_z-of_z w32 c.in-Wait.nanos short) at c.wait.ensures in
     behind_after (fat_state_in c.self.inside) _ _ c.args.thread _ _ _ c.self.invariant c.self.view_is c.in-Wait.is c.requires.ready c.requires.bound told
+
+pub returns-in-Holds-clause-table : goal.returns-in-Holds-clause-table
+returns-in-Holds-clause-table c = rw (c.in-Holds.is, ← c.is_owner.ensures, ← c.yes_or_no.ensures) (c.reply_with.ensures _)
+
+pub returns-in-Holds-clause-behind : goal.returns-in-Holds-clause-behind
+returns-in-Holds-clause-behind c =
+    behind_after (fat_state_in c.self.inside) _ _ c.args.thread _ _ _ c.self.invariant c.self.view_is refl c.requires.ready c.requires.bound (returns-in-Holds-clause-table c)
+
+pub returns-in-Interrupt-clause-table : goal.returns-in-Interrupt-clause-table
+returns-in-Interrupt-clause-table c = rw (c.in-Interrupt.is) (c.interrupt.ensures c.args.thread)
+
+pub returns-in-Interrupt-clause-behind : goal.returns-in-Interrupt-clause-behind
+returns-in-Interrupt-clause-behind c =
+    behind_after (fat_state_in c.self.inside) _ _ c.args.thread _ _ _ c.self.invariant c.self.view_is c.in-Interrupt.is c.requires.ready c.requires.bound (c.interrupt.ensures c.args.thread)
+
+pub returns-in-Interrupted-clause-behind : goal.returns-in-Interrupted-clause-behind
+returns-in-Interrupted-clause-behind c =
+    behind_after (fat_state_in c.self.inside) _ _ c.args.thread _ _ _ c.self.invariant c.self.view_is c.in-Interrupted.is c.requires.ready c.requires.bound c.test_and_clear.ensures
+
+pub returns-in-IsInterrupted-clause-table : goal.returns-in-IsInterrupted-clause-table
+returns-in-IsInterrupted-clause-table c = rw (c.in-IsInterrupted.is) (c.is_interrupted.ensures c.args.thread)
+
+pub returns-in-IsInterrupted-clause-behind : goal.returns-in-IsInterrupted-clause-behind
+returns-in-IsInterrupted-clause-behind c =
+    behind_after (fat_state_in c.self.inside) _ _ c.args.thread _ _ _ c.self.invariant c.self.view_is c.in-IsInterrupted.is c.requires.ready c.requires.bound (c.is_interrupted.ensures c.args.thread)
+
+pub returns-in-Expire-clause-behind : goal.returns-in-Expire-clause-behind
+returns-in-Expire-clause-behind c =
+    behind_after (fat_state_in c.self.inside) _ _ c.args.thread _ _ _ c.self.invariant c.self.view_is c.in-Expire.is c.requires.ready c.requires.bound c.expire.ensures

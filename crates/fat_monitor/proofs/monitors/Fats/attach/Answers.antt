@@ -1,9 +1,10 @@
-use Rattle.std.proofs.Common.{◌≡◌, ◌∙◌, sym, ap, arith, refl, subst}
+use Rattle.std.proofs.Common.{◌≡◌, ◌∙◌, sym, ap, arith, refl, subst, false}
 use Rattle.std.specs.FinMap as map
 use Rattle.std.proofs.lemmas.Bool.{eq-eqb}
 use Rattle.fat_monitor.specs.declared.actions.Post.TheVariants.{Out}
 use Rattle.fat_monitor.specs.FatState.{FatState, thread_count, IsAttached}
 use Rattle.fat_monitor.specs.Fats.{fat_state_in}
+use Rattle.fat_monitor.specs.Slots.{Posted}
 use Rattle.fat_monitor.proofs.PostMaps.{get-insert_by, remove_insert}
 use Rattle.fat_monitor.proofs.Soundness.{IsSound-with_thread}
 use Rattle.fat_monitor.proofs.Steps.{attached_as, of_ok, of_err, room_crowded, room_left, attached_itself, attached_still}
@@ -11,11 +12,13 @@ use Rattle.fat_monitor.proofs.monitors.Fats.attach.Goals.{else-crowded-via-then-
 use Rattle.fat_monitor.proofs.monitors.Fats.attach.Goals as goal
 
 pub remove-requires : goal.remove-requires
-remove-requires c = rw (c.in_ok-add.ensures.ok, get-insert_by c.self.inside.posts c.args.thread.0 Out c.args.thread.0, eq-eqb c.args.thread.0 c.args.thread.0 refl) refl
+remove-requires c = rw (c.in_ok-add.ensures.ok, get-insert_by c.self.inside.posts.posts c.args.thread.0 Out c.args.thread.0, eq-eqb c.args.thread.0 c.args.thread.0 refl) refl
 
 -- a refused attach leaves all as it was
 posts_back : (c : goal.After-remove) → c.remove.new.self ≡ c.self.inside.posts
-posts_back c = c.remove.ensures ∙ ap (λ (p : map.FinMap _ _). map.remove p c.args.thread.0) c.in_ok-add.ensures.ok ∙ remove_insert c.self.inside.posts c.args.thread.0 Out c.in_ok-add.ensures.fresh
+posts_back c =
+    c.remove.ensures
+    ∙ rw (c.in_ok-add.ensures.ok, remove_insert c.self.inside.posts.posts c.args.thread.0 Out c.in_ok-add.ensures.fresh, remove_insert c.self.inside.posts.flags c.args.thread.0 false c.in_ok-add.ensures.flagless) refl
 
 lines_back : (c : goal.After-remove) → c.reserve_one.new.self ≡ c.self.inside.lines
 lines_back c = of_err c.reserve_one.result _ c.if-is_err.ensures.value c.reserve_one.ensures.err
@@ -48,8 +51,8 @@ invariant_of-self-else-crowded c =
 threads_after : (c : goal.Joined-else-crowded) → c.else-crowded.self.threads ≡ map.insert c.args.self.now.threads c.args.thread.0 Out
 threads_after c =
     rw (← c.self.view_is) (elim c.else-crowded.branch [
-      | else-crowded-via-then-crowded+else-is_err w ↦ ap (λ (f : FatState). f.threads) w.self-is ∙ c.in_ok-add.ensures.ok
-      | else-crowded-via-else-crowded w ↦ ap (λ (f : FatState). f.threads) w.self-is ∙ c.in_ok-add.ensures.ok
+      | else-crowded-via-then-crowded+else-is_err w ↦ ap (λ (f : FatState). f.threads) w.self-is ∙ ap (λ (p : Posted). p.posts) c.in_ok-add.ensures.ok
+      | else-crowded-via-else-crowded w ↦ ap (λ (f : FatState). f.threads) w.self-is ∙ ap (λ (p : Posted). p.posts) c.in_ok-add.ensures.ok
     ])
 
 pub returns-clause-here : goal.returns-clause-here

@@ -9,7 +9,7 @@ use Rattle.fat_monitor.proofs.monitors.Fats.collect.Goals as goal
 pub returns : goal.returns
 returns c =
     let held : post_of (fat_state_in c.self.inside) c.args.thread ≡ Some (Granted c.in-Some-Granted.reply) = rw (c.in-Some-Granted.field-0-is) at (sym c.in-Some-Granted.ensures) in
-    let after : record (fat_state_in c.self.inside) { threads = c.set.new.self } ≡ with_post (fat_state_in c.self.inside) c.args.thread Out = rw (c.set.ensures) refl in
+    let after : record (fat_state_in c.self.inside) { threads = c.set.new.self.posts; flags = c.set.new.self.flags } ≡ with_post (fat_state_in c.self.inside) c.args.thread Out = rw (c.set.ensures) refl in
     rw (← c.self.view_is, held) (replied_at c.reply_with.result c.in-Some-Granted.reply _ _ c.reply_with.ensures after)
 
 pub invariant_of-self : goal.invariant_of-self

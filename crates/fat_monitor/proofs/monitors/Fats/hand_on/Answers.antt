@@ -1,10 +1,12 @@
-use Rattle.std.proofs.Common.{◌≡◌, sym, Some, None, subst}
+use Rattle.std.proofs.Common.{◌≡◌, ◌∙◌, sym, ap, refl, Some, None, subst}
 use Rattle.wait_lines.specs.declared.Role.TheVariants.{Entry}
 use Rattle.wait_lines.proofs.LineLemmas.{StandsIn-first}
-use Rattle.fat_monitor.specs.FatState.{FatState, IsSound, first_of}
+use Rattle.fat_monitor.specs.declared.actions.Post.{Post}
+use Rattle.fat_monitor.specs.FatState.{FatState, IsSound, first_of, post_at, place_of}
+use Rattle.fat_monitor.specs.Acting.{granted}
 use Rattle.fat_monitor.specs.Fats.{fat_state_in}
-use Rattle.fat_monitor.proofs.Soundness.{IsSound-handed_on}
-use Rattle.fat_monitor.proofs.Steps.{written, granted_as, first_attached}
+use Rattle.fat_monitor.proofs.Soundness.{IsSound-handed_on, post_at-is, comes_back}
+use Rattle.fat_monitor.proofs.Steps.{written}
 use Rattle.fat_monitor.proofs.monitors.Fats.hand_on.Goals as goal
 
 pub invariant_of-self : goal.invariant_of-self
@@ -14,21 +16,25 @@ invariant_of-self c =
     let kept = rw (← c.in_default.ensures.first) at (IsSound-handed_on (fat_state_in c.self.inside) c.args.monitor c.self.invariant bound) in
     rw (after) kept
 
-pub set-requires : goal.set-requires
-set-requires c = first_attached (fat_state_in c.self.inside) c.args.monitor c.in-Some.next c.self.invariant (sym c.in-Some.ensures.first)
+pub grant-requires-clause-stands : goal.grant-requires-clause-stands
+grant-requires-clause-stands c =
+    let f = fat_state_in c.self.inside in
+    let stood = c.self.invariant.standing c.in-Some.next c.args.monitor Entry (StandsIn-first f.standing.lines c.in-Some.next c.args.monitor Entry (sym c.in-Some.ensures.first)) in
+    rw (← c.self.view_is) (Entry, ap place_of (post_at-is f c.in-Some.next stood.0 stood.1) ∙ stood.2)
+
+pub grant-requires-clause-comes : goal.grant-requires-clause-comes
+grant-requires-clause-comes c =
+    let f = fat_state_in c.self.inside in
+    let stood = c.self.invariant.standing c.in-Some.next c.args.monitor Entry (StandsIn-first f.standing.lines c.in-Some.next c.args.monitor Entry (sym c.in-Some.ensures.first)) in
+    rw (c.unwrap_or-post.ensures, c.get.ensures, stood.1) (comes_back f stood.0 (c.self.invariant.proper c.in-Some.next stood.0 stood.1))
 
 pub returns-clause-after : goal.returns-clause-after
 returns-clause-after c =
-    let f = fat_state_in c.self.inside in
-    let bound = rw (← c.self.view_is) at c.requires in
-    let first : first_of f c.args.monitor Entry ≡ Some c.in-Some.next = sym c.in-Some.ensures.first in
-    let stands = StandsIn-first f.standing.lines c.in-Some.next c.args.monitor Entry first in
-    let grant = rw (c.get.ensures) at c.grant-holds.ensures in
-    rw (← c.self.view_is, first) (
-    granted_as f c.args.monitor c.in-Some.next c.index_mut-2.result.now c.give-2.new.self c.grant-holds.result c.set.new.self c.leave.new.self
-    bound c.index_mut-2.ensures.value c.give-2.ensures grant c.set.ensures (c.leave.ensures.left c.args.monitor Entry stands) c.leave.ensures.reservations)
-
-pub invariant_of-self-2 : goal.invariant_of-self-2
-invariant_of-self-2 c =
-    let kept = IsSound-handed_on c.args.self.now c.args.monitor (subst (λ (f : FatState). IsSound f) c.self.view_is c.self.invariant) c.requires in
-    rw (returns-clause-after c) kept
+    let f = c.args.self.now in
+    let first : first_of f c.args.monitor Entry ≡ Some c.in-Some.next = rw (← c.self.view_is) (sym c.in-Some.ensures.first) in
+    let sound = subst (λ (f : FatState). IsSound f) c.self.view_is c.self.invariant in
+    let stood = sound.standing c.in-Some.next c.args.monitor Entry (StandsIn-first f.standing.lines c.in-Some.next c.args.monitor Entry first) in
+    let post : c.unwrap_or-post.result ≡ post_at f c.in-Some.next = rw (c.unwrap_or-post.ensures, c.get.ensures, ← c.self.view_is) refl in
+    rw (first) (
+    c.grant.ensures Entry (ap place_of (post_at-is f c.in-Some.next stood.0 stood.1) ∙ stood.2)
+    ∙ ap (λ (p : Post). granted f c.args.monitor c.in-Some.next p Entry) post)

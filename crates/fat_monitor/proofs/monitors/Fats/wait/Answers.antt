@@ -1,17 +1,19 @@
-use Rattle.std.proofs.Common.{w32, w64, ◌≡◌, ◌∙◌, sym, ap, Some, None, Ok, Option, subst, refl, true}
+use Rattle.std.proofs.Common.{w32, w64, ◌≡◌, ◌∙◌, sym, ap, Some, None, Ok, Option, subst, refl, true, false}
 use Rattle.std.proofs.lemmas.Int.{to_z-of_z}
 use Rattle.lock_word.specs.declared.ThreadId.{ThreadId}
 use Rattle.wait_lines.specs.declared.Role.TheVariants.{Entry, Waiting as WaitSet}
 use Rattle.fat_monitor.specs.declared.actions.Action.TheVariants.{Wait}
 use Rattle.fat_monitor.specs.declared.actions.Answer.TheVariants.{Parked}
 use Rattle.fat_monitor.specs.declared.actions.Done.{Done}
+use Rattle.fat_monitor.specs.declared.actions.Reply.TheVariants.{Interrupted}
 use Rattle.fat_monitor.specs.declared.actions.Post.{Post}
 use Rattle.fat_monitor.specs.declared.actions.Post.TheVariants.{Out, Waiting}
-use Rattle.fat_monitor.specs.FatState.{FatState, IsSound, post_of, monitor_at, first_of}
+use Rattle.fat_monitor.specs.FatState.{FatState, IsSound, post_of, monitor_at, first_of, flag_at}
 use Rattle.fat_monitor.specs.Acting.{are_good, deadline, handed_on, parked}
 use Rattle.fat_monitor.specs.Fats.{fat_state_in}
+use Rattle.fat_monitor.proofs.SoundSteps.{IsSound-flags}
 use Rattle.fat_monitor.proofs.Soundness.{stands_nowhere, room_to_join, out-handed_on}
-use Rattle.fat_monitor.proofs.Steps.{monitor_read, parked_as, told_at, sound_after}
+use Rattle.fat_monitor.proofs.Steps.{monitor_read, parked_as, flagged_as, replied_at, told_at, sound_after}
 use Rattle.fat_monitor.proofs.monitors.Fats.wait.Goals as goal
 
 pub returns-then-not-is_owner : goal.returns-then-not-is_owner
@@ -21,6 +23,19 @@ pub returns-then-not-are_good : goal.returns-then-not-are_good
 returns-then-not-are_good c =
     let bad = simp (to_z-of_z w64 c.args.millis c.ranges.millis, to_z-of_z w32 c.args.nanos c.ranges.nanos) at c.if-not-are_good.ensures in
     rw (← c.if-not-is_owner.ensures, ← bad) (c.reply_with-then-not-are_good.ensures _)
+
+pub invariant_of-self : goal.invariant_of-self
+invariant_of-self c =
+    let f = fat_state_in c.self.inside in
+    rw (flagged_as f c.args.thread false c.set_flag.new.self c.set_flag.ensures) (IsSound-flags f _ c.self.invariant)
+
+pub returns-then-flag : goal.returns-then-flag
+returns-then-flag c =
+    let good : true ≡ are_good c.args.millis c.args.nanos =
+    simp (to_z-of_z w64 c.args.millis c.ranges.millis, to_z-of_z w32 c.args.nanos c.ranges.nanos) at c.if-not-are_good.ensures in
+    let flagged : true ≡ flag_at c.args.self.now c.args.thread = rw (← c.self.view_is) (sym c.if-flag.true ∙ c.flag.ensures) in
+    let after = flagged_as (fat_state_in c.self.inside) c.args.thread false c.set_flag.new.self c.set_flag.ensures in
+    rw (← c.if-not-is_owner.ensures, ← good, ← flagged, ← c.self.view_is) (replied_at c.reply_with-then-flag.result Interrupted _ _ c.reply_with-then-flag.ensures after)
 
 pub set-requires : goal.set-requires
 set-requires c =
@@ -51,19 +66,20 @@ returns c =
     let first = first_of f m Entry in
     let bound = rw (← c.self.view_is) at c.requires.bound in
     let read : monitor_at f m ≡ c.index.result.now = rw (← c.self.view_is) (monitor_read (fat_state_in c.self.inside) m c.index.result.now bound c.index.ensures) in
-    let time : c.deadline.result ≡ deadline 0 c.args.millis c.args.nanos =
-    simp (to_z-of_z w64 c.args.millis c.ranges.millis, to_z-of_z w32 c.args.nanos c.ranges.nanos) at c.deadline.ensures in
+    let time : c.deadline.result ≡ deadline f.moment c.args.millis c.args.nanos =
+    rw (← c.self.view_is) (simp (to_z-of_z w64 c.args.millis c.ranges.millis, to_z-of_z w32 c.args.nanos c.ranges.nanos) at c.deadline.ensures) in
+    let clear : false ≡ flag_at f t = rw (← c.self.view_is) (sym c.if-flag.false ∙ c.flag.ensures) in
     let good : true ≡ are_good c.args.millis c.args.nanos =
     simp (to_z-of_z w64 c.args.millis c.ranges.millis, to_z-of_z w32 c.args.nanos c.ranges.nanos) at c.if-not-are_good.ensures in
-    let post : Waiting m c.index.result.now.holds c.deadline.result ≡ Waiting m (monitor_at f m).holds (deadline 0 c.args.millis c.args.nanos) = rw (read, time) refl in
+    let post : Waiting m c.index.result.now.holds c.deadline.result ≡ Waiting m (monitor_at f m).holds (deadline f.moment c.args.millis c.args.nanos) = rw (read, time) refl in
     let parks = parked_as (fat_state_in c.self-2.inside) t (Waiting m c.index.result.now.holds c.deadline.result) m WaitSet c.set.new.self c.join.new.self c.set.ensures c.join.ensures.joined c.join.ensures.reservations in
     let handed = c.self-2.view_is ∙ c.hand_on-granted.ensures.after in
     let after = parks ∙ ap (λ (g : FatState). parked g t (Waiting m c.index.result.now.holds c.deadline.result) m WaitSet) handed ∙ ap (λ (p : Post). parked (handed_on f m first) t p m WaitSet) post in
     let told : c.tell.result ≡ record { answer = Parked; granted = first; chosen = None } =
     c.tell.ensures ∙ ap (λ (u : Option ThreadId). let d : Done = record { answer = Parked; granted = u; chosen = None } in d) c.hand_on-granted.ensures.granted in
-    rw (← c.if-not-is_owner.ensures, ← good) (told_at c.tell.result Parked first None _ _ told after)
+    rw (← c.if-not-is_owner.ensures, ← good, ← clear) (told_at c.tell.result Parked first None _ _ told after)
 
-pub invariant_of-self : goal.invariant_of-self
-invariant_of-self c =
+pub invariant_of-self-2 : goal.invariant_of-self-2
+invariant_of-self-2 c =
     sound_after c.args.self.now _ c.args.thread (Wait c.args.monitor c.args.millis c.args.nanos) (Ok c.tell.result)
     (subst (λ (f : FatState). IsSound f) c.self.view_is c.self.invariant) c.requires.out c.requires.bound (returns c)

@@ -1,6 +1,6 @@
 use Rattle.std.proofs.Common.{sym, ap}
 use Rattle.std.specs.Prelude.{Option, is_some, ℕ}
-use Rattle.fat_monitor.proofs.PostMaps.{not_posted, posts_of-drop}
+use Rattle.fat_monitor.proofs.PostMaps.{not_posted, posted_in-drop}
 use Rattle.fat_monitor.proofs.posts.Posts.remove.Goals as goal
 
 pub unreachable-requires : goal.unreachable-requires
@@ -10,5 +10,5 @@ unreachable-requires c =
 pub returns : goal.returns
 returns c =
     rw (← c.self.view_is) (
-    posts_of-drop c.self.inside.records c.try_remove.new.self c.self.inside.keys.entries c.remove.new.self.entries c.args.thread.0 c.in-Some.key
+    posted_in-drop c.self.inside.records c.try_remove.new.self c.self.inside.keys.entries c.remove.new.self.entries c.args.thread.0 c.in-Some.key
     c.self.invariant.0 (sym c.in-Some.ensures.value) c.try_remove.ensures.updates c.in-Some.ensures.updates.0)

@@ -1,0 +1,44 @@
+use Rattle.std.proofs.Common.{◌≡◌, ◌∙◌, sym, ap, ℕ, refl, subst}
+use Rattle.std.specs.Vec.{with_item}
+use Rattle.fat_monitor.specs.declared.actions.Reply.{Reply}
+use Rattle.fat_monitor.specs.FatState.{FatState, IsSound}
+use Rattle.fat_monitor.specs.Acting.{reply_granted}
+use Rattle.fat_monitor.specs.Fats.{fat_state_in}
+use Rattle.fat_monitor.proofs.SoundSteps.{place_bound}
+use Rattle.fat_monitor.proofs.SoundGrants.{granted_flags, IsSound-granted}
+use Rattle.fat_monitor.proofs.Steps.{placed, flags_cleared, flags_kept, granted_as}
+use Rattle.fat_monitor.proofs.monitors.Fats.grant.Goals.{in-Interrupted, in_default}
+use Rattle.fat_monitor.proofs.monitors.Fats.grant.Goals as goal
+
+-- the flag was cleared where an interrupt ended the wait
+settled : (c : goal.After-leave) → c.match-reply.self-inside ≡ record c.self.inside { monitors = with_item c.self.inside.monitors c.args.monitor c.give.new.self; posts = record c.self.inside.posts { flags = granted_flags (fat_state_in c.self.inside) c.args.thread c.args.post } }
+settled c =
+    let f = fat_state_in c.self.inside in
+    let told : c.granted_to-holds.result.1 ≡ reply_granted c.args.post = ap (λ (g : ℕ × Reply). g.1) c.granted_to-holds.ensures in
+    elim c.match-reply.branch [
+      | in-Interrupted w ↦ w.self-inside-is ∙ rw (w.set_flag.ensures, flags_cleared f c.args.thread c.args.post (sym told ∙ w.in-Interrupted.is)) refl
+      | in_default w ↦ w.self-inside-is ∙ rw (flags_kept f c.args.thread c.args.post (λ e. w.in_default.not-Interrupted (told ∙ e))) refl
+    ]
+
+pub returns : goal.returns
+returns c r place =
+    let f = fat_state_in c.self.inside in
+    let m = c.args.monitor in
+    let here = rw (← c.self.view_is) at place in
+    let post = placed f c.args.thread _ here in
+    let bound = place_bound f post.0 m r (c.self.invariant.proper c.args.thread post.0 post.1) post.2 in
+    let stands = c.self.invariant.posted c.args.thread post.0 m r post.1 post.2 in
+    let set = rw (settled c) at c.set.ensures in
+    let lines = rw (settled c) at c.leave.ensures.left in
+    let kept = rw (settled c) at c.leave.ensures.reservations in
+    rw (← c.self.view_is, settled c) (
+    granted_as f m c.args.thread c.args.post r c.index_mut.result.now c.give.new.self c.granted_to-holds.result
+    (record c.self.inside.posts { flags = granted_flags f c.args.thread c.args.post }) c.set.new.self c.leave.new.self
+    bound c.index_mut.ensures.value c.give.ensures c.granted_to-holds.ensures refl set (lines m r stands) kept)
+
+pub invariant_of-self : goal.invariant_of-self
+invariant_of-self c =
+    let f = c.args.self.now in
+    let post = placed f c.args.thread _ c.requires.stands.1 in
+    let kept = IsSound-granted f c.args.monitor c.args.thread c.args.post post.0 c.requires.stands.0 (subst (λ (f : FatState). IsSound f) c.self.view_is c.self.invariant) post.1 post.2 c.requires.comes in
+    rw (returns c c.requires.stands.0 c.requires.stands.1) kept

@@ -1,0 +1,25 @@
+use Rattle.std.proofs.Common.{true}
+use Rattle.fat_monitor.specs.Fats.{fat_state_in}
+use Rattle.fat_monitor.proofs.SoundSteps.{IsSound-flags}
+use Rattle.fat_monitor.proofs.Steps.{flagged_as, replied_at, interrupted_outside}
+use Rattle.fat_monitor.proofs.monitors.Fats.interrupt.Goals as goal
+
+pub returns-in_default : goal.returns-in_default
+returns-in_default c t = rw (← c.self.view_is, ← c.in_default.ensures) (c.reply_with.ensures _)
+
+pub invariant_of-self : goal.invariant_of-self
+invariant_of-self c =
+    let f = fat_state_in c.self.inside in
+    rw (flagged_as f c.args.target true c.set_flag.new.self c.set_flag.ensures) (IsSound-flags f _ c.self.invariant)
+
+pub invariant_of-self-2 : goal.invariant_of-self-2
+invariant_of-self-2 c =
+    let f = fat_state_in c.self.inside in
+    rw (flagged_as f c.args.target true c.set_flag.new.self c.set_flag.ensures) (IsSound-flags f _ c.self.invariant)
+
+pub returns-in_default-post : goal.returns-in_default-post
+returns-in_default-post c t =
+    let f = fat_state_in c.self.inside in
+    let after = flagged_as f c.args.target true c.set_flag.new.self c.set_flag.ensures in
+    rw (← c.self.view_is, ← c.in-Some.ensures, interrupted_outside f c.args.target c.in-Some.post c.in_default-post.not-Waiting)
+    (replied_at c.reply_with-in_default-post.result _ _ _ c.reply_with-in_default-post.ensures after)
