@@ -25,6 +25,9 @@ StoresOwn me old l (call.Wait o millis nanos) = ⊥
 StoresOwn me old l (call.Notify o) = ⊥
 StoresOwn me old l (call.NotifyAll o) = ⊥
 StoresOwn me old l (call.Holds o) = ⊥
+StoresOwn me old l (call.Interrupt who) = ⊥
+StoresOwn me old l call.Interrupted = ⊥
+StoresOwn me old l (call.IsInterrupted who) = ⊥
 StoresOwn me old l call.End = ⊥
 
 pub store_own : (c : Call) (old l : Lock) (me : ℕ) → next_of c old me ≡ next.Store l → StoresOwn me old l c
@@ -37,6 +40,9 @@ store_own c Free l me e = by_call c e
     by_call (call.Notify o) e = absurd (cc)
     by_call (call.NotifyAll o) e = absurd (cc)
     by_call (call.Holds o) e = absurd (cc)
+    by_call (call.Interrupt who) e = absurd (cc)
+    by_call call.Interrupted e = absurd (cc)
+    by_call (call.IsInterrupted who) e = absurd (cc)
     by_call call.End e = absurd (cc)
 store_own c (Thin i n) l me e = by_index (λ x. x ≡ next.Store l → StoresOwn me (Thin i n) l c) c i n me (λ same. own c (ap (λ (j : ℕ). Thin j n) same)) (λ ne. other c) e
   where
@@ -53,6 +59,9 @@ store_own c (Thin i n) l me e = by_index (λ x. x ≡ next.Store l → StoresOwn
     own (call.Notify o) is e = absurd (cc)
     own (call.NotifyAll o) is e = absurd (cc)
     own (call.Holds o) is e = absurd (cc)
+    own (call.Interrupt who) is e = absurd (cc)
+    own call.Interrupted is e = absurd (cc)
+    own (call.IsInterrupted who) is e = absurd (cc)
     own call.End is e = absurd (cc)
 
     other : (c : Call) → when_anothers c ≡ next.Store l → StoresOwn me (Thin i n) l c
@@ -62,6 +71,9 @@ store_own c (Thin i n) l me e = by_index (λ x. x ≡ next.Store l → StoresOwn
     other (call.Notify o) e = absurd (cc)
     other (call.NotifyAll o) e = absurd (cc)
     other (call.Holds o) e = absurd (cc)
+    other (call.Interrupt who) e = absurd (cc)
+    other call.Interrupted e = absurd (cc)
+    other (call.IsInterrupted who) e = absurd (cc)
     other call.End e = absurd (cc)
 store_own c (Fat m) l me e = absurd (cc)
 
@@ -73,6 +85,9 @@ BindsOwn me old (call.Exit o) = ⊥
 BindsOwn me old (call.Notify o) = ⊥
 BindsOwn me old (call.NotifyAll o) = ⊥
 BindsOwn me old (call.Holds o) = ⊥
+BindsOwn me old (call.Interrupt who) = ⊥
+BindsOwn me old call.Interrupted = ⊥
+BindsOwn me old (call.IsInterrupted who) = ⊥
 BindsOwn me old call.End = ⊥
 
 pub bind_own : (c : Call) (old : Lock) (me : ℕ) → next_of c old me ≡ next.Bind → BindsOwn me old c
@@ -85,6 +100,9 @@ bind_own c Free me e = by_call c e
     by_call (call.Notify o) e = absurd (cc)
     by_call (call.NotifyAll o) e = absurd (cc)
     by_call (call.Holds o) e = absurd (cc)
+    by_call (call.Interrupt who) e = absurd (cc)
+    by_call call.Interrupted e = absurd (cc)
+    by_call (call.IsInterrupted who) e = absurd (cc)
     by_call call.End e = absurd (cc)
 bind_own c (Thin i n) me e = by_index (λ x. x ≡ next.Bind → BindsOwn me (Thin i n) c) c i n me (λ same. own c (ap (λ (j : ℕ). Thin j n) same)) (λ ne. other c) e
   where
@@ -101,6 +119,9 @@ bind_own c (Thin i n) me e = by_index (λ x. x ≡ next.Bind → BindsOwn me (Th
     own (call.Notify o) is e = absurd (cc)
     own (call.NotifyAll o) is e = absurd (cc)
     own (call.Holds o) is e = absurd (cc)
+    own (call.Interrupt who) is e = absurd (cc)
+    own call.Interrupted is e = absurd (cc)
+    own (call.IsInterrupted who) is e = absurd (cc)
     own call.End is e = absurd (cc)
 
     other : (c : Call) → when_anothers c ≡ next.Bind → BindsOwn me (Thin i n) c
@@ -110,6 +131,9 @@ bind_own c (Thin i n) me e = by_index (λ x. x ≡ next.Bind → BindsOwn me (Th
     other (call.Notify o) e = absurd (cc)
     other (call.NotifyAll o) e = absurd (cc)
     other (call.Holds o) e = absurd (cc)
+    other (call.Interrupt who) e = absurd (cc)
+    other call.Interrupted e = absurd (cc)
+    other (call.IsInterrupted who) e = absurd (cc)
     other call.End e = absurd (cc)
 bind_own c (Fat m) me e = absurd (cc)
 
@@ -124,6 +148,9 @@ fat_fact c Free me m e = by_call c e
     by_call (call.Notify o) e = absurd (cc)
     by_call (call.NotifyAll o) e = absurd (cc)
     by_call (call.Holds o) e = absurd (cc)
+    by_call (call.Interrupt who) e = absurd (cc)
+    by_call call.Interrupted e = absurd (cc)
+    by_call (call.IsInterrupted who) e = absurd (cc)
     by_call call.End e = absurd (cc)
 fat_fact c (Thin i n) me m e = absurd (by_index (λ x. x ≡ next.Fat m → ⊥) c i n me (λ same. own c) (λ ne. other c) e)
   where
@@ -140,6 +167,9 @@ fat_fact c (Thin i n) me m e = absurd (by_index (λ x. x ≡ next.Fat m → ⊥)
     own (call.Notify o) e = absurd (cc)
     own (call.NotifyAll o) e = absurd (cc)
     own (call.Holds o) e = absurd (cc)
+    own (call.Interrupt who) e = absurd (cc)
+    own call.Interrupted e = absurd (cc)
+    own (call.IsInterrupted who) e = absurd (cc)
     own call.End e = absurd (cc)
 
     other : (c : Call) → when_anothers c ≡ next.Fat m → ⊥
@@ -149,6 +179,9 @@ fat_fact c (Thin i n) me m e = absurd (by_index (λ x. x ≡ next.Fat m → ⊥)
     other (call.Notify o) e = absurd (cc)
     other (call.NotifyAll o) e = absurd (cc)
     other (call.Holds o) e = absurd (cc)
+    other (call.Interrupt who) e = absurd (cc)
+    other call.Interrupted e = absurd (cc)
+    other (call.IsInterrupted who) e = absurd (cc)
     other call.End e = absurd (cc)
 fat_fact c (Fat j) me m e = cc
 
@@ -160,6 +193,9 @@ own_of_store (call.Wait o millis nanos) old l me h = absurd h
 own_of_store (call.Notify o) old l me h = absurd h
 own_of_store (call.NotifyAll o) old l me h = absurd h
 own_of_store (call.Holds o) old l me h = absurd h
+own_of_store (call.Interrupt who) old l me h = absurd h
+own_of_store call.Interrupted old l me h = absurd h
+own_of_store (call.IsInterrupted who) old l me h = absurd h
 own_of_store call.End old l me h = absurd h
 
 -- and so is a bind
@@ -170,6 +206,9 @@ own_of_bind (call.Exit o) old me h = absurd h
 own_of_bind (call.Notify o) old me h = absurd h
 own_of_bind (call.NotifyAll o) old me h = absurd h
 own_of_bind (call.Holds o) old me h = absurd h
+own_of_bind (call.Interrupt who) old me h = absurd h
+own_of_bind call.Interrupted old me h = absurd h
+own_of_bind (call.IsInterrupted who) old me h = absurd h
 own_of_bind call.End old me h = absurd h
 
 -- what a spin means: an enter finds another thread's thin lock
@@ -187,6 +226,9 @@ spin_fact c Free me names e = by_call c names e
     by_call (call.Notify o) names e = absurd (cc)
     by_call (call.NotifyAll o) names e = absurd (cc)
     by_call (call.Holds o) names e = absurd (cc)
+    by_call (call.Interrupt who) names e = absurd (cc)
+    by_call call.Interrupted names e = absurd (cc)
+    by_call (call.IsInterrupted who) names e = absurd (cc)
     by_call call.End names e = absurd (cc)
 spin_fact c (Thin i n) me names e = by_index (λ x. x ≡ next.Spin → Spins me (Thin i n) c) c i n me (λ same. own c names) (λ ne. other c names ne) e
   where
@@ -203,6 +245,9 @@ spin_fact c (Thin i n) me names e = by_index (λ x. x ≡ next.Spin → Spins me
     own (call.Notify o) names e = absurd (cc)
     own (call.NotifyAll o) names e = absurd (cc)
     own (call.Holds o) names e = absurd (cc)
+    own (call.Interrupt who) names e = absurd (cc)
+    own call.Interrupted names e = absurd (cc)
+    own (call.IsInterrupted who) names e = absurd (cc)
     own call.End names e = absurd (cc)
 
     other : (c : Call) → IsSome (object_of c) → (i ≡ me → ⊥) → when_anothers c ≡ next.Spin → Spins me (Thin i n) c
@@ -212,5 +257,8 @@ spin_fact c (Thin i n) me names e = by_index (λ x. x ≡ next.Spin → Spins me
     other (call.Notify o) names ne e = absurd (cc)
     other (call.NotifyAll o) names ne e = absurd (cc)
     other (call.Holds o) names ne e = absurd (cc)
+    other (call.Interrupt who) names ne e = absurd (cc)
+    other call.Interrupted names ne e = absurd (cc)
+    other (call.IsInterrupted who) names ne e = absurd (cc)
     other call.End names ne e = absurd (cc)
 spin_fact c (Fat m) me names e = absurd (cc)

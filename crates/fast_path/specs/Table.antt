@@ -12,7 +12,7 @@ use Rattle.lock_word.specs.declared.Lock.TheVariants as lock
 use Rattle.fat_monitor.specs.declared.actions.Reply.TheVariants.{Yes, No, Notified, IllegalMonitorState, IllegalArgument}
 use Rattle.fat_monitor.specs.Acting.{are_good}
 use Rattle.fast_path.specs.declared.Call.{Call}
-use Rattle.fast_path.specs.declared.Call.TheVariants.{Enter, Exit, Wait, Notify, NotifyAll, Holds, End}
+use Rattle.fast_path.specs.declared.Call.TheVariants.{Enter, Exit, Wait, Notify, NotifyAll, Holds, Interrupt, Interrupted, IsInterrupted, End}
 use Rattle.fast_path.specs.declared.Next.{Next}
 use Rattle.fast_path.specs.declared.Next.TheVariants.{Reply, Cas, Store, Bind, Fat, Spin}
 
@@ -24,6 +24,9 @@ object_of (Wait o millis nanos) = Some o
 object_of (Notify o) = Some o
 object_of (NotifyAll o) = Some o
 object_of (Holds o) = Some o
+object_of (Interrupt u) = None
+object_of Interrupted = None
+object_of (IsInterrupted u) = None
 object_of End = None
 
 -- the object of a call that names one; of another call it means nothing
@@ -34,6 +37,9 @@ target (Wait o millis nanos) = o
 target (Notify o) = o
 target (NotifyAll o) = o
 target (Holds o) = o
+target (Interrupt u) = record { 0 = 0 }
+target Interrupted = record { 0 = 0 }
+target (IsInterrupted u) = record { 0 = 0 }
 target End = record { 0 = 0 }
 
 -- The columns of the table; of a call that names no object they say nothing. Nobody holds the object:
@@ -44,6 +50,9 @@ when_free (Wait o millis nanos) me = Reply IllegalMonitorState
 when_free (Notify o) me = Reply IllegalMonitorState
 when_free (NotifyAll o) me = Reply IllegalMonitorState
 when_free (Holds o) me = Reply No
+when_free (Interrupt u) me = Spin
+when_free Interrupted me = Spin
+when_free (IsInterrupted u) me = Spin
 when_free End me = Spin
 
 -- the caller holds it, c + 1 times:
@@ -54,6 +63,9 @@ when_own (Wait o millis nanos) me c = if are_good millis nanos then Bind else Re
 when_own (Notify o) me c = Reply Notified
 when_own (NotifyAll o) me c = Reply Notified
 when_own (Holds o) me c = Reply Yes
+when_own (Interrupt u) me c = Spin
+when_own Interrupted me c = Spin
+when_own (IsInterrupted u) me c = Spin
 when_own End me c = Spin
 
 -- another thread holds it:
@@ -64,6 +76,9 @@ when_anothers (Wait o millis nanos) = Reply IllegalMonitorState
 when_anothers (Notify o) = Reply IllegalMonitorState
 when_anothers (NotifyAll o) = Reply IllegalMonitorState
 when_anothers (Holds o) = Reply No
+when_anothers (Interrupt u) = Spin
+when_anothers Interrupted = Spin
+when_anothers (IsInterrupted u) = Spin
 when_anothers End = Spin
 
 -- what this lock calls for, where the index of the caller is me

@@ -11,7 +11,7 @@ ghost use Rattle.fast_path.specs.Table.{next_of, when_free, when_own, when_anoth
 mod tests;
 
 use fat_monitor::{Reply, are_good};
-use lock_word::{Lock, ObjectId};
+use lock_word::{Lock, ObjectId, ThreadId};
 
 /// What a thread asks of the service.
 #[derive(Clone, Copy, PartialEq, Eq, Hash, Debug)]
@@ -33,12 +33,18 @@ pub enum Call {
     NotifyAll(ObjectId),
     /// Does the thread own the object (`Thread.holdsLock`)?
     Holds(ObjectId),
+    /// Interrupt this thread (`Thread.interrupt`; JLS SE 8, 17.2.3).
+    Interrupt(ThreadId),
+    /// Is the thread interrupted? It is not any more then (`Thread.interrupted`).
+    Interrupted,
+    /// Is this thread interrupted (`Thread.isInterrupted`)?
+    IsInterrupted(ThreadId),
     /// Be live no longer.
     End,
 }
 
 impl Call {
-    /// The object that the call names; None for [`End`](Call::End).
+    /// The object that the call names; None for a call about interrupts, and for [`End`](Call::End).
     pub fn object(self) -> Option<ObjectId>
         ensures { result ≡ object_of self }
     {
@@ -46,7 +52,7 @@ impl Call {
             Call::Enter(object) | Call::Exit(object) | Call::Holds(object) => Some(object),
             Call::Wait { object, .. } => Some(object),
             Call::Notify(object) | Call::NotifyAll(object) => Some(object),
-            Call::End => None,
+            Call::Interrupt(_) | Call::Interrupted | Call::IsInterrupted(_) | Call::End => None,
         }
     }
 }
@@ -96,7 +102,8 @@ fn free(call: Call, me: u16) -> Next
         Call::Exit(_) | Call::Wait { .. } => illegal,
         Call::Notify(_) | Call::NotifyAll(_) => illegal,
         Call::Holds(_) => Next::Reply(Reply::No),
-        Call::End => unreachable!(),
+        Call::Interrupt(_) | Call::Interrupted | Call::IsInterrupted(_) | Call::End =>
+            unreachable!(),
     }
 }
 
@@ -116,7 +123,8 @@ fn own(call: Call, me: u16, count: u8) -> Next
         Call::Wait { .. } => Next::Reply(Reply::IllegalArgument),
         Call::Notify(_) | Call::NotifyAll(_) => Next::Reply(Reply::Notified),
         Call::Holds(_) => Next::Reply(Reply::Yes),
-        Call::End => unreachable!(),
+        Call::Interrupt(_) | Call::Interrupted | Call::IsInterrupted(_) | Call::End =>
+            unreachable!(),
     }
 }
 
@@ -131,6 +139,7 @@ fn anothers(call: Call) -> Next
         Call::Exit(_) | Call::Wait { .. } => illegal,
         Call::Notify(_) | Call::NotifyAll(_) => illegal,
         Call::Holds(_) => Next::Reply(Reply::No),
-        Call::End => unreachable!(),
+        Call::Interrupt(_) | Call::Interrupted | Call::IsInterrupted(_) | Call::End =>
+            unreachable!(),
     }
 }
