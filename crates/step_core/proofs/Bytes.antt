@@ -11,11 +11,12 @@ use Rattle.lock_word.proofs.Words.{low_kept}
 use Rattle.thread_index.specs.Indices.{seat_of, free_seat}
 use Rattle.fat_monitor.specs.declared.actions.Cause.{Cause}
 use Rattle.fat_monitor.specs.declared.actions.Action.{Action}
+use Rattle.fat_monitor.specs.declared.actions.Action.TheVariants as action
 use Rattle.fat_monitor.specs.declared.actions.Done.{Done}
 use Rattle.fat_monitor.specs.declared.actions.ActFault.{ActFault}
 use Rattle.fat_monitor.specs.declared.actions.Post.{Post}
 use Rattle.fat_monitor.specs.declared.actions.Post.TheVariants.{Out, Entering, Waiting, Back, Granted}
-use Rattle.fat_monitor.specs.FatState.{FatState, post_at, owns_one}
+use Rattle.fat_monitor.specs.FatState.{FatState, with_moment, post_at, owns_one}
 use Rattle.fat_monitor.specs.Acting.{acted}
 use Rattle.fast_path.specs.declared.Call.{Call}
 use Rattle.fast_path.specs.declared.Call.TheVariants as call
@@ -23,13 +24,15 @@ use Rattle.fast_path.specs.declared.Next.{Next}
 use Rattle.fast_path.specs.declared.Next.TheVariants as next
 use Rattle.fast_path.specs.Table.{object_of, target, next_of}
 use Rattle.step_core.specs.declared.places.Place.{Place}
-use Rattle.step_core.specs.declared.places.Place.TheVariants.{Idle, Begun, Taking, Storing, Binding, Acting, Won, Bound, Inflated, Parked, Ending}
+use Rattle.step_core.specs.declared.places.Place.TheVariants.{Idle, Begun, Taking, Storing, Binding, Acting, Won, Bound, Inflated, Direct, Parked, Ending}
+use Rattle.step_core.specs.declared.moves.Move.TheVariants as move
+use Rattle.step_core.specs.declared.events.Atomic.TheVariants.{Label}
 use Rattle.step_core.specs.declared.events.Step.{Step}
 use Rattle.step_core.specs.declared.events.Step.TheVariants as step
 use Rattle.step_core.specs.declared.events.Fault.TheVariants as fault
 use Rattle.step_core.specs.WorldState.{WorldState, IsSound, Fitting, is_own, place_at, word_at, lock_at, low_word}
-use Rattle.step_core.specs.Going.{After, gone, new_word, after_load, after_take, after_store, after_bind, after_publish, after_told, after_act, after_look, after_go, action_of, bind_cause}
-use Rattle.step_core.specs.Stepping.{Outcome, accepted, refused, attached, begun, begun_on, begun_at, ended, gathered, went, went_at, step_of}
+use Rattle.step_core.specs.Going.{After, gone, moved, new_word, after_load, after_take, after_store, after_bind, after_publish, after_told, after_act, after_look, after_go, action_of, bind_cause}
+use Rattle.step_core.specs.Stepping.{Outcome, accepted, refused, attached, begun, begun_on, begun_at, ended, gathered, went, went_at, expired, expired_as, ticked, step_of}
 use Rattle.step_core.specs.Kept.{Keeps}
 use Rattle.step_core.proofs.Frames.{within, thin_fits}
 use Rattle.step_core.proofs.Runs.{storing}
@@ -95,6 +98,7 @@ module _ (w : WorldState) (sound : IsSound w) (k : ℕ) (t : ThreadId) (seat : s
   goes room (Won o) fit = binds (call.Enter o) true 1 (bind_cause room w.fats)
   goes room (Bound c won m) fit = publishes c won m fit
   goes room (Inflated c m) fit = acts c m
+  goes room (Direct c) fit = acts c 0
   goes room Parked fit = same w _ refl
   goes room (Ending n) fit = looks n (is_own (lock_at w n) (k + 1))
 
@@ -122,6 +126,7 @@ module _ (w : WorldState) (sound : IsSound w) (k : ℕ) (t : ThreadId) (seat : s
       by_place (Won o) fit = goes room (Won o) fit
       by_place (Bound c won m) fit = goes room (Bound c won m) fit
       by_place (Inflated c m) fit = goes room (Inflated c m) fit
+      by_place (Direct c) fit = goes room (Direct c) fit
       by_place Parked fit = gathers (post_at w.fats t)
       by_place (Ending n) fit =
           cond_both (nat_lt n (length w.words)) (accepted (gone w k (after_go room w k t (Ending n))) (after_go room w k t (Ending n)).did) (ended w k t (owns_one w.fats.monitors t)) (λ (o : Outcome). Keeps w o.after)
@@ -143,6 +148,7 @@ begins_at w k t c (Acting d m) = same w _ refl
 begins_at w k t c (Won o) = same w _ refl
 begins_at w k t c (Bound d won m) = same w _ refl
 begins_at w k t c (Inflated d m) = same w _ refl
+begins_at w k t c (Direct d) = same w _ refl
 begins_at w k t c Parked = same w _ refl
 begins_at w k t c (Ending n) = same w _ refl
 
@@ -160,8 +166,23 @@ wents : (w : WorldState) → IsSound w → (room : Bool) (t : ThreadId) (o : Opt
 wents w sound room t None e = same w _ refl
 wents w sound room t (Some k) e = went_keeps w sound k t e room (place_at w k) refl
 
+expires_as : (w : WorldState) (t : ThreadId) (r : Result Done ActFault) (f : FatState) → Keeps w (expired_as w t r f).after
+expires_as w t (Ok d) f = same w _ refl
+expires_as w t (Err e) f = same w _ refl
+
+expires : (w : WorldState) (t : ThreadId) (o : Option ℕ) → Keeps w (expired w t o).after
+expires w t None = same w _ refl
+expires w t (Some k) = expires_as w t (acted w.fats t action.Expire).answer (acted w.fats t action.Expire).after
+
+ticks : (w : WorldState) (now : ℕ) → Keeps w (ticked w now).after
+ticks w now =
+    cond_both (nat_lt now w.fats.moment) (refused w fault.Backwards) (accepted (record w { fats = with_moment w.fats now }) (moved Label (move.Time now))) (λ (o : Outcome). Keeps w o.after)
+    (λ _. same w _ refl) (λ _. same w _ refl)
+
 -- Each step keeps the objects and the low bytes.
 pub step_keeps : (w : WorldState) → IsSound w → (room : Bool) (s : Step) → Keeps w (step_of room w s).after
 step_keeps w sound room (step.Attach t) = attaches w room t (seat_of w.seats t) (free_seat w.seats)
 step_keeps w sound room (step.Begin t c) = begins w t c (seat_of w.seats t)
 step_keeps w sound room (step.Go t) = wents w sound room t (seat_of w.seats t) refl
+step_keeps w sound room (step.Expire t) = expires w t (seat_of w.seats t)
+step_keeps w sound room (step.Tick now) = ticks w now

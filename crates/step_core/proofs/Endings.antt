@@ -20,18 +20,17 @@ use Rattle.fat_monitor.specs.declared.actions.Cause.TheVariants as cause
 use Rattle.fat_monitor.specs.declared.actions.Action.TheVariants as action
 use Rattle.fat_monitor.specs.declared.actions.Answer.TheVariants as answer
 use Rattle.fat_monitor.specs.declared.actions.Post.TheVariants.{Out}
-use Rattle.fat_monitor.specs.FatState.{IsAttached, owns_one, monitor_at, unbound, is_owned_by, post_of, thread_count}
+use Rattle.fat_monitor.specs.FatState.{IsAttached, owns_one, monitor_at, unbound, is_owned_by, post_of, flag_at, thread_count}
 use Rattle.fat_monitor.proofs.PostMaps.{get-remove_by}
 use Rattle.fat_monitor.proofs.Soundness.{IsSound-without_thread}
 use Rattle.fat_monitor.proofs.Effects.{count-without_thread}
 use Rattle.fast_path.specs.declared.Call.TheVariants as call
-use Rattle.step_core.specs.declared.moves.Doing.{Doing}
 use Rattle.step_core.specs.declared.events.Did.{Did}
 use Rattle.step_core.specs.declared.places.Place.{Place}
-use Rattle.step_core.specs.declared.places.Place.TheVariants.{Idle, Begun, Taking, Storing, Binding, Acting, Won, Bound, Inflated, Parked, Ending}
+use Rattle.step_core.specs.declared.places.Place.TheVariants.{Idle, Begun, Taking, Storing, Binding, Acting, Won, Bound, Inflated, Direct, Parked, Ending}
 use Rattle.step_core.specs.declared.moves.Move.TheVariants as move
 use Rattle.step_core.specs.declared.events.Atomic.TheVariants as atomic
-use Rattle.step_core.specs.Machine.{State, Run, with_thread, OwnedBy}
+use Rattle.step_core.specs.Machine.{State, Thread, Run, with_thread, OwnedBy}
 use Rattle.step_core.specs.WorldState.{WorldState, IsSound, Stands, Fitting, Agrees, is_own, place_at, lock_at, bound_by, IsPublished}
 use Rattle.step_core.specs.Going.{replied}
 use Rattle.step_core.specs.Stepping.{Outcome, without_live, ended, moves_of}
@@ -40,7 +39,7 @@ use Rattle.step_core.proofs.Machines.{run_ended, run_refused}
 use Rattle.step_core.proofs.Shows.{ActsAlike, acts_alike}
 use Rattle.step_core.proofs.Frames.{stands_at, within, is_at, out_at, other, shown_stays}
 use Rattle.step_core.proofs.KeepsPosts.{count_given}
-use Rattle.step_core.proofs.Keeps.{sound_stays}
+use Rattle.step_core.proofs.KeepsParts.{sound_stays}
 
 -- what a step is to show: a sound world, and a run to what it shows
 abbrev pub Right : WorldState → Outcome → Type 0
@@ -117,6 +116,7 @@ module _ (w : WorldState) (sound : IsSound w) (k : ℕ) (t : ThreadId) (seat : s
           let both : Bound c won x ≡ Ending n = sym e ∙ rw here at in
           cc
       elsewhere (Inflated c x) e b f = cc
+      elsewhere (Direct c) e b f = cc
       elsewhere Parked e b f = cc
       elsewhere (Ending x) e b f = cc
 
@@ -128,7 +128,7 @@ module _ (w : WorldState) (sound : IsSound w) (k : ℕ) (t : ThreadId) (seat : s
       let d : Did = replied (atomic.Acted action.End (answer.Reply (reply.Refused cause.StillOwner))) (move.Refuse t cause.StillOwner) t (reply.Refused cause.StillOwner) in (
         sound_stays w sound k t seat Idle d none_bound out tt,
         subst (λ (s : State). Run (shown w) (move.Refuse t cause.StillOwner ∷ move.Return t (reply.Refused cause.StillOwner) ∷ []) s) (sym (shown_stays w sound k t seat Idle d out))
-            (run_refused (shown w) t false call.End cause.StillOwner (is_at w sound k t seat (Ending n) at out) owner),
+            (run_refused (shown w) t (flag_at w.fats t) call.End cause.StillOwner (is_at w sound k t seat (Ending n) at out) owner),
       )
 
   -- where it owns none, it owns no object
@@ -160,17 +160,20 @@ module _ (w : WorldState) (sound : IsSound w) (k : ℕ) (t : ThreadId) (seat : s
     seats_apart : (u : ThreadId) (j : ℕ) → (u.0 ≡ t.0 → ⊥) → seat_of w.seats u ≡ Some j → j ≡ k → ⊥
     seats_apart u j ne e same = ne (seat_thread w.seats t u k seat (rw same at e))
 
-    -- another thread has the post that it had, and shows what it showed
+    -- another thread has the post and the flag that it had, and shows what it showed
     post_kept : (u : ThreadId) → (u.0 ≡ t.0 → ⊥) → post_of now.fats u ≡ post_of w.fats u
     post_kept u ne = rw (get-remove_by w.fats.threads t.0 u.0, ne_eqb u.0 t.0 ne) refl
 
+    flag_kept : (u : ThreadId) → (u.0 ≡ t.0 → ⊥) → flag_at now.fats u ≡ flag_at w.fats u
+    flag_kept u ne = rw (get-remove_by w.fats.flags t.0 u.0, ne_eqb u.0 t.0 ne) refl
+
     alike : (u : ThreadId) → (u.0 ≡ t.0 → ⊥) → ActsAlike w.fats now.fats u
-    alike u ne = acts_alike w.fats now.fats u sound.fats (ap (λ (o : Option Post). unwrap_or o Out) (post_kept u ne)) (λ m h. refl)
+    alike u ne = acts_alike w.fats now.fats u sound.fats (flag_kept u ne) (ap (λ (o : Option Post). unwrap_or o Out) (post_kept u ne)) (λ m h. refl)
 
     thread_kept : (u : ThreadId) → (u.0 ≡ t.0 → ⊥) → (o : Option ℕ) → seat_of w.seats u ≡ o → thread_of now u o ≡ thread_of w u o
     thread_kept u ne None e = refl
     thread_kept u ne (Some j) e =
-        rw (get_or-set_other w.places k j Idle Idle (seats_apart u j ne e)) (ap (λ (x : Doing). Some (record { flag = false; act = x })) (alike u ne (place_at w j)))
+        rw (get_or-set_other w.places k j Idle Idle (seats_apart u j ne e)) (ap (λ (x : Thread). Some x) (alike u ne (place_at w j)))
 
     new_thread : (u : ThreadId) → (u.0 ≡ t.0) ⊎ (u.0 ≡ t.0 → ⊥)
         → thread_of now u (seat_of now.seats u) ≡ (if u.0 == t.0 then None else thread_of w u (seat_of w.seats u))
@@ -201,6 +204,7 @@ module _ (w : WorldState) (sound : IsSound w) (k : ℕ) (t : ThreadId) (seat : s
     old_fits j ne (Won o) f = f
     old_fits j ne (Bound c won m) f = (f.0, f.1, (f.2.0, f.2.1, rw (holder_kept j ne) f.2.2))
     old_fits j ne (Inflated c m) f = f
+    old_fits j ne (Direct c) f = f
     old_fits j ne Parked f = f
     old_fits j ne (Ending x) f = f
 
@@ -261,13 +265,13 @@ module _ (w : WorldState) (sound : IsSound w) (k : ℕ) (t : ThreadId) (seat : s
     now_shows =
         let threads : (shown now).thread ≡ (with_thread (shown w) t None).thread = fun_ext (λ u. new_thread u (cases_eq u.0 t.0)) in
         let monitors : (shown now).monitor ≡ (shown w).monitor = fun_ext (λ q. old_monitor q.0 (lock_at w q.0) refl (stands_at w sound q.0)) in
-        λ i. record { thread = threads i; objects = length w.words; monitor = monitors i; moment = 0 }
+        λ i. record { thread = threads i; objects = length w.words; monitor = monitors i; moment = w.fats.moment }
 
     gone_right : Right w (ended w k t false)
     gone_right = (
       now_sound,
       subst (λ (s : State). Run (shown w) (move.End t ∷ move.Return t reply.Ended ∷ []) s) (sym now_shows)
-          (run_ended (shown w) t false (is_at w sound k t seat (Ending n) at out) owns_none),
+          (run_ended (shown w) t (flag_at w.fats t) (is_at w sound k t seat (Ending n) at out) owns_none),
     )
 
 -- the action of a thread that ends

@@ -1,5 +1,5 @@
 -- What stays where a Go of one thread changes the world: shared facts about the thread at one seat.
-use Rattle.std.specs.Prelude.{◌≡◌, ◌⊎◌, ℕ, ◌+◌, ◌-◌, ◌<◌, ◌≤◌, false, if◌then◌else◌, ◌==◌, length, Option, Some}
+use Rattle.std.specs.Prelude.{◌≡◌, ◌⊎◌, ℕ, ◌+◌, ◌-◌, ◌<◌, ◌≤◌, Bool, if◌then◌else◌, ◌==◌, length, Option, Some}
 use Rattle.std.proofs.Common.{arith, refl, ap, sym, ◌∙◌, inl, inr, get_or-set_same, get_or-set_other, length-set}
 use Rattle.std.proofs.Math.Path.{fun_ext}
 use Rattle.std.proofs.lemmas.Bool.{cases_eq, cases_lt, eq-eqb, ne_eqb}
@@ -16,22 +16,22 @@ use Rattle.thread_index.specs.Indices.{seat_of}
 use Rattle.thread_index.proofs.Seats.{seat_found}
 use Rattle.step_core.specs.declared.moves.Doing.{Doing}
 use Rattle.fat_monitor.specs.declared.actions.Post.TheVariants.{Out}
-use Rattle.fat_monitor.specs.FatState.{FatState, post_of, post_at}
+use Rattle.fat_monitor.specs.FatState.{FatState, post_of, post_at, flag_at}
 use Rattle.step_core.specs.declared.places.Place.{Place}
-use Rattle.step_core.specs.declared.places.Place.TheVariants.{Idle, Begun, Taking, Storing, Binding, Acting, Won, Bound, Inflated, Parked, Ending}
+use Rattle.step_core.specs.declared.places.Place.TheVariants.{Idle, Begun, Taking, Storing, Binding, Acting, Won, Bound, Inflated, Direct, Parked, Ending}
 use Rattle.step_core.specs.declared.events.Did.{Did}
 use Rattle.step_core.specs.Machine.{State, Thread, Monitor, held, with_monitor, Is, now_is, OwnedBy}
 use Rattle.step_core.specs.WorldState.{WorldState, IsSound, Stands, Agrees, place_at, word_at, lock_at, low_word}
 use Rattle.step_core.specs.Going.{gone, stays, writes, new_word}
 use Rattle.step_core.specs.Shown.{shown, monitor_of, doing_of, act_of}
-use Rattle.step_core.proofs.Shows.{shown_changed, shown_kept}
+use Rattle.step_core.proofs.Shows.{does, shown_changed, shown_kept}
 
 -- the state is as it was where a thread is written as it is
-pub now_is_same : (s : State) (t : ThreadId) (d : Doing) → Is s t false d → now_is s t false d ≡ s
-now_is_same s t d h =
+pub now_is_same : (s : State) (t : ThreadId) (flag : Bool) (d : Doing) → Is s t flag d → now_is s t flag d ≡ s
+now_is_same s t flag d h =
     ap (λ (f : ThreadId → Option Thread). record s { thread = f }) (fun_ext (λ u. at_one u (cases_eq u.0 t.0)))
   where
-    at_one : (u : ThreadId) → (u.0 ≡ t.0) ⊎ (u.0 ≡ t.0 → ⊥) → (if u.0 == t.0 then Some (record { flag = false; act = d }) else s.thread u) ≡ s.thread u
+    at_one : (u : ThreadId) → (u.0 ≡ t.0) ⊎ (u.0 ≡ t.0 → ⊥) → (if u.0 == t.0 then Some (record { flag = flag; act = d }) else s.thread u) ≡ s.thread u
     at_one u (inl e) = rw (eq-eqb u.0 t.0 e) (sym (ap (λ (n : ℕ). s.thread (record { 0 = n })) e ∙ h))
     at_one u (inr ne) = rw (ne_eqb u.0 t.0 ne) refl
 
@@ -79,11 +79,12 @@ module _ (w : WorldState) (sound : IsSound w) (k : ℕ) (t : ThreadId) (seat : s
       by_place (Won o) h busy = h
       by_place (Bound c won m) h busy = h
       by_place (Inflated c m) h busy = h
+      by_place (Direct c) h busy = h
       by_place Parked h busy = absurd (busy refl)
       by_place (Ending n) h busy = h
 
-  pub is_at : (p : Place) → place_at w k ≡ p → post_of w.fats t ≡ Some Out → Is (shown w) t false (doing_of p)
-  is_at p e out = rw (seat, e) (ap (λ (x : Doing). Some (record { flag = false; act = x })) (act_out w.fats t p out))
+  pub is_at : (p : Place) → place_at w k ≡ p → post_of w.fats t ≡ Some Out → Is (shown w) t (flag_at w.fats t) (doing_of p)
+  is_at p e out = rw (seat, e) (ap (λ (x : Doing). Some (does (flag_at w.fats t) x)) (act_out w.fats t p out))
 
   -- the owner that a thin word of one's own shows
   pub mine : (c : ℕ) → monitor_of w (Thin (k + 1) c) ≡ held t (c + 1)
@@ -111,14 +112,14 @@ module _ (w : WorldState) (sound : IsSound w) (k : ℕ) (t : ThreadId) (seat : s
 
   -- the state after a write of a lock that shows this monitor
   pub shown_written : (o : ObjectId) (l : Lock) (m : Monitor) (p : Place) (d : Did) → post_of w.fats t ≡ Some Out → o.0 < length w.words → Fits l → monitor_of w l ≡ m
-      → shown (gone w k (writes w o (new_word w o l) p d)) ≡ with_monitor (now_is (shown w) t false (doing_of p)) o m
+      → shown (gone w k (writes w o (new_word w o l) p d)) ≡ with_monitor (now_is (shown w) t (flag_at w.fats t) (doing_of p)) o m
   shown_written o l m p d out h f e =
-      rw (← e) (shown_changed w k t (writes w o (new_word w o l) p d) (doing_of p) seat within (length-set w.words o.0 (new_word w o l))
-      (act_out w.fats t p out) (λ u ne q. refl) o (monitor_of w l) (written o (new_word w o l) p d l h (lock_of-new_word w o l f)))
+      rw (← e) (shown_changed w k t (writes w o (new_word w o l) p d) (flag_at w.fats t) (doing_of p) seat within (length-set w.words o.0 (new_word w o l)) refl
+      (ap (does (flag_at w.fats t)) (act_out w.fats t p out)) (λ u ne q. refl) o (monitor_of w l) (written o (new_word w o l) p d l h (lock_of-new_word w o l f)))
 
   -- the state after a Go that changes its place alone
-  pub shown_stays : (p : Place) (d : Did) → post_of w.fats t ≡ Some Out → shown (gone w k (stays w p d)) ≡ now_is (shown w) t false (doing_of p)
-  shown_stays p d out = shown_kept w k t (stays w p d) (doing_of p) seat within refl (act_out w.fats t p out) (λ u ne q. refl) (λ q. refl)
+  pub shown_stays : (p : Place) (d : Did) → post_of w.fats t ≡ Some Out → shown (gone w k (stays w p d)) ≡ now_is (shown w) t (flag_at w.fats t) (doing_of p)
+  shown_stays p d out = shown_kept w k t (stays w p d) (flag_at w.fats t) (doing_of p) seat within refl refl (ap (does (flag_at w.fats t)) (act_out w.fats t p out)) (λ u ne q. refl) (λ q. refl)
 
   -- a monitor that is written as it was
   pub as_it_was : (o : ObjectId) (x : Monitor) → x ≡ monitor_of w (lock_at w o.0) → (q : ObjectId)

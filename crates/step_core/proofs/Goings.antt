@@ -19,10 +19,10 @@ use Rattle.fat_monitor.specs.FatState.{FatState, IsAttached, owns_one, post_of, 
 use Rattle.step_core.specs.declared.events.Atomic.TheVariants.{Acted}
 use Rattle.step_core.specs.declared.events.Fault.TheVariants as fault
 use Rattle.step_core.specs.declared.events.Step.TheVariants as step
-use Rattle.step_core.proofs.Steps.{step_right}
+use Rattle.step_core.proofs.Steps.{step_sound}
 use Rattle.fast_path.specs.Table.{target}
 use Rattle.step_core.specs.declared.places.Place.{Place}
-use Rattle.step_core.specs.declared.places.Place.TheVariants.{Idle, Begun, Taking, Storing, Binding, Acting, Won, Bound, Inflated, Parked, Ending}
+use Rattle.step_core.specs.declared.places.Place.TheVariants.{Idle, Begun, Taking, Storing, Binding, Acting, Won, Bound, Inflated, Direct, Parked, Ending}
 use Rattle.step_core.specs.WorldState.{WorldState, IsSound, Fitting, place_at}
 use Rattle.step_core.specs.Going.{After, gone, after_go, returned}
 use Rattle.step_core.specs.Parts.{bare, IsReady, IsBusyAt}
@@ -61,6 +61,7 @@ module _ (w : WorldState) (sound : IsSound w) (k : ℕ) (t : ThreadId) (seat : s
   ready_at (Won o) fit busy free more = tt
   ready_at (Bound c won m) fit busy free more = (fit.0.0, fit.0.1, number_fits w sound k t seat m fit.1)
   ready_at (Inflated c m) fit busy free more = (fit.0.0, (rw fit.1 at (stands_at w sound (target c).0)).0)
+  ready_at (Direct c) fit busy free more = fit
   ready_at Parked fit busy free more = absurd (free refl)
   ready_at (Ending n) fit busy free more = more
 
@@ -86,6 +87,7 @@ module _ (w : WorldState) (sound : IsSound w) (k : ℕ) (t : ThreadId) (seat : s
   went_busy room (Won o) busy free more = refl
   went_busy room (Bound c won m) busy free more = refl
   went_busy room (Inflated c m) busy free more = refl
+  went_busy room (Direct c) busy free more = refl
   went_busy room Parked busy free more = absurd (free refl)
   went_busy room (Ending n) busy free more = rw (lt-ltb n (length w.words) more) refl
 
@@ -96,7 +98,7 @@ module _ (w : WorldState) (sound : IsSound w) (k : ℕ) (t : ThreadId) (seat : s
 
   pub left_sound : (room : Bool) (a : After) → a ≡ after_go room w k t (place_at w k) → (place_at w k ≡ Idle → ⊥) → (place_at w k ≡ Parked → ⊥) → IsBusyAt (length w.words) (place_at w k)
       → IsSound (gone w k a)
-  left_sound room a e busy free more = subst (λ (o : Outcome). IsSound o.after) (sym (left_answer room a e busy free more)) (step_right w sound room (step.Go t)).0
+  left_sound room a e busy free more = subst (λ (o : Outcome). IsSound o.after) (sym (left_answer room a e busy free more)) (step_sound w sound room (step.Go t))
 
   -- the action of a thread that has loaded all words
   pub end_answer : (room : Bool) (n : ℕ) → place_at w k ≡ Ending n → length w.words ≤ n → ended w k t (owns_one w.fats.monitors t) ≡ went room w t (seat_of w.seats t)
@@ -104,7 +106,7 @@ module _ (w : WorldState) (sound : IsSound w) (k : ℕ) (t : ThreadId) (seat : s
 
   pub end_sound : (n : ℕ) → place_at w k ≡ Ending n → length w.words ≤ n → (r : Result Did Fault) (w' : WorldState)
       → ◌≡◌ {A = Outcome} (record { answer = r; after = w' }) (ended w k t (owns_one w.fats.monitors t)) → IsSound w'
-  end_sound n at all r w' e = subst (λ (o : Outcome). IsSound o.after) (sym (e ∙ end_answer true n at all)) (step_right w sound true (step.Go t)).0
+  end_sound n at all r w' e = subst (λ (o : Outcome). IsSound o.after) (sym (e ∙ end_answer true n at all)) (step_sound w sound true (step.Go t))
 
   -- a thread that is not parked is out of every fat action
   pub is_out : (place_at w k ≡ Parked → ⊥) → post_of w.fats t ≡ Some Out
@@ -130,7 +132,7 @@ module _ (w : WorldState) (sound : IsSound w) (k : ℕ) (t : ThreadId) (seat : s
   pub gathered_sound : (f : FatState) (d : Did) → place_at w k ≡ Parked
       → ◌≡◌ {A = Gathered} (record { answer = Ok d; after = f }) (gathered_by w.fats t (post_at w.fats t))
       → IsSound (record w { places = slice_set w.places k Idle; fats = f })
-  gathered_sound f d at e = subst (λ (o : Outcome). IsSound o.after) (sym (gathered_answer true f d at e)) (step_right w sound true (step.Go t)).0
+  gathered_sound f d at e = subst (λ (o : Outcome). IsSound o.after) (sym (gathered_answer true f d at e)) (step_sound w sound true (step.Go t))
 
 -- where a seat is free, fewer threads are live than there are seats
 pub free_counted : (seats : List (Option ThreadId)) (k : ℕ) → free_seat seats ≡ Some k → count_by is_some seats < length seats

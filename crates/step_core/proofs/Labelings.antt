@@ -21,15 +21,15 @@ use Rattle.fat_monitor.specs.declared.actions.ActFault.{ActFault}
 use Rattle.fat_monitor.specs.declared.actions.Post.{Post}
 use Rattle.fat_monitor.specs.declared.actions.Post.TheVariants.{Out, Entering, Waiting, Back, Granted}
 use Rattle.wait_lines.specs.declared.Role.TheVariants.{Waiting as WaitSet}
-use Rattle.fat_monitor.specs.FatState.{FatState, IsProper, monitor_at, first_of, line_of, post_at, owns_one, is_owned_by}
-use Rattle.fat_monitor.specs.Acting.{Outcome as FatOutcome, acted, by_owner, entered, exited, waited, notified, replied as fat_replied, all_removed, are_good}
+use Rattle.fat_monitor.specs.FatState.{FatState, IsProper, monitor_at, first_of, line_of, post_of, post_at, flag_at, flag_of, with_moment, owns_one, is_owned_by}
+use Rattle.fat_monitor.specs.Acting.{Outcome as FatOutcome, acted, by_owner, entered, exited, waited, notified, replied as fat_replied, all_removed, interrupted, asked, are_good}
 use Rattle.fast_path.specs.declared.Call.{Call}
 use Rattle.fast_path.specs.declared.Call.TheVariants as call
 use Rattle.fast_path.specs.declared.Next.{Next}
 use Rattle.fast_path.specs.declared.Next.TheVariants as next
 use Rattle.fast_path.specs.Table.{target, next_of, object_of}
 use Rattle.step_core.specs.declared.places.Place.{Place}
-use Rattle.step_core.specs.declared.places.Place.TheVariants.{Idle, Begun, Taking, Storing, Binding, Acting, Won, Bound, Inflated, Parked, Ending}
+use Rattle.step_core.specs.declared.places.Place.TheVariants.{Idle, Begun, Taking, Storing, Binding, Acting, Won, Bound, Inflated, Direct, Parked, Ending}
 use Rattle.step_core.specs.declared.moves.Move.{Move}
 use Rattle.step_core.specs.declared.moves.Move.TheVariants as move
 use Rattle.step_core.specs.declared.events.Atomic.{Atomic}
@@ -39,8 +39,8 @@ use Rattle.step_core.specs.declared.events.Step.{Step}
 use Rattle.step_core.specs.declared.events.Step.TheVariants as step
 use Rattle.step_core.specs.WorldState.{WorldState, IsSound, place_at, lock_at, is_own}
 use Rattle.step_core.proofs.Shows.{proper_at}
-use Rattle.step_core.specs.Going.{move_for, silent, moved, replied, returned, load_of, lost_at, won_at, stored_at, stored_reply, granting, did_act, after_load, after_take, after_bind, after_publish, after_told, after_act, after_go, action_of, bind_cause, after_look, gone}
-use Rattle.step_core.specs.Stepping.{Outcome, attached, begun, begun_at, refused, went, went_at, step_of, given, begun_on, ended, accepted, gathered}
+use Rattle.step_core.specs.Going.{move_for, silent, moved, replied, returned, load_of, lost_at, won_at, stored_at, stored_reply, granting, did_act, after_load, after_take, after_bind, after_publish, after_told, after_act, after_go, action_of, bind_cause, after_look, gone, grant_of}
+use Rattle.step_core.specs.Stepping.{Outcome, attached, begun, begun_at, refused, went, went_at, step_of, given, begun_on, ended, accepted, gathered, expired, expired_as, ticked}
 use Rattle.step_core.specs.Labels.{is_label, labels_of, EndsWith, HasLabels}
 use Rattle.step_core.specs.declared.events.Fault.{Fault}
 use Rattle.step_core.specs.declared.events.Fault.TheVariants as fault
@@ -58,15 +58,38 @@ no_label : (c : Call) (r : Reply) (u : Option ThreadId) (t : ThreadId) → is_la
 no_label c reply.Entered u t = refl
 no_label c reply.Exited u t = refl
 no_label c reply.WaitOver u t = refl
+no_label c reply.Interrupted u t = refl
+no_label c reply.Done u t = refl
 no_label (call.Enter o) reply.Notified u t = refl
 no_label (call.Exit o) reply.Notified u t = refl
 no_label (call.Wait o millis nanos) reply.Notified u t = refl
 no_label (call.Notify o) reply.Notified u t = refl
 no_label (call.NotifyAll o) reply.Notified u t = refl
 no_label (call.Holds o) reply.Notified u t = refl
+no_label (call.Interrupt who) reply.Notified u t = refl
+no_label call.Interrupted reply.Notified u t = refl
+no_label (call.IsInterrupted who) reply.Notified u t = refl
 no_label call.End reply.Notified u t = refl
-no_label c reply.Yes u t = refl
-no_label c reply.No u t = refl
+no_label (call.Enter o) reply.Yes u t = refl
+no_label (call.Exit o) reply.Yes u t = refl
+no_label (call.Wait o millis nanos) reply.Yes u t = refl
+no_label (call.Notify o) reply.Yes u t = refl
+no_label (call.NotifyAll o) reply.Yes u t = refl
+no_label (call.Holds o) reply.Yes u t = refl
+no_label (call.Interrupt who) reply.Yes u t = refl
+no_label call.Interrupted reply.Yes u t = refl
+no_label (call.IsInterrupted who) reply.Yes u t = refl
+no_label call.End reply.Yes u t = refl
+no_label (call.Enter o) reply.No u t = refl
+no_label (call.Exit o) reply.No u t = refl
+no_label (call.Wait o millis nanos) reply.No u t = refl
+no_label (call.Notify o) reply.No u t = refl
+no_label (call.NotifyAll o) reply.No u t = refl
+no_label (call.Holds o) reply.No u t = refl
+no_label (call.Interrupt who) reply.No u t = refl
+no_label call.Interrupted reply.No u t = refl
+no_label (call.IsInterrupted who) reply.No u t = refl
+no_label call.End reply.No u t = refl
 no_label c reply.Ended u t = refl
 no_label c reply.IllegalMonitorState u t = refl
 no_label c reply.IllegalArgument u t = refl
@@ -81,6 +104,8 @@ no_grant_label u (Back m n w) = refl
 no_grant_label u (Granted reply.Entered) = refl
 no_grant_label u (Granted reply.Exited) = refl
 no_grant_label u (Granted reply.WaitOver) = refl
+no_grant_label u (Granted reply.Interrupted) = refl
+no_grant_label u (Granted reply.Done) = refl
 no_grant_label u (Granted reply.Notified) = refl
 no_grant_label u (Granted reply.Yes) = refl
 no_grant_label u (Granted reply.No) = refl
@@ -155,7 +180,7 @@ alone f t (call.Enter o) m = at (monitor_at f m).owner
     at None = λ x e. refl
     at (Some u) = cond_both (u.0 == t.0) _ _ AreAlone (λ _. cond_both (nat_lt (monitor_at f m).holds 65535) _ _ AreAlone (λ _ x e. refl) (λ _ x e. refl)) (λ _ x e. refl)
 alone f t (call.Exit o) m = owner_alone f m t (exited f t m) (cond_both (nat_lt 1 (monitor_at f m).holds) _ _ AreAlone (λ _ x e. refl) (λ _ x e. absurd (cc)))
-alone f t (call.Wait o millis nanos) m = owner_alone f m t (waited f t m millis nanos) (cond_both (are_good millis nanos) _ _ AreAlone (λ _ x e. absurd (cc)) (λ _ x e. refl))
+alone f t (call.Wait o millis nanos) m = owner_alone f m t (waited f t m millis nanos) (cond_both (are_good millis nanos) _ _ AreAlone (λ _. cond_both (flag_at f t) _ _ AreAlone (λ _ x e. refl) (λ _ x e. absurd (cc))) (λ _ x e. refl))
 alone f t (call.Notify o) m = owner_alone f m t (notified f (first_of f m WaitSet)) (at (first_of f m WaitSet))
   where
     at : (first : Option ThreadId) → AreAlone (notified f first)
@@ -163,6 +188,17 @@ alone f t (call.Notify o) m = owner_alone f m t (notified f (first_of f m WaitSe
     at (Some u) = λ x e. refl
 alone f t (call.NotifyAll o) m = owner_alone f m t (fat_replied (all_removed f (line_of f m WaitSet)) reply.Notified) (λ x e. refl)
 alone f t (call.Holds o) m = λ x e. refl
+alone f t (call.Interrupt who) m = at (post_of f who)
+  where
+    at : (o : Option Post) → AreAlone (interrupted f who o)
+    at None = λ x e. refl
+    at (Some p) = λ x e. absurd (cc)
+alone f t call.Interrupted m = λ x e. refl
+alone f t (call.IsInterrupted who) m = at (flag_of f who)
+  where
+    at : (o : Option Bool) → AreAlone (asked f o)
+    at None = λ x e. refl
+    at (Some flag) = λ x e. refl
 alone f t call.End m = cond_both (owns_one f.monitors t) _ _ AreAlone (λ _ x e. refl) (λ _ x e. refl)
 
 acts : (f : FatState) (t : ThreadId) (c : Call) (a : Action) (x : Answer) (g chosen : Option ThreadId) → RefusesAlone x g
@@ -172,6 +208,7 @@ acts f t c a (answer.Reply r) (Some u) chosen h = (
   (move_for c r chosen t ∷ granting u (post_at f u) ∷ [], refl, two_labels (move_for c r chosen t) (granting u (post_at f u)) (no_label c r chosen t) (no_grant_label u (post_at f u))),
   λ x e. let never : Some u ≡ None = h x (ap (λ (y : Reply). answer.Reply y) (same_Some r (reply.Refused x) e)) in absurd (cc),
 )
+acts f t c a answer.Quiet g chosen h = quiet (atomic.Acted a answer.Quiet) t
 acts f t (call.Enter o) a answer.Parked g chosen h = quiet (atomic.Acted a answer.Parked) t
 acts f t (call.Exit o) a answer.Parked g chosen h = quiet (atomic.Acted a answer.Parked) t
 acts f t (call.Wait o millis nanos) a answer.Parked None chosen h = (refl, λ x e. absurd (cc))
@@ -180,6 +217,9 @@ acts f t (call.Wait o millis nanos) a answer.Parked (Some u) chosen h =
 acts f t (call.Notify o) a answer.Parked g chosen h = quiet (atomic.Acted a answer.Parked) t
 acts f t (call.NotifyAll o) a answer.Parked g chosen h = quiet (atomic.Acted a answer.Parked) t
 acts f t (call.Holds o) a answer.Parked g chosen h = quiet (atomic.Acted a answer.Parked) t
+acts f t (call.Interrupt who) a answer.Parked g chosen h = quiet (atomic.Acted a answer.Parked) t
+acts f t call.Interrupted a answer.Parked g chosen h = quiet (atomic.Acted a answer.Parked) t
+acts f t (call.IsInterrupted who) a answer.Parked g chosen h = quiet (atomic.Acted a answer.Parked) t
 acts f t call.End a answer.Parked g chosen h = quiet (atomic.Acted a answer.Parked) t
 
 tells : (w : WorldState) (t : ThreadId) (c : Call) (a : Action) (r : Result Done ActFault) (f : FatState) → IfOk r (λ d. RefusesAlone d.answer d.granted)
@@ -204,6 +244,7 @@ goes room w k t (Acting c m) = acts_at w t c m
 goes room w k t (Won o) = binds w t (call.Enter o) true 1 (bind_cause room w.fats)
 goes room w k t (Bound c won m) = publishes w t c won m
 goes room w k t (Inflated c m) = acts_at w t c m
+goes room w k t (Direct c) = acts_at w t c 0
 goes room w k t Parked = quiet atomic.Label t
 goes room w k t (Ending n) = looks w t n (is_own (lock_at w n) (k + 1))
 
@@ -212,9 +253,10 @@ ends w k t true = answers (atomic.Acted action.End (answer.Reply (reply.Refused 
 ends w k t false = answers (atomic.Acted action.End (answer.Reply reply.Ended)) call.End reply.Ended None t
 
 -- what is granted is no refusal
-no_refusal : (r : Reply) → (r ≡ reply.Entered) ⊎ (r ≡ reply.WaitOver) → (x : Cause) → r ≡ reply.Refused x → ⊥
+no_refusal : (r : Reply) → (r ≡ reply.Entered) ⊎ ((r ≡ reply.WaitOver) ⊎ (r ≡ reply.Interrupted)) → (x : Cause) → r ≡ reply.Refused x → ⊥
 no_refusal r (inl e) x h = let never : reply.Entered ≡ reply.Refused x = sym e ∙ h in cc
-no_refusal r (inr e) x h = let never : reply.WaitOver ≡ reply.Refused x = sym e ∙ h in cc
+no_refusal r (inr (inl e)) x h = let never : reply.WaitOver ≡ reply.Refused x = sym e ∙ h in cc
+no_refusal r (inr (inr e)) x h = let never : reply.Interrupted ≡ reply.Refused x = sym e ∙ h in cc
 
 gathers : (w : WorldState) (k : ℕ) (t : ThreadId) (p : Post) → IsProper w.fats p → IfOk (gathered w k t p).answer (Shapely t)
 gathers w k t Out h = tt
@@ -233,6 +275,7 @@ wents_at room w sound k t (Acting c m) = goes room w k t (Acting c m)
 wents_at room w sound k t (Won o) = goes room w k t (Won o)
 wents_at room w sound k t (Bound c won m) = goes room w k t (Bound c won m)
 wents_at room w sound k t (Inflated c m) = goes room w k t (Inflated c m)
+wents_at room w sound k t (Direct c) = goes room w k t (Direct c)
 wents_at room w sound k t Parked = gathers w k t (post_at w.fats t) (proper_at w.fats t sound.fats)
 wents_at room w sound k t (Ending n) =
     cond_both (nat_lt n (length w.words)) (accepted (gone w k (after_go room w k t (Ending n))) (after_go room w k t (Ending n)).did) (ended w k t (owns_one w.fats.monitors t)) (λ x. IfOk x.answer (Shapely t))
@@ -267,6 +310,7 @@ begins_at w k t c (Acting d m) = tt
 begins_at w k t c (Won o) = tt
 begins_at w k t c (Bound d won m) = tt
 begins_at w k t c (Inflated d m) = tt
+begins_at w k t c (Direct d) = tt
 begins_at w k t c Parked = tt
 begins_at w k t c (Ending n) = tt
 
@@ -280,8 +324,28 @@ begins : (w : WorldState) (t : ThreadId) (c : Call) (o : Option ℕ) → Labeled
 begins w t c None = tt
 begins w t c (Some k) = begins_on w k t c (object_of c)
 
+-- a wait that expires has none
+expires_as : (w : WorldState) (t : ThreadId) (r : Result Done ActFault) (f : FatState) → Labeled (step.Expire t) (expired_as w t r f)
+expires_as w t (Err e) f = tt
+expires_as w t (Ok d) f = (by_grant d.granted, refl)
+  where
+    by_grant : (g : Option ThreadId) → labels_of (given (Some (move.Expire t) ∷ grant_of f g ∷ None ∷ [])) ≡ []
+    by_grant None = refl
+    by_grant (Some u) = two_labels (move.Expire t) (granting u (post_at f u)) refl (no_grant_label u (post_at f u))
+
+expires : (w : WorldState) (t : ThreadId) (o : Option ℕ) → Labeled (step.Expire t) (expired w t o)
+expires w t None = tt
+expires w t (Some k) = expires_as w t (acted w.fats t action.Expire).answer (acted w.fats t action.Expire).after
+
+ticks : (w : WorldState) (now : ℕ) → Labeled (step.Tick now) (ticked w now)
+ticks w now =
+    cond_both (nat_lt now w.fats.moment) (refused w fault.Backwards) (accepted (record w { fats = with_moment w.fats now }) (moved atomic.Label (move.Time now)))
+    (Labeled (step.Tick now)) (λ _. tt) (λ _. (refl, refl))
+
 -- An accepted step has just its labels.
 pub step_labels : (w : WorldState) → IsSound w → (room : Bool) (s : Step) → IfOk (step_of room w s).answer (HasLabels s)
 step_labels w sound room (step.Attach t) = attaches room w t (seat_of w.seats t) (free_seat w.seats)
 step_labels w sound room (step.Begin t c) = begins w t c (seat_of w.seats t)
 step_labels w sound room (step.Go t) = go_labels t (went room w t (seat_of w.seats t)).answer (go_shape room w sound t (seat_of w.seats t))
+step_labels w sound room (step.Expire t) = expires w t (seat_of w.seats t)
+step_labels w sound room (step.Tick now) = ticks w now

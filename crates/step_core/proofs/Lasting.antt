@@ -28,36 +28,40 @@ use Rattle.step_core.specs.declared.events.Fault.{Fault}
 use Rattle.step_core.specs.declared.events.Fault.TheVariants.{Memory, Parked}
 use Rattle.step_core.specs.declared.events.Step.{Step}
 use Rattle.step_core.specs.declared.events.Step.TheVariants as step
-use Rattle.step_core.specs.Machine.{State, Thread, Steps, Run, Is, Calls, now_is, woken, reply_of}
+use Rattle.step_core.specs.Machine.{State, Thread, Steps, Run, Is, Calls, now_is, woken, stirred, interrupted, flag_back, reply_of}
 use Rattle.step_core.specs.WorldState.{WorldState, IsSound, place_at}
 use Rattle.step_core.specs.Stepping.{step_of, given, moves_of, world_after}
 use Rattle.step_core.specs.Shown.{shown, doing_of, act_of}
 use Rattle.step_core.specs.Labels.{is_label, labels_of, EndsWith, HasLabels}
 use Rattle.step_core.specs.Refusals.{IsParked, IsRefused, IsAcceptable}
-use Rattle.step_core.specs.Lasting.{IsNotified, HasReply, Returns, Lasts, NeverReturns}
+use Rattle.step_core.specs.Lasting.{IsBack, IsNotified, HasReply, Returns, Lasts, NeverReturns}
 use Rattle.step_core.proofs.Steps.{step_right}
 use Rattle.step_core.proofs.Labelings.{step_labels}
 use Rattle.step_core.proofs.Refusing.{step_judged, shows}
 
 -- a thread is back from a wait, or has its reply
-abbrev IsSteady : Doing → Type 0
+abbrev pub IsSteady : Doing → Type 0
 IsSteady Idle = ⊥
 IsSteady (Wants c) = ⊥
 IsSteady (Waits o n d) = ⊥
 IsSteady (Back o n w) = Unit {0}
 IsSteady (Has r) = Unit {0}
 
+-- it does the same still, and is interrupted if it was
+abbrev pub Stays : State → ThreadId → Bool → Doing → Type 0
+Stays s u flag d = (now : Bool) × (flag ≡ true → now ≡ true) × Is s u now d
+
 -- it was back from a wait, and now has its reply
-abbrev Relocked : State → ThreadId → Bool → Doing → Type 0
-Relocked s u flag d = (o : ObjectId) × (n : ℕ) × (w : Why) × (d ≡ Back o n w) × Is s u flag (Has (reply_of w))
+abbrev pub Relocked : State → ThreadId → Bool → Doing → Type 0
+Relocked s u flag d = (o : ObjectId) × (n : ℕ) × (w : Why) × (d ≡ Back o n w) × Is s u (flag_back w flag) (Has (reply_of w))
 
 -- the move returns with the reply that it had
-abbrev Returned : Move → ThreadId → Doing → Type 0
+abbrev pub Returned : Move → ThreadId → Doing → Type 0
 Returned m u d = (t : ThreadId) × (r : Reply) × (m ≡ move.Return t r) × (t.0 ≡ u.0) × (d ≡ Has r)
 
 -- what a move leaves of such a thread
-abbrev Leaves : State → Move → ThreadId → Bool → Doing → Type 0
-Leaves s m u flag d = Is s u flag d ⊎ (Relocked s u flag d ⊎ Returned m u d)
+abbrev pub Leaves : State → Move → ThreadId → Bool → Doing → Type 0
+Leaves s m u flag d = Stays s u flag d ⊎ (Relocked s u flag d ⊎ Returned m u d)
 
 -- taking all out of a wait set leaves it
 woken_steady : (o : ObjectId) (d : Doing) → IsSteady d → woken o d ≡ d
@@ -66,6 +70,14 @@ woken_steady o (Wants c) steady = refl
 woken_steady o (Waits p n d) steady = absurd steady
 woken_steady o (Back p n w) steady = refl
 woken_steady o (Has r) steady = refl
+
+-- and neither does an interrupt
+stirred_steady : (d : Doing) → IsSteady d → stirred d ≡ d
+stirred_steady Idle steady = refl
+stirred_steady (Wants c) steady = refl
+stirred_steady (Waits p n d) steady = absurd steady
+stirred_steady (Back p n w) steady = refl
+stirred_steady (Has r) steady = refl
 
 module _ (s : State) (u : ThreadId) (flag : Bool) (d : Doing) (steady : IsSteady d) (is : Is s u flag d) where
   -- a thread of the same number is the same thread
@@ -84,56 +96,80 @@ module _ (s : State) (u : ThreadId) (flag : Bool) (d : Doing) (steady : IsSteady
   kept : (t : ThreadId) (f : Bool) (x : Doing) → (u.0 ≡ t.0 → ⊥) → Is (now_is s t f x) u flag d
   kept t f x other = rw (ne_eqb u.0 t.0 other) is
 
+  still : (s' : State) (m : Move) → Is s' u flag d → Leaves s' m u flag d
+  still s' m e = inl (flag, (λ h. h), e)
+
   -- a return
   returning : (t : ThreadId) (f : Bool) (r : Reply) (s' : State) → Is s t f (Has r) → ((u.0 ≡ t.0 → ⊥) → s'.thread u ≡ s.thread u) → (u.0 ≡ t.0) ⊎ (u.0 ≡ t.0 → ⊥)
       → Leaves s' (move.Return t r) u flag d
   returning t f r s' has rest (inl same) = inr (inr (t, r, refl, sym same, ap (λ (y : Thread). y.act) (same_as t f (Has r) has same)))
-  returning t f r s' has rest (inr other) = inl (rest other ∙ is)
+  returning t f r s' has rest (inr other) = still s' (move.Return t r) (rest other ∙ is)
 
   returning_idle : (t : ThreadId) (f : Bool) (r : Reply) (s' : State) → Is s t f (Has r) → s' ≡ now_is s t f Idle → Leaves s' (move.Return t r) u flag d
   returning_idle t f r s' has e = returning t f r s' has (λ other. rw (e, ne_eqb u.0 t.0 other) refl) (cases_eq u.0 t.0)
 
   -- a grant of a monitor to a thread that is back
   relocking : (t : ThreadId) (f : Bool) (o : ObjectId) (n : ℕ) (w : Why) (s' : State) → Is s t f (Back o n w)
-      → s'.thread u ≡ (if u.0 == t.0 then Some (record { flag = f; act = Has (reply_of w) }) else s.thread u) → (u.0 ≡ t.0) ⊎ (u.0 ≡ t.0 → ⊥)
+      → s'.thread u ≡ (if u.0 == t.0 then Some (record { flag = flag_back w f; act = Has (reply_of w) }) else s.thread u) → (u.0 ≡ t.0) ⊎ (u.0 ≡ t.0 → ⊥)
       → Leaves s' (move.Relock t) u flag d
   relocking t f o n w s' back e (inl same) =
       let one = same_as t f (Back o n w) back same in
       let flags : flag ≡ f = ap (λ (y : Thread). y.flag) one in
       inr (inl (o, n, w, ap (λ (y : Thread). y.act) one, rw (e, eq-eqb u.0 t.0 same, flags) refl))
-  relocking t f o n w s' back e (inr other) = inl (rw (e, ne_eqb u.0 t.0 other) is)
+  relocking t f o n w s' back e (inr other) = still s' (move.Relock t) (rw (e, ne_eqb u.0 t.0 other) is)
 
-  one_step : (m : Move) (s' : State) → Steps s m s' → Leaves s' m u flag d
-  one_step (move.Attach t) s' (none, e) = inl (rw e (kept t false Idle fresh))
+  pub one_step : (m : Move) (s' : State) → Steps s m s' → Leaves s' m u flag d
+  one_step (move.Attach t) s' (none, e) = still s' (move.Attach t) (rw e (kept t false Idle fresh))
     where
       fresh : u.0 ≡ t.0 → ⊥
       fresh same = let never : ◌≡◌ {A = Option Thread} (Some (record { flag = flag; act = d })) None = sym is ∙ ap (λ n. s.thread (record { 0 = n })) same ∙ none in absurd (cc)
-  one_step (move.Call t c) s' (f, idle, there, e) = inl (rw e (kept t f (Wants c) (others t f Idle idle (λ no. no))))
+  one_step (move.Call t c) s' (f, idle, there, e) = still s' (move.Call t c) (rw e (kept t f (Wants c) (others t f Idle idle (λ no. no))))
   one_step (move.Return t reply.Ended) s' (f, has, e) = returning t f reply.Ended s' has (λ other. rw (e, ne_eqb u.0 t.0 other) refl) (cases_eq u.0 t.0)
   one_step (move.Return t reply.Entered) s' (f, has, e) = returning_idle t f reply.Entered s' has e
   one_step (move.Return t reply.Exited) s' (f, has, e) = returning_idle t f reply.Exited s' has e
   one_step (move.Return t reply.WaitOver) s' (f, has, e) = returning_idle t f reply.WaitOver s' has e
+  one_step (move.Return t reply.Interrupted) s' (f, has, e) = returning_idle t f reply.Interrupted s' has e
+  one_step (move.Return t reply.Done) s' (f, has, e) = returning_idle t f reply.Done s' has e
   one_step (move.Return t reply.Notified) s' (f, has, e) = returning_idle t f reply.Notified s' has e
   one_step (move.Return t reply.Yes) s' (f, has, e) = returning_idle t f reply.Yes s' has e
   one_step (move.Return t reply.No) s' (f, has, e) = returning_idle t f reply.No s' has e
   one_step (move.Return t reply.IllegalMonitorState) s' (f, has, e) = returning_idle t f reply.IllegalMonitorState s' has e
   one_step (move.Return t reply.IllegalArgument) s' (f, has, e) = returning_idle t f reply.IllegalArgument s' has e
   one_step (move.Return t (reply.Refused x)) s' (f, has, e) = returning_idle t f (reply.Refused x) s' has e
-  one_step (move.Lock t) s' (f, o, calls, may, few, e) = inl (rw e (kept t f (Has reply.Entered) (caller t f (call.Enter o) calls)))
-  one_step (move.Unlock t) s' (f, o, n, calls, owned, e) = inl (rw e (kept t f (Has reply.Exited) (caller t f (call.Exit o) calls)))
-  one_step (move.Illegal t) s' (f, c, o, calls, only, other, e) = inl (rw e (kept t f (Has reply.IllegalMonitorState) (caller t f c calls)))
+  one_step (move.Lock t) s' (f, o, calls, may, few, e) = still s' (move.Lock t) (rw e (kept t f (Has reply.Entered) (caller t f (call.Enter o) calls)))
+  one_step (move.Unlock t) s' (f, o, n, calls, owned, e) = still s' (move.Unlock t) (rw e (kept t f (Has reply.Exited) (caller t f (call.Exit o) calls)))
+  one_step (move.Illegal t) s' (f, c, o, calls, only, other, e) = still s' (move.Illegal t) (rw e (kept t f (Has reply.IllegalMonitorState) (caller t f c calls)))
   one_step (move.BadArgument t) s' (f, o, millis, nanos, calls, owned, bad, e) =
-      inl (rw e (kept t f (Has reply.IllegalArgument) (caller t f (call.Wait o millis nanos) calls)))
-  one_step (move.Wait t) s' (o, millis, nanos, calls, owned, good, e) = inl (rw e (kept t false _ (caller t false (call.Wait o millis nanos) calls)))
+      still s' (move.BadArgument t) (rw e (kept t f (Has reply.IllegalArgument) (caller t f (call.Wait o millis nanos) calls)))
+  one_step (move.Wait t) s' (o, millis, nanos, calls, owned, good, e) = still s' (move.Wait t) (rw e (kept t false _ (caller t false (call.Wait o millis nanos) calls)))
   one_step (move.Notify t (Some v)) s' (f, o, calls, owned, g, n, over, waits, e) =
-      inl (rw (e, ne_eqb u.0 v.0 (others v g (Waits o n over) waits (λ no. no))) (kept t f (Has reply.Notified) (caller t f (call.Notify o) calls)))
-  one_step (move.Notify t None) s' (f, o, calls, owned, nobody, e) = inl (rw e (kept t f (Has reply.Notified) (caller t f (call.Notify o) calls)))
+      still s' (move.Notify t (Some v)) (rw (e, ne_eqb u.0 v.0 (others v g (Waits o n over) waits (λ no. no))) (kept t f (Has reply.Notified) (caller t f (call.Notify o) calls)))
+  one_step (move.Notify t None) s' (f, o, calls, owned, nobody, e) = still s' (move.Notify t None) (rw e (kept t f (Has reply.Notified) (caller t f (call.Notify o) calls)))
   one_step (move.NotifyAll t) s' (f, o, calls, owned, e) =
-      inl (rw (e, ne_eqb u.0 t.0 (caller t f (call.NotifyAll o) calls), is) (ap (λ (x : Doing). Some (record { flag = flag; act = x })) (woken_steady o d steady)))
+      still s' (move.NotifyAll t) (rw (e, ne_eqb u.0 t.0 (caller t f (call.NotifyAll o) calls), is) (ap (λ (x : Doing). Some (record { flag = flag; act = x })) (woken_steady o d steady)))
+  one_step (move.Early t) s' (o, millis, nanos, calls, owned, good, e) =
+      still s' (move.Early t) (rw e (kept t false (Has reply.Interrupted) (caller t true (call.Wait o millis nanos) calls)))
+  one_step (move.Interrupt t) s' (f, v, x, calls, live, e) = by_thread (cases_eq u.0 v.0)
+    where
+      by_thread : (u.0 ≡ v.0) ⊎ (u.0 ≡ v.0 → ⊥) → Leaves s' (move.Interrupt t) u flag d
+      by_thread (inl same) =
+          let one : ◌≡◌ {A = Thread} (record { flag = flag; act = d }) x = same_Some (record { flag = flag; act = d }) x (sym is ∙ ap (λ n. s.thread (record { 0 = n })) same ∙ live) in
+          inl (
+            true,
+            (λ h. refl),
+            rw (e, ne_eqb u.0 t.0 (caller t f (call.Interrupt v) calls), eq-eqb u.0 v.0 same)
+                (ap (λ (y : Thread). Some (interrupted y)) (sym one) ∙ ap (λ (y : Doing). Some (record { flag = true; act = y })) (stirred_steady d steady)),
+          )
+      by_thread (inr other) =
+          still s' (move.Interrupt t) (rw (e, ne_eqb u.0 t.0 (caller t f (call.Interrupt v) calls), ne_eqb u.0 v.0 other) is)
+  one_step (move.TestClear t) s' (f, calls, e) = still s' (move.TestClear t) (rw e (kept t false _ (caller t f call.Interrupted calls)))
+  one_step (move.Expire t) s' (f, o, n, over, waits, late, e) =
+      still s' (move.Expire t) (rw e (kept t f (Back o n why.Elapsed) (others t f (Waits o n (Some over)) waits (λ no. no))))
+  one_step (move.Time now) s' (later, e) = still s' (move.Time now) (rw e is)
   one_step (move.Relock t) s' (f, o, n, w, back, free, e) = relocking t f o n w s' back (rw e refl) (cases_eq u.0 t.0)
-  one_step (move.Ask t) s' (f, is_own, o, calls, iff, e) = inl (rw e (kept t f _ (caller t f (call.Holds o) calls)))
-  one_step (move.Refuse t x) s' (f, c, calls, may, e) = inl (rw e (kept t f (Has (reply.Refused x)) (caller t f c calls)))
-  one_step (move.End t) s' (f, calls, none, e) = inl (rw e (kept t f (Has reply.Ended) (caller t f call.End calls)))
+  one_step (move.Ask t) s' (f, answer, c, calls, right, e) = still s' (move.Ask t) (rw e (kept t f _ (caller t f c calls)))
+  one_step (move.Refuse t x) s' (f, c, calls, may, e) = still s' (move.Refuse t x) (rw e (kept t f (Has (reply.Refused x)) (caller t f c calls)))
+  one_step (move.End t) s' (f, calls, none, e) = still s' (move.End t) (rw e (kept t f (Has reply.Ended) (caller t f call.End calls)))
 
 -- the first of some moves without a label, and the others
 no_first : (m : Move) (ms : List Move) → labels_of (m ∷ ms) ≡ [] → (is_label m ≡ false) × (labels_of ms ≡ [])
@@ -154,22 +190,62 @@ reply_kept s (m ∷ ms) s' u r plain (mid, one, rest) has =
     by_case (one_step s u has.0 (Has r) tt has.1 m mid one) (λ h. reply_kept mid ms s' u r (no_first m ms plain).1 rest h)
   where
     by_case : Leaves mid m u has.0 (Has r) → (HasReply mid u r → HasReply s' u r) → HasReply s' u r
-    by_case (inl stays) later = later (has.0, stays)
+    by_case (inl stays) later = later (stays.0, stays.2)
     by_case (inr (inl (o, n, w, e, h))) later = absurd (cc)
     by_case (inr (inr back)) later = absurd (no_return m u (Has r) (no_first m ms plain).0 back)
 
--- what became of a notified thread
-abbrev Comes : State → ThreadId → ObjectId → ℕ → Type 0
-Comes s u o n = IsNotified s u o n ⊎ HasReply s u reply.WaitOver
+-- one thread that is back has one reason
+pub reason : {o p : ObjectId} {n k : ℕ} {w y : Why} → Back o n w ≡ Back p k y → y ≡ w
+reason e = cc
 
-notified_kept : (s : State) (ms : List Move) (s' : State) (u : ThreadId) (o : ObjectId) (n : ℕ) → labels_of ms ≡ [] → Run s ms s' → IsNotified s u o n → Comes s' u o n
-notified_kept s [] s' u o n plain run note = inl (note.0, rw run note.1)
-notified_kept s (m ∷ ms) s' u o n plain (mid, one, rest) note =
-    by_case (one_step s u note.0 (Back o n why.Notified) tt note.1 m mid one) (λ h. notified_kept mid ms s' u o n (no_first m ms plain).1 rest h)
+relocked_reply : (s : State) (u : ThreadId) (flag : Bool) (o : ObjectId) (n : ℕ) (w : Why) → Relocked s u flag (Back o n w) → HasReply s u (reply_of w)
+relocked_reply s u flag o n w (p, k, y, e, h) =
+    let one_reason : y ≡ w = reason e in (flag_back y flag, h ∙ ap (λ (z : Why). Some (record { flag = flag_back y flag; act = Has (reply_of z) })) one_reason)
+
+-- what became of a thread that was back
+abbrev Comes : State → ThreadId → ObjectId → ℕ → Why → Type 0
+Comes s u o n w = IsBack s u o n w ⊎ HasReply s u (reply_of w)
+
+back_kept : (s : State) (ms : List Move) (s' : State) (u : ThreadId) (o : ObjectId) (n : ℕ) (w : Why) → labels_of ms ≡ [] → Run s ms s' → IsBack s u o n w → Comes s' u o n w
+back_kept s [] s' u o n w plain run note = inl (note.0, rw run note.1)
+back_kept s (m ∷ ms) s' u o n w plain (mid, one, rest) note =
+    by_case (one_step s u note.0 (Back o n w) tt note.1 m mid one) (λ h. back_kept mid ms s' u o n w (no_first m ms plain).1 rest h)
   where
-    by_case : Leaves mid m u note.0 (Back o n why.Notified) → (IsNotified mid u o n → Comes s' u o n) → Comes s' u o n
-    by_case (inl stays) later = later (note.0, stays)
-    by_case (inr (inl (p, k, why.Notified, e, h))) later = inr (reply_kept mid ms s' u reply.WaitOver (no_first m ms plain).1 rest (note.0, h))
+    by_case : Leaves mid m u note.0 (Back o n w) → (IsBack mid u o n w → Comes s' u o n w) → Comes s' u o n w
+    by_case (inl stays) later = later (stays.0, stays.2)
+    by_case (inr (inl back)) later = inr (reply_kept mid ms s' u (reply_of w) (no_first m ms plain).1 rest (relocked_reply mid u note.0 o n w back))
+    by_case (inr (inr back)) later = absurd (no_return m u (Back o n w) (no_first m ms plain).0 back)
+
+-- what became of a notified thread that is interrupted: it is interrupted still
+abbrev Pends : State → ThreadId → ObjectId → ℕ → Type 0
+Pends s u o n = Is s u true (Back o n why.Notified) ⊎ Is s u true (Has reply.WaitOver)
+
+pub set_stays : (s : State) (u : ThreadId) (d : Doing) → Stays s u true d → Is s u true d
+set_stays s u d stays = stays.2 ∙ ap (λ (b : Bool). Some (record { flag = b; act = d })) (stays.1 refl)
+
+-- an interrupt that came is kept with the reply, and with the notification,
+set_kept : (s : State) (ms : List Move) (s' : State) (u : ThreadId) (r : Reply) → labels_of ms ≡ [] → Run s ms s' → Is s u true (Has r) → Is s' u true (Has r)
+set_kept s [] s' u r plain run has = rw run has
+set_kept s (m ∷ ms) s' u r plain (mid, one, rest) has =
+    by_case (one_step s u true (Has r) tt has m mid one) (λ h. set_kept mid ms s' u r (no_first m ms plain).1 rest h)
+  where
+    by_case : Leaves mid m u true (Has r) → (Is mid u true (Has r) → Is s' u true (Has r)) → Is s' u true (Has r)
+    by_case (inl stays) later = later (set_stays mid u (Has r) stays)
+    by_case (inr (inl (o, n, w, e, h))) later = absurd (cc)
+    by_case (inr (inr back)) later = absurd (no_return m u (Has r) (no_first m ms plain).0 back)
+
+pub relocked_set : (s : State) (u : ThreadId) (o : ObjectId) (n : ℕ) → Relocked s u true (Back o n why.Notified) → Is s u true (Has reply.WaitOver)
+relocked_set s u o n (p, k, y, e, h) =
+    let one_reason : y ≡ why.Notified = reason e in h ∙ ap (λ (z : Why). Some (record { flag = flag_back z true; act = Has (reply_of z) })) one_reason
+
+pending_kept : (s : State) (ms : List Move) (s' : State) (u : ThreadId) (o : ObjectId) (n : ℕ) → labels_of ms ≡ [] → Run s ms s' → Is s u true (Back o n why.Notified) → Pends s' u o n
+pending_kept s [] s' u o n plain run note = inl (rw run note)
+pending_kept s (m ∷ ms) s' u o n plain (mid, one, rest) note =
+    by_case (one_step s u true (Back o n why.Notified) tt note m mid one) (λ h. pending_kept mid ms s' u o n (no_first m ms plain).1 rest h)
+  where
+    by_case : Leaves mid m u true (Back o n why.Notified) → (Is mid u true (Back o n why.Notified) → Pends s' u o n) → Pends s' u o n
+    by_case (inl stays) later = later (set_stays mid u (Back o n why.Notified) stays)
+    by_case (inr (inl back)) later = inr (set_kept mid ms s' u reply.WaitOver (no_first m ms plain).1 rest (relocked_set mid u o n back))
     by_case (inr (inr back)) later = absurd (no_return m u (Back o n why.Notified) (no_first m ms plain).0 back)
 
 -- the last move of a run
@@ -177,34 +253,58 @@ run_split : (s : State) (ms : List Move) (m : Move) (s' : State) → Run s (ms +
 run_split s [] m s' (mid, one, e) = (s, refl, subst (Steps s m) (sym e) one)
 run_split s (x ∷ xs) m s' (mid, one, rest) = let r = run_split mid xs m s' rest in (r.0, (mid, one, r.1), r.2)
 
--- a return with a reply, where u has one, or is notified
+-- a return with a reply, where u has one, or is back
 module _ (s s' : State) (t : ThreadId) (r : Reply) (last : Steps s (move.Return t r) s') (u : ThreadId) where
+  returned_own : (x : Reply) → Returned (move.Return t r) u (Has x) → Returns (step.Go t) (Some r) u x
+  returned_own x (v, q, e, same, h) =
+      let thread : t ≡ v = cc in let answer : r ≡ q = cc in let own : x ≡ q = cc in
+      (ap (λ (y : ThreadId). y.0) thread ∙ same, ap (λ (y : Reply). Some y) (answer ∙ sym own))
+
   reply_returned : (x : Reply) → HasReply s u x → HasReply s' u x ⊎ Returns (step.Go t) (Some r) u x
   reply_returned x has = by_case (one_step s u has.0 (Has x) tt has.1 (move.Return t r) s' last)
     where
       by_case : Leaves s' (move.Return t r) u has.0 (Has x) → HasReply s' u x ⊎ Returns (step.Go t) (Some r) u x
-      by_case (inl stays) = inl (has.0, stays)
+      by_case (inl stays) = inl (stays.0, stays.2)
       by_case (inr (inl (o, n, w, e, h))) = absurd (cc)
-      by_case (inr (inr (v, q, e, same, h))) =
-          let thread : t ≡ v = cc in let answer : r ≡ q = cc in let own : x ≡ q = cc in
-          inr (ap (λ (y : ThreadId). y.0) thread ∙ same, ap (λ (y : Reply). Some y) (answer ∙ sym own))
+      by_case (inr (inr back)) = inr (returned_own x back)
 
-  notified_returned : (o : ObjectId) (n : ℕ) → IsNotified s u o n → Comes s' u o n
-  notified_returned o n note = by_case (one_step s u note.0 (Back o n why.Notified) tt note.1 (move.Return t r) s' last)
+  set_returned : (x : Reply) → Is s u true (Has x) → Is s' u true (Has x) ⊎ Returns (step.Go t) (Some r) u x
+  set_returned x has = by_case (one_step s u true (Has x) tt has (move.Return t r) s' last)
     where
-      by_case : Leaves s' (move.Return t r) u note.0 (Back o n why.Notified) → Comes s' u o n
-      by_case (inl stays) = inl (note.0, stays)
-      by_case (inr (inl (p, k, why.Notified, e, h))) = inr (note.0, h)
+      by_case : Leaves s' (move.Return t r) u true (Has x) → Is s' u true (Has x) ⊎ Returns (step.Go t) (Some r) u x
+      by_case (inl stays) = inl (set_stays s' u (Has x) stays)
+      by_case (inr (inl (o, n, w, e, h))) = absurd (cc)
+      by_case (inr (inr back)) = inr (returned_own x back)
+
+  back_returned : (o : ObjectId) (n : ℕ) (w : Why) → IsBack s u o n w → Comes s' u o n w
+  back_returned o n w note = by_case (one_step s u note.0 (Back o n w) tt note.1 (move.Return t r) s' last)
+    where
+      by_case : Leaves s' (move.Return t r) u note.0 (Back o n w) → Comes s' u o n w
+      by_case (inl stays) = inl (stays.0, stays.2)
+      by_case (inr (inl back)) = inr (relocked_reply s' u note.0 o n w back)
       by_case (inr (inr (v, q, e, same, h))) = absurd (cc)
 
--- The moves of a Go of t, where t itself is not notified.
-go_lasts : (s s' : State) (t : ThreadId) (ms : List Move) (r : Option Reply) → EndsWith t ms r → Run s ms s'
-    → ((u : ThreadId) (o : ObjectId) (n : ℕ) → u.0 ≡ t.0 → IsNotified s u o n → ⊥) → Lasts s (step.Go t) r s'
-go_lasts s s' t ms None plain run free = record {
-  notified = λ u o n note. notified_kept s ms s' u o n plain run note;
+  pending_returned : (o : ObjectId) (n : ℕ) → Is s u true (Back o n why.Notified) → Pends s' u o n
+  pending_returned o n note = by_case (one_step s u true (Back o n why.Notified) tt note (move.Return t r) s' last)
+    where
+      by_case : Leaves s' (move.Return t r) u true (Back o n why.Notified) → Pends s' u o n
+      by_case (inl stays) = inl (set_stays s' u (Back o n why.Notified) stays)
+      by_case (inr (inl back)) = inr (relocked_set s' u o n back)
+      by_case (inr (inr (v, q, e, same, h))) = absurd (cc)
+
+-- moves without a label
+plain_lasts : (s s' : State) (ms : List Move) (did : Step) (d : Option Reply) → labels_of ms ≡ [] → Run s ms s' → Lasts s did d s'
+plain_lasts s s' ms did d plain run = record {
+  back = λ u o n w note. back_kept s ms s' u o n w plain run note;
+  pending = λ u o n note. pending_kept s ms s' u o n plain run note;
   replied = λ u x has. inl (reply_kept s ms s' u x plain run has);
 }
-go_lasts s s' t ms (Some r) (inner, e, plain) run free = record { notified = notes; replied = replies }
+
+-- The moves of a Go of t, where t itself is not back.
+go_lasts : (s s' : State) (t : ThreadId) (ms : List Move) (r : Option Reply) → EndsWith t ms r → Run s ms s'
+    → ((u : ThreadId) (o : ObjectId) (n : ℕ) (w : Why) → u.0 ≡ t.0 → IsBack s u o n w → ⊥) → Lasts s (step.Go t) r s'
+go_lasts s s' t ms None plain run free = plain_lasts s s' ms (step.Go t) None plain run
+go_lasts s s' t ms (Some r) (inner, e, plain) run free = record { back = backs; pending = pendings; replied = replies }
   where
     parts : (mid : State) × Run s inner mid × Steps mid (move.Return t r) s'
     parts = run_split s inner (move.Return t r) s' (subst (λ xs. Run s xs s') e run)
@@ -212,38 +312,57 @@ go_lasts s s' t ms (Some r) (inner, e, plain) run free = record { notified = not
     replies : (u : ThreadId) (x : Reply) → HasReply s u x → HasReply s' u x ⊎ Returns (step.Go t) (Some r) u x
     replies u x has = reply_returned parts.0 s' t r parts.2 u x (reply_kept s inner parts.0 u x plain parts.1 has)
 
-    by_return : (u : ThreadId) (o : ObjectId) (n : ℕ) → IsNotified s u o n → HasReply s' u reply.WaitOver ⊎ Returns (step.Go t) (Some r) u reply.WaitOver → Comes s' u o n
-    by_return u o n note (inl has) = inr has
-    by_return u o n note (inr back) = absurd (free u o n (sym back.0) note)
+    by_return : (u : ThreadId) (o : ObjectId) (n : ℕ) (w : Why) → IsBack s u o n w → HasReply s' u (reply_of w) ⊎ Returns (step.Go t) (Some r) u (reply_of w) → Comes s' u o n w
+    by_return u o n w note (inl has) = inr has
+    by_return u o n w note (inr back) = absurd (free u o n w (sym back.0) note)
 
-    by_case : (u : ThreadId) (o : ObjectId) (n : ℕ) → IsNotified s u o n → Comes parts.0 u o n → Comes s' u o n
-    by_case u o n note (inl still) = notified_returned parts.0 s' t r parts.2 u o n still
-    by_case u o n note (inr has) = by_return u o n note (reply_returned parts.0 s' t r parts.2 u reply.WaitOver has)
+    by_case : (u : ThreadId) (o : ObjectId) (n : ℕ) (w : Why) → IsBack s u o n w → Comes parts.0 u o n w → Comes s' u o n w
+    by_case u o n w note (inl still) = back_returned parts.0 s' t r parts.2 u o n w still
+    by_case u o n w note (inr has) = by_return u o n w note (reply_returned parts.0 s' t r parts.2 u (reply_of w) has)
 
-    notes : (u : ThreadId) (o : ObjectId) (n : ℕ) → IsNotified s u o n → Comes s' u o n
-    notes u o n note = by_case u o n note (notified_kept s inner parts.0 u o n plain parts.1 note)
+    backs : (u : ThreadId) (o : ObjectId) (n : ℕ) (w : Why) → IsBack s u o n w → Comes s' u o n w
+    backs u o n w note = by_case u o n w note (back_kept s inner parts.0 u o n w plain parts.1 note)
+
+    set_return : (u : ThreadId) (o : ObjectId) (n : ℕ) → Is s u true (Back o n why.Notified) → Is s' u true (Has reply.WaitOver) ⊎ Returns (step.Go t) (Some r) u reply.WaitOver → Pends s' u o n
+    set_return u o n note (inl has) = inr has
+    set_return u o n note (inr back) = absurd (free u o n why.Notified (sym back.0) (true, note))
+
+    pended : (u : ThreadId) (o : ObjectId) (n : ℕ) → Is s u true (Back o n why.Notified) → Pends parts.0 u o n → Pends s' u o n
+    pended u o n note (inl still) = pending_returned parts.0 s' t r parts.2 u o n still
+    pended u o n note (inr has) = set_return u o n note (set_returned parts.0 s' t r parts.2 u reply.WaitOver has)
+
+    pendings : (u : ThreadId) (o : ObjectId) (n : ℕ) → Is s u true (Back o n why.Notified) → Pends s' u o n
+    pendings u o n note = pended u o n note (pending_kept s inner parts.0 u o n plain parts.1 note)
 
 -- one move that is no return
 module _ (s s' : State) (m : Move) (other : (t : ThreadId) (r : Reply) → m ≡ move.Return t r → ⊥) (run : Run s (m ∷ []) s') (did : Step) (d : Option Reply) where
   one_lasts : Lasts s did d s'
-  one_lasts = record { notified = notes; replied = replies }
+  one_lasts = record { back = backs; pending = pendings; replied = replies }
     where
       one : Steps s m s'
       one = subst (Steps s m) (sym run.2) run.1
 
-      notes : (u : ThreadId) (o : ObjectId) (n : ℕ) → IsNotified s u o n → Comes s' u o n
-      notes u o n note = by_case (one_step s u note.0 (Back o n why.Notified) tt note.1 m s' one)
+      backs : (u : ThreadId) (o : ObjectId) (n : ℕ) (w : Why) → IsBack s u o n w → Comes s' u o n w
+      backs u o n w note = by_case (one_step s u note.0 (Back o n w) tt note.1 m s' one)
         where
-          by_case : Leaves s' m u note.0 (Back o n why.Notified) → Comes s' u o n
-          by_case (inl stays) = inl (note.0, stays)
-          by_case (inr (inl (p, k, why.Notified, e, h))) = inr (note.0, h)
+          by_case : Leaves s' m u note.0 (Back o n w) → Comes s' u o n w
+          by_case (inl stays) = inl (stays.0, stays.2)
+          by_case (inr (inl back)) = inr (relocked_reply s' u note.0 o n w back)
+          by_case (inr (inr (v, q, e, same, h))) = absurd (other v q e)
+
+      pendings : (u : ThreadId) (o : ObjectId) (n : ℕ) → Is s u true (Back o n why.Notified) → Pends s' u o n
+      pendings u o n note = by_case (one_step s u true (Back o n why.Notified) tt note m s' one)
+        where
+          by_case : Leaves s' m u true (Back o n why.Notified) → Pends s' u o n
+          by_case (inl stays) = inl (set_stays s' u (Back o n why.Notified) stays)
+          by_case (inr (inl back)) = inr (relocked_set s' u o n back)
           by_case (inr (inr (v, q, e, same, h))) = absurd (other v q e)
 
       replies : (u : ThreadId) (x : Reply) → HasReply s u x → HasReply s' u x ⊎ Returns did d u x
       replies u x has = by_case (one_step s u has.0 (Has x) tt has.1 m s' one)
         where
           by_case : Leaves s' m u has.0 (Has x) → HasReply s' u x ⊎ Returns did d u x
-          by_case (inl stays) = inl (has.0, stays)
+          by_case (inl stays) = inl (stays.0, stays.2)
           by_case (inr (inl (o, n, w, e, h))) = absurd (cc)
           by_case (inr (inr (v, q, e, same, h))) = absurd (other v q e)
 
@@ -259,6 +378,7 @@ never_back (place.Won q) o n w e = cc
 never_back (place.Bound c true m) o n w e = cc
 never_back (place.Bound c false m) o n w e = cc
 never_back (place.Inflated c m) o n w e = cc
+never_back (place.Direct c) o n w e = cc
 never_back place.Parked o n w e = cc
 never_back (place.Ending k) o n w e = cc
 
@@ -280,10 +400,10 @@ module _ (w : WorldState) (sound : IsSound w) (t : ThreadId) where
       by_seat (Some k) e =
           (rw e refl, back_parked (place_at w k) o n y (post_of w.fats t) refl (shows w sound t k e (record { flag = flag; act = Back o n y }) is))
 
-  not_notified : IsAcceptable w (step.Go t) → (u : ThreadId) (o : ObjectId) (n : ℕ) → u.0 ≡ t.0 → IsNotified (shown w) u o n → ⊥
-  not_notified all u o n same note =
-      let here : Is (shown w) t note.0 (Back o n why.Notified) = ap (λ k. (shown w).thread (record { 0 = k })) (sym same) ∙ note.1 in
-      let never : Parked ≡ Memory = all Parked (back_refused note.0 o n why.Notified here) in cc
+  not_back : IsAcceptable w (step.Go t) → (u : ThreadId) (o : ObjectId) (n : ℕ) (y : Why) → u.0 ≡ t.0 → IsBack (shown w) u o n y → ⊥
+  not_back all u o n y same note =
+      let here : Is (shown w) t note.0 (Back o n y) = ap (λ k. (shown w).thread (record { 0 = k })) (sym same) ∙ note.1 in
+      let never : Parked ≡ Memory = all Parked (back_refused note.0 o n y here) in cc
 
 -- the answers of a step
 attach_lasts : (s s' : State) (t : ThreadId) (r : Result Did Fault) → IfOk r (HasLabels (step.Attach t)) → Run s (moves_of r) s' → IfOk r (λ d. Lasts s (step.Attach t) d.reply s')
@@ -294,9 +414,17 @@ begin_lasts : (s s' : State) (t : ThreadId) (c : Call) (r : Result Did Fault) �
 begin_lasts s s' t c (Ok d) h run = one_lasts s s' (move.Call t c) (λ v r e. cc) (subst (λ ms. Run s ms s') h.0 run) (step.Begin t c) d.reply
 begin_lasts s s' t c (Err f) h run = tt
 
+expire_lasts : (s s' : State) (t : ThreadId) (r : Result Did Fault) → IfOk r (HasLabels (step.Expire t)) → Run s (moves_of r) s' → IfOk r (λ d. Lasts s (step.Expire t) d.reply s')
+expire_lasts s s' t (Ok d) h run = plain_lasts s s' (given d.moves) (step.Expire t) d.reply h.0 run
+expire_lasts s s' t (Err f) h run = tt
+
+tick_lasts : (s s' : State) (now : ℕ) (r : Result Did Fault) → IfOk r (HasLabels (step.Tick now)) → Run s (moves_of r) s' → IfOk r (λ d. Lasts s (step.Tick now) d.reply s')
+tick_lasts s s' now (Ok d) h run = one_lasts s s' (move.Time now) (λ v r e. cc) (subst (λ ms. Run s ms s') h.0 run) (step.Tick now) d.reply
+tick_lasts s s' now (Err f) h run = tt
+
 went_lasts : (w : WorldState) → IsSound w → (s' : State) (t : ThreadId) (r : Result Did Fault) → IfOk r (HasLabels (step.Go t)) → Run (shown w) (moves_of r) s'
     → MatchResult r (λ d. IsAcceptable w (step.Go t)) (λ f. IsRefused w (step.Go t) f) → IfOk r (λ d. Lasts (shown w) (step.Go t) d.reply s')
-went_lasts w sound s' t (Ok d) h run all = go_lasts (shown w) s' t (given d.moves) d.reply h run (not_notified w sound t all)
+went_lasts w sound s' t (Ok d) h run all = go_lasts (shown w) s' t (given d.moves) d.reply h run (not_back w sound t all)
 went_lasts w sound s' t (Err f) h run all = tt
 
 -- Each accepted step leaves what lasts.
@@ -307,6 +435,10 @@ step_lasts w sound room (step.Begin t c) =
     begin_lasts (shown w) (shown (step_of room w (step.Begin t c)).after) t c (step_of room w (step.Begin t c)).answer (step_labels w sound room (step.Begin t c)) (step_right w sound room (step.Begin t c)).1
 step_lasts w sound room (step.Go t) =
     went_lasts w sound (shown (step_of room w (step.Go t)).after) t (step_of room w (step.Go t)).answer (step_labels w sound room (step.Go t)) (step_right w sound room (step.Go t)).1 (step_judged w sound room (step.Go t)).0
+step_lasts w sound room (step.Expire t) =
+    expire_lasts (shown w) (shown (step_of room w (step.Expire t)).after) t (step_of room w (step.Expire t)).answer (step_labels w sound room (step.Expire t)) (step_right w sound room (step.Expire t)).1
+step_lasts w sound room (step.Tick now) =
+    tick_lasts (shown w) (shown (step_of room w (step.Tick now)).after) now (step_of room w (step.Tick now)).answer (step_labels w sound room (step.Tick now)) (step_right w sound room (step.Tick now)).1
 
 -- Over more steps, a reply is kept while none of them returns with it,
 pub all_replied : (w : WorldState) → IsSound w → (u : ThreadId) (r : Reply) (ss : List (Step × Bool)) → HasReply (shown w) u r → NeverReturns w u r ss → HasReply (shown (world_after w ss)) u r
@@ -324,20 +456,20 @@ all_replied w sound u r (s ∷ ss) has never =
     by_answer (Ok d) e lasts same = by_case d e (lasts.replied u r has)
     by_answer (Err f) e lasts same = rw same has
 
--- and a notified thread stays so, or has the reply of its wait.
-pub all_notified : (w : WorldState) → IsSound w → (u : ThreadId) (o : ObjectId) (n : ℕ) (ss : List (Step × Bool)) → IsNotified (shown w) u o n → NeverReturns w u reply.WaitOver ss
-    → IsNotified (shown (world_after w ss)) u o n ⊎ HasReply (shown (world_after w ss)) u reply.WaitOver
-all_notified w sound u o n [] note never = inl note
-all_notified w sound u o n (s ∷ ss) note never =
+-- and a thread that is back stays so, or has the reply of its wait.
+pub all_back : (w : WorldState) → IsSound w → (u : ThreadId) (o : ObjectId) (n : ℕ) (y : Why) (ss : List (Step × Bool)) → IsBack (shown w) u o n y → NeverReturns w u (reply_of y) ss
+    → IsBack (shown (world_after w ss)) u o n y ⊎ HasReply (shown (world_after w ss)) u (reply_of y)
+all_back w sound u o n y [] note never = inl note
+all_back w sound u o n y (s ∷ ss) note never =
     by_case (by_answer (step_of s.1 w s.0).answer (step_lasts w sound s.1 s.0) (step_judged w sound s.1 s.0).1)
-    (λ still. all_notified (step_of s.1 w s.0).after (step_right w sound s.1 s.0).0 u o n ss still never.1)
+    (λ still. all_back (step_of s.1 w s.0).after (step_right w sound s.1 s.0).0 u o n y ss still never.1)
   where
-    by_case : Comes (shown (step_of s.1 w s.0).after) u o n → (IsNotified (shown (step_of s.1 w s.0).after) u o n → Comes (shown (world_after (step_of s.1 w s.0).after ss)) u o n)
-        → Comes (shown (world_after (step_of s.1 w s.0).after ss)) u o n
+    by_case : Comes (shown (step_of s.1 w s.0).after) u o n y → (IsBack (shown (step_of s.1 w s.0).after) u o n y → Comes (shown (world_after (step_of s.1 w s.0).after ss)) u o n y)
+        → Comes (shown (world_after (step_of s.1 w s.0).after ss)) u o n y
     by_case (inl still) later = later still
-    by_case (inr has) later = inr (all_replied (step_of s.1 w s.0).after (step_right w sound s.1 s.0).0 u reply.WaitOver ss has never.1)
+    by_case (inr has) later = inr (all_replied (step_of s.1 w s.0).after (step_right w sound s.1 s.0).0 u (reply_of y) ss has never.1)
 
     by_answer : (a : Result Did Fault) → IfOk a (λ d. Lasts (shown w) s.0 d.reply (shown (step_of s.1 w s.0).after))
-        → OnErr a ((step_of s.1 w s.0).after ≡ w) → Comes (shown (step_of s.1 w s.0).after) u o n
-    by_answer (Ok d) lasts same = lasts.notified u o n note
+        → OnErr a ((step_of s.1 w s.0).after ≡ w) → Comes (shown (step_of s.1 w s.0).after) u o n y
+    by_answer (Ok d) lasts same = lasts.back u o n y note
     by_answer (Err f) lasts same = inl (rw same note)

@@ -3,13 +3,20 @@ pub mod Shows
 pub mod Frames
 pub mod WordRuns
 pub mod Shifts
+pub mod Grants
+pub mod Regaining
 pub mod ActShows
 pub mod ActRuns
 pub mod NotifyRuns
+pub mod FlagRuns
+pub mod ExpireRuns
 pub mod Runs
 pub mod KeepsPosts
+pub mod KeepsParts
 pub mod Keeps
+pub mod Attaching
 pub mod Endings
+pub mod Expiring
 pub mod Steps
 pub mod Opening
 pub mod Goings
@@ -20,5 +27,6 @@ pub mod Lingering
 pub mod Bytes
 pub mod Sparing
 pub mod Lasting
+pub mod Waiters
 pub mod Outcomes
 pub mod Reaching

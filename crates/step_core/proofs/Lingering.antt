@@ -12,14 +12,14 @@ use Rattle.fast_path.specs.Table.{object_of}
 use Rattle.step_core.specs.declared.moves.Doing.{Doing}
 use Rattle.step_core.specs.declared.moves.Doing.TheVariants as doing
 use Rattle.step_core.specs.declared.places.Place.{Place}
-use Rattle.step_core.specs.declared.places.Place.TheVariants.{Idle, Begun, Taking, Storing, Binding, Acting, Won, Bound, Inflated, Parked, Ending}
+use Rattle.step_core.specs.declared.places.Place.TheVariants.{Idle, Begun, Taking, Storing, Binding, Acting, Won, Bound, Inflated, Direct, Parked, Ending}
 use Rattle.step_core.specs.declared.events.Step.{Step}
 use Rattle.step_core.specs.declared.events.Step.TheVariants as step
 use Rattle.step_core.specs.declared.events.Did.{Did}
 use Rattle.step_core.specs.declared.events.Fault.{Fault}
 use Rattle.step_core.specs.declared.events.Fault.TheVariants.{Memory, Known, NoObject, InCall}
 use Rattle.step_core.specs.Machine.{Thread, Is}
-use Rattle.step_core.specs.WorldState.{WorldState, IsSound, Fitting, place_at}
+use Rattle.step_core.specs.WorldState.{WorldState, IsSound, Fitting, place_at, is_direct}
 use Rattle.step_core.specs.Stepping.{step_of}
 use Rattle.step_core.specs.Shown.{shown, doing_of}
 use Rattle.step_core.specs.Refusals.{IsLive, IsBusy, IsRefused, IsAcceptable}
@@ -44,6 +44,7 @@ busy_place objects (Acting c m) h e = cc
 busy_place objects (Won o) h e = cc
 busy_place objects (Bound c won m) h e = cc
 busy_place objects (Inflated c m) h e = cc
+busy_place objects (Direct c) h e = cc
 busy_place objects Parked h e = cc
 busy_place objects (Ending n) h e = cc
 
@@ -77,6 +78,9 @@ no_begin w t (call.Wait o millis nanos) busy all = no_begin_on w t (call.Wait o 
 no_begin w t (call.Notify o) busy all = no_begin_on w t (call.Notify o) o refl (λ h. (busy, h)) busy all
 no_begin w t (call.NotifyAll o) busy all = no_begin_on w t (call.NotifyAll o) o refl (λ h. (busy, h)) busy all
 no_begin w t (call.Holds o) busy all = no_begin_on w t (call.Holds o) o refl (λ h. (busy, h)) busy all
+no_begin w t (call.Interrupt who) busy all = let never : InCall ≡ Memory = all InCall (busy, tt) in cc
+no_begin w t call.Interrupted busy all = let never : InCall ≡ Memory = all InCall (busy, tt) in cc
+no_begin w t (call.IsInterrupted who) busy all = let never : InCall ≡ Memory = all InCall (busy, tt) in cc
 no_begin w t call.End busy all = let never : InCall ≡ Memory = all InCall (busy, tt) in cc
 
 same_Ok : (d e : Did) → ◌≡◌ {A = Result Did Fault} (Ok d) (Ok e) → d ≡ e
@@ -109,6 +113,14 @@ module _ (w : WorldState) (sound : IsSound w) (t : ThreadId) (left : 1 ≤ left_
       absurd (no_begin w u c (is_busy w sound u (rw (same_left w t u same) left)) (rw e at (step_judged w sound room (step.Begin u c)).0))
   begins u c room (Ok d) e (inr other) = kept (step_of room w (step.Begin u c)).after ((rw e at (step_patient w sound room (step.Begin u c))) t (λ x. other (sym x)))
 
+  expires : (u : ThreadId) (room : Bool) (r : Result Did Fault) → (step_of room w (step.Expire u)).answer ≡ r → LowersBy w t 0 (step_of room w (step.Expire u)).after
+  expires u room (Err f) e = unmoved (step.Expire u) room (rw e at (step_judged w sound room (step.Expire u)).1)
+  expires u room (Ok d) e = kept (step_of room w (step.Expire u)).after ((rw e at (step_patient w sound room (step.Expire u))) t)
+
+  ticks : (now : ℕ) (room : Bool) (r : Result Did Fault) → (step_of room w (step.Tick now)).answer ≡ r → LowersBy w t 0 (step_of room w (step.Tick now)).after
+  ticks now room (Err f) e = unmoved (step.Tick now) room (rw e at (step_judged w sound room (step.Tick now)).1)
+  ticks now room (Ok d) e = kept (step_of room w (step.Tick now)).after ((rw e at (step_patient w sound room (step.Tick now))) t)
+
   others : (u : ThreadId) (room : Bool) (r : Result Did Fault) → (step_of room w (step.Go u)).answer ≡ r → (u.0 ≡ t.0 → ⊥) → LowersBy w t 0 (step_of room w (step.Go u)).after
   others u room (Err f) e other = unmoved (step.Go u) room (rw e at (step_judged w sound room (step.Go u)).1)
   others u room (Ok d) e other = kept (step_of room w (step.Go u)).after ((rw e at (step_patient w sound room (step.Go u))).1 t (λ x. other (sym x)))
@@ -136,6 +148,12 @@ module _ (w : WorldState) (sound : IsSound w) (t : ThreadId) (left : 1 ≤ left_
 -- A call in which t lingers over a list of steps goes on less often than it has steps left.
 pub lingers : (w : WorldState) → IsSound w → (t : ThreadId) (ss : List (Step × Bool)) → 1 ≤ left_of w t → AllLinger w t ss → goes_of t ss < left_of w t
 lingers w sound t [] left all = left
+lingers w sound t ((step.Expire u, room) ∷ ss) left all =
+    let one = expires w sound t left u room (step_of room w (step.Expire u)).answer refl in
+    let rest = lingers (step_of room w (step.Expire u)).after (step_right w sound room (step.Expire u)).0 t ss one.1 all.1 in omega arith
+lingers w sound t ((step.Tick now, room) ∷ ss) left all =
+    let one = ticks w sound t left now room (step_of room w (step.Tick now)).answer refl in
+    let rest = lingers (step_of room w (step.Tick now)).after (step_right w sound room (step.Tick now)).0 t ss one.1 all.1 in omega arith
 lingers w sound t ((step.Attach u, room) ∷ ss) left all =
     let one = attaches w sound t left u room (step_of room w (step.Attach u)).answer refl (cases_eq u.0 t.0) in
     let rest = lingers (step_of room w (step.Attach u)).after (step_right w sound room (step.Attach u)).0 t ss one.1 all.1 in omega arith
@@ -165,6 +183,7 @@ left_bounds w k (Won o) fit h = omega arith
 left_bounds w k (Bound c true m) fit h = omega arith
 left_bounds w k (Bound c false m) fit h = omega arith
 left_bounds w k (Inflated c m) fit h = omega arith
+left_bounds w k (Direct c) fit h = omega arith
 left_bounds w k Parked fit h = omega arith
 left_bounds w k (Ending n) fit h = let within : n ≤ length w.words = fit.0 in omega arith
 
@@ -179,6 +198,7 @@ at_most_four objects (Won o) h = omega arith
 at_most_four objects (Bound c true m) h = omega arith
 at_most_four objects (Bound c false m) h = omega arith
 at_most_four objects (Inflated c m) h = omega arith
+at_most_four objects (Direct c) h = omega arith
 at_most_four objects Parked h = omega arith
 at_most_four objects (Ending n) h = absurd (h n refl)
 
@@ -190,7 +210,17 @@ names_none (call.Wait o millis nanos) names e = cc
 names_none (call.Notify o) names e = cc
 names_none (call.NotifyAll o) names e = cc
 names_none (call.Holds o) names e = cc
+names_none (call.Interrupt who) names e = cc
+names_none call.Interrupted names e = cc
+names_none (call.IsInterrupted who) names e = cc
 names_none call.End names e = cc
+
+-- nor does one about interrupts
+not_direct : (c : Call) → is_direct c ≡ true → doing.Wants c ≡ doing.Wants call.End → ⊥
+not_direct c direct e = let same : c ≡ call.End = wanted e in let never : is_direct call.End ≡ true = ap is_direct (sym same) ∙ direct in absurd (cc)
+  where
+    wanted : {c d : Call} → doing.Wants c ≡ doing.Wants d → c ≡ d
+    wanted e = cc
 
 -- a thread that ends has a Go for each word, and one more
 at_most_all : (w : WorldState) (k : ℕ) (p : Place) → Fitting w k p → ((p ≡ Parked → ⊥) → doing_of p ≡ doing.Wants call.End) → left_at (length w.words) p ≤ length w.words + 1
@@ -204,17 +234,18 @@ at_most_all w k (Won o) fit h = let e = h (λ i. cc) in absurd (cc)
 at_most_all w k (Bound c true m) fit h = let e = h (λ i. cc) in absurd (cc)
 at_most_all w k (Bound c false m) fit h = absurd (names_none c fit.0.0 (h (λ i. cc)))
 at_most_all w k (Inflated c m) fit h = absurd (names_none c fit.0.0 (h (λ i. cc)))
+at_most_all w k (Direct c) fit h = absurd (not_direct c fit (h (λ i. cc)))
 at_most_all w k Parked fit h = omega arith
 at_most_all w k (Ending n) fit h = omega arith
 
-module _ (w : WorldState) (sound : IsSound w) (t : ThreadId) (act : Doing) (is : Is (shown w) t false act) where
+module _ (w : WorldState) (sound : IsSound w) (t : ThreadId) (flag : Bool) (act : Doing) (is : Is (shown w) t flag act) where
   -- the seat of a thread that is doing this
   placed : (k : ℕ) × (seat_of w.seats t ≡ Some k) × (does w sound t k ≡ act)
   placed = by_seat (seat_of w.seats t) refl
     where
       by_seat : (o : Option ℕ) → seat_of w.seats t ≡ o → (k : ℕ) × (seat_of w.seats t ≡ Some k) × (does w sound t k ≡ act)
-      by_seat None e = let never : ◌≡◌ {A = Option Thread} None (Some (record { flag = false; act = act })) = rw e at is in absurd (cc)
-      by_seat (Some k) e = (k, e, shows w sound t k e (record { flag = false; act = act }) is)
+      by_seat None e = let never : ◌≡◌ {A = Option Thread} None (Some (record { flag = flag; act = act })) = rw e at is in absurd (cc)
+      by_seat (Some k) e = (k, e, shows w sound t k e (record { flag = flag; act = act }) is)
 
   -- its place, where it is not parked
   place_does : (k : ℕ) → seat_of w.seats t ≡ Some k → does w sound t k ≡ act → (p : Place) → place_at w k ≡ p → (p ≡ Parked → ⊥) → doing_of p ≡ act
@@ -232,9 +263,9 @@ module _ (w : WorldState) (sound : IsSound w) (t : ThreadId) (act : Doing) (is :
       let fewer : goes_of t ss < left_of w t = lingers w sound t ss (has_left busy) all in omega arith
 
 -- An end replies within a Go for each object and one more.
-pub within_all : (w : WorldState) → IsSound w → (t : ThreadId) → Is (shown w) t false (doing.Wants call.End) → (ss : List (Step × Bool)) → AllLinger w t ss → goes_of t ss < length w.words + 1
-within_all w sound t is ss all =
-    let p = placed w sound t (doing.Wants call.End) is in
+pub within_all : (w : WorldState) → IsSound w → (t : ThreadId) (flag : Bool) → Is (shown w) t flag (doing.Wants call.End) → (ss : List (Step × Bool)) → AllLinger w t ss → goes_of t ss < length w.words + 1
+within_all w sound t flag is ss all =
+    let p = placed w sound t flag (doing.Wants call.End) is in
     let fit : Fitting w p.0 (place_at w p.0) = sound.places p.0 (within w sound p.0 t p.1) in
-    let most : left_of w t ≤ length w.words + 1 = rw p.1 (at_most_all w p.0 (place_at w p.0) fit (λ free. place_does w sound t (doing.Wants call.End) is p.0 p.1 p.2 (place_at w p.0) refl free)) in
-    let fewer : goes_of t ss < left_of w t = lingers w sound t ss (has_left w sound t (doing.Wants call.End) is (λ e. cc)) all in omega arith
+    let most : left_of w t ≤ length w.words + 1 = rw p.1 (at_most_all w p.0 (place_at w p.0) fit (λ free. place_does w sound t flag (doing.Wants call.End) is p.0 p.1 p.2 (place_at w p.0) refl free)) in
+    let fewer : goes_of t ss < left_of w t = lingers w sound t ss (has_left w sound t flag (doing.Wants call.End) is (λ e. cc)) all in omega arith

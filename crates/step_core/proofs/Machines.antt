@@ -4,6 +4,7 @@ use Rattle.std.proofs.Common.{arith, refl, ap, sym, ◌∙◌, inl}
 use Rattle.std.proofs.Math.Path.{fun_ext}
 use Rattle.std.proofs.lemmas.Bool.{cond_both, eqb-true, ne_eqb}
 use Rattle.std.specs.Option.{option_map}
+use Rattle.fat_monitor.specs.declared.actions.Why.{Why}
 use Rattle.fat_monitor.specs.declared.actions.Why.TheVariants as why
 use Rattle.lock_word.specs.declared.ThreadId.{ThreadId}
 use Rattle.lock_word.specs.declared.ObjectId.{ObjectId}
@@ -16,7 +17,7 @@ use Rattle.step_core.specs.declared.moves.Doing.{Doing}
 use Rattle.step_core.specs.declared.moves.Doing.TheVariants.{Idle, Wants, Waits, Back, Has}
 use Rattle.step_core.specs.declared.moves.Move.{Move}
 use Rattle.step_core.specs.declared.moves.Move.TheVariants as move
-use Rattle.step_core.specs.Machine.{State, Thread, Monitor, Steps, Run, free, held, with_thread, with_monitor, Is, now_is, answered, OwnedBy, Unowned, Calls, MayRefuse, AreGood, NobodyWaits, all_woken, woken, owner_only}
+use Rattle.step_core.specs.Machine.{State, Thread, Monitor, Steps, Run, free, held, with_thread, with_monitor, Is, now_is, answered, OwnedBy, Unowned, Calls, MayRefuse, AreGood, NobodyWaits, all_woken, woken, interrupted, yes_or_no, reply_of, flag_back, owner_only}
 
 -- objects with one number are one object
 pub one_object : (p o : ObjectId) → p.0 ≡ o.0 → p ≡ o
@@ -52,6 +53,8 @@ abbrev pub IsPlain : Reply → Type 0
 IsPlain reply.Entered = Unit {0}
 IsPlain reply.Exited = Unit {0}
 IsPlain reply.WaitOver = Unit {0}
+IsPlain reply.Interrupted = Unit {0}
+IsPlain reply.Done = Unit {0}
 IsPlain reply.Notified = Unit {0}
 IsPlain reply.Yes = Unit {0}
 IsPlain reply.No = Unit {0}
@@ -65,6 +68,8 @@ pub return_row : (s : State) (t : ThreadId) (flag : Bool) (r : Reply) → IsPlai
 return_row s t flag reply.Entered p h = (flag, h, refl)
 return_row s t flag reply.Exited p h = (flag, h, refl)
 return_row s t flag reply.WaitOver p h = (flag, h, refl)
+return_row s t flag reply.Interrupted p h = (flag, h, refl)
+return_row s t flag reply.Done p h = (flag, h, refl)
 return_row s t flag reply.Notified p h = (flag, h, refl)
 return_row s t flag reply.Yes p h = (flag, h, refl)
 return_row s t flag reply.No p h = (flag, h, refl)
@@ -77,18 +82,22 @@ return_row s t flag (reply.Refused c) p h = (flag, h, refl)
 abbrev pub over : State → ThreadId → Bool → ObjectId → Monitor → State
 over s t flag o m = with_monitor (now_is s t flag Idle) o m
 
--- one move that answers, and the return
-pub run_replied : (s : State) (t : ThreadId) (flag : Bool) (r : Reply) (m : Move) → IsPlain r
-    → Steps s m (answered s t flag r) → Run s (m ∷ move.Return t r ∷ []) (now_is s t flag Idle)
-run_replied s t flag r m plain step = (
-  answered s t flag r,
+-- one move that answers, and the return; it may change another thread
+pub run_told : (s s1 : State) (t : ThreadId) (flag : Bool) (r : Reply) (m : Move) → IsPlain r
+    → Steps s m (answered s1 t flag r) → Run s (m ∷ move.Return t r ∷ []) (now_is s1 t flag Idle)
+run_told s s1 t flag r m plain step = (
+  answered s1 t flag r,
   step,
   (
-    now_is s t flag Idle,
-    rw (← with_thread-with_thread s t (Some (record { flag = flag; act = Has r })) (Some (record { flag = flag; act = Idle }))) (return_row (answered s t flag r) t flag r plain (now_is-Is s t flag (Has r))),
+    now_is s1 t flag Idle,
+    rw (← with_thread-with_thread s1 t (Some (record { flag = flag; act = Has r })) (Some (record { flag = flag; act = Idle }))) (return_row (answered s1 t flag r) t flag r plain (now_is-Is s1 t flag (Has r))),
     refl,
   ),
 )
+
+pub run_replied : (s : State) (t : ThreadId) (flag : Bool) (r : Reply) (m : Move) → IsPlain r
+    → Steps s m (answered s t flag r) → Run s (m ∷ move.Return t r ∷ []) (now_is s t flag Idle)
+run_replied s t flag r m plain step = run_told s s t flag r m plain step
 
 -- the same, where the move changes a monitor
 pub run_changed : (s : State) (t : ThreadId) (flag : Bool) (r : Reply) (m : Move) (o : ObjectId) (x : Monitor) → IsPlain r
@@ -156,12 +165,12 @@ run_unnoticed_all s t flag o calls owned nobody =
 pub run_yes : (s : State) (t : ThreadId) (flag : Bool) (o : ObjectId) → Calls s t flag (call.Holds o)
     → OwnedBy s o t
     → Run s (move.Ask t ∷ move.Return t reply.Yes ∷ []) (now_is s t flag Idle)
-run_yes s t flag o calls owned = run_replied s t flag reply.Yes (move.Ask t) tt (flag, true, o, calls, ((λ _. owned), (λ _. refl)), refl)
+run_yes s t flag o calls owned = run_replied s t flag reply.Yes (move.Ask t) tt (flag, true, call.Holds o, calls, ((λ _. owned), (λ _. refl)), refl)
 
 pub run_no : (s : State) (t : ThreadId) (flag : Bool) (o : ObjectId) → Calls s t flag (call.Holds o)
     → (OwnedBy s o t → ⊥)
     → Run s (move.Ask t ∷ move.Return t reply.No ∷ []) (now_is s t flag Idle)
-run_no s t flag o calls other = run_replied s t flag reply.No (move.Ask t) tt (flag, false, o, calls, ((λ e. absurd (cc)), (λ h. absurd (other h))), refl)
+run_no s t flag o calls other = run_replied s t flag reply.No (move.Ask t) tt (flag, false, call.Holds o, calls, ((λ e. absurd (cc)), (λ h. absurd (other h))), refl)
 
 pub run_refused : (s : State) (t : ThreadId) (flag : Bool) (c : Call) (cause : Cause) → Calls s t flag c
     → MayRefuse s t c cause
@@ -189,84 +198,98 @@ with_monitor-with_monitor s o x y =
     ap (λ (f : ObjectId → Monitor). record s { monitor = f }) (fun_ext (λ p. if_twice (p.0 == o.0) y x (s.monitor p)))
 
 -- a free monitor goes to a thread that wants to enter, or to one that comes back from a wait
-pub grant_lock : (s : State) (u : ThreadId) (o : ObjectId) → Is s u false (Wants (call.Enter o)) → s.monitor o ≡ free
-    → Steps s (move.Lock u) (with_monitor (now_is s u false (Has reply.Entered)) o (held u 1))
-grant_lock s u o is unowned =
+pub grant_lock : (s : State) (u : ThreadId) (flag : Bool) (o : ObjectId) → Is s u flag (Wants (call.Enter o)) → s.monitor o ≡ free
+    → Steps s (move.Lock u) (with_monitor (now_is s u flag (Has reply.Entered)) o (held u 1))
+grant_lock s u flag o is unowned =
     let few : (s.monitor o).count < 65535 = rw unowned (omega arith) in
-    (false, o, is, inl (rw unowned refl), few, sym (ap (λ (x : Monitor). with_monitor (answered s u false reply.Entered) o (held u (x.count + 1))) unowned))
+    (flag, o, is, inl (rw unowned refl), few, sym (ap (λ (x : Monitor). with_monitor (answered s u flag reply.Entered) o (held u (x.count + 1))) unowned))
 
-pub grant_relock : (s : State) (u : ThreadId) (o : ObjectId) (n : ℕ) → Is s u false (Back o n why.Notified) → s.monitor o ≡ free
-    → Steps s (move.Relock u) (with_monitor (now_is s u false (Has reply.WaitOver)) o (held u n))
-grant_relock s u o n is unowned = (false, o, n, why.Notified, is, rw unowned refl, refl)
+pub grant_relock : (s : State) (u : ThreadId) (flag : Bool) (o : ObjectId) (n : ℕ) (w : Why) → Is s u flag (Back o n w) → s.monitor o ≡ free
+    → Steps s (move.Relock u) (with_monitor (now_is s u (flag_back w flag) (Has (reply_of w))) o (held u n))
+grant_relock s u flag o n w is unowned = (flag, o, n, w, is, rw unowned refl, refl)
 
--- t gives up a monitor by the first of two moves, and u is granted it by the other
-module _ (s : State) (t u : ThreadId) (o : ObjectId) (n : ℕ) (r : Reply) (d : Doing) (first grant : Move)
-    (gives : Steps s first (with_monitor (now_is s t false d) o free))
-    (grants : Steps (with_monitor (now_is s t false d) o free) grant (with_monitor (now_is (with_monitor (now_is s t false d) o free) u false (Has r)) o (held u n))) where
-  pub run_handed : Run s (first ∷ grant ∷ []) (with_monitor (now_is (now_is s t false d) u false (Has r)) o (held u n))
+-- t gives up a monitor by the first of two moves, and u is granted it by the other; their flags are these then
+module _ (s : State) (t u : ThreadId) (mine theirs : Bool) (o : ObjectId) (n : ℕ) (r : Reply) (d : Doing) (first grant : Move)
+    (gives : Steps s first (with_monitor (now_is s t mine d) o free))
+    (grants : Steps (with_monitor (now_is s t mine d) o free) grant (with_monitor (now_is (with_monitor (now_is s t mine d) o free) u theirs (Has r)) o (held u n))) where
+  pub run_handed : Run s (first ∷ grant ∷ []) (with_monitor (now_is (now_is s t mine d) u theirs (Has r)) o (held u n))
   run_handed = (
-    with_monitor (now_is s t false d) o free,
+    with_monitor (now_is s t mine d) o free,
     gives,
     (
-      with_monitor (now_is (with_monitor (now_is s t false d) o free) u false (Has r)) o (held u n),
+      with_monitor (now_is (with_monitor (now_is s t mine d) o free) u theirs (Has r)) o (held u n),
       grants,
-      sym (with_monitor-with_monitor (now_is (now_is s t false d) u false (Has r)) o free (held u n)),
+      sym (with_monitor-with_monitor (now_is (now_is s t mine d) u theirs (Has r)) o free (held u n)),
     ),
   )
 
   -- and t returns with its reply
   pub run_handed_over : (q : Reply) → d ≡ Has q → IsPlain q → (t.0 ≡ u.0 → ⊥)
-      → Run s (first ∷ grant ∷ move.Return t q ∷ []) (with_monitor (now_is (now_is s u false (Has r)) t false Idle) o (held u n))
+      → Run s (first ∷ grant ∷ move.Return t q ∷ []) (with_monitor (now_is (now_is s u theirs (Has r)) t mine Idle) o (held u n))
   run_handed_over q e plain apart = (
-    with_monitor (now_is s t false d) o free,
+    with_monitor (now_is s t mine d) o free,
     gives,
     (
-      with_monitor (now_is (with_monitor (now_is s t false d) o free) u false (Has r)) o (held u n),
+      with_monitor (now_is (with_monitor (now_is s t mine d) o free) u theirs (Has r)) o (held u n),
       grants,
       (
-        now_is (with_monitor (now_is (with_monitor (now_is s t false d) o free) u false (Has r)) o (held u n)) t false Idle,
-        return_row (with_monitor (now_is (with_monitor (now_is s t false d) o free) u false (Has r)) o (held u n)) t false q plain
-            (now_is-other (now_is s t false d) t u false (Has r) apart ∙ ap (λ (x : Doing). (now_is s t false x).thread t) e ∙ now_is-Is s t false (Has q)),
+        now_is (with_monitor (now_is (with_monitor (now_is s t mine d) o free) u theirs (Has r)) o (held u n)) t mine Idle,
+        return_row (with_monitor (now_is (with_monitor (now_is s t mine d) o free) u theirs (Has r)) o (held u n)) t mine q plain
+            (now_is-other (now_is s t mine d) t u theirs (Has r) apart ∙ ap (λ (x : Doing). (now_is s t mine x).thread t) e ∙ now_is-Is s t mine (Has q)),
         sym (at_last),
       ),
     ),
   ) where
-    at_last : now_is (with_monitor (now_is (with_monitor (now_is s t false d) o free) u false (Has r)) o (held u n)) t false Idle
-        ≡ with_monitor (now_is (now_is s u false (Has r)) t false Idle) o (held u n)
+    at_last : now_is (with_monitor (now_is (with_monitor (now_is s t mine d) o free) u theirs (Has r)) o (held u n)) t mine Idle
+        ≡ with_monitor (now_is (now_is s u theirs (Has r)) t mine Idle) o (held u n)
     at_last =
-        ap (λ (x : State). now_is x t false Idle) (with_monitor-with_monitor (now_is (now_is s t false d) u false (Has r)) o free (held u n))
+        ap (λ (x : State). now_is x t mine Idle) (with_monitor-with_monitor (now_is (now_is s t mine d) u theirs (Has r)) o free (held u n))
         ∙ ap (λ (f : ThreadId → Option Thread). record (with_monitor s o (held u n)) { thread = f })
-        (fun_ext (λ v. two_writes (v.0 == t.0) (v.0 == u.0) (Some (record { flag = false; act = Idle })) (Some (record { flag = false; act = Has r })) (Some (record { flag = false; act = d })) (s.thread v)))
+        (fun_ext (λ v. two_writes (v.0 == t.0) (v.0 == u.0) (Some (record { flag = mine; act = Idle })) (Some (record { flag = theirs; act = Has r })) (Some (record { flag = mine; act = d })) (s.thread v)))
 
 -- t notifies u, which waits
-pub run_notified : (s : State) (t u : ThreadId) (o : ObjectId) (n : ℕ) (d : Option ℕ) → Calls s t false (call.Notify o) → OwnedBy s o t
-    → Is s u false (Waits o n d) → (t.0 ≡ u.0 → ⊥)
-    → Run s (move.Notify t (Some u) ∷ move.Return t reply.Notified ∷ []) (now_is (now_is s u false (Back o n why.Notified)) t false Idle)
-run_notified s t u o n d calls owned waits apart = (
-  now_is (answered s t false reply.Notified) u false (Back o n why.Notified),
-  (false, o, calls, owned, false, n, d, waits, refl),
+pub run_notified : (s : State) (t u : ThreadId) (mine theirs : Bool) (o : ObjectId) (n : ℕ) (d : Option ℕ) → Calls s t mine (call.Notify o) → OwnedBy s o t
+    → Is s u theirs (Waits o n d) → (t.0 ≡ u.0 → ⊥)
+    → Run s (move.Notify t (Some u) ∷ move.Return t reply.Notified ∷ []) (now_is (now_is s u theirs (Back o n why.Notified)) t mine Idle)
+run_notified s t u mine theirs o n d calls owned waits apart = (
+  now_is (answered s t mine reply.Notified) u theirs (Back o n why.Notified),
+  (mine, o, calls, owned, theirs, n, d, waits, refl),
   (
-    now_is (now_is (answered s t false reply.Notified) u false (Back o n why.Notified)) t false Idle,
-    return_row (now_is (answered s t false reply.Notified) u false (Back o n why.Notified)) t false reply.Notified tt
-        (now_is-other (answered s t false reply.Notified) t u false (Back o n why.Notified) apart ∙ now_is-Is s t false (Has reply.Notified)),
+    now_is (now_is (answered s t mine reply.Notified) u theirs (Back o n why.Notified)) t mine Idle,
+    return_row (now_is (answered s t mine reply.Notified) u theirs (Back o n why.Notified)) t mine reply.Notified tt
+        (now_is-other (answered s t mine reply.Notified) t u theirs (Back o n why.Notified) apart ∙ now_is-Is s t mine (Has reply.Notified)),
     ap (λ (f : ThreadId → Option Thread). record s { thread = f })
-        (fun_ext (λ v. sym (two_writes (v.0 == t.0) (v.0 == u.0) (Some (record { flag = false; act = Idle })) (Some (record { flag = false; act = Back o n why.Notified })) (Some (record { flag = false; act = Has reply.Notified })) (s.thread v)))),
+        (fun_ext (λ v. sym (two_writes (v.0 == t.0) (v.0 == u.0) (Some (record { flag = mine; act = Idle })) (Some (record { flag = theirs; act = Back o n why.Notified })) (Some (record { flag = mine; act = Has reply.Notified })) (s.thread v)))),
   ),
 )
 
 -- t notifies all that wait
-pub run_notified_all : (s : State) (t : ThreadId) (o : ObjectId) → Calls s t false (call.NotifyAll o) → OwnedBy s o t
-    → Run s (move.NotifyAll t ∷ move.Return t reply.Notified ∷ []) (now_is (all_woken s o) t false Idle)
-run_notified_all s t o calls owned = (
-  answered (all_woken s o) t false reply.Notified,
-  (false, o, calls, owned, refl),
-  (
-    now_is (all_woken s o) t false Idle,
-    rw (← with_thread-with_thread (all_woken s o) t (Some (record { flag = false; act = Has reply.Notified })) (Some (record { flag = false; act = Idle })))
-        (return_row (answered (all_woken s o) t false reply.Notified) t false reply.Notified tt (now_is-Is (all_woken s o) t false (Has reply.Notified))),
-    refl,
-  ),
-)
+pub run_notified_all : (s : State) (t : ThreadId) (mine : Bool) (o : ObjectId) → Calls s t mine (call.NotifyAll o) → OwnedBy s o t
+    → Run s (move.NotifyAll t ∷ move.Return t reply.Notified ∷ []) (now_is (all_woken s o) t mine Idle)
+run_notified_all s t mine o calls owned = run_told s (all_woken s o) t mine reply.Notified (move.NotifyAll t) tt (mine, o, calls, owned, refl)
+
+-- a wait of an interrupted thread does not begin
+pub run_early : (s : State) (t : ThreadId) (o : ObjectId) (millis nanos : ℤ) → Calls s t true (call.Wait o millis nanos) → OwnedBy s o t → AreGood millis nanos
+    → Run s (move.Early t ∷ move.Return t reply.Interrupted ∷ []) (now_is s t false Idle)
+run_early s t o millis nanos calls owned good = run_replied s t false reply.Interrupted (move.Early t) tt (o, millis, nanos, calls, owned, good, refl)
+
+-- t interrupts itself, or another thread
+pub run_interrupted : (s : State) (t u : ThreadId) (flag : Bool) (x : Thread) → Calls s t flag (call.Interrupt u) → s.thread u ≡ Some x
+    → Run s (move.Interrupt t ∷ move.Return t reply.Done ∷ []) (now_is (with_thread s u (Some (interrupted x))) t (if t.0 == u.0 then true else flag) Idle)
+run_interrupted s t u flag x calls live =
+    run_told s (with_thread s u (Some (interrupted x))) t (if t.0 == u.0 then true else flag) reply.Done (move.Interrupt t) tt (flag, u, x, calls, live, refl)
+
+-- t asks whether it is interrupted, and is not any more then
+pub run_tested : (s : State) (t : ThreadId) (flag : Bool) → Calls s t flag call.Interrupted
+    → Run s (move.TestClear t ∷ move.Return t (yes_or_no flag) ∷ []) (now_is s t false Idle)
+run_tested s t true calls = run_replied s t false reply.Yes (move.TestClear t) tt (true, calls, refl)
+run_tested s t false calls = run_replied s t false reply.No (move.TestClear t) tt (false, calls, refl)
+
+-- t asks whether another thread is
+pub run_asked : (s : State) (t u : ThreadId) (flag answer : Bool) (x : Thread) → Calls s t flag (call.IsInterrupted u) → s.thread u ≡ Some x → answer ≡ x.flag
+    → Run s (move.Ask t ∷ move.Return t (yes_or_no answer) ∷ []) (now_is s t flag Idle)
+run_asked s t u flag true x calls live e = run_replied s t flag reply.Yes (move.Ask t) tt (flag, true, call.IsInterrupted u, calls, (x, live, e), refl)
+run_asked s t u flag false x calls live e = run_replied s t flag reply.No (move.Ask t) tt (flag, false, call.IsInterrupted u, calls, (x, live, e), refl)
 
 -- a thread that owns nothing ends
 pub run_ended : (s : State) (t : ThreadId) (flag : Bool) → Calls s t flag call.End → ((o : ObjectId) → OwnedBy s o t → ⊥)

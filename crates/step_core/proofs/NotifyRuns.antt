@@ -1,6 +1,8 @@
 -- Each notify, notifyAll and collect is a run of the machine on the shown states, and so is each action of a call.
-use Rattle.std.specs.Prelude.{◌≡◌, ◌⊎◌, ℕ, ◌+◌, Bool, true, false, if◌then◌else◌, ◌==◌, List, get_or, [], ◌∷◌, Option, Some, None, IsSome}
+use Rattle.std.specs.Prelude.{◌≡◌, ◌⊎◌, ℕ, ◌+◌, Bool, true, false, if◌then◌else◌, ◌==◌, [], ◌∷◌, Option, Some, None, IsSome}
 use Rattle.std.specs.Option.{option_map, unwrap_or}
+use Rattle.std.specs.Ordering.{nat_cmp}
+use Rattle.std.specs.FinMap as map
 use Rattle.std.proofs.Common.{refl, ap, sym, ◌∙◌, subst, inl, inr}
 use Rattle.std.proofs.lemmas.Bool.{cases_eq, eq-eqb, ne_eqb}
 use Rattle.std.proofs.lemmas.Option.{same_Some}
@@ -18,16 +20,17 @@ use Rattle.fat_monitor.specs.declared.actions.Why.TheVariants as why
 use Rattle.fat_monitor.specs.declared.actions.Action.TheVariants as action
 use Rattle.fat_monitor.specs.declared.actions.Post.{Post}
 use Rattle.fat_monitor.specs.declared.actions.Post.TheVariants.{Out, Entering, Waiting, Back, Granted}
-use Rattle.fat_monitor.specs.FatState.{FatState, monitor_at, unbound, is_owned_by, IsFair, IsProper, post_of, post_at, first_of, line_of, with_post}
-use Rattle.fat_monitor.specs.Acting.{told, granted, removed, all_removed}
-use Rattle.fat_monitor.proofs.Effects.{post-with_post_same, post-with_post_other, first_waiting, nobody_waiting, called_back, post-all_removed, monitors-all_removed}
+use Rattle.fat_monitor.specs.FatState.{FatState, monitor_at, is_owned_by, IsFair, IsProper, post_of, post_at, flag_at, first_of, line_of, with_post}
+use Rattle.fat_monitor.specs.Acting.{told, granted, sent_back, all_removed}
+use Rattle.fat_monitor.proofs.Effects.{post-with_post_same, post-with_post_other, first_waiting, nobody_waiting, called_back, post-all_removed, monitors-all_removed, moment-all_removed}
+use Rattle.fat_monitor.proofs.Flags.{flags-all_removed}
 use Rattle.fast_path.specs.declared.Call.{Call}
 use Rattle.fast_path.specs.declared.Call.TheVariants as call
 use Rattle.fast_path.specs.Table.{target, object_of}
 use Rattle.step_core.specs.declared.moves.Doing.{Doing}
 use Rattle.step_core.specs.declared.moves.Doing.TheVariants as doing
 use Rattle.step_core.specs.declared.places.Place.{Place}
-use Rattle.step_core.specs.declared.places.Place.TheVariants.{Idle, Begun, Taking, Storing, Binding, Acting, Won, Bound, Inflated, Parked, Ending}
+use Rattle.step_core.specs.declared.places.Place.TheVariants.{Idle, Begun, Taking, Storing, Binding, Acting, Won, Bound, Inflated, Direct, Parked, Ending}
 use Rattle.step_core.specs.declared.moves.Move.TheVariants as move
 use Rattle.step_core.specs.declared.events.Atomic.TheVariants as atomic
 use Rattle.step_core.specs.declared.events.Did.{Did}
@@ -38,11 +41,11 @@ use Rattle.step_core.specs.Stepping.{given}
 use Rattle.step_core.specs.Shown.{shown, monitor_of, doing_of, act_of, thread_of}
 use Rattle.step_core.proofs.Machines.{run_unnoticed, run_returned, run_notified, run_notified_all, IsPlain}
 use Rattle.step_core.proofs.Machines.{one_object}
-use Rattle.step_core.proofs.Shows.{acts_alike, proper_at}
-use Rattle.step_core.proofs.Shifts.{one_thread, does, same_post, post_is, own_thread, kept_thread, given_thread, by_seat, shown_turned}
+use Rattle.step_core.proofs.Shows.{does, thread_in, acts_alike, proper_at}
+use Rattle.step_core.proofs.Shifts.{one_thread, same_post, post_is, own_thread, kept_thread, given_thread, by_seat, shown_turned}
 use Rattle.step_core.proofs.Frames.{stands_at, is_at, act_out}
 use Rattle.step_core.proofs.WordRuns.{waits_object}
-use Rattle.step_core.proofs.ActShows.{object_here, monitors_kept, Goal, by_outcome, keeps_all, owned_by_me, mine}
+use Rattle.step_core.proofs.ActShows.{act_same, object_here, monitors_kept, Goal, by_outcome, keeps_all, owned_by_me, mine}
 use Rattle.step_core.proofs.ActRuns.{enter_run, holds_run, illegal_run, exit_run, wait_run}
 use Rattle.step_core.proofs.WordRuns.{not_waiting}
 
@@ -58,16 +61,9 @@ woken_out o (Won q) = refl
 woken_out o (Bound c true m) = refl
 woken_out o (Bound c false m) = refl
 woken_out o (Inflated c m) = refl
+woken_out o (Direct c) = refl
 woken_out o Parked = refl
 woken_out o (Ending n) = refl
-
--- a thread shows the same with the same monitors
-act_same : (f g : FatState) (q : Post) (p : Place) → g.monitors ≡ f.monitors → act_of g q p ≡ act_of f q p
-act_same f g Out p e = refl
-act_same f g (Entering m) p e = ap (λ (xs : List fat.Monitor). doing.Wants (call.Enter (get_or xs m unbound).object)) e
-act_same f g (Waiting m n d) p e = ap (λ (xs : List fat.Monitor). doing.Waits (get_or xs m unbound).object n d) e
-act_same f g (Back m n y) p e = ap (λ (xs : List fat.Monitor). doing.Back (get_or xs m unbound).object n y) e
-act_same f g (Granted r) p e = refl
 
 -- the post of a thread that is called back, if it waited
 called_post : (m : ℕ) (x : Option Post) → unwrap_or (option_map (called_back m) x) Out ≡ called_back m (unwrap_or x Out)
@@ -93,6 +89,7 @@ module _ (w : WorldState) (sound : IsSound w) (k : ℕ) (t : ThreadId) (seat : s
           let object : target c ≡ o = sym (ap (λ (y : fat.Monitor). y.object) fit.2.2) ∙ ap (λ (y : ℕ). (monitor_at w.fats y).object) number ∙ same in
           let never : Thin (i + 1) fit.2.0 ≡ Fat m = sym fit.2.1 ∙ ap (λ (y : ObjectId). lock_at w y.0) object ∙ shows in absurd (cc)
       by_place (Inflated c x) b fit = absurd (cc)
+      by_place (Direct c) b fit = absurd (cc)
       by_place Parked b fit = absurd (cc)
       by_place (Ending x) b fit = absurd (cc)
 
@@ -117,18 +114,18 @@ module _ (w : WorldState) (sound : IsSound w) (k : ℕ) (t : ThreadId) (seat : s
       by_seat None same = absurd (cc)
       by_seat (Some j) same = by_post (post_at w.fats u) (place_at w j) refl (proper_at w.fats u sound.fats) (ap (λ (y : Thread). y.act) (same_Some _ _ same))
 
-  notify_run : (o : ObjectId) (m : ℕ) (is : Is (shown w) t false (doing.Wants (call.Notify o))) (shows : lock_at w o.0 ≡ Fat m)
+  notify_run : (o : ObjectId) (m : ℕ) (is : Is (shown w) t (flag_at w.fats t) (doing.Wants (call.Notify o))) (shows : lock_at w o.0 ≡ Fat m)
       → (b : Bool) → is_owned_by (monitor_at w.fats m).owner t ≡ b → (first : Option ThreadId) → first_of w.fats m WaitSet ≡ first
-      → Goal w sound k t seat out (call.Notify o) o m is shows
+      → Goal w k t (call.Notify o) m
   notify_run o m is shows false b first e = illegal_run w sound k t seat out (call.Notify o) o m is shows refl b (rw b refl)
   notify_run o m is shows true b None e =
       let own = mine w sound k t seat out (call.Notify o) o m is shows (monitor_at w.fats m).owner refl b in
-      keeps_all w sound k t seat out (call.Notify o) o m is shows reply.Notified (rw (b, e) refl)
-      (run_unnoticed (shown w) t false o is (owned_by_me w sound k t seat out (call.Notify o) o m is shows own) (nobody_waits o m shows e))
+      keeps_all w sound k t seat out (call.Notify o) m reply.Notified (rw (b, e) refl)
+      (run_unnoticed (shown w) t (flag_at w.fats t) o is (owned_by_me w sound k t seat out (call.Notify o) o m is shows own) (nobody_waits o m shows e))
   notify_run o m is shows true b (Some u) e =
-      by_outcome w sound k t seat out (call.Notify o) o m is shows (told g (answer.Reply reply.Notified) None (Some u)) (rw (b, e, post_is w.fats u (Waiting m n d) at) refl)
+      by_outcome w k t (call.Notify o) m (told g (answer.Reply reply.Notified) None (Some u)) (rw (b, e, post_is w.fats u (Waiting m n d) at, own) refl)
       (subst (λ (s : State). Run (shown w) (move.Notify t (Some u) ∷ move.Return t reply.Notified ∷ []) s) (sym shown_then)
-      (run_notified (shown w) t u o n d is (owned_by_me w sound k t seat out (call.Notify o) o m is shows own) waiting (λ x. apart (sym x))))
+      (run_notified (shown w) t u (flag_at w.fats t) (flag_at w.fats u) o n d is (owned_by_me w sound k t seat out (call.Notify o) o m is shows own) waiting (λ x. apart (sym x))))
     where
       own : (monitor_at w.fats m).owner ≡ Some t
       own = mine w sound k t seat out (call.Notify o) o m is shows (monitor_at w.fats m).owner refl b
@@ -143,7 +140,7 @@ module _ (w : WorldState) (sound : IsSound w) (k : ℕ) (t : ThreadId) (seat : s
       at = (first_waiting w.fats m u sound.fats e).2
 
       g : FatState
-      g = removed w.fats u (Waiting m n d)
+      g = sent_back w.fats u m (Back m n why.Notified) (Some t)
 
       did : Did
       did = replied (atomic.Acted (action.Notify m) (answer.Reply reply.Notified)) (move.Notify t (Some u)) t reply.Notified
@@ -155,41 +152,41 @@ module _ (w : WorldState) (sound : IsSound w) (k : ℕ) (t : ThreadId) (seat : s
       live = sound.live u (rw at refl)
 
       object_is : (monitor_at w.fats m).object ≡ o
-      object_is = object_here w sound k t seat out (call.Notify o) o m is shows
+      object_is = object_here w sound o m shows
 
-      waiting : Is (shown w) u false (doing.Waits o n d)
+      waiting : Is (shown w) u (flag_at w.fats u) (doing.Waits o n d)
       waiting = by_one (seat_of w.seats u) live
         where
-          by_one : (y : Option ℕ) → IsSome y → thread_of w u y ≡ Some (does (doing.Waits o n d))
+          by_one : (y : Option ℕ) → IsSome y → thread_of w u y ≡ Some (does (flag_at w.fats u) (doing.Waits o n d))
           by_one None h = absurd (cc)
-          by_one (Some j) h = ap (λ (x : Doing). Some (does x))
+          by_one (Some j) h = ap (λ (x : Doing). Some (does (flag_at w.fats u) x))
               (ap (λ (q : Post). act_of w.fats q (place_at w j)) (post_is w.fats u (Waiting m n d) at) ∙ ap (λ (x : ObjectId). doing.Waits x n d) object_is)
 
       at_thread : (v : ThreadId) → (v.0 ≡ t.0) ⊎ (v.0 ≡ t.0 → ⊥) → (v.0 ≡ u.0) ⊎ (v.0 ≡ u.0 → ⊥)
-          → thread_of (gone w k (turns w g Idle did)) v (seat_of w.seats v) ≡ (now_is (now_is (shown w) u false (doing.Back o n why.Notified)) t false doing.Idle).thread v
+          → thread_of (gone w k (turns w g Idle did)) v (seat_of w.seats v) ≡ (now_is (now_is (shown w) u (flag_at w.fats u) (doing.Back o n why.Notified)) t (flag_at w.fats t) doing.Idle).thread v
       at_thread v (inl x) y =
-          rw (eq-eqb v.0 t.0 x) (own_thread w sound k t seat g Idle did doing.Idle
-          (act_out g t Idle (post-with_post_other w.fats u t (Back m n why.Notified) (λ z. apart (sym (ap (λ (i : ThreadId). i.0) z))) ∙ out)) v x)
+          rw (eq-eqb v.0 t.0 x) (own_thread w sound k t seat g Idle did (does (flag_at w.fats t) doing.Idle)
+          (ap (does (flag_at w.fats t)) (act_out g t Idle (post-with_post_other w.fats u t (Back m n why.Notified) (λ z. apart (sym (ap (λ (i : ThreadId). i.0) z))) ∙ out))) v x)
       at_thread v (inr ne) (inl y) =
           rw (ne_eqb v.0 t.0 ne, eq-eqb v.0 u.0 y, one_thread v u y)
-          (given_thread w sound k t seat g Idle did u (doing.Back o n why.Notified) apart live
-          (λ q. ap (λ (x : Post). act_of g x q) (post_is g u (Back m n why.Notified) (post-with_post_same w.fats u (Back m n why.Notified))) ∙ ap (λ (x : ObjectId). doing.Back x n why.Notified) object_is))
+          (given_thread w sound k t seat g Idle did u (does (flag_at w.fats u) (doing.Back o n why.Notified)) apart live
+          (λ q. ap (λ (x : Post). does (flag_at w.fats u) (act_of g x q)) (post_is g u (Back m n why.Notified) (post-with_post_same w.fats u (Back m n why.Notified))) ∙ ap (λ (x : ObjectId). does (flag_at w.fats u) (doing.Back x n why.Notified)) object_is))
       at_thread v (inr ne) (inr nu) =
           rw (ne_eqb v.0 t.0 ne, ne_eqb v.0 u.0 nu)
           (kept_thread w sound k t seat g Idle did v ne
-          (acts_alike w.fats g v sound.fats (same_post w.fats g v (post-with_post_other w.fats u v (Back m n why.Notified) (λ z. nu (ap (λ (i : ThreadId). i.0) z)))) (λ j l. refl)))
+          (acts_alike w.fats g v sound.fats refl (same_post w.fats g v (post-with_post_other w.fats u v (Back m n why.Notified) (λ z. nu (ap (λ (i : ThreadId). i.0) z)))) (λ j l. refl)))
 
-      shown_then : shown (gone w k (turns w g Idle did)) ≡ now_is (now_is (shown w) u false (doing.Back o n why.Notified)) t false doing.Idle
-      shown_then = shown_turned w sound k t seat g Idle did (now_is (now_is (shown w) u false (doing.Back o n why.Notified)) t false doing.Idle) refl refl
-          (λ v. at_thread v (cases_eq v.0 t.0) (cases_eq v.0 u.0)) (monitors_kept w sound k t seat out (call.Notify o) o m is shows g Idle did refl)
+      shown_then : shown (gone w k (turns w g Idle did)) ≡ now_is (now_is (shown w) u (flag_at w.fats u) (doing.Back o n why.Notified)) t (flag_at w.fats t) doing.Idle
+      shown_then = shown_turned w sound k t seat g Idle did (now_is (now_is (shown w) u (flag_at w.fats u) (doing.Back o n why.Notified)) t (flag_at w.fats t) doing.Idle) refl refl
+          (λ v. at_thread v (cases_eq v.0 t.0) (cases_eq v.0 u.0)) (monitors_kept w k g Idle did refl)
 
-  notify_all_run : (o : ObjectId) (m : ℕ) (is : Is (shown w) t false (doing.Wants (call.NotifyAll o))) (shows : lock_at w o.0 ≡ Fat m)
-      → (b : Bool) → is_owned_by (monitor_at w.fats m).owner t ≡ b → Goal w sound k t seat out (call.NotifyAll o) o m is shows
+  notify_all_run : (o : ObjectId) (m : ℕ) (is : Is (shown w) t (flag_at w.fats t) (doing.Wants (call.NotifyAll o))) (shows : lock_at w o.0 ≡ Fat m)
+      → (b : Bool) → is_owned_by (monitor_at w.fats m).owner t ≡ b → Goal w k t (call.NotifyAll o) m
   notify_all_run o m is shows false b = illegal_run w sound k t seat out (call.NotifyAll o) o m is shows refl b (rw b refl)
   notify_all_run o m is shows true b =
-      by_outcome w sound k t seat out (call.NotifyAll o) o m is shows (told g (answer.Reply reply.Notified) None None) (rw b refl)
+      by_outcome w k t (call.NotifyAll o) m (told g (answer.Reply reply.Notified) None None) (rw b refl)
       (subst (λ (s : State). Run (shown w) (move.NotifyAll t ∷ move.Return t reply.Notified ∷ []) s) (sym shown_then)
-      (run_notified_all (shown w) t o is (owned_by_me w sound k t seat out (call.NotifyAll o) o m is shows own)))
+      (run_notified_all (shown w) t (flag_at w.fats t) o is (owned_by_me w sound k t seat out (call.NotifyAll o) o m is shows own)))
     where
       own : (monitor_at w.fats m).owner ≡ Some t
       own = mine w sound k t seat out (call.NotifyAll o) o m is shows (monitor_at w.fats m).owner refl b
@@ -200,11 +197,17 @@ module _ (w : WorldState) (sound : IsSound w) (k : ℕ) (t : ThreadId) (seat : s
       did : Did
       did = replied (atomic.Acted (action.NotifyAll m) (answer.Reply reply.Notified)) (move.NotifyAll t) t reply.Notified
 
+      owned : IsSome (monitor_at w.fats m).owner
+      owned = rw own refl
+
       same : (all_removed w.fats (line_of w.fats m WaitSet)).monitors ≡ w.fats.monitors
-      same = monitors-all_removed w.fats (line_of w.fats m WaitSet)
+      same = monitors-all_removed w.fats m sound.fats owned
 
       posts : (v : ThreadId) → post_of (all_removed w.fats (line_of w.fats m WaitSet)) v ≡ option_map (called_back m) (post_of w.fats v)
-      posts v = post-all_removed w.fats m v sound.fats
+      posts v = post-all_removed w.fats m v sound.fats owned
+
+      flags : (v : ThreadId) → flag_at (all_removed w.fats (line_of w.fats m WaitSet)) v ≡ flag_at w.fats v
+      flags v = ap (λ (fs : map.FinMap nat_cmp Bool). unwrap_or (map.get fs v.0) false) (flags-all_removed w.fats m sound.fats owned)
 
       -- a thread that waits on the object comes back, and another does what it did
       woken_post : (q : Post) (p : Place) → IsProper w.fats q → act_of w.fats (called_back m q) p ≡ woken o (act_of w.fats q p)
@@ -215,7 +218,7 @@ module _ (w : WorldState) (sound : IsSound w) (k : ℕ) (t : ThreadId) (seat : s
           by_number : (j ≡ m) ⊎ (j ≡ m → ⊥) → act_of w.fats (if j == m then Back j n why.Notified else Waiting j n d) p
               ≡ (if (monitor_at w.fats j).object.0 == o.0 then doing.Back (monitor_at w.fats j).object n why.Notified else doing.Waits (monitor_at w.fats j).object n d)
           by_number (inl e) =
-              let here : (monitor_at w.fats j).object.0 ≡ o.0 = ap (λ (i : ℕ). (monitor_at w.fats i).object.0) e ∙ ap (λ (x : ObjectId). x.0) (object_here w sound k t seat out (call.NotifyAll o) o m is shows) in
+              let here : (monitor_at w.fats j).object.0 ≡ o.0 = ap (λ (i : ℕ). (monitor_at w.fats i).object.0) e ∙ ap (λ (x : ObjectId). x.0) (object_here w sound o m shows) in
               rw (eq-eqb j m e, eq-eqb (monitor_at w.fats j).object.0 o.0 here) refl
           by_number (inr ne) =
               let apart : (monitor_at w.fats j).object.0 ≡ o.0 → ⊥ = λ e. ne (one_monitor o m j shows (one_object (monitor_at w.fats j).object o e) (sound.published j h.0)) in
@@ -223,22 +226,22 @@ module _ (w : WorldState) (sound : IsSound w) (k : ℕ) (t : ThreadId) (seat : s
       woken_post (Back j n y) p h = refl
       woken_post (Granted r) p h = refl
 
-      at_thread : (v : ThreadId) → (v.0 ≡ t.0) ⊎ (v.0 ≡ t.0 → ⊥) → thread_of (gone w k (turns w g Idle did)) v (seat_of w.seats v) ≡ (now_is (all_woken (shown w) o) t false doing.Idle).thread v
+      at_thread : (v : ThreadId) → (v.0 ≡ t.0) ⊎ (v.0 ≡ t.0 → ⊥) → thread_of (gone w k (turns w g Idle did)) v (seat_of w.seats v) ≡ (now_is (all_woken (shown w) o) t (flag_at w.fats t) doing.Idle).thread v
       at_thread v (inl e) =
-          rw (eq-eqb v.0 t.0 e) (own_thread w sound k t seat g Idle did doing.Idle (act_out g t Idle (posts t ∙ ap (λ (x : Option Post). option_map (called_back m) x) out)) v e)
+          rw (eq-eqb v.0 t.0 e) (own_thread w sound k t seat g Idle did (does (flag_at w.fats t) doing.Idle) (rw (flags t) (ap (does (flag_at w.fats t)) (act_out g t Idle (posts t ∙ ap (λ (x : Option Post). option_map (called_back m) x) out)))) v e)
       at_thread v (inr ne) = rw (ne_eqb v.0 t.0 ne) (by_seat w sound k t seat g Idle did v ne (seat_of w.seats v) refl ∙ by_one (seat_of w.seats v))
         where
-          by_one : (x : Option ℕ) → option_map (λ (j : ℕ). does (act_of g (post_at g v) (place_at w j))) x
+          by_one : (x : Option ℕ) → option_map (λ (j : ℕ). thread_in g v (place_at w j)) x
               ≡ option_map (λ (y : Thread). let z : Thread = record { flag = y.flag; act = woken o y.act } in z) (thread_of w v x)
           by_one None = refl
-          by_one (Some j) = ap (λ (x : Doing). Some (does x))
+          by_one (Some j) = rw (flags v) (ap (λ (x : Doing). Some (does (flag_at w.fats v) x))
               (act_same w.fats g (post_at g v) (place_at w j) same
               ∙ ap (λ (q : Post). act_of w.fats q (place_at w j)) (ap (λ (x : Option Post). unwrap_or x Out) (posts v) ∙ called_post m (post_of w.fats v))
-              ∙ woken_post (post_at w.fats v) (place_at w j) (proper_at w.fats v sound.fats))
+              ∙ woken_post (post_at w.fats v) (place_at w j) (proper_at w.fats v sound.fats)))
 
-      shown_then : shown (gone w k (turns w g Idle did)) ≡ now_is (all_woken (shown w) o) t false doing.Idle
-      shown_then = shown_turned w sound k t seat g Idle did (now_is (all_woken (shown w) o) t false doing.Idle) refl refl
-          (λ v. at_thread v (cases_eq v.0 t.0)) (monitors_kept w sound k t seat out (call.NotifyAll o) o m is shows g Idle did same)
+      shown_then : shown (gone w k (turns w g Idle did)) ≡ now_is (all_woken (shown w) o) t (flag_at w.fats t) doing.Idle
+      shown_then = shown_turned w sound k t seat g Idle did (now_is (all_woken (shown w) o) t (flag_at w.fats t) doing.Idle) refl (sym (moment-all_removed w.fats (line_of w.fats m WaitSet)))
+          (λ v. at_thread v (cases_eq v.0 t.0)) (monitors_kept w k g Idle did same)
 
   -- a Go that makes the call's own action
   pub act_run : (c : Call) (m : ℕ) (p : Place) → IsSome (object_of c) → place_at w k ≡ p → doing_of p ≡ doing.Wants c → lock_at w (target c).0 ≡ Fat m
@@ -248,7 +251,7 @@ module _ (w : WorldState) (sound : IsSound w) (k : ℕ) (t : ThreadId) (seat : s
       fair : (o : ObjectId) → lock_at w o.0 ≡ Fat m → IsFair (monitor_at w.fats m)
       fair o shows = let st : Stands w o.0 (Fat m) = rw shows at (stands_at w sound o.0) in sound.fats.fair m st.0
 
-      by_call : (c : Call) → IsSome (object_of c) → Is (shown w) t false (doing.Wants c) → lock_at w (target c).0 ≡ Fat m
+      by_call : (c : Call) → IsSome (object_of c) → Is (shown w) t (flag_at w.fats t) (doing.Wants c) → lock_at w (target c).0 ≡ Fat m
           → Run (shown w) (given (after_act w t c m).did.moves) (shown (gone w k (after_act w t c m)))
       by_call (call.Enter o) names is shows = enter_run w sound k t seat out o m is shows (fair o shows) (monitor_at w.fats m).owner refl
       by_call (call.Exit o) names is shows = exit_run w sound k t seat out o m is shows (fair o shows) (is_owned_by (monitor_at w.fats m).owner t) refl
@@ -256,20 +259,24 @@ module _ (w : WorldState) (sound : IsSound w) (k : ℕ) (t : ThreadId) (seat : s
       by_call (call.Notify o) names is shows = notify_run o m is shows (is_owned_by (monitor_at w.fats m).owner t) refl (first_of w.fats m WaitSet) refl
       by_call (call.NotifyAll o) names is shows = notify_all_run o m is shows (is_owned_by (monitor_at w.fats m).owner t) refl
       by_call (call.Holds o) names is shows = holds_run w sound k t seat out o m is shows (is_owned_by (monitor_at w.fats m).owner t) refl
+      by_call (call.Interrupt who) names is shows = absurd (cc)
+      by_call call.Interrupted names is shows = absurd (cc)
+      by_call (call.IsInterrupted who) names is shows = absurd (cc)
       by_call call.End names is shows = absurd (cc)
 
 -- a parked thread that was granted its reply returns with it
 module _ (w : WorldState) (sound : IsSound w) (k : ℕ) (t : ThreadId) (seat : seat_of w.seats t ≡ Some k) where
-  plain : (r : Reply) → (r ≡ reply.Entered) ⊎ (r ≡ reply.WaitOver) → IsPlain r
+  plain : (r : Reply) → (r ≡ reply.Entered) ⊎ ((r ≡ reply.WaitOver) ⊎ (r ≡ reply.Interrupted)) → IsPlain r
   plain r (inl e) = rw e tt
-  plain r (inr e) = rw e tt
+  plain r (inr (inl e)) = rw e tt
+  plain r (inr (inr e)) = rw e tt
 
   pub collect_run : (r : Reply) → place_at w k ≡ Parked → post_of w.fats t ≡ Some (Granted r)
       → Run (shown w) (given (returned (atomic.Acted action.Collect (answer.Reply r)) t r).moves)
       (shown (gone w k (turns w (with_post w.fats t Out) Idle (returned (atomic.Acted action.Collect (answer.Reply r)) t r))))
   collect_run r at granted =
       subst (λ (s : State). Run (shown w) (move.Return t r ∷ []) s) (sym shown_then)
-      (run_returned (shown w) t false r (plain r (sound.fats.proper t (Granted r) granted)) has)
+      (run_returned (shown w) t (flag_at w.fats t) r (plain r (sound.fats.proper t (Granted r) granted)) has)
     where
       g : FatState
       g = with_post w.fats t Out
@@ -277,14 +284,14 @@ module _ (w : WorldState) (sound : IsSound w) (k : ℕ) (t : ThreadId) (seat : s
       did : Did
       did = returned (atomic.Acted action.Collect (answer.Reply r)) t r
 
-      has : Is (shown w) t false (doing.Has r)
-      has = rw (seat, at) (ap (λ (q : Post). Some (does (act_of w.fats q Parked))) (post_is w.fats t (Granted r) granted))
+      has : Is (shown w) t (flag_at w.fats t) (doing.Has r)
+      has = rw (seat, at) (ap (λ (q : Post). Some (does (flag_at w.fats t) (act_of w.fats q Parked))) (post_is w.fats t (Granted r) granted))
 
-      at_thread : (v : ThreadId) → (v.0 ≡ t.0) ⊎ (v.0 ≡ t.0 → ⊥) → thread_of (gone w k (turns w g Idle did)) v (seat_of w.seats v) ≡ (now_is (shown w) t false doing.Idle).thread v
-      at_thread v (inl e) = rw (eq-eqb v.0 t.0 e) (own_thread w sound k t seat g Idle did doing.Idle (act_out g t Idle (post-with_post_same w.fats t Out)) v e)
+      at_thread : (v : ThreadId) → (v.0 ≡ t.0) ⊎ (v.0 ≡ t.0 → ⊥) → thread_of (gone w k (turns w g Idle did)) v (seat_of w.seats v) ≡ (now_is (shown w) t (flag_at w.fats t) doing.Idle).thread v
+      at_thread v (inl e) = rw (eq-eqb v.0 t.0 e) (own_thread w sound k t seat g Idle did (does (flag_at w.fats t) doing.Idle) (ap (does (flag_at w.fats t)) (act_out g t Idle (post-with_post_same w.fats t Out))) v e)
       at_thread v (inr ne) =
           rw (ne_eqb v.0 t.0 ne) (kept_thread w sound k t seat g Idle did v ne
-          (acts_alike w.fats g v sound.fats (same_post w.fats g v (post-with_post_other w.fats t v Out (λ z. ne (ap (λ (i : ThreadId). i.0) z)))) (λ j l. refl)))
+          (acts_alike w.fats g v sound.fats refl (same_post w.fats g v (post-with_post_other w.fats t v Out (λ z. ne (ap (λ (i : ThreadId). i.0) z)))) (λ j l. refl)))
 
       monitors : (q : ObjectId) → monitor_of (gone w k (turns w g Idle did)) (lock_at w q.0) ≡ monitor_of w (lock_at w q.0)
       monitors q = at_lock (lock_at w q.0)
@@ -294,5 +301,5 @@ module _ (w : WorldState) (sound : IsSound w) (k : ℕ) (t : ThreadId) (seat : s
           at_lock (Thin i n) = refl
           at_lock (Fat j) = refl
 
-      shown_then : shown (gone w k (turns w g Idle did)) ≡ now_is (shown w) t false doing.Idle
-      shown_then = shown_turned w sound k t seat g Idle did (now_is (shown w) t false doing.Idle) refl refl (λ v. at_thread v (cases_eq v.0 t.0)) monitors
+      shown_then : shown (gone w k (turns w g Idle did)) ≡ now_is (shown w) t (flag_at w.fats t) doing.Idle
+      shown_then = shown_turned w sound k t seat g Idle did (now_is (shown w) t (flag_at w.fats t) doing.Idle) refl refl (λ v. at_thread v (cases_eq v.0 t.0)) monitors

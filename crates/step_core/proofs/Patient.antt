@@ -1,5 +1,5 @@
 -- A Go replies, parks, meets another thread, or lowers what is left of its call; and no other thread's step does.
-use Rattle.std.specs.Prelude.{◌≡◌, ◌≢◌, ◌⊎◌, ℕ, ◌+◌, ◌-◌, ◌<◌, ◌≤◌, Bool, true, false, ◌==◌, nat_lt, length, Option, Some, None, IsSome, Result, Ok, Err, IfOk, OnErr}
+use Rattle.std.specs.Prelude.{◌≡◌, ◌≢◌, ◌⊎◌, ℕ, ◌+◌, ◌-◌, ◌<◌, ◌≤◌, Bool, true, false, ◌==◌, nat_lt, length, Option, Some, None, IsSome, Result, Ok, Err, IfOk, MatchResult}
 use Rattle.std.proofs.Common.{refl, arith, sym, ◌∙◌, subst, inl, inr, get_or-set_same, get_or-set_other, length-set}
 use Rattle.std.proofs.lemmas.Bool.{cond_both, ltb-true}
 use Rattle.std.proofs.lemmas.Option.{same_Some}
@@ -23,8 +23,8 @@ use Rattle.fat_monitor.specs.declared.actions.ActFault.{ActFault}
 use Rattle.fat_monitor.specs.declared.actions.Post.{Post}
 use Rattle.fat_monitor.specs.declared.actions.Post.TheVariants.{Out, Entering, Waiting, Back, Granted}
 use Rattle.wait_lines.specs.declared.Role.TheVariants.{Waiting as WaitSet}
-use Rattle.fat_monitor.specs.FatState.{FatState, monitor_at, first_of, line_of, post_at, with_post, owns_one, is_owned_by}
-use Rattle.fat_monitor.specs.Acting.{Outcome as FatOutcome, acted, by_owner, entered, exited, waited, notified, replied as fat_replied, all_removed, are_good}
+use Rattle.fat_monitor.specs.FatState.{FatState, monitor_at, first_of, line_of, post_of, post_at, flag_at, flag_of, with_post, with_moment, owns_one, is_owned_by}
+use Rattle.fat_monitor.specs.Acting.{Outcome as FatOutcome, acted, by_owner, entered, exited, waited, notified, replied as fat_replied, all_removed, interrupted, asked, are_good}
 use Rattle.fast_path.specs.declared.Call.{Call}
 use Rattle.fast_path.specs.declared.Call.TheVariants as call
 use Rattle.fast_path.specs.declared.Next.{Next}
@@ -33,7 +33,7 @@ use Rattle.fast_path.specs.Table.{object_of, target, next_of}
 use Rattle.fast_path.proofs.Tables.{spin_fact}
 use Rattle.step_core.specs.declared.moves.Doing.TheVariants as doing
 use Rattle.step_core.specs.declared.places.Place.{Place}
-use Rattle.step_core.specs.declared.places.Place.TheVariants.{Idle, Begun, Taking, Storing, Binding, Acting, Won, Bound, Inflated, Parked, Ending}
+use Rattle.step_core.specs.declared.places.Place.TheVariants.{Idle, Begun, Taking, Storing, Binding, Acting, Won, Bound, Inflated, Direct, Parked, Ending}
 use Rattle.step_core.specs.declared.events.Step.{Step}
 use Rattle.step_core.specs.declared.events.Step.TheVariants as step
 use Rattle.step_core.specs.declared.events.Fault.TheVariants as fault
@@ -41,7 +41,7 @@ use Rattle.step_core.specs.Machine.{Is}
 use Rattle.step_core.specs.WorldState.{WorldState, IsSound, Fitting, is_own, place_at, lock_at}
 use Rattle.step_core.specs.Parts.{IsBusyAt}
 use Rattle.step_core.specs.Going.{After, gone, after_load, after_take, after_bind, after_publish, after_told, after_act, after_look, after_go, action_of, bind_cause, stays, turns, moved, replied, returned}
-use Rattle.step_core.specs.Stepping.{Outcome, accepted, refused, attached, begun, begun_on, begun_at, with_live, without_live, ended, went as went_by, went_at, step_of, first_place, gathered}
+use Rattle.step_core.specs.Stepping.{Outcome, accepted, refused, attached, begun, begun_on, begun_at, with_live, without_live, ended, went as went_by, went_at, step_of, first_place, gathered, expired, expired_as, ticked}
 use Rattle.step_core.specs.Shown.{shown}
 use Rattle.step_core.specs.Patience.{left_at, left_of_seat, left_of, HasMet, HasParked, Advances, IsPatient}
 use Rattle.step_core.proofs.Frames.{within, is_at, out_at}
@@ -50,9 +50,15 @@ use Rattle.step_core.proofs.Frames.{within, is_at, out_at}
 abbrev Patient : WorldState → Step → Outcome → Type 0
 Patient w s o = IfOk o.answer (λ d. IsPatient w s d o.after)
 
+-- the call has its reply, or parks
+abbrev IsTold : Answer → Type 0
+IsTold (answer.Reply r) = Unit {0}
+IsTold answer.Parked = Unit {0}
+IsTold answer.Quiet = ⊥
+
 -- the action of a call is never refused
 abbrev IsDone : FatOutcome → Type 0
-IsDone o = OnErr o.answer ⊥
+IsDone o = MatchResult o.answer (λ d. IsTold d.answer) (λ e. ⊥)
 
 owner_done : (f : FatState) (m : ℕ) (t : ThreadId) (o : FatOutcome) → IsDone o → IsDone (by_owner f m t o)
 owner_done f m t o h = cond_both (is_owned_by (monitor_at f m).owner t) o (fat_replied f reply.IllegalMonitorState) IsDone (λ _. h) (λ _. tt)
@@ -64,7 +70,7 @@ done f t (call.Enter o) m = at (monitor_at f m).owner
     at None = tt
     at (Some u) = cond_both (u.0 == t.0) _ _ IsDone (λ _. cond_both (nat_lt (monitor_at f m).holds 65535) _ _ IsDone (λ _. tt) (λ _. tt)) (λ _. tt)
 done f t (call.Exit o) m = owner_done f m t (exited f t m) (cond_both (nat_lt 1 (monitor_at f m).holds) _ _ IsDone (λ _. tt) (λ _. tt))
-done f t (call.Wait o millis nanos) m = owner_done f m t (waited f t m millis nanos) (cond_both (are_good millis nanos) _ _ IsDone (λ _. tt) (λ _. tt))
+done f t (call.Wait o millis nanos) m = owner_done f m t (waited f t m millis nanos) (cond_both (are_good millis nanos) _ _ IsDone (λ _. cond_both (flag_at f t) _ _ IsDone (λ _. tt) (λ _. tt)) (λ _. tt))
 done f t (call.Notify o) m = owner_done f m t (notified f (first_of f m WaitSet)) (at (first_of f m WaitSet))
   where
     at : (first : Option ThreadId) → IsDone (notified f first)
@@ -72,6 +78,17 @@ done f t (call.Notify o) m = owner_done f m t (notified f (first_of f m WaitSet)
     at (Some u) = tt
 done f t (call.NotifyAll o) m = owner_done f m t (fat_replied (all_removed f (line_of f m WaitSet)) reply.Notified) tt
 done f t (call.Holds o) m = tt
+done f t (call.Interrupt who) m = at (post_of f who)
+  where
+    at : (o : Option Post) → IsDone (interrupted f who o)
+    at None = tt
+    at (Some p) = tt
+done f t call.Interrupted m = tt
+done f t (call.IsInterrupted who) m = at (flag_of f who)
+  where
+    at : (o : Option Bool) → IsDone (asked f o)
+    at None = tt
+    at (Some flag) = tt
 done f t call.End m = cond_both (owns_one f.monitors t) _ _ IsDone (λ _. tt) (λ _. tt)
 
 module _ (w : WorldState) (sound : IsSound w) (k : ℕ) (t : ThreadId) (seat : seat_of w.seats t ≡ Some k) where
@@ -87,8 +104,8 @@ module _ (w : WorldState) (sound : IsSound w) (k : ℕ) (t : ThreadId) (seat : s
   loads c b (next.Fat m) at names e = inr (inr (inr (omega arith, omega arith)))
   loads c b next.Spin at names e =
       let fact = spin_fact c (lock_at w (target c).0) (k + 1) names e in
-      let wants : Is (shown w) t false (doing.Wants c) = is_at w sound k t seat (Begun c b) at (out_at w sound k t seat (Begun c b) at (λ i. cc)) in
-      inr (inr (inl ((fact.0, rw fact.1 at wants), (fact.2.0, fact.2.1, fact.2.2, λ i. fact.2.3 (same_Some fact.2.0 (k + 1) (sym i ∙ rw seat refl))))))
+      let wants : Is (shown w) t (flag_at w.fats t) (doing.Wants c) = is_at w sound k t seat (Begun c b) at (out_at w sound k t seat (Begun c b) at (λ i. cc)) in
+      inr (inr (inl ((fact.0, flag_at w.fats t, rw fact.1 at wants), (fact.2.0, fact.2.1, fact.2.2, λ i. fact.2.3 (same_Some fact.2.0 (k + 1) (sym i ∙ rw seat refl))))))
 
   takes : (o : ObjectId) (b : Bool) (l : Lock) → Goes 3 (after_take w k t o b l)
   takes o true Free = inr (inr (inr (omega arith, omega arith)))
@@ -109,19 +126,23 @@ module _ (w : WorldState) (sound : IsSound w) (k : ℕ) (t : ThreadId) (seat : s
   publishes c false m = inr (inr (inr (omega arith, omega arith)))
 
   -- an action replies or parks
-  acts : (c : Call) (a : Action) (n : ℕ) (f : FatState) (x : Answer) (g chosen : Option ThreadId) → Goes n (after_told w t c a (Ok (record { answer = x; granted = g; chosen = chosen })) f)
-  acts c a n f (answer.Reply r) None chosen = inl refl
-  acts c a n f (answer.Reply r) (Some u) chosen = inl refl
-  acts (call.Enter o) a n f answer.Parked g chosen = inr (inl tt)
-  acts (call.Exit o) a n f answer.Parked g chosen = inr (inl tt)
-  acts (call.Wait o millis nanos) a n f answer.Parked g chosen = inr (inl tt)
-  acts (call.Notify o) a n f answer.Parked g chosen = inr (inl tt)
-  acts (call.NotifyAll o) a n f answer.Parked g chosen = inr (inl tt)
-  acts (call.Holds o) a n f answer.Parked g chosen = inr (inl tt)
-  acts call.End a n f answer.Parked g chosen = inr (inl tt)
+  acts : (c : Call) (a : Action) (n : ℕ) (f : FatState) (x : Answer) (g chosen : Option ThreadId) → IsTold x → Goes n (after_told w t c a (Ok (record { answer = x; granted = g; chosen = chosen })) f)
+  acts c a n f (answer.Reply r) None chosen h = inl refl
+  acts c a n f (answer.Reply r) (Some u) chosen h = inl refl
+  acts c a n f answer.Quiet g chosen h = absurd h
+  acts (call.Enter o) a n f answer.Parked g chosen h = inr (inl tt)
+  acts (call.Exit o) a n f answer.Parked g chosen h = inr (inl tt)
+  acts (call.Wait o millis nanos) a n f answer.Parked g chosen h = inr (inl tt)
+  acts (call.Notify o) a n f answer.Parked g chosen h = inr (inl tt)
+  acts (call.NotifyAll o) a n f answer.Parked g chosen h = inr (inl tt)
+  acts (call.Holds o) a n f answer.Parked g chosen h = inr (inl tt)
+  acts (call.Interrupt who) a n f answer.Parked g chosen h = inr (inl tt)
+  acts call.Interrupted a n f answer.Parked g chosen h = inr (inl tt)
+  acts (call.IsInterrupted who) a n f answer.Parked g chosen h = inr (inl tt)
+  acts call.End a n f answer.Parked g chosen h = inr (inl tt)
 
-  tells : (c : Call) (a : Action) (n : ℕ) (r : Result Done ActFault) (f : FatState) → OnErr r ⊥ → Goes n (after_told w t c a r f)
-  tells c a n (Ok d) f h = acts c a n f d.answer d.granted d.chosen
+  tells : (c : Call) (a : Action) (n : ℕ) (r : Result Done ActFault) (f : FatState) → MatchResult r (λ d. IsTold d.answer) (λ e. ⊥) → Goes n (after_told w t c a r f)
+  tells c a n (Ok d) f h = acts c a n f d.answer d.granted d.chosen h
   tells c a n (Err e) f h = absurd h
 
   acts_at : (c : Call) (m n : ℕ) → Goes n (after_act w t c m)
@@ -141,6 +162,7 @@ module _ (w : WorldState) (sound : IsSound w) (k : ℕ) (t : ThreadId) (seat : s
   goes room (Won o) at fit busy free more = binds_won (call.Enter o) 1 (bind_cause room w.fats)
   goes room (Bound c won m) at fit busy free more = publishes c won m
   goes room (Inflated c m) at fit busy free more = acts_at c m 1
+  goes room (Direct c) at fit busy free more = acts_at c 0 4
   goes room Parked at fit busy free more = absurd (free refl)
   goes room (Ending n) at fit busy free more = looks n (is_own (lock_at w n) (k + 1)) more
 
@@ -202,6 +224,7 @@ module _ (w : WorldState) (sound : IsSound w) (k : ℕ) (t : ThreadId) (seat : s
   sizes room (Bound c true m) = length-set w.words (target c).0 _
   sizes room (Bound c false m) = length-set w.words (target c).0 _
   sizes room (Inflated c m) = by_act c m
+  sizes room (Direct c) = by_act c 0
   sizes room Parked = refl
   sizes room (Ending n) = by_own (is_own (lock_at w n) (k + 1))
     where
@@ -224,7 +247,7 @@ module _ (w : WorldState) (sound : IsSound w) (t : ThreadId) where
   attaches false None (Some k) e free = tt
 
   begins_at : (c : Call) (k : ℕ) → seat_of w.seats t ≡ Some k → (p : Place) → Patient w (step.Begin t c) (begun_at w k t c p)
-  begins_at c k e Idle = keeps w sound k t e (stays w (first_place c (object_of c)) (moved Label (move.Call t c))) refl
+  begins_at c k e Idle = keeps w sound k t e (stays w (first_place c) (moved Label (move.Call t c))) refl
   begins_at c k e (Begun d b) = tt
   begins_at c k e (Taking d b) = tt
   begins_at c k e (Storing d l) = tt
@@ -233,6 +256,7 @@ module _ (w : WorldState) (sound : IsSound w) (t : ThreadId) where
   begins_at c k e (Won o) = tt
   begins_at c k e (Bound d won m) = tt
   begins_at c k e (Inflated d m) = tt
+  begins_at c k e (Direct d) = tt
   begins_at c k e Parked = tt
   begins_at c k e (Ending n) = tt
 
@@ -284,6 +308,7 @@ module _ (w : WorldState) (sound : IsSound w) (t : ThreadId) where
   wents_at room k e (Won o) at = went room k e (Won o) at (λ x. cc) (λ x. cc) tt
   wents_at room k e (Bound d won m) at = went room k e (Bound d won m) at (λ x. cc) (λ x. cc) tt
   wents_at room k e (Inflated d m) at = went room k e (Inflated d m) at (λ x. cc) (λ x. cc) tt
+  wents_at room k e (Direct d) at = went room k e (Direct d) at (λ x. cc) (λ x. cc) tt
   wents_at room k e Parked at = gathers k e (post_at w.fats t)
   wents_at room k e (Ending n) at =
       cond_both (nat_lt n (length w.words)) (accepted (gone w k (after_go room w k t (Ending n))) (after_go room w k t (Ending n)).did) (ended w k t (owns_one w.fats.monitors t)) (Patient w (step.Go t))
@@ -293,8 +318,24 @@ module _ (w : WorldState) (sound : IsSound w) (t : ThreadId) where
   wents room None e = tt
   wents room (Some k) e = wents_at room k e (place_at w k) refl
 
+-- a wait that expires, and a moment that is told, touch no place
+expires : (w : WorldState) (t : ThreadId) (o : Option ℕ) → Patient w (step.Expire t) (expired w t o)
+expires w t None = tt
+expires w t (Some k) = by_answer (acted w.fats t action.Expire).answer
+  where
+    by_answer : (r : Result Done ActFault) → Patient w (step.Expire t) (expired_as w t r (acted w.fats t action.Expire).after)
+    by_answer (Ok d) = λ u. refl
+    by_answer (Err e) = tt
+
+ticks : (w : WorldState) (now : ℕ) → Patient w (step.Tick now) (ticked w now)
+ticks w now =
+    cond_both (nat_lt now w.fats.moment) (refused w fault.Backwards) (accepted (record w { fats = with_moment w.fats now }) (moved Label (move.Time now))) (Patient w (step.Tick now))
+    (λ _. tt) (λ _ u. refl)
+
 -- Each accepted step is patient.
 pub step_patient : (w : WorldState) → IsSound w → (room : Bool) (s : Step) → IfOk (step_of room w s).answer (λ d. IsPatient w s d (step_of room w s).after)
 step_patient w sound room (step.Attach t) = attaches w sound t room (seat_of w.seats t) (free_seat w.seats) refl refl
 step_patient w sound room (step.Begin t c) = begins w sound t c (seat_of w.seats t) refl
 step_patient w sound room (step.Go t) = wents w sound t room (seat_of w.seats t) refl
+step_patient w sound room (step.Expire t) = expires w t (seat_of w.seats t)
+step_patient w sound room (step.Tick now) = ticks w now

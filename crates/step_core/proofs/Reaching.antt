@@ -1,5 +1,5 @@
 -- Laws of every list of steps.
-use Rattle.std.specs.Prelude.{◌≡◌, ◌⊎◌, ℕ, ◌+◌, ◌<◌, Bool, false, List, [], ◌∷◌, ◌++◌, length, Option, Some, None, IfOk, Result, Ok, Err}
+use Rattle.std.specs.Prelude.{◌≡◌, ◌⊎◌, ℕ, ◌+◌, ◌<◌, Bool, List, [], ◌∷◌, ◌++◌, length, Option, Some, None, IfOk, Result, Ok, Err}
 use Rattle.std.proofs.Common.{refl, ap, ◌∙◌}
 use Rattle.std.proofs.lemmas.List.{length-map}
 use Rattle.std.proofs.lemmas.List.Elements.{filter-append}
@@ -28,9 +28,10 @@ use Rattle.step_core.proofs.Opening.{opened_sound, opened_run}
 use Rattle.step_core.proofs.Labelings.{step_labels}
 use Rattle.step_core.proofs.Bytes.{step_keeps}
 use Rattle.step_core.proofs.Lingering.{within_four, within_all}
-use Rattle.step_core.specs.Lasting.{IsNotified, HasReply, NeverReturns}
-use Rattle.step_core.proofs.Lasting.{all_notified, all_replied}
-use Rattle.fat_monitor.specs.declared.actions.Reply.TheVariants.{WaitOver}
+use Rattle.step_core.specs.Lasting.{IsBack, IsNotified, HasReply, NeverReturns}
+use Rattle.step_core.proofs.Lasting.{all_back, all_replied}
+use Rattle.fat_monitor.specs.declared.actions.Reply.TheVariants.{WaitOver, Interrupted as Throws}
+use Rattle.fat_monitor.specs.declared.actions.Why.TheVariants.{Notified, Interrupted}
 use Rattle.lock_word.specs.declared.ObjectId.{ObjectId}
 
 -- the labels of one step
@@ -43,6 +44,8 @@ one_labels s (Err f) h = refl
 one_labels (step.Attach t) (Ok d) h = ap labels_of h.0
 one_labels (step.Begin t c) (Ok d) h = ap labels_of h.0
 one_labels (step.Go t) (Ok d) h = ends_labels t (given d.moves) d.reply h
+one_labels (step.Expire t) (Ok d) h = h.0
+one_labels (step.Tick now) (Ok d) h = ap labels_of h.0
 
 -- and of a list
 all_labels : (w : WorldState) → IsSound w → (ss : List (Step × Bool)) → labels_of (moves_after w ss) ≡ labels_after w ss
@@ -83,20 +86,25 @@ module _ (lows : List ℕ) (monitors indices : ℕ) (steps : List (Step × Bool)
   pub reached_keeps : Keeps (opened lows monitors indices) (reached lows monitors indices steps)
   reached_keeps = all_keeps (opened lows monitors indices) start steps
 
-  pub reached_four : (t : ThreadId) (act : Doing) (more : List (Step × Bool)) → Is (shown (reached lows monitors indices steps)) t false act
+  pub reached_four : (t : ThreadId) (flag : Bool) (act : Doing) (more : List (Step × Bool)) → Is (shown (reached lows monitors indices steps)) t flag act
       → (act ≡ doing.Idle → ⊥) → (act ≡ doing.Wants call.End → ⊥) → AllLinger (reached lows monitors indices steps) t more → goes_of t more < 4
-  reached_four t act more is busy not_end all = within_four (reached lows monitors indices steps) reached_sound t act is busy not_end more all
+  reached_four t flag act more is busy not_end all = within_four (reached lows monitors indices steps) reached_sound t flag act is busy not_end more all
 
-  pub reached_all : (t : ThreadId) (more : List (Step × Bool)) → Is (shown (reached lows monitors indices steps)) t false (doing.Wants call.End)
+  pub reached_all : (t : ThreadId) (flag : Bool) (more : List (Step × Bool)) → Is (shown (reached lows monitors indices steps)) t flag (doing.Wants call.End)
       → AllLinger (reached lows monitors indices steps) t more → goes_of t more < length lows + 1
-  reached_all t more is all =
+  reached_all t flag more is all =
       let size : length (reached lows monitors indices steps).words ≡ length lows = reached_keeps.objects ∙ length-map lows low_word in
-      rw (← size) (within_all (reached lows monitors indices steps) reached_sound t is more all)
+      rw (← size) (within_all (reached lows monitors indices steps) reached_sound t flag is more all)
 
   pub reached_notified : (u : ThreadId) (o : ObjectId) (n : ℕ) (more : List (Step × Bool)) → IsNotified (shown (reached lows monitors indices steps)) u o n
       → NeverReturns (reached lows monitors indices steps) u WaitOver more
       → IsNotified (shown (world_after (reached lows monitors indices steps) more)) u o n ⊎ HasReply (shown (world_after (reached lows monitors indices steps) more)) u WaitOver
-  reached_notified u o n more note never = all_notified (reached lows monitors indices steps) reached_sound u o n more note never
+  reached_notified u o n more note never = all_back (reached lows monitors indices steps) reached_sound u o n Notified more note never
+
+  pub reached_interrupted : (u : ThreadId) (o : ObjectId) (n : ℕ) (more : List (Step × Bool)) → IsBack (shown (reached lows monitors indices steps)) u o n Interrupted
+      → NeverReturns (reached lows monitors indices steps) u Throws more
+      → IsBack (shown (world_after (reached lows monitors indices steps) more)) u o n Interrupted ⊎ HasReply (shown (world_after (reached lows monitors indices steps) more)) u Throws
+  reached_interrupted u o n more note never = all_back (reached lows monitors indices steps) reached_sound u o n Interrupted more note never
 
   pub reached_kept : (u : ThreadId) (r : Reply) (more : List (Step × Bool)) → HasReply (shown (reached lows monitors indices steps)) u r
       → NeverReturns (reached lows monitors indices steps) u r more → HasReply (shown (world_after (reached lows monitors indices steps) more)) u r

@@ -4,8 +4,11 @@ use Rattle.wait_lines.specs.declared.Role.TheVariants.{Entry, Waiting as WaitSet
 use Rattle.wait_lines.specs.Lines.{Key, key}
 use Rattle.fat_monitor.specs.declared.actions.Post.{Post}
 use Rattle.fat_monitor.specs.declared.actions.Post.TheVariants.{Out, Entering, Waiting, Back, Granted}
-use Rattle.fat_monitor.specs.FatState.{FatState, post_of, post_at, place_of, owns_one}
-use Rattle.step_core.specs.Going.{after_go, gone}
+use Rattle.fat_monitor.specs.FatState.{FatState, monitor_at, post_of, post_at, flag_at, with_moment, place_of, owns_one}
+use Rattle.fat_monitor.specs.Acting.{Outcome as FatOutcome, told, removed, served, not_due, expired as fat_expired}
+use Rattle.fat_monitor.specs.declared.actions.Why.TheVariants.{Elapsed}
+use Rattle.fat_monitor.specs.declared.actions.Answer.TheVariants.{Quiet}
+use Rattle.step_core.specs.Going.{after_go, gone, moved}
 use Rattle.lock_word.specs.declared.ObjectId.{ObjectId}
 use Rattle.std.specs.Prelude.{zero, suc, ◌≡◌, ◌⊎◌, ℕ, ◌+◌, ◌<◌, ◌≤◌, Bool, true, false, nat_lt, List, [], ◌∷◌, length, Option, Some, None, IsSome, is_some, is_none, MatchResult, OnErr, if◌then◌else◌}
 use Rattle.std.specs.List.{position_from}
@@ -21,14 +24,17 @@ use Rattle.fast_path.specs.Table.{object_of}
 use Rattle.step_core.specs.declared.moves.Doing.{Doing}
 use Rattle.step_core.specs.declared.moves.Doing.TheVariants as doing
 use Rattle.step_core.specs.declared.places.Place.{Place}
-use Rattle.step_core.specs.declared.places.Place.TheVariants.{Idle, Begun, Taking, Storing, Binding, Acting, Won, Bound, Inflated, Parked as ParkedPlace, Ending}
+use Rattle.step_core.specs.declared.places.Place.TheVariants.{Idle, Begun, Taking, Storing, Binding, Acting, Won, Bound, Inflated, Direct, Parked as ParkedPlace, Ending}
 use Rattle.step_core.specs.declared.events.Step.{Step}
 use Rattle.step_core.specs.declared.events.Step.TheVariants as step
 use Rattle.step_core.specs.declared.events.Fault.{Fault}
-use Rattle.step_core.specs.declared.events.Fault.TheVariants.{NoIndex, Memory, Known, NoThread, NoObject, InCall, NotCalling, Parked}
+use Rattle.step_core.specs.declared.events.Atomic.TheVariants.{Label}
+use Rattle.step_core.specs.declared.moves.Move.TheVariants as move
+use Rattle.step_core.proofs.WordRuns.{not_waiting}
+use Rattle.step_core.specs.declared.events.Fault.TheVariants.{NoIndex, Memory, Known, NoThread, NoObject, InCall, NotCalling, Parked, NotDue, Backwards}
 use Rattle.step_core.specs.Machine.{Thread, Exists}
 use Rattle.step_core.specs.WorldState.{WorldState, IsSound, place_at}
-use Rattle.step_core.specs.Stepping.{Outcome, attached, begun, begun_at, refused, went, went_at, step_of, ended, accepted, gathered}
+use Rattle.step_core.specs.Stepping.{Outcome, attached, begun, begun_at, refused, went, went_at, step_of, ended, accepted, gathered, expired, expired_as, ticked}
 use Rattle.step_core.specs.Shown.{shown, doing_of, act_of}
 use Rattle.step_core.specs.Refusals.{IsLive, IsNotLive, IsBusy, IsIdle, IsParked, IsRefused, IsAcceptable}
 use Rattle.step_core.proofs.Frames.{act_out, out_at}
@@ -62,6 +68,7 @@ not_idle (Won o) busy free e = cc
 not_idle (Bound c true m) busy free e = cc
 not_idle (Bound c false m) busy free e = cc
 not_idle (Inflated c m) busy free e = cc
+not_idle (Direct c) busy free e = cc
 not_idle ParkedPlace busy free e = free refl
 not_idle (Ending n) busy free e = cc
 
@@ -85,8 +92,16 @@ parked_or_not (Acting c m) = inr (λ e. cc)
 parked_or_not (Won o) = inr (λ e. cc)
 parked_or_not (Bound c won m) = inr (λ e. cc)
 parked_or_not (Inflated c m) = inr (λ e. cc)
+parked_or_not (Direct c) = inr (λ e. cc)
 parked_or_not ParkedPlace = inl refl
 parked_or_not (Ending n) = inr (λ e. cc)
+
+-- the time of a wait
+waits_until : {p o : ObjectId} {m n c d : ℕ} → doing.Waits p m (Some c) ≡ doing.Waits o n (Some d) → c ≡ d
+waits_until e = cc
+
+posted_until : {i j m n c d : ℕ} → Waiting i m (Some c) ≡ Waiting j n (Some d) → c ≡ d
+posted_until e = cc
 
 module _ (w : WorldState) (sound : IsSound w) (t : ThreadId) where
   -- what the thread at a seat is doing
@@ -116,17 +131,17 @@ module _ (w : WorldState) (sound : IsSound w) (t : ThreadId) where
   apart e h = let never : is_some {T = Thread} None ≡ true = rw e at h in absurd (cc)
 
   apart_too : (k : ℕ) → seat_of w.seats t ≡ Some k → IsNotLive w t → ⊥
-  apart_too k e h = let never : ◌≡◌ {A = Option Thread} (Some (record { flag = false; act = does k })) None = rw e at h in absurd (cc)
+  apart_too k e h = let never : ◌≡◌ {A = Option Thread} (Some (record { flag = flag_at w.fats t; act = does k })) None = rw e at h in absurd (cc)
 
   -- what is shown of the thread at a seat
   pub shows : (k : ℕ) → seat_of w.seats t ≡ Some k → (x : Thread) → (shown w).thread t ≡ Some x → does k ≡ x.act
-  shows k e x h = ap (λ (y : Thread). y.act) (same_Some (record { flag = false; act = does k }) x (rw e at h))
+  shows k e x h = ap (λ (y : Thread). y.act) (same_Some (record { flag = flag_at w.fats t; act = does k }) x (rw e at h))
 
   pub busy : (k : ℕ) → seat_of w.seats t ≡ Some k → (place_at w k ≡ Idle → ⊥) → IsBusy w t
-  busy k e h = (record { flag = false; act = does k }, rw e refl, does_not_idle k e h)
+  busy k e h = (record { flag = flag_at w.fats t; act = does k }, rw e refl, does_not_idle k e h)
 
   idle : (k : ℕ) → seat_of w.seats t ≡ Some k → place_at w k ≡ Idle → IsIdle w t
-  idle k e h = (record { flag = false; act = does k }, rw e refl, does_out k e Idle h (λ i. cc))
+  idle k e h = (record { flag = flag_at w.fats t; act = does k }, rw e refl, does_out k e Idle h (λ i. cc))
 
   -- a thread whose post is in no line stands nowhere
   pub nowhere : (p : Post) → post_of w.fats t ≡ Some p → place_of p ≡ None → IsParked w t → ⊥
@@ -154,6 +169,8 @@ module _ (w : WorldState) (sound : IsSound w) (t : ThreadId) where
       accepted_only InCall h = absurd h
       accepted_only NotCalling h = absurd h
       accepted_only Parked h = absurd h
+      accepted_only NotDue h = absurd h
+      accepted_only Backwards h = absurd h
   attaches false None (Some k) e free = let there = free_found w.seats k free in ((not_live e, (k, there.0, there.1)), refl)
 
   -- a call that names no object that is missing
@@ -171,6 +188,8 @@ module _ (w : WorldState) (sound : IsSound w) (t : ThreadId) where
       accepted_only Memory r = refl
       accepted_only NotCalling r = absurd r
       accepted_only Parked r = absurd r
+      accepted_only NotDue r = absurd r
+      accepted_only Backwards r = absurd r
   begins_at c k e h there (Begun d b) at = ((busy k e (λ i. let x = sym at ∙ i in cc), h), refl)
   begins_at c k e h there (Taking d b) at = ((busy k e (λ i. let x = sym at ∙ i in cc), h), refl)
   begins_at c k e h there (Storing d l) at = ((busy k e (λ i. let x = sym at ∙ i in cc), h), refl)
@@ -179,6 +198,7 @@ module _ (w : WorldState) (sound : IsSound w) (t : ThreadId) where
   begins_at c k e h there (Won o) at = ((busy k e (λ i. let x = sym at ∙ i in cc), h), refl)
   begins_at c k e h there (Bound d won m) at = ((busy k e (λ i. let x = sym at ∙ i in cc), h), refl)
   begins_at c k e h there (Inflated d m) at = ((busy k e (λ i. let x = sym at ∙ i in cc), h), refl)
+  begins_at c k e h there (Direct d) at = ((busy k e (λ i. let x = sym at ∙ i in cc), h), refl)
   begins_at c k e h there ParkedPlace at = ((busy k e (λ i. let x = sym at ∙ i in cc), h), refl)
   begins_at c k e h there (Ending n) at = ((busy k e (λ i. let x = sym at ∙ i in cc), h), refl)
 
@@ -198,6 +218,9 @@ module _ (w : WorldState) (sound : IsSound w) (t : ThreadId) where
   begins (call.Notify o) (Some k) e = begins_on (call.Notify o) o k e refl (λ h. h)
   begins (call.NotifyAll o) (Some k) e = begins_on (call.NotifyAll o) o k e refl (λ h. h)
   begins (call.Holds o) (Some k) e = begins_on (call.Holds o) o k e refl (λ h. h)
+  begins (call.Interrupt who) (Some k) e = begins_at (call.Interrupt who) k e tt (λ o same past. cc) (place_at w k) refl
+  begins call.Interrupted (Some k) e = begins_at call.Interrupted k e tt (λ o same past. cc) (place_at w k) refl
+  begins (call.IsInterrupted who) (Some k) e = begins_at (call.IsInterrupted who) k e tt (λ o same past. cc) (place_at w k) refl
   begins call.End (Some k) e = begins_at call.End k e tt (λ o same past. cc) (place_at w k) refl
 
   -- a Go of a thread that is in a call and stands nowhere is accepted
@@ -210,6 +233,8 @@ module _ (w : WorldState) (sound : IsSound w) (t : ThreadId) where
   goes k e h free Memory r = refl
   goes k e h free NoObject r = absurd r
   goes k e h free InCall r = absurd r
+  goes k e h free NotDue r = absurd r
+  goes k e h free Backwards r = absurd r
 
   -- and so is one at any place but these two
   goes_at : (k : ℕ) → seat_of w.seats t ≡ Some k → (p : Place) → place_at w k ≡ p → (p ≡ Idle → ⊥) → (p ≡ ParkedPlace → ⊥) → IsAcceptable w (step.Go t)
@@ -235,6 +260,7 @@ module _ (w : WorldState) (sound : IsSound w) (t : ThreadId) where
   wents_at room k e (Won o) at = (goes_at k e (Won o) at (λ i. cc) (λ i. cc), tt)
   wents_at room k e (Bound d won m) at = (goes_at k e (Bound d won m) at (λ i. cc) (λ i. cc), tt)
   wents_at room k e (Inflated d m) at = (goes_at k e (Inflated d m) at (λ i. cc) (λ i. cc), tt)
+  wents_at room k e (Direct d) at = (goes_at k e (Direct d) at (λ i. cc) (λ i. cc), tt)
   wents_at room k e ParkedPlace at = gathers k e at (post_of w.fats t) refl
   wents_at room k e (Ending n) at =
       cond_both (nat_lt n (length w.words)) (accepted (gone w k (after_go room w k t (Ending n))) (after_go room w k t (Ending n)).did) (ended w k t (owns_one w.fats.monitors t)) (Judged w (step.Go t))
@@ -248,8 +274,79 @@ module _ (w : WorldState) (sound : IsSound w) (t : ThreadId) where
   wents room None e = (not_live e, refl)
   wents room (Some k) e = wents_at room k e (place_at w k) refl
 
+  -- a thread with another post than this one waits for no time that is over
+  not_due_at : (k : ℕ) → seat_of w.seats t ≡ Some k → (p : Post) → post_at w.fats t ≡ p
+      → ((m n d : ℕ) → p ≡ Waiting m n (Some d) → d ≤ w.fats.moment → ⊥) → Judged w (step.Expire t) (refused w NotDue)
+  not_due_at k e p is never = ((live k e, λ due. by_post p (place_at w k) never (ap (λ (x : Post). act_of w.fats x (place_at w k)) (sym is) ∙ shows k e _ due.4) due.5), refl)
+    where
+      by_post : (p : Post) (q : Place) {o : ObjectId} {n d : ℕ} → ((m n d : ℕ) → p ≡ Waiting m n (Some d) → d ≤ w.fats.moment → ⊥)
+          → act_of w.fats p q ≡ doing.Waits o n (Some d) → d ≤ w.fats.moment → ⊥
+      by_post Out q never same late = not_waiting q same
+      by_post (Entering m) q never same late = absurd (cc)
+      by_post (Waiting m x None) q never same late = absurd (cc)
+      by_post (Waiting m x (Some y)) q never same late = never m x y refl (let one = waits_until same in omega arith)
+      by_post (Back m x y) q never same late = absurd (cc)
+      by_post (Granted r) q never same late = absurd (cc)
+
+  -- a wait expires where it is due, and only there
+  expires_at : (k : ℕ) → seat_of w.seats t ≡ Some k → (p : Post) → post_at w.fats t ≡ p
+      → Judged w (step.Expire t) (expired_as w t (fat_expired w.fats t p).answer (fat_expired w.fats t p).after)
+  expires_at k e Out is = not_due_at k e Out is (λ m n d same late. cc)
+  expires_at k e (Entering m) is = not_due_at k e (Entering m) is (λ j n d same late. cc)
+  expires_at k e (Waiting m n None) is = not_due_at k e (Waiting m n None) is (λ j x d same late. cc)
+  expires_at k e (Waiting m n (Some d)) is =
+      cond_both (nat_lt w.fats.moment d) (not_due w.fats) (told (removed w.fats t Elapsed (Waiting m n (Some d))) Quiet (served w.fats t (Waiting m n (Some d))) None)
+      (λ (x : FatOutcome). Judged w (step.Expire t) (expired_as w t x.answer x.after))
+      (λ early. not_due_at k e (Waiting m n (Some d)) is (λ j x y same late. let one = posted_until same in let before = ltb-true w.fats.moment d early in omega arith))
+      (λ due. (accepted_only (ltb-false w.fats.moment d due), tt))
+    where
+      accepted_only : d ≤ w.fats.moment → (f : Fault) → IsRefused w (step.Expire t) f → f ≡ Memory
+      accepted_only due NoThread r = absurd (apart_too k e r)
+      accepted_only due NotDue r = absurd (r.1 (
+        flag_at w.fats t,
+        (monitor_at w.fats m).object,
+        n,
+        d,
+        rw e (ap (λ (x : Post). Some (record { flag = flag_at w.fats t; act = act_of w.fats x (place_at w k) })) is),
+        due,
+      ))
+      accepted_only due Known r = absurd r
+      accepted_only due NoIndex r = absurd r
+      accepted_only due Memory r = refl
+      accepted_only due NoObject r = absurd r
+      accepted_only due InCall r = absurd r
+      accepted_only due NotCalling r = absurd r
+      accepted_only due Parked r = absurd r
+      accepted_only due Backwards r = absurd r
+  expires_at k e (Back m n y) is = not_due_at k e (Back m n y) is (λ j x d same late. cc)
+  expires_at k e (Granted r) is = not_due_at k e (Granted r) is (λ j n d same late. cc)
+
+  expires : (o : Option ℕ) → seat_of w.seats t ≡ o → Judged w (step.Expire t) (expired w t o)
+  expires None e = (not_live e, refl)
+  expires (Some k) e = expires_at k e (post_at w.fats t) refl
+
+-- the moment is told where it does not fall
+ticks : (w : WorldState) (now : ℕ) → Judged w (step.Tick now) (ticked w now)
+ticks w now =
+    cond_both (nat_lt now w.fats.moment) (refused w Backwards) (accepted (record w { fats = with_moment w.fats now }) (moved Label (move.Time now))) (Judged w (step.Tick now))
+    (λ back. (ltb-true now w.fats.moment back, refl)) (λ on. (accepted_only (ltb-false now w.fats.moment on), tt))
+  where
+    accepted_only : w.fats.moment ≤ now → (f : Fault) → IsRefused w (step.Tick now) f → f ≡ Memory
+    accepted_only on Backwards r = absurd (let h : now < w.fats.moment = r in omega arith)
+    accepted_only on Known r = absurd r
+    accepted_only on NoIndex r = absurd r
+    accepted_only on Memory r = refl
+    accepted_only on NoThread r = absurd r
+    accepted_only on NoObject r = absurd r
+    accepted_only on InCall r = absurd r
+    accepted_only on NotCalling r = absurd r
+    accepted_only on Parked r = absurd r
+    accepted_only on NotDue r = absurd r
+
 -- Each answer is the right one, and a refused step changes nothing.
 pub step_judged : (w : WorldState) → IsSound w → (room : Bool) (s : Step) → MatchResult (step_of room w s).answer (λ d. IsAcceptable w s) (λ f. IsRefused w s f) × OnErr (step_of room w s).answer ((step_of room w s).after ≡ w)
 step_judged w sound room (step.Attach t) = attaches w sound t room (seat_of w.seats t) (free_seat w.seats) refl refl
 step_judged w sound room (step.Begin t c) = begins w sound t c (seat_of w.seats t) refl
 step_judged w sound room (step.Go t) = wents w sound t room (seat_of w.seats t) refl
+step_judged w sound room (step.Expire t) = expires w sound t (seat_of w.seats t) refl
+step_judged w sound room (step.Tick now) = ticks w now

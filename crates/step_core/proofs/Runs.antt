@@ -10,7 +10,7 @@ use Rattle.fast_path.specs.declared.Call.TheVariants as call
 use Rattle.fast_path.specs.Table.{target, next_of}
 use Rattle.fast_path.proofs.Tables.{StoresOwn, store_own, BindsOwn, bind_own}
 use Rattle.step_core.specs.declared.places.Place.{Place}
-use Rattle.step_core.specs.declared.places.Place.TheVariants.{Idle, Begun, Taking, Storing, Binding, Acting, Won, Bound, Inflated, Parked, Ending}
+use Rattle.step_core.specs.declared.places.Place.TheVariants.{Idle, Begun, Taking, Storing, Binding, Acting, Won, Bound, Inflated, Direct, Parked, Ending}
 use Rattle.fat_monitor.specs.declared.actions.Cause.{Cause}
 use Rattle.fat_monitor.specs.declared.actions.Cause.TheVariants as cause
 use Rattle.fat_monitor.specs.declared.actions.Post.TheVariants.{Out}
@@ -23,6 +23,8 @@ use Rattle.step_core.specs.Shown.{shown}
 use Rattle.step_core.proofs.Frames.{stands_at, within, is_at, mine, out_at}
 use Rattle.step_core.proofs.WordRuns.{load_facts, load_run, take_run, store_run, bind_run, publish_run, causes, look_run, good_time}
 use Rattle.step_core.proofs.NotifyRuns.{act_run}
+use Rattle.step_core.proofs.FlagRuns.{direct_run}
+pub use Rattle.step_core.proofs.ExpireRuns.{expire_run, tick_run}
 
 -- want of a monitor or of memory
 abbrev IsScarce : Cause → Type 0
@@ -30,6 +32,7 @@ IsScarce cause.NoMonitor = Unit {0}
 IsScarce cause.Memory = Unit {0}
 IsScarce cause.TooDeep = ⊥
 IsScarce cause.StillOwner = ⊥
+IsScarce cause.NoThread = ⊥
 
 -- what a store that was found overwrites
 pub storing : (w : WorldState) (k : ℕ) (c : Call) (l : Lock) → Fitting w k (Storing c l) → StoresOwn (k + 1) (lock_at w (target c).0) l c
@@ -47,10 +50,14 @@ module _ (w : WorldState) (sound : IsSound w) (k : ℕ) (t : ThreadId) (seat : s
   may_refuse (call.Wait o millis nanos) n cause.Memory scarce binds own = (own, good_time millis nanos binds.2)
   may_refuse c n cause.TooDeep scarce binds own = absurd scarce
   may_refuse c n cause.StillOwner scarce binds own = absurd scarce
+  may_refuse c n cause.NoThread scarce binds own = absurd scarce
   may_refuse (call.Exit o) n x scarce binds own = absurd binds
   may_refuse (call.Notify o) n x scarce binds own = absurd binds
   may_refuse (call.NotifyAll o) n x scarce binds own = absurd binds
   may_refuse (call.Holds o) n x scarce binds own = absurd binds
+  may_refuse (call.Interrupt who) n x scarce binds own = absurd binds
+  may_refuse call.Interrupted n x scarce binds own = absurd binds
+  may_refuse (call.IsInterrupted who) n x scarce binds own = absurd binds
   may_refuse call.End n x scarce binds own = absurd binds
 
   go_run_at : (room : Bool) (p : Place) → place_at w k ≡ p → Fitting w k p → (p ≡ Idle → ⊥) → (p ≡ Parked → ⊥) → post_of w.fats t ≡ Some Out
@@ -75,6 +82,7 @@ module _ (w : WorldState) (sound : IsSound w) (k : ℕ) (t : ThreadId) (seat : s
       let a : m < length w.fats.monitors = fit.1 in let b : length w.fats.monitors ≤ w.fats.limit = sound.fats.few in let l : w.fats.limit ≤ 8388608 = sound.fats.limit in
       publish_run w sound k t seat out c won m e fit (omega arith)
   go_run_at room (Inflated c m) e fit busy here out = act_run w sound k t seat out c m (Inflated c m) fit.0.0 e refl fit.1
+  go_run_at room (Direct c) e fit busy here out = direct_run w sound k t seat out c e fit
   go_run_at room (Ending n) e fit busy here out = look_run w sound k t seat out n (is_own (lock_at w n) (k + 1)) e refl
 
   -- A Go is a run of the machine.

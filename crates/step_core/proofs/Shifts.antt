@@ -20,7 +20,7 @@ use Rattle.step_core.specs.Machine.{State, Thread, Monitor}
 use Rattle.step_core.specs.WorldState.{WorldState, IsSound, place_at, lock_at}
 use Rattle.step_core.specs.Going.{gone, turns}
 use Rattle.step_core.specs.Shown.{shown, monitor_of, act_of, thread_of}
-use Rattle.step_core.proofs.Shows.{ActsAlike}
+use Rattle.step_core.proofs.Shows.{ActsAlike, does, thread_in}
 use Rattle.step_core.proofs.Frames.{within}
 
 -- threads with one number are one thread
@@ -33,10 +33,6 @@ one_thread u t e = ap (λ (n : ℕ). let x : ThreadId = record { 0 = n } in x) e
 -- what the machine sees of a fat monitor
 abbrev pub seen : fat.Monitor → Monitor
 seen b = record { owner = b.owner; count = b.holds }
-
--- a thread that does this; nobody is interrupted yet
-abbrev pub does : Doing → Thread
-does d = record { flag = false; act = d }
 
 -- the post of a thread reads the same where it is the same
 pub same_post : (f g : FatState) (u : ThreadId) → post_of g u ≡ post_of f u → post_at g u ≡ post_at f u
@@ -51,12 +47,12 @@ module _ (w : WorldState) (sound : IsSound w) (k : ℕ) (t : ThreadId) (seat : s
     abbrev pub turned : WorldState
     turned = gone w k (turns w g p did)
 
-    pub own_thread : (d : Doing) → act_of g (post_at g t) p ≡ d → (v : ThreadId) → v.0 ≡ t.0 → thread_of turned v (seat_of w.seats v) ≡ Some (does d)
-    own_thread d e v same =
-        rw (one_thread v t same, seat, get_or-set_same w.places k p Idle (within w sound k t seat)) (ap (λ (x : Doing). Some (does x)) e)
+    pub own_thread : (x : Thread) → thread_in g t p ≡ x → (v : ThreadId) → v.0 ≡ t.0 → thread_of turned v (seat_of w.seats v) ≡ Some x
+    own_thread x e v same =
+        rw (one_thread v t same, seat, get_or-set_same w.places k p Idle (within w sound k t seat)) (ap (λ (y : Thread). Some y) e)
 
     pub by_seat : (v : ThreadId) → (v.0 ≡ t.0 → ⊥) → (o : Option ℕ) → seat_of w.seats v ≡ o
-        → thread_of turned v o ≡ option_map (λ (j : ℕ). does (act_of g (post_at g v) (place_at w j))) o
+        → thread_of turned v o ≡ option_map (λ (j : ℕ). thread_in g v (place_at w j)) o
     by_seat v ne None e = refl
     by_seat v ne (Some j) e =
         let other : j ≡ k → ⊥ = λ same. ne (seat_thread w.seats t v k seat (rw same at e)) in
@@ -66,20 +62,20 @@ module _ (w : WorldState) (sound : IsSound w) (k : ℕ) (t : ThreadId) (seat : s
     pub kept_thread : (v : ThreadId) → (v.0 ≡ t.0 → ⊥) → ActsAlike w.fats g v → thread_of turned v (seat_of w.seats v) ≡ (shown w).thread v
     kept_thread v ne alike = by_seat v ne (seat_of w.seats v) refl ∙ at_one (seat_of w.seats v)
       where
-        at_one : (o : Option ℕ) → option_map (λ (j : ℕ). does (act_of g (post_at g v) (place_at w j))) o ≡ thread_of w v o
+        at_one : (o : Option ℕ) → option_map (λ (j : ℕ). thread_in g v (place_at w j)) o ≡ thread_of w v o
         at_one None = refl
-        at_one (Some j) = ap (λ (x : Doing). Some (does x)) (alike (place_at w j))
+        at_one (Some j) = ap (λ (x : Thread). Some x) (alike (place_at w j))
 
-    pub given_thread : (v : ThreadId) (d : Doing) → (v.0 ≡ t.0 → ⊥) → IsSome (seat_of w.seats v) → ((q : Place) → act_of g (post_at g v) q ≡ d)
-        → thread_of turned v (seat_of w.seats v) ≡ Some (does d)
-    given_thread v d ne live acts = by_seat v ne (seat_of w.seats v) refl ∙ at_one (seat_of w.seats v) live
+    pub given_thread : (v : ThreadId) (x : Thread) → (v.0 ≡ t.0 → ⊥) → IsSome (seat_of w.seats v) → ((q : Place) → thread_in g v q ≡ x)
+        → thread_of turned v (seat_of w.seats v) ≡ Some x
+    given_thread v x ne live acts = by_seat v ne (seat_of w.seats v) refl ∙ at_one (seat_of w.seats v) live
       where
-        at_one : (o : Option ℕ) → IsSome o → option_map (λ (j : ℕ). does (act_of g (post_at g v) (place_at w j))) o ≡ Some (does d)
+        at_one : (o : Option ℕ) → IsSome o → option_map (λ (j : ℕ). thread_in g v (place_at w j)) o ≡ Some x
         at_one None h = absurd (cc)
-        at_one (Some j) h = ap (λ (x : Doing). Some (does x)) (acts (place_at w j))
+        at_one (Some j) h = ap (λ (y : Thread). Some y) (acts (place_at w j))
 
     -- the state that is shown then
-    pub shown_turned : (s : State) → s.objects ≡ length w.words → s.moment ≡ 0
+    pub shown_turned : (s : State) → s.objects ≡ length w.words → s.moment ≡ g.moment
         → ((v : ThreadId) → thread_of turned v (seat_of w.seats v) ≡ s.thread v)
         → ((q : ObjectId) → monitor_of turned (lock_at w q.0) ≡ s.monitor q)
         → shown turned ≡ s

@@ -1,7 +1,7 @@
 -- A call that is refused leaves every owner, count, wait set and flag as it was.
 use Rattle.std.specs.Prelude.{◌≡◌, ◌⊎◌, Bool, [], ◌∷◌, Option, Some, None, IfOk, Result, Ok, Err}
 use Rattle.std.specs.Option.{option_map}
-use Rattle.std.proofs.Common.{refl, inl, inr, sym, ap, subst, ◌∙◌}
+use Rattle.std.proofs.Common.{ℕ, refl, inl, inr, sym, ap, subst, ◌∙◌}
 use Rattle.std.proofs.lemmas.Bool.{cases_eq, eq-eqb, ne_eqb}
 use Rattle.std.proofs.lemmas.Option.{same_Some}
 use Rattle.lock_word.specs.declared.ThreadId.{ThreadId}
@@ -75,6 +75,14 @@ module _ (w w' : WorldState) where
   begin_spares t c (Ok d) h = silent d.reply h.1
   begin_spares t c (Err f) h = tt
 
+  expire_spares : (t : ThreadId) (r : Result Did Fault) → IfOk r (HasLabels (step.Expire t)) → IfOk r (λ d. Spares w d.reply w')
+  expire_spares t (Ok d) h = silent d.reply h.1
+  expire_spares t (Err f) h = tt
+
+  tick_spares : (now : ℕ) (r : Result Did Fault) → IfOk r (HasLabels (step.Tick now)) → IfOk r (λ d. Spares w d.reply w')
+  tick_spares now (Ok d) h = silent d.reply h.1
+  tick_spares now (Err f) h = tt
+
   go_spares : (t : ThreadId) (r : Result Did Fault) → IfOk r (Shapely t) → Run (shown w) (moves_of r) (shown w') → IfOk r (λ d. Spares w d.reply w')
   go_spares t (Ok d) h run = λ x e. refusal_spares (shown w) (shown w') t x (subst (λ ms. Run (shown w) ms (shown w')) (h.1 x e) run)
   go_spares t (Err f) h run = tt
@@ -87,3 +95,7 @@ step_spares w sound room (step.Begin t c) =
     begin_spares w (step_of room w (step.Begin t c)).after t c (step_of room w (step.Begin t c)).answer (step_labels w sound room (step.Begin t c))
 step_spares w sound room (step.Go t) =
     go_spares w (step_of room w (step.Go t)).after t (step_of room w (step.Go t)).answer (go_shape room w sound t (seat_of w.seats t)) (step_right w sound room (step.Go t)).1
+step_spares w sound room (step.Expire t) =
+    expire_spares w (step_of room w (step.Expire t)).after t (step_of room w (step.Expire t)).answer (step_labels w sound room (step.Expire t))
+step_spares w sound room (step.Tick now) =
+    tick_spares w (step_of room w (step.Tick now)).after now (step_of room w (step.Tick now)).answer (step_labels w sound room (step.Tick now))

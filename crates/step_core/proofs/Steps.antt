@@ -2,33 +2,26 @@
 use Rattle.step_core.specs.Parts.{IsBusyAt}
 use Rattle.lock_word.specs.declared.ObjectId.{ObjectId}
 use Rattle.step_core.proofs.Endings.{Right, ended_right}
-use Rattle.std.specs.Prelude.{◌≡◌, ◌⊎◌, ℕ, ◌-◌, ◌<◌, Bool, true, false, if◌then◌else◌, ◌==◌, nat_lt, List, [], ◌∷◌, ◌++◌, length, set, get_or, Option, Some, None, IsSome, is_some, count_by, Result, ◌+◌, ◌≤◌}
+use Rattle.step_core.proofs.Attaching.{attached_right}
+use Rattle.step_core.proofs.Expiring.{expired_sound, expired_right, ticked_right}
+use Rattle.std.specs.Prelude.{◌≡◌, ℕ, ◌-◌, ◌<◌, Bool, true, if◌then◌else◌, nat_lt, List, [], ◌∷◌, ◌++◌, length, Option, Some, None, Result, ◌+◌, ◌≤◌}
 use Rattle.std.specs.Option.{unwrap_or}
-use Rattle.std.proofs.Common.{arith, refl, sym, ◌∙◌, subst, inl, inr, get_or-set_same, get_or-set_other, length-set, ap}
-use Rattle.std.proofs.Math.Path.{fun_ext}
-use Rattle.std.proofs.lemmas.Bool.{cases_eq, eq-eqb, ne_eqb, cond_both, ltb-true, ltb-false}
-use Rattle.std.proofs.lemmas.Option.{same_Some}
+use Rattle.std.proofs.Common.{arith, refl, sym, ◌∙◌, subst, ap}
+use Rattle.std.proofs.lemmas.Bool.{cond_both, ltb-true, ltb-false}
 use Rattle.lock_word.specs.declared.ThreadId.{ThreadId}
-use Rattle.lock_word.specs.declared.Lock.{Lock}
-use Rattle.lock_word.specs.declared.Lock.TheVariants.{Free, Thin, Fat}
-use Rattle.thread_index.specs.Indices.{seat_of, free_seat, holder_at}
-use Rattle.thread_index.proofs.Seats.{seat_found, seat_same, free_found, seat_taken_same, seat_taken_other, IsOneToOne-taken}
+use Rattle.thread_index.specs.Indices.{seat_of, free_seat}
 use Rattle.fat_monitor.specs.declared.actions.Post.{Post}
 use Rattle.fat_monitor.specs.declared.actions.Post.TheVariants.{Out, Entering, Waiting, Back, Granted}
+use Rattle.fat_monitor.specs.declared.actions.Reply.{Reply}
 use Rattle.fat_monitor.specs.declared.actions.Action.TheVariants as action
 use Rattle.fat_monitor.specs.declared.actions.Answer.TheVariants as answer
-use Rattle.fat_monitor.specs.declared.monitors.Monitor as fat
-use Rattle.fat_monitor.specs.FatState.{IsAttached, owns_one, monitor_at, post_of, thread_count}
-use Rattle.fat_monitor.proofs.PostMaps.{get-insert_by}
-use Rattle.fat_monitor.proofs.Soundness.{IsSound-with_thread}
-use Rattle.fat_monitor.proofs.Effects.{count-with_thread}
+use Rattle.fat_monitor.specs.FatState.{owns_one, post_of, flag_at}
 use Rattle.fast_path.specs.declared.Call.{Call}
 use Rattle.fast_path.specs.declared.Call.TheVariants as call
 use Rattle.step_core.specs.declared.moves.Doing.{Doing}
-use Rattle.fast_path.specs.Table.{object_of}
 use Rattle.step_core.specs.declared.moves.Doing.TheVariants as doing
 use Rattle.step_core.specs.declared.places.Place.{Place}
-use Rattle.step_core.specs.declared.places.Place.TheVariants.{Idle, Begun, Taking, Storing, Binding, Acting, Won, Bound, Inflated, Parked, Ending}
+use Rattle.step_core.specs.declared.places.Place.TheVariants.{Idle, Begun, Taking, Storing, Binding, Acting, Won, Bound, Inflated, Direct, Parked, Ending}
 use Rattle.step_core.specs.declared.moves.Move.{Move}
 use Rattle.step_core.specs.declared.moves.Move.TheVariants as move
 use Rattle.step_core.specs.declared.events.Atomic.TheVariants.{Label, Acted}
@@ -38,93 +31,127 @@ use Rattle.step_core.specs.declared.events.Did.{Did}
 use Rattle.step_core.specs.declared.events.Fault.{Fault}
 use Rattle.step_core.specs.declared.events.Fault.TheVariants as fault
 use Rattle.step_core.specs.Machine.{State, Run, now_is, Exists}
-use Rattle.step_core.specs.WorldState.{WorldState, IsSound, Stands, Fitting, Agrees, place_at, lock_at, bound_by, IsPublished}
+use Rattle.step_core.specs.WorldState.{WorldState, IsSound, Fitting, Agrees, place_at}
 use Rattle.step_core.specs.Going.{gone, moved, returned, after_go}
-use Rattle.step_core.specs.Stepping.{Outcome, refused, accepted, with_live, attached, begun, begun_at, went, went_at, gathered, step_of, moves_of, world_after, moves_after, ended, first_place}
-use Rattle.step_core.specs.Shown.{shown, thread_of, monitor_of, doing_of}
-use Rattle.step_core.proofs.Shows.{ActsAlike, acts_alike}
-use Rattle.step_core.proofs.Frames.{stands_at, is_at, out_at, shown_stays}
+use Rattle.step_core.specs.Stepping.{Outcome, refused, accepted, attached, begun, begun_at, went, went_at, gathered, expired, ticked, given, step_of, moves_of, world_after, moves_after, ended, first_place}
+use Rattle.step_core.specs.Shown.{shown, doing_of}
+use Rattle.step_core.proofs.Frames.{is_at, out_at, shown_stays}
 use Rattle.step_core.proofs.NotifyRuns.{collect_run}
 use Rattle.step_core.proofs.Runs.{go_run}
-use Rattle.step_core.proofs.KeepsPosts.{count_taken, count_below}
-use Rattle.step_core.proofs.Keeps.{go_sound, collect_sound, sound_stays}
+use Rattle.step_core.proofs.Keeps.{go_sound, collect_sound}
+use Rattle.step_core.proofs.KeepsParts.{sound_stays}
 
 module _ (w : WorldState) (sound : IsSound w) (t : ThreadId) where
-  -- a Go from a place in a call
-  busy_right : (room : Bool) (k : ℕ) → seat_of w.seats t ≡ Some k → (p : Place) → place_at w k ≡ p → (p ≡ Idle → ⊥) → (p ≡ Parked → ⊥) → IsBusyAt (length w.words) p
+  -- What holds of a step that is refused, of a Go from a place in a call, of a collect and of an end holds of each Go.
+  module _ (k : ℕ) (P : Outcome → Type 0) (none : (f : Fault) → P (refused w f))
+      (busy : (room : Bool) (p : Place) → place_at w k ≡ p → (p ≡ Idle → ⊥) → (p ≡ Parked → ⊥) → IsBusyAt (length w.words) p
+      → P (accepted (gone w k (after_go room w k t p)) (after_go room w k t p).did))
+      (collects : (r : Reply) → place_at w k ≡ Parked → post_of w.fats t ≡ Some (Granted r) → P (gathered w k t (Granted r)))
+      (ends : (n : ℕ) → place_at w k ≡ Ending n → length w.words ≤ n → P (ended w k t (owns_one w.fats.monitors t))) where
+    gathered_each : place_at w k ≡ Parked → (o : Option Post) → post_of w.fats t ≡ o → P (gathered w k t (unwrap_or o Out))
+    gathered_each e None post = none fault.Parked
+    gathered_each e (Some Out) post = none fault.Parked
+    gathered_each e (Some (Entering m)) post = none fault.Parked
+    gathered_each e (Some (Waiting m n d)) post = none fault.Parked
+    gathered_each e (Some (Back m n y)) post = none fault.Parked
+    gathered_each e (Some (Granted r)) post = collects r e post
+
+    went_each : (room : Bool) (p : Place) → place_at w k ≡ p → P (went_at room w k t p)
+    went_each room Idle e = none fault.NotCalling
+    went_each room (Begun c b) e = busy room (Begun c b) e (λ x. cc) (λ x. cc) tt
+    went_each room (Taking c b) e = busy room (Taking c b) e (λ x. cc) (λ x. cc) tt
+    went_each room (Storing c l) e = busy room (Storing c l) e (λ x. cc) (λ x. cc) tt
+    went_each room (Binding c n) e = busy room (Binding c n) e (λ x. cc) (λ x. cc) tt
+    went_each room (Acting c m) e = busy room (Acting c m) e (λ x. cc) (λ x. cc) tt
+    went_each room (Won o) e = busy room (Won o) e (λ x. cc) (λ x. cc) tt
+    went_each room (Bound c won m) e = busy room (Bound c won m) e (λ x. cc) (λ x. cc) tt
+    went_each room (Inflated c m) e = busy room (Inflated c m) e (λ x. cc) (λ x. cc) tt
+    went_each room (Direct c) e = busy room (Direct c) e (λ x. cc) (λ x. cc) tt
+    went_each room Parked e = gathered_each e (post_of w.fats t) refl
+    went_each room (Ending n) e =
+        cond_both (nat_lt n (length w.words)) (accepted (gone w k (after_go room w k t (Ending n))) (after_go room w k t (Ending n)).did) (ended w k t (owns_one w.fats.monitors t)) P
+        (λ h. busy room (Ending n) e (λ x. cc) (λ x. cc) (ltb-true n (length w.words) h))
+        (λ h. ends n e (ltb-false n (length w.words) h))
+
+  -- a Go from a place in a call keeps the world sound
+  busy_sound : (k : ℕ) → seat_of w.seats t ≡ Some k → (room : Bool) (p : Place) → place_at w k ≡ p → (p ≡ Idle → ⊥) → (p ≡ Parked → ⊥) → IsBusyAt (length w.words) p
+      → IsSound (gone w k (after_go room w k t p))
+  busy_sound k seat room p e busy back more =
+      subst (λ (x : Place). IsSound (gone w k (after_go room w k t x))) e
+      (go_sound w sound k t seat room (λ idle. busy (sym e ∙ idle)) (λ parked. back (sym e ∙ parked)) (subst (IsBusyAt (length w.words)) (sym e) more))
+
+  -- and is a run
+  busy_right : (k : ℕ) → seat_of w.seats t ≡ Some k → (room : Bool) (p : Place) → place_at w k ≡ p → (p ≡ Idle → ⊥) → (p ≡ Parked → ⊥) → IsBusyAt (length w.words) p
       → Right w (accepted (gone w k (after_go room w k t p)) (after_go room w k t p).did)
-  busy_right room k seat p e busy back more =
-      subst (λ (x : Place). Right w (accepted (gone w k (after_go room w k t x)) (after_go room w k t x).did)) e (
-        go_sound w sound k t seat room (λ idle. busy (sym e ∙ idle)) (λ parked. back (sym e ∙ parked)) (subst (IsBusyAt (length w.words)) (sym e) more),
-        go_run w sound k t seat room (λ idle. busy (sym e ∙ idle)) (λ parked. back (sym e ∙ parked)),
-      )
+  busy_right k seat room p e busy back more = (
+    busy_sound k seat room p e busy back more,
+    subst (λ (x : Place). Run (shown w) (given (after_go room w k t x).did.moves) (shown (gone w k (after_go room w k t x)))) e
+        (go_run w sound k t seat room (λ idle. busy (sym e ∙ idle)) (λ parked. back (sym e ∙ parked))),
+  )
 
-  -- a collect, by the post of the thread
-  gathered_right : (k : ℕ) → seat_of w.seats t ≡ Some k → place_at w k ≡ Parked → (o : Option Post) → post_of w.fats t ≡ o
-      → Right w (gathered w k t (unwrap_or o Out))
-  gathered_right k seat e None post = (sound, refl)
-  gathered_right k seat e (Some Out) post = (sound, refl)
-  gathered_right k seat e (Some (Entering m)) post = (sound, refl)
-  gathered_right k seat e (Some (Waiting m n d)) post = (sound, refl)
-  gathered_right k seat e (Some (Back m n y)) post = (sound, refl)
-  gathered_right k seat e (Some (Granted r)) post =
-      (collect_sound w sound k t seat r e post (returned (Acted action.Collect (answer.Reply r)) t r), collect_run w sound k t seat r e post)
+  -- so does the collect of a reply
+  granted_sound : (k : ℕ) → seat_of w.seats t ≡ Some k → (r : Reply) → place_at w k ≡ Parked → post_of w.fats t ≡ Some (Granted r) → IsSound (gathered w k t (Granted r)).after
+  granted_sound k seat r e post = collect_sound w sound k t seat r e post (returned (Acted action.Collect (answer.Reply r)) t r)
 
-  went_right_at : (room : Bool) (k : ℕ) → seat_of w.seats t ≡ Some k → (p : Place) → place_at w k ≡ p → Right w (went_at room w k t p)
-  went_right_at room k seat Idle e = (sound, refl)
-  went_right_at room k seat (Begun c b) e = busy_right room k seat (Begun c b) e (λ x. cc) (λ x. cc) tt
-  went_right_at room k seat (Taking c b) e = busy_right room k seat (Taking c b) e (λ x. cc) (λ x. cc) tt
-  went_right_at room k seat (Storing c l) e = busy_right room k seat (Storing c l) e (λ x. cc) (λ x. cc) tt
-  went_right_at room k seat (Binding c n) e = busy_right room k seat (Binding c n) e (λ x. cc) (λ x. cc) tt
-  went_right_at room k seat (Acting c m) e = busy_right room k seat (Acting c m) e (λ x. cc) (λ x. cc) tt
-  went_right_at room k seat (Won o) e = busy_right room k seat (Won o) e (λ x. cc) (λ x. cc) tt
-  went_right_at room k seat (Bound c won m) e = busy_right room k seat (Bound c won m) e (λ x. cc) (λ x. cc) tt
-  went_right_at room k seat (Inflated c m) e = busy_right room k seat (Inflated c m) e (λ x. cc) (λ x. cc) tt
-  went_right_at room k seat Parked e = gathered_right k seat e (post_of w.fats t) refl
-  went_right_at room k seat (Ending n) e =
-      cond_both (nat_lt n (length w.words)) (accepted (gone w k (after_go room w k t (Ending n))) (after_go room w k t (Ending n)).did) (ended w k t (owns_one w.fats.monitors t)) (Right w)
-      (λ h. busy_right room k seat (Ending n) e (λ x. cc) (λ x. cc) (ltb-true n (length w.words) h))
-      (λ h. ended_right w sound k t seat n e (ltb-false n (length w.words) h))
+  -- Each Go keeps the world sound, and is a run.
+  went_sound : (room : Bool) (o : Option ℕ) → seat_of w.seats t ≡ o → IsSound (went room w t o).after
+  went_sound room None e = sound
+  went_sound room (Some k) e =
+      went_each k (λ (o : Outcome). IsSound o.after) (λ f. sound) (busy_sound k e) (granted_sound k e)
+      (λ n at all. (ended_right w sound k t e n at all).0) room (place_at w k) refl
 
   went_right : (room : Bool) (o : Option ℕ) → seat_of w.seats t ≡ o → Right w (went room w t o)
   went_right room None e = (sound, refl)
-  went_right room (Some k) e = went_right_at room k e (place_at w k) refl
+  went_right room (Some k) e =
+      went_each k (Right w) (λ f. (sound, refl)) (busy_right k e) (λ r at post. (granted_sound k e r at post, collect_run w sound k t e r at post))
+      (ended_right w sound k t e) room (place_at w k) refl
 
-  first_fits : (c : Call) (k : ℕ) → Exists (length w.words) c → Fitting w k (first_place c (object_of c))
+  -- the place at which a call begins
+  first_fits : (c : Call) (k : ℕ) → Exists (length w.words) c → Fitting w k (first_place c)
   first_fits (call.Enter o) k h = (refl, h)
   first_fits (call.Exit o) k h = (refl, h)
   first_fits (call.Wait o millis nanos) k h = (refl, h)
   first_fits (call.Notify o) k h = (refl, h)
   first_fits (call.NotifyAll o) k h = (refl, h)
   first_fits (call.Holds o) k h = (refl, h)
+  first_fits (call.Interrupt who) k h = refl
+  first_fits call.Interrupted k h = refl
+  first_fits (call.IsInterrupted who) k h = refl
   first_fits call.End k h = (omega arith, λ p l. absurd (omega arith))
 
-  first_wants : (c : Call) → doing_of (first_place c (object_of c)) ≡ doing.Wants c
+  -- the thread wants what it calls, and is out of every fat action
+  first_wants : (c : Call) → doing_of (first_place c) ≡ doing.Wants c
   first_wants (call.Enter o) = refl
   first_wants (call.Exit o) = refl
   first_wants (call.Wait o millis nanos) = refl
   first_wants (call.Notify o) = refl
   first_wants (call.NotifyAll o) = refl
   first_wants (call.Holds o) = refl
+  first_wants (call.Interrupt who) = refl
+  first_wants call.Interrupted = refl
+  first_wants (call.IsInterrupted who) = refl
   first_wants call.End = refl
 
-  first_agrees : (c : Call) (p : Option Post) → p ≡ Some Out → Agrees (first_place c (object_of c)) p
+  first_agrees : (c : Call) (p : Option Post) → p ≡ Some Out → Agrees (first_place c) p
   first_agrees (call.Enter o) p h = h
   first_agrees (call.Exit o) p h = h
   first_agrees (call.Wait o millis nanos) p h = h
   first_agrees (call.Notify o) p h = h
   first_agrees (call.NotifyAll o) p h = h
   first_agrees (call.Holds o) p h = h
+  first_agrees (call.Interrupt who) p h = h
+  first_agrees call.Interrupted p h = h
+  first_agrees (call.IsInterrupted who) p h = h
   first_agrees call.End p h = h
 
   begun_right_at : (c : Call) (k : ℕ) → seat_of w.seats t ≡ Some k → Exists (length w.words) c → (p : Place) → place_at w k ≡ p → Right w (begun_at w k t c p)
   begun_right_at c k seat h Idle e =
       let out : post_of w.fats t ≡ Some Out = out_at w sound k t seat Idle e (λ x. cc) in (
-        sound_stays w sound k t seat (first_place c (object_of c)) (moved Label (move.Call t c)) (rw e refl) (first_agrees c (post_of w.fats t) out) (first_fits c k h),
+        sound_stays w sound k t seat (first_place c) (moved Label (move.Call t c)) (rw e refl) (first_agrees c (post_of w.fats t) out) (first_fits c k h),
         (
-          now_is (shown w) t false (doing.Wants c),
-          (false, is_at w sound k t seat Idle e out, h, refl),
-          shown_stays w sound k t seat (first_place c (object_of c)) (moved Label (move.Call t c)) out ∙ ap (λ (d : Doing). now_is (shown w) t false d) (first_wants c),
+          now_is (shown w) t (flag_at w.fats t) (doing.Wants c),
+          (flag_at w.fats t, is_at w sound k t seat Idle e out, h, refl),
+          shown_stays w sound k t seat (first_place c) (moved Label (move.Call t c)) out ∙ ap (λ (d : Doing). now_is (shown w) t (flag_at w.fats t) d) (first_wants c),
         ),
       )
   begun_right_at c k seat h (Begun d b) e = (sound, refl)
@@ -135,6 +162,7 @@ module _ (w : WorldState) (sound : IsSound w) (t : ThreadId) where
   begun_right_at c k seat h (Won o) e = (sound, refl)
   begun_right_at c k seat h (Bound d won m) e = (sound, refl)
   begun_right_at c k seat h (Inflated d m) e = (sound, refl)
+  begun_right_at c k seat h (Direct d) e = (sound, refl)
   begun_right_at c k seat h Parked e = (sound, refl)
   begun_right_at c k seat h (Ending n) e = (sound, refl)
 
@@ -153,186 +181,26 @@ module _ (w : WorldState) (sound : IsSound w) (t : ThreadId) where
   begun_right (call.Notify o) (Some k) e = begun_right_on (call.Notify o) o k e (λ h. h)
   begun_right (call.NotifyAll o) (Some k) e = begun_right_on (call.NotifyAll o) o k e (λ h. h)
   begun_right (call.Holds o) (Some k) e = begun_right_on (call.Holds o) o k e (λ h. h)
+  begun_right (call.Interrupt who) (Some k) e = begun_right_at (call.Interrupt who) k e tt (place_at w k) refl
+  begun_right call.Interrupted (Some k) e = begun_right_at call.Interrupted k e tt (place_at w k) refl
+  begun_right (call.IsInterrupted who) (Some k) e = begun_right_at (call.IsInterrupted who) k e tt (place_at w k) refl
   begun_right call.End (Some k) e = begun_right_at call.End k e tt (place_at w k) refl
 
-  -- a new thread at the lowest free seat
-  module _ (none : seat_of w.seats t ≡ None) (k : ℕ) (free : free_seat w.seats ≡ Some k) where
-    abbrev now : WorldState
-    now = with_live w k t
+-- A step keeps the world sound.
+pub step_sound : (w : WorldState) → IsSound w → (room : Bool) (s : Step) → IsSound (step_of room w s).after
+step_sound w sound room (step.Attach t) = (attached_right w sound t room (seat_of w.seats t) (free_seat w.seats) refl refl).0
+step_sound w sound room (step.Begin t c) = (begun_right w sound t c (seat_of w.seats t) refl).0
+step_sound w sound room (step.Go t) = went_sound w sound t room (seat_of w.seats t) refl
+step_sound w sound room (step.Expire t) = expired_sound w sound t (seat_of w.seats t) refl
+step_sound w sound room (step.Tick now) = (ticked_right w sound now).0
 
-    has_place : k < length w.places
-    has_place = rw sound.seated ((free_found w.seats k free).0)
-
-    -- a seat that somebody has is another one
-    taken_elsewhere : (j : ℕ) → IsSome (holder_at w.seats j) → j ≡ k → ⊥
-    taken_elsewhere j h e = let never : is_some {T = ThreadId} None ≡ true = rw (e, (free_found w.seats k free).1) at h in absurd (cc)
-
-    holder_kept : (j : ℕ) → (j ≡ k → ⊥) → holder_at (set w.seats k (Some t)) j ≡ holder_at w.seats j
-    holder_kept j ne = get_or-set_other w.seats k j (Some t) None ne
-
-    -- the seat of the new thread, and of another
-    seat_now_same : (u : ThreadId) → u.0 ≡ t.0 → seat_of now.seats u ≡ Some k
-    seat_now_same u e = seat_same now.seats t u e ∙ seat_taken_same w.seats t k none free
-
-    seat_now_other : (u : ThreadId) → (u.0 ≡ t.0 → ⊥) → seat_of now.seats u ≡ seat_of w.seats u
-    seat_now_other u ne = seat_taken_other w.seats t u k free ne
-
-    -- another thread has the post that it had, and shows what it showed
-    post_kept : (u : ThreadId) → (u.0 ≡ t.0 → ⊥) → post_of now.fats u ≡ post_of w.fats u
-    post_kept u ne = rw (get-insert_by w.fats.threads t.0 Out u.0, ne_eqb u.0 t.0 ne) refl
-
-    post_own : (u : ThreadId) → u.0 ≡ t.0 → post_of now.fats u ≡ Some Out
-    post_own u same = rw (get-insert_by w.fats.threads t.0 Out u.0, eq-eqb u.0 t.0 same) refl
-
-    alike : (u : ThreadId) → (u.0 ≡ t.0 → ⊥) → ActsAlike w.fats now.fats u
-    alike u ne = acts_alike w.fats now.fats u sound.fats (ap (λ (o : Option Post). unwrap_or o Out) (post_kept u ne)) (λ m h. refl)
-
-    thread_kept : (u : ThreadId) → (u.0 ≡ t.0 → ⊥) → (o : Option ℕ) → seat_of w.seats u ≡ o → thread_of now u o ≡ thread_of w u o
-    thread_kept u ne None e = refl
-    thread_kept u ne (Some j) e =
-        let found : holder_at w.seats j ≡ Some u = (seat_found w.seats u j e).1 in
-        rw (get_or-set_other w.places k j Idle Idle (taken_elsewhere j (rw found refl)))
-        (ap (λ (x : Doing). Some (record { flag = false; act = x })) (alike u ne (place_at w j)))
-
-    new_thread : (u : ThreadId) → (u.0 ≡ t.0) ⊎ (u.0 ≡ t.0 → ⊥)
-        → thread_of now u (seat_of now.seats u) ≡ (if u.0 == t.0 then Some (record { flag = false; act = doing.Idle }) else thread_of w u (seat_of w.seats u))
-    new_thread u (inl same) = rw (seat_now_same u same, eq-eqb u.0 t.0 same, get_or-set_same w.places k Idle Idle has_place, post_own u same) refl
-    new_thread u (inr ne) = rw (seat_now_other u ne, ne_eqb u.0 t.0 ne) (thread_kept u ne (seat_of w.seats u) refl)
-
-    old_monitor : (q : ℕ) (l : Lock) → Stands w q l → monitor_of now l ≡ monitor_of w l
-    old_monitor q Free st = refl
-    old_monitor q (Thin i c) st = rw (holder_kept (i - 1) (taken_elsewhere (i - 1) st.3)) refl
-    old_monitor q (Fat m) st = refl
-
-    old_stands : (q : ℕ) (l : Lock) → Stands w q l → Stands now q l
-    old_stands q Free st = st
-    old_stands q (Thin i c) st = (st.0, st.1, st.2, rw (holder_kept (i - 1) (taken_elsewhere (i - 1) st.3)) st.3)
-    old_stands q (Fat m) st = st
-
-    old_fits : (j : ℕ) → (j ≡ k → ⊥) → (p : Place) → Fitting w j p → Fitting now j p
-    old_fits j ne Idle fit = fit
-    old_fits j ne (Begun c b) fit = fit
-    old_fits j ne (Taking c b) fit = fit
-    old_fits j ne (Storing c l) fit = fit
-    old_fits j ne (Binding c n) fit = fit
-    old_fits j ne (Acting c m) fit = fit
-    old_fits j ne (Won o) fit = fit
-    old_fits j ne (Bound c won m) fit = (fit.0, fit.1, (fit.2.0, fit.2.1, rw (holder_kept j ne) fit.2.2))
-    old_fits j ne (Inflated c m) fit = fit
-    old_fits j ne Parked fit = fit
-    old_fits j ne (Ending n) fit = fit
-
-    attached_now : (u : ThreadId) → (u.0 ≡ t.0) ⊎ (u.0 ≡ t.0 → ⊥) → IsSome (seat_of now.seats u) → IsAttached now.fats u
-    attached_now u (inl same) h = rw (post_own u same) refl
-    attached_now u (inr ne) h = rw (post_kept u ne) (sound.attached u (rw (seat_now_other u ne) at h))
-
-    live_now : (u : ThreadId) → (u.0 ≡ t.0) ⊎ (u.0 ≡ t.0 → ⊥) → IsAttached now.fats u → IsSome (seat_of now.seats u)
-    live_now u (inl same) h = rw (seat_now_same u same) refl
-    live_now u (inr ne) h = rw (seat_now_other u ne) (sound.live u (rw (post_kept u ne) at h))
-
-    -- nobody was attached under this thread's number
-    fresh : post_of w.fats t ≡ None
-    fresh = by_post (post_of w.fats t) refl
-      where
-        by_post : (o : Option Post) → post_of w.fats t ≡ o → o ≡ None
-        by_post None e = refl
-        by_post (Some p) e =
-            let here : IsAttached w.fats t = rw e refl in
-            let never : is_some {T = ℕ} None ≡ true = rw none at (sound.live t here) in
-            absurd (cc)
-
-    posted_now : (u : ThreadId) (j : ℕ) → (u.0 ≡ t.0) ⊎ (u.0 ≡ t.0 → ⊥) → seat_of now.seats u ≡ Some j → Agrees (place_at now j) (post_of now.fats u)
-    posted_now u j (inl same) h =
-        let here : k ≡ j = same_Some k j (sym (seat_now_same u same) ∙ h) in
-        rw (← here, get_or-set_same w.places k Idle Idle has_place) (post_own u same)
-    posted_now u j (inr ne) h =
-        let before : seat_of w.seats u ≡ Some j = sym (seat_now_other u ne) ∙ h in
-        let found : holder_at w.seats j ≡ Some u = (seat_found w.seats u j before).1 in
-        rw (get_or-set_other w.places k j Idle Idle (taken_elsewhere j (rw found refl)), post_kept u ne) (sound.posted u j before)
-
-    counted_now : thread_count now.fats ≡ count_by is_some now.seats
-    counted_now =
-        let found = free_found w.seats k free in
-        let more : thread_count now.fats ≡ thread_count w.fats + 1 = count-with_thread w.fats t fresh in
-        let taken : count_by is_some now.seats ≡ count_by is_some w.seats + 1 = count_taken w.seats k t found.0 found.1 in
-        let before : thread_count w.fats ≡ count_by is_some w.seats = sound.counted in
-        omega arith
-
-    -- there is room for one more thread
-    has_room : thread_count w.fats < 32767
-    has_room =
-        let found = free_found w.seats k free in
-        let below : count_by is_some w.seats < length w.seats = count_below w.seats k t found.0 found.1 in
-        let few : length w.seats ≤ 32767 = sound.few in
-        let before : thread_count w.fats ≡ count_by is_some w.seats = sound.counted in
-        omega arith
-
-    -- a free seat has bound nothing: a monitor that it had bound would have no owner
-    none_bound : (p : Place) → Fitting w k p → bound_by p ≡ None
-    none_bound Idle f = refl
-    none_bound (Begun c b) f = refl
-    none_bound (Taking o b) f = refl
-    none_bound (Storing c l) f = refl
-    none_bound (Binding c n) f = refl
-    none_bound (Acting c m) f = refl
-    none_bound (Won o) f = refl
-    none_bound (Bound c won m) f =
-        let owner : (monitor_at w.fats m).owner ≡ None = ap (λ (b : fat.Monitor). b.owner) f.2.2 ∙ (free_found w.seats k free).1 in
-        let holds : (monitor_at w.fats m).holds ≡ f.2.0 + 1 = ap (λ (b : fat.Monitor). b.holds) f.2.2 in
-        let nothing : (monitor_at w.fats m).holds ≡ 0 = (sound.fats.fair m f.1).1.0 owner in
-        absurd (omega arith)
-    none_bound (Inflated c m) f = refl
-    none_bound Parked f = refl
-    none_bound (Ending n) f = refl
-
-    published_now : (m : ℕ) → IsPublished w m → IsPublished now m
-    published_now m (inl shows) = inl shows
-    published_now m (inr (j, there, bound)) = by_seat (cases_eq j k)
-      where
-        by_seat : (j ≡ k) ⊎ (j ≡ k → ⊥) → IsPublished now m
-        by_seat (inl e) =
-            let never : None ≡ Some m = sym (none_bound (place_at w k) (sound.places k has_place)) ∙ rw e at bound in absurd (cc)
-        by_seat (inr ne) = inr (j, rw (length-set w.places k Idle) there, rw (get_or-set_other w.places k j Idle Idle ne) bound)
-
-    now_sound : IsSound now
-    now_sound = record {
-      many = sound.many;
-      seated = length-set w.places k Idle ∙ sound.seated ∙ sym (length-set w.seats k (Some t));
-      few = rw (length-set w.seats k (Some t)) sound.few;
-      one_to_one = IsOneToOne-taken w.seats t k sound.one_to_one none free;
-      formed = sound.formed;
-      words = λ p h. old_stands p (lock_at w p) (sound.words p h);
-      fats = IsSound-with_thread w.fats t sound.fats fresh has_room;
-      published = λ m h. published_now m (sound.published m h);
-      attached = λ u h. attached_now u (cases_eq u.0 t.0) h;
-      live = λ u h. live_now u (cases_eq u.0 t.0) h;
-      posted = λ u j h. posted_now u j (cases_eq u.0 t.0) h;
-      counted = counted_now;
-      places = λ j h. at_seat j h (cases_eq j k);
-    } where
-      at_seat : (j : ℕ) → j < length (set w.places k Idle) → (j ≡ k) ⊎ (j ≡ k → ⊥) → Fitting now j (get_or (set w.places k Idle) j Idle)
-      at_seat j h (inl e) = rw (e, get_or-set_same w.places k Idle Idle has_place) tt
-      at_seat j h (inr ne) =
-          let l : j < length w.places = omega (arith, length-set w.places k Idle) in
-          rw (get_or-set_other w.places k j Idle Idle ne) (old_fits j ne (place_at w j) (sound.places j l))
-
-    attach_right : Right w (accepted now (moved Label (move.Attach t)))
-    attach_right =
-        let threads : (shown now).thread ≡ (now_is (shown w) t false doing.Idle).thread = fun_ext (λ u. new_thread u (cases_eq u.0 t.0)) in
-        let monitors : (shown now).monitor ≡ (shown w).monitor = fun_ext (λ q. old_monitor q.0 (lock_at w q.0) (stands_at w sound q.0)) in
-        (now_sound, (now_is (shown w) t false doing.Idle, (rw none refl, refl), (λ i. record { thread = threads i; objects = length w.words; monitor = monitors i; moment = 0 })))
-
-  attached_right : (room : Bool) (o f : Option ℕ) → seat_of w.seats t ≡ o → free_seat w.seats ≡ f → Right w (attached room w t o f)
-  attached_right room (Some k) f e free = (sound, refl)
-  attached_right room None None e free = (sound, refl)
-  attached_right true None (Some k) e free = attach_right e k free
-  attached_right false None (Some k) e free = (sound, refl)
-
--- A step is a run, and keeps the world sound.
+-- And it is a run.
 pub step_right : (w : WorldState) → IsSound w → (room : Bool) (s : Step) → Right w (step_of room w s)
 step_right w sound room (step.Attach t) = attached_right w sound t room (seat_of w.seats t) (free_seat w.seats) refl refl
 step_right w sound room (step.Begin t c) = begun_right w sound t c (seat_of w.seats t) refl
 step_right w sound room (step.Go t) = went_right w sound t room (seat_of w.seats t) refl
+step_right w sound room (step.Expire t) = expired_right w sound t
+step_right w sound room (step.Tick now) = ticked_right w sound now
 
 -- a run and then a run
 pub Run-append : (s : State) (ms : List Move) (mid : State) (ns : List Move) (s' : State) → Run s ms mid → Run mid ns s' → Run s (ms ++ ns) s'
@@ -347,11 +215,19 @@ steps_run w sound (s ∷ ss) =
     Run-append (shown w) (moves_of (step_of s.1 w s.0).answer) (shown (step_of s.1 w s.0).after) (moves_after (step_of s.1 w s.0).after ss) (shown (world_after (step_of s.1 w s.0).after ss)) h.1
     (steps_run (step_of s.1 w s.0).after h.0 ss)
 
--- what a step of the code left is sound, and its moves are a run
+-- what a step of the code left is sound
 pub attach_kept : (w w' : WorldState) (t : ThreadId) (r : Result Did Fault) (room : Bool) → IsSound w
     → ◌≡◌ {A = Outcome} (record { answer = r; after = w' }) (attached room w t (seat_of w.seats t) (free_seat w.seats)) → IsSound w'
-attach_kept w w' t r room sound e = subst (λ (o : Outcome). IsSound o.after) (sym e) (step_right w sound room (step.Attach t)).0
+attach_kept w w' t r room sound e = subst (λ (o : Outcome). IsSound o.after) (sym e) (step_sound w sound room (step.Attach t))
 
 pub begin_kept : (w w' : WorldState) (t : ThreadId) (c : Call) (r : Result Did Fault) → IsSound w
     → ◌≡◌ {A = Outcome} (record { answer = r; after = w' }) (begun w t c (seat_of w.seats t)) → IsSound w'
-begin_kept w w' t c r sound e = subst (λ (o : Outcome). IsSound o.after) (sym e) (step_right w sound true (step.Begin t c)).0
+begin_kept w w' t c r sound e = subst (λ (o : Outcome). IsSound o.after) (sym e) (step_sound w sound true (step.Begin t c))
+
+pub expire_kept : (w w' : WorldState) (t : ThreadId) (r : Result Did Fault) → IsSound w
+    → ◌≡◌ {A = Outcome} (record { answer = r; after = w' }) (expired w t (seat_of w.seats t)) → IsSound w'
+expire_kept w w' t r sound e = subst (λ (o : Outcome). IsSound o.after) (sym e) (step_sound w sound true (step.Expire t))
+
+pub tick_kept : (w w' : WorldState) (now : ℕ) (r : Result Did Fault) → IsSound w
+    → ◌≡◌ {A = Outcome} (record { answer = r; after = w' }) (ticked w now) → IsSound w'
+tick_kept w w' now r sound e = subst (λ (o : Outcome). IsSound o.after) (sym e) (step_sound w sound true (step.Tick now))

@@ -18,7 +18,7 @@ use Rattle.fat_monitor.specs.declared.actions.Reply.TheVariants as reply
 use Rattle.fat_monitor.specs.declared.monitors.Monitor as fat
 use Rattle.fat_monitor.specs.declared.actions.Post.{Post}
 use Rattle.fat_monitor.specs.declared.actions.Post.TheVariants.{Out, Entering, Waiting, Back, Granted}
-use Rattle.fat_monitor.specs.FatState.{bound_with, unbound, monitor_at, post_of, post_at, IsProper}
+use Rattle.fat_monitor.specs.FatState.{bound_with, unbound, monitor_at, post_of, post_at, flag_at, IsProper}
 use Rattle.fat_monitor.specs.Acting.{are_good}
 use Rattle.fast_path.specs.declared.Call.{Call}
 use Rattle.fast_path.specs.declared.Call.TheVariants as call
@@ -28,7 +28,7 @@ use Rattle.fast_path.specs.Table.{target, next_of, when_free, when_own, when_ano
 use Rattle.fast_path.proofs.Tables.{StoresOwn}
 use Rattle.step_core.specs.declared.moves.Doing.TheVariants as doing
 use Rattle.step_core.specs.declared.places.Place.{Place}
-use Rattle.step_core.specs.declared.places.Place.TheVariants.{Idle, Begun, Taking, Storing, Binding, Acting, Won, Bound, Inflated, Parked, Ending}
+use Rattle.step_core.specs.declared.places.Place.TheVariants.{Idle, Begun, Taking, Storing, Binding, Acting, Won, Bound, Inflated, Direct, Parked, Ending}
 use Rattle.step_core.specs.declared.moves.Move.{Move}
 use Rattle.step_core.specs.declared.moves.Move.TheVariants as move
 use Rattle.step_core.specs.declared.events.Atomic.{Atomic}
@@ -40,17 +40,17 @@ use Rattle.step_core.specs.Going.{gone, stays, turns, writes, new_word, silent, 
 use Rattle.step_core.specs.Stepping.{given}
 use Rattle.step_core.specs.Shown.{shown, monitor_of, doing_of, act_of, thread_of}
 use Rattle.step_core.proofs.Machines.{run_entered, run_exited, run_illegal, run_bad, run_unnoticed, run_unnoticed_all, run_yes, run_no, run_refused, run_returned, run_lock}
-use Rattle.step_core.proofs.Shows.{shown_kept, ActsAlike, acts_alike, proper_at}
+use Rattle.step_core.proofs.Shows.{does, shown_kept, ActsAlike, acts_alike, proper_at}
 use Rattle.step_core.proofs.Frames.{now_is_same, act_out, shown_stays, lock_of-new_word, stands_at, within, thin_fits, is_at, mine, other, owned, not_owned, written, shown_written, as_it_was}
 
 -- a load found what the call may do next
-abbrev LoadFact : State → ThreadId → Call → Next → Type 0
-LoadFact s t c (next.Reply r) = Run s (move_for c r None t ∷ move.Return t r ∷ []) (now_is s t false doing.Idle)
-LoadFact s t c (next.Cas l) = doing.Wants (call.Enter (target c)) ≡ doing.Wants c
-LoadFact s t c (next.Store l) = Unit {0}
-LoadFact s t c next.Bind = Unit {0}
-LoadFact s t c (next.Fat m) = Unit {0}
-LoadFact s t c next.Spin = Unit {0}
+abbrev LoadFact : State → ThreadId → Bool → Call → Next → Type 0
+LoadFact s t flag c (next.Reply r) = Run s (move_for c r None t ∷ move.Return t r ∷ []) (now_is s t flag doing.Idle)
+LoadFact s t flag c (next.Cas l) = doing.Wants (call.Enter (target c)) ≡ doing.Wants c
+LoadFact s t flag c (next.Store l) = Unit {0}
+LoadFact s t flag c next.Bind = Unit {0}
+LoadFact s t flag c (next.Fat m) = Unit {0}
+LoadFact s t flag c next.Spin = Unit {0}
 
 -- the index of a thin lock, and the object of a wait
 pub thin_index : (j k m n : ℕ) → Thin (j + 1) m ≡ Thin (k + 1) n → j ≡ k
@@ -71,6 +71,7 @@ not_waiting (Won o) e = absurd (cc)
 not_waiting (Bound c true m) e = absurd (cc)
 not_waiting (Bound c false m) e = absurd (cc)
 not_waiting (Inflated c m) e = absurd (cc)
+not_waiting (Direct c) e = absurd (cc)
 not_waiting Parked e = absurd (cc)
 not_waiting (Ending n) e = absurd (cc)
 
@@ -94,10 +95,10 @@ module _ (w : WorldState) (sound : IsSound w) (k : ℕ) (t : ThreadId) (seat : s
   pub quiet : (p p' : Place) (a : Atomic) → place_at w k ≡ p → doing_of p' ≡ doing_of p
       → Run (shown w) [] (shown (gone w k (stays w p' (silent a))))
   quiet p p' a e same =
-      shown_stays w sound k t seat p' (silent a) out ∙ (rw same (now_is_same (shown w) t (doing_of p) (is_at w sound k t seat p e out)))
+      shown_stays w sound k t seat p' (silent a) out ∙ (rw same (now_is_same (shown w) t (flag_at w.fats t) (doing_of p) (is_at w sound k t seat p e out)))
 
   -- a reply by this move that changes no monitor
-  pub told : (a : Atomic) (m : Move) (r : Reply) → Run (shown w) (m ∷ move.Return t r ∷ []) (now_is (shown w) t false doing.Idle)
+  pub told : (a : Atomic) (m : Move) (r : Reply) → Run (shown w) (m ∷ move.Return t r ∷ []) (now_is (shown w) t (flag_at w.fats t) doing.Idle)
       → Run (shown w) (given (replied a m t r).moves) (shown (gone w k (stays w Idle (replied a m t r))))
   told a m r run =
       subst (λ (s : State). Run (shown w) (m ∷ move.Return t r ∷ []) s) (sym (shown_stays w sound k t seat Idle (replied a m t r) out)) run
@@ -129,6 +130,7 @@ module _ (w : WorldState) (sound : IsSound w) (k : ℕ) (t : ThreadId) (seat : s
           let seat_same : j ≡ k = thin_index j k fit.2.0 n index in
           let never : None ≡ Some i = sym none ∙ ap (λ (x : ℕ). bound_by (place_at w x)) (sym seat_same) ∙ ap bound_by at in absurd (cc)
       by_place (Inflated c x) at b fit = absurd (cc)
+      by_place (Direct c) at b fit = absurd (cc)
       by_place Parked at b fit = absurd (cc)
       by_place (Ending x) at b fit = absurd (cc)
 
@@ -148,52 +150,61 @@ module _ (w : WorldState) (sound : IsSound w) (k : ℕ) (t : ThreadId) (seat : s
           by_post (post_at w.fats u) (place_at w j) (proper_at w.fats u sound.fats) (ap (λ (y : Thread). y.act) (same_Some _ _ same))
 
   -- an owner of a thin word: its notify finds nobody, since who waits on an object waits on its fat monitor
-  own_facts : (c : Call) (n : ℕ) → Is (shown w) t false (doing.Wants c) → lock_at w (target c).0 ≡ Thin (k + 1) n → bound_by (place_at w k) ≡ None
-      → LoadFact (shown w) t c (when_own c (k + 1) n)
-  own_facts (call.Enter o) n is e none = cond_both (nat_lt n 255) _ _ (LoadFact (shown w) t (call.Enter o)) (λ _. tt) (λ _. tt)
-  own_facts (call.Exit o) n is e none = cond_both (nat_lt 0 n) _ _ (LoadFact (shown w) t (call.Exit o)) (λ _. tt) (λ _. tt)
+  own_facts : (c : Call) (n : ℕ) → Is (shown w) t (flag_at w.fats t) (doing.Wants c) → lock_at w (target c).0 ≡ Thin (k + 1) n → bound_by (place_at w k) ≡ None
+      → LoadFact (shown w) t (flag_at w.fats t) c (when_own c (k + 1) n)
+  own_facts (call.Enter o) n is e none = cond_both (nat_lt n 255) _ _ (LoadFact (shown w) t (flag_at w.fats t) (call.Enter o)) (λ _. tt) (λ _. tt)
+  own_facts (call.Exit o) n is e none = cond_both (nat_lt 0 n) _ _ (LoadFact (shown w) t (flag_at w.fats t) (call.Exit o)) (λ _. tt) (λ _. tt)
   own_facts (call.Wait o millis nanos) n is e none =
-      cond_both (are_good millis nanos) next.Bind (next.Reply reply.IllegalArgument) (LoadFact (shown w) t (call.Wait o millis nanos)) (λ _. tt)
-      (λ bad. run_bad (shown w) t false o millis nanos is (owned_by o n e) (not_good millis nanos bad))
-  own_facts (call.Notify o) n is e none = run_unnoticed (shown w) t false o is (owned_by o n e) (nobody_waits o n e none)
-  own_facts (call.NotifyAll o) n is e none = run_unnoticed_all (shown w) t false o is (owned_by o n e) (nobody_waits o n e none)
-  own_facts (call.Holds o) n is e none = run_yes (shown w) t false o is (owned_by o n e)
+      cond_both (are_good millis nanos) next.Bind (next.Reply reply.IllegalArgument) (LoadFact (shown w) t (flag_at w.fats t) (call.Wait o millis nanos)) (λ _. tt)
+      (λ bad. run_bad (shown w) t (flag_at w.fats t) o millis nanos is (owned_by o n e) (not_good millis nanos bad))
+  own_facts (call.Notify o) n is e none = run_unnoticed (shown w) t (flag_at w.fats t) o is (owned_by o n e) (nobody_waits o n e none)
+  own_facts (call.NotifyAll o) n is e none = run_unnoticed_all (shown w) t (flag_at w.fats t) o is (owned_by o n e) (nobody_waits o n e none)
+  own_facts (call.Holds o) n is e none = run_yes (shown w) t (flag_at w.fats t) o is (owned_by o n e)
+  own_facts (call.Interrupt who) n is e none = tt
+  own_facts call.Interrupted n is e none = tt
+  own_facts (call.IsInterrupted who) n is e none = tt
   own_facts call.End n is e none = tt
 
-  pub load_facts : (c : Call) (l : Lock) → Is (shown w) t false (doing.Wants c) → lock_at w (target c).0 ≡ l → Stands w (target c).0 l → bound_by (place_at w k) ≡ None
-      → LoadFact (shown w) t c (next_of c l (k + 1))
+  pub load_facts : (c : Call) (l : Lock) → Is (shown w) t (flag_at w.fats t) (doing.Wants c) → lock_at w (target c).0 ≡ l → Stands w (target c).0 l → bound_by (place_at w k) ≡ None
+      → LoadFact (shown w) t (flag_at w.fats t) c (next_of c l (k + 1))
   load_facts c Free is e stands none = by_call c is e
     where
-      illegal : (c : Call) (o : ObjectId) → owner_only c ≡ Some o → Is (shown w) t false (doing.Wants c) → lock_at w o.0 ≡ Free
-          → Run (shown w) (move.Illegal t ∷ move.Return t reply.IllegalMonitorState ∷ []) (now_is (shown w) t false doing.Idle)
-      illegal c o only is e = run_illegal (shown w) t false c o only is (not_owned w sound k t seat o Free e (λ h. cc))
+      illegal : (c : Call) (o : ObjectId) → owner_only c ≡ Some o → Is (shown w) t (flag_at w.fats t) (doing.Wants c) → lock_at w o.0 ≡ Free
+          → Run (shown w) (move.Illegal t ∷ move.Return t reply.IllegalMonitorState ∷ []) (now_is (shown w) t (flag_at w.fats t) doing.Idle)
+      illegal c o only is e = run_illegal (shown w) t (flag_at w.fats t) c o only is (not_owned w sound k t seat o Free e (λ h. cc))
 
-      by_call : (c : Call) → Is (shown w) t false (doing.Wants c) → lock_at w (target c).0 ≡ Free → LoadFact (shown w) t c (when_free c (k + 1))
+      by_call : (c : Call) → Is (shown w) t (flag_at w.fats t) (doing.Wants c) → lock_at w (target c).0 ≡ Free → LoadFact (shown w) t (flag_at w.fats t) c (when_free c (k + 1))
       by_call (call.Enter o) is e = refl
       by_call (call.Exit o) is e = illegal (call.Exit o) o refl is e
       by_call (call.Wait o millis nanos) is e = illegal (call.Wait o millis nanos) o refl is e
       by_call (call.Notify o) is e = illegal (call.Notify o) o refl is e
       by_call (call.NotifyAll o) is e = illegal (call.NotifyAll o) o refl is e
-      by_call (call.Holds o) is e = run_no (shown w) t false o is (not_owned w sound k t seat o Free e (λ h. cc))
+      by_call (call.Holds o) is e = run_no (shown w) t (flag_at w.fats t) o is (not_owned w sound k t seat o Free e (λ h. cc))
+      by_call (call.Interrupt who) is e = tt
+      by_call call.Interrupted is e = tt
+      by_call (call.IsInterrupted who) is e = tt
       by_call call.End is e = tt
   load_facts c (Thin i n) is e stands none =
-      cond_both (i == k + 1) (when_own c (k + 1) n) (when_anothers c) (LoadFact (shown w) t c)
+      cond_both (i == k + 1) (when_own c (k + 1) n) (when_anothers c) (LoadFact (shown w) t (flag_at w.fats t) c)
       (λ same. own_facts c n is (e ∙ ap (λ (j : ℕ). Thin j n) (eqb-true i (k + 1) same)) none) (λ ne. others c is e ne)
     where
       not_mine : (o : ObjectId) → lock_at w o.0 ≡ Thin i n → (i == k + 1) ≡ false → OwnedBy (shown w) o t → ⊥
       not_mine o e ne = not_owned w sound k t seat o (Thin i n) e (other w sound k t seat i n (eqb-false i (k + 1) ne) stands.0)
 
-      others : (c : Call) → Is (shown w) t false (doing.Wants c) → lock_at w (target c).0 ≡ Thin i n → (i == k + 1) ≡ false → LoadFact (shown w) t c (when_anothers c)
+      others : (c : Call) → Is (shown w) t (flag_at w.fats t) (doing.Wants c) → lock_at w (target c).0 ≡ Thin i n → (i == k + 1) ≡ false → LoadFact (shown w) t (flag_at w.fats t) c (when_anothers c)
       others (call.Enter o) is e ne = tt
-      others (call.Exit o) is e ne = run_illegal (shown w) t false (call.Exit o) o refl is (not_mine o e ne)
-      others (call.Wait o millis nanos) is e ne = run_illegal (shown w) t false (call.Wait o millis nanos) o refl is (not_mine o e ne)
-      others (call.Notify o) is e ne = run_illegal (shown w) t false (call.Notify o) o refl is (not_mine o e ne)
-      others (call.NotifyAll o) is e ne = run_illegal (shown w) t false (call.NotifyAll o) o refl is (not_mine o e ne)
-      others (call.Holds o) is e ne = run_no (shown w) t false o is (not_mine o e ne)
+      others (call.Exit o) is e ne = run_illegal (shown w) t (flag_at w.fats t) (call.Exit o) o refl is (not_mine o e ne)
+      others (call.Wait o millis nanos) is e ne = run_illegal (shown w) t (flag_at w.fats t) (call.Wait o millis nanos) o refl is (not_mine o e ne)
+      others (call.Notify o) is e ne = run_illegal (shown w) t (flag_at w.fats t) (call.Notify o) o refl is (not_mine o e ne)
+      others (call.NotifyAll o) is e ne = run_illegal (shown w) t (flag_at w.fats t) (call.NotifyAll o) o refl is (not_mine o e ne)
+      others (call.Holds o) is e ne = run_no (shown w) t (flag_at w.fats t) o is (not_mine o e ne)
+      others (call.Interrupt who) is e ne = tt
+      others call.Interrupted is e ne = tt
+      others (call.IsInterrupted who) is e ne = tt
       others call.End is e ne = tt
   load_facts c (Fat m) is e stands none = tt
 
-  pub load_run : (c : Call) (contended : Bool) (n : Next) → place_at w k ≡ Begun c contended → LoadFact (shown w) t c n
+  pub load_run : (c : Call) (contended : Bool) (n : Next) → place_at w k ≡ Begun c contended → LoadFact (shown w) t (flag_at w.fats t) c n
       → Run (shown w) (given (after_load w t c contended n).did.moves) (shown (gone w k (after_load w t c contended n)))
   load_run c b (next.Reply r) e fact = told (load_of w (target c)) (move_for c r None t) r fact
   load_run c b (next.Cas l) e fact = quiet (Begun c b) (Taking (target c) b) (load_of w (target c)) e fact
@@ -207,11 +218,11 @@ module _ (w : WorldState) (sound : IsSound w) (k : ℕ) (t : ThreadId) (seat : s
   take_run o true Free e h el =
       subst (λ (s : State). Run (shown w) (move.Lock t ∷ []) s)
       (sym (shown_written w sound k t seat o (Thin (k + 1) 0) (held t 1) (Won o) (moved (won_at w o (Thin (k + 1) 0)) (move.Lock t)) out h (thin_fits w sound k t seat 0 (omega arith)) (mine w sound k t seat 0)))
-      (run_lock (shown w) t false o 0 (is_at w sound k t seat (Taking o true) e out) (inl (rw el refl)) (rw el refl) (omega arith))
+      (run_lock (shown w) t (flag_at w.fats t) o 0 (is_at w sound k t seat (Taking o true) e out) (inl (rw el refl)) (rw el refl) (omega arith))
   take_run o false Free e h el =
       subst (λ (s : State). Run (shown w) (move.Lock t ∷ move.Return t reply.Entered ∷ []) s)
       (sym (shown_written w sound k t seat o (Thin (k + 1) 0) (held t 1) Idle (replied (won_at w o (Thin (k + 1) 0)) (move.Lock t) t reply.Entered) out h (thin_fits w sound k t seat 0 (omega arith)) (mine w sound k t seat 0)))
-      (run_entered (shown w) t false o 0 (is_at w sound k t seat (Taking o false) e out) (inl (rw el refl)) (rw el refl) (omega arith))
+      (run_entered (shown w) t (flag_at w.fats t) o 0 (is_at w sound k t seat (Taking o false) e out) (inl (rw el refl)) (rw el refl) (omega arith))
   take_run o b (Thin i c) e h el = quiet (Taking o b) (Begun (call.Enter o) true) (lost_at w o) e refl
   take_run o b (Fat m) e h el = quiet (Taking o b) (Begun (call.Enter o) true) (lost_at w o) e refl
 
@@ -221,12 +232,12 @@ module _ (w : WorldState) (sound : IsSound w) (k : ℕ) (t : ThreadId) (seat : s
   store_run (call.Enter o) l e h (n, old, few, new) =
       subst (λ (s : State). Run (shown w) (move.Lock t ∷ move.Return t reply.Entered ∷ []) s)
       (sym (shown_written w sound k t seat o l (held t (n + 1 + 1)) Idle (replied (stored_at w o l) (move.Lock t) t reply.Entered) out h (rw new (thin_fits w sound k t seat (n + 1) (omega arith))) (rw new (mine w sound k t seat (n + 1)))))
-      (run_entered (shown w) t false o (n + 1) (is_at w sound k t seat (Storing (call.Enter o) l) e out)
+      (run_entered (shown w) t (flag_at w.fats t) o (n + 1) (is_at w sound k t seat (Storing (call.Enter o) l) e out)
       (inr (owned w sound k t seat o (Thin (k + 1) n) old (ap (λ (m : Monitor). m.owner) (mine w sound k t seat n)))) (rw old refl) (omega arith))
   store_run (call.Exit o) l e h (n, old, new) =
       subst (λ (s : State). Run (shown w) (move.Unlock t ∷ move.Return t reply.Exited ∷ []) s)
       (sym (shown_written w sound k t seat o l (if n == 0 then free else held t n) Idle (replied (stored_at w o l) (move.Unlock t) t reply.Exited) out h (rw new (less_fits n (rw old at (stands_at w sound o.0)).2)) (rw new (less n))))
-      (run_exited (shown w) t false o n (is_at w sound k t seat (Storing (call.Exit o) l) e out) (rw old (mine w sound k t seat n)))
+      (run_exited (shown w) t (flag_at w.fats t) o n (is_at w sound k t seat (Storing (call.Exit o) l) e out) (rw old (mine w sound k t seat n)))
     where
       less : (n : ℕ) → monitor_of w (if nat_lt 0 n then Thin (k + 1) (n - 1) else Free) ≡ (if n == 0 then free else held t n)
       less zero = refl
@@ -243,6 +254,9 @@ module _ (w : WorldState) (sound : IsSound w) (k : ℕ) (t : ThreadId) (seat : s
   store_run (call.Notify o) l e h fact = absurd fact
   store_run (call.NotifyAll o) l e h fact = absurd fact
   store_run (call.Holds o) l e h fact = absurd fact
+  store_run (call.Interrupt who) l e h fact = absurd fact
+  store_run call.Interrupted l e h fact = absurd fact
+  store_run (call.IsInterrupted who) l e h fact = absurd fact
   store_run call.End l e h fact = absurd fact
 
   pub publish_run : (c : Call) (won : Bool) (m : ℕ) → place_at w k ≡ Bound c won m → Fitting w k (Bound c won m)
@@ -255,9 +269,9 @@ module _ (w : WorldState) (sound : IsSound w) (k : ℕ) (t : ThreadId) (seat : s
       same won fit = let n : k + 1 - 1 ≡ k = omega arith in rw (fit.2.1, fit.2.2, n) refl
 
       kept : (won : Bool) (p : Place) (d : Did) → Fitting w k (Bound c won m)
-          → shown (gone w k (writes w (target c) (new_word w (target c) (Fat m)) p d)) ≡ now_is (shown w) t false (doing_of p)
-      kept won p d fit = shown_kept w k t (writes w (target c) (new_word w (target c) (Fat m)) p d) (doing_of p) seat (within w sound k t seat) (length-set w.words (target c).0 (new_word w (target c) (Fat m)))
-          (act_out w.fats t p out) (λ u ne x. refl)
+          → shown (gone w k (writes w (target c) (new_word w (target c) (Fat m)) p d)) ≡ now_is (shown w) t (flag_at w.fats t) (doing_of p)
+      kept won p d fit = shown_kept w k t (writes w (target c) (new_word w (target c) (Fat m)) p d) (flag_at w.fats t) (doing_of p) seat (within w sound k t seat) (length-set w.words (target c).0 (new_word w (target c) (Fat m))) refl
+          (ap (does (flag_at w.fats t)) (act_out w.fats t p out)) (λ u ne x. refl)
           (λ q. written w sound k t seat (target c) (new_word w (target c) (Fat m)) p d (Fat m) fit.0.1 (lock_of-new_word w (target c) (Fat m) few) q
           ∙ as_it_was w sound k t seat (target c) (monitor_of w (Fat m)) (same won fit) q)
 
@@ -265,8 +279,8 @@ module _ (w : WorldState) (sound : IsSound w) (k : ℕ) (t : ThreadId) (seat : s
           → Run (shown w) (given (after_publish w t c won m).did.moves) (shown (gone w k (after_publish w t c won m)))
       by_win true e fit = subst (λ (s : State). Run (shown w) (move.Return t reply.Entered ∷ []) s)
           (sym (kept true Idle (returned (stored_at w (target c) (Fat m)) t reply.Entered) fit))
-          (run_returned (shown w) t false reply.Entered tt (is_at w sound k t seat (Bound c true m) e out))
-      by_win false e fit = kept false (Inflated c m) (silent (stored_at w (target c) (Fat m))) fit ∙ now_is_same (shown w) t (doing.Wants c) (is_at w sound k t seat (Bound c false m) e out)
+          (run_returned (shown w) t (flag_at w.fats t) reply.Entered tt (is_at w sound k t seat (Bound c true m) e out))
+      by_win false e fit = kept false (Inflated c m) (silent (stored_at w (target c) (Fat m))) fit ∙ now_is_same (shown w) t (flag_at w.fats t) (doing.Wants c) (is_at w sound k t seat (Bound c false m) e out)
 
   -- a new monitor is shown by no word
   after_bound : (o : ObjectId) (n : ℕ) (p : Place) (d : Did) (l : Lock) (q : ℕ) → Stands w q l
@@ -276,14 +290,14 @@ module _ (w : WorldState) (sound : IsSound w) (k : ℕ) (t : ThreadId) (seat : s
   after_bound o n p d (Fat m) q st = rw (get_or_append_left w.fats.monitors (record { object = o; owner = Some t; holds = n } ∷ []) unbound m st.0) refl
 
   -- what a bind that is refused tells
-  refused_run : (c : Call) (x : Cause) → Is (shown w) t false (doing.Wants c) → MayRefuse (shown w) t c x
+  refused_run : (c : Call) (x : Cause) → Is (shown w) t (flag_at w.fats t) (doing.Wants c) → MayRefuse (shown w) t c x
       → Run (shown w) (given (replied (atomic.NotBound (target c) x) (move.Refuse t x) t (reply.Refused x)).moves)
       (shown (gone w k (stays w Idle (replied (atomic.NotBound (target c) x) (move.Refuse t x) t (reply.Refused x)))))
-  refused_run c x is may = told (atomic.NotBound (target c) x) (move.Refuse t x) (reply.Refused x) (run_refused (shown w) t false c x is may)
+  refused_run c x is may = told (atomic.NotBound (target c) x) (move.Refuse t x) (reply.Refused x) (run_refused (shown w) t (flag_at w.fats t) c x is may)
 
   -- a new monitor changes nothing that another thread shows
   alike_bound : (o : ObjectId) (n : ℕ) (u : ThreadId) → ActsAlike w.fats (bound_with w.fats o t n) u
-  alike_bound o n u = acts_alike w.fats (bound_with w.fats o t n) u sound.fats refl
+  alike_bound o n u = acts_alike w.fats (bound_with w.fats o t n) u sound.fats refl refl
       (λ m h. ap (λ (b : fat.Monitor). b.object) (get_or_append_left w.fats.monitors (record { object = o; owner = Some t; holds = n } ∷ []) unbound m h))
 
   pub bind_run : (c : Call) (won : Bool) (n : ℕ) (p : Place) (refused : Option Cause) → place_at w k ≡ p
@@ -291,13 +305,13 @@ module _ (w : WorldState) (sound : IsSound w) (k : ℕ) (t : ThreadId) (seat : s
       → MatchOption refused (Unit {0}) (λ x. won ≡ false → MayRefuse (shown w) t c x)
       → Run (shown w) (given (after_bind w t c won n refused).did.moves) (shown (gone w k (after_bind w t c won n refused)))
   bind_run c won n p None e same may =
-      shown_kept w k t (after_bind w t c won n None) (doing_of p) seat (within w sound k t seat) refl (act_out (bound_with w.fats (target c) t n) t (Bound c won (length w.fats.monitors)) out ∙ sym same) (λ u ne. alike_bound (target c) n u)
+      shown_kept w k t (after_bind w t c won n None) (flag_at w.fats t) (doing_of p) seat (within w sound k t seat) refl refl (ap (does (flag_at w.fats t)) (act_out (bound_with w.fats (target c) t n) t (Bound c won (length w.fats.monitors)) out ∙ sym same)) (λ u ne. alike_bound (target c) n u)
       (λ q. after_bound (target c) n (Bound c won (length w.fats.monitors)) (silent (atomic.Bound (target c) (length w.fats.monitors))) (lock_at w q.0) q.0 (stands_at w sound q.0))
-      ∙ now_is_same (shown w) t (doing_of p) (is_at w sound k t seat p e out)
+      ∙ now_is_same (shown w) t (flag_at w.fats t) (doing_of p) (is_at w sound k t seat p e out)
   bind_run c true n p (Some x) e same may =
       subst (λ (s : State). Run (shown w) (move.Return t reply.Entered ∷ []) s)
       (sym (shown_stays w sound k t seat Idle (returned (atomic.NotBound (target c) x) t reply.Entered) out))
-      (run_returned (shown w) t false reply.Entered tt (rw same at (is_at w sound k t seat p e out)))
+      (run_returned (shown w) t (flag_at w.fats t) reply.Entered tt (rw same at (is_at w sound k t seat p e out)))
   bind_run c false n p (Some x) e same may = refused_run c x (rw same at (is_at w sound k t seat p e out)) (may refl)
 
   -- a bind is refused for want of a monitor or of memory
@@ -310,7 +324,7 @@ module _ (w : WorldState) (sound : IsSound w) (k : ℕ) (t : ThreadId) (seat : s
       → Run (shown w) (given (after_look w t n own).did.moves) (shown (gone w k (after_look w t n own)))
   look_run n true e found =
       told (load_of w (record { 0 = n })) (move.Refuse t cause.StillOwner) (reply.Refused cause.StillOwner)
-      (run_refused (shown w) t false call.End cause.StillOwner (is_at w sound k t seat (Ending n) e out) (record { 0 = n }, owned_thinly (lock_at w n) found))
+      (run_refused (shown w) t (flag_at w.fats t) call.End cause.StillOwner (is_at w sound k t seat (Ending n) e out) (record { 0 = n }, owned_thinly (lock_at w n) found))
     where
       owned_thinly : (l : Lock) → is_own l (k + 1) ≡ true → (monitor_of w l).owner ≡ Some t
       owned_thinly Free h = absurd (cc)

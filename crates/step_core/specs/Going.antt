@@ -26,7 +26,7 @@ use Rattle.fast_path.specs.declared.Next.{Next}
 use Rattle.fast_path.specs.declared.Next.TheVariants as next
 use Rattle.fast_path.specs.Table.{target, next_of}
 use Rattle.step_core.specs.declared.places.Place.{Place}
-use Rattle.step_core.specs.declared.places.Place.TheVariants.{Idle, Begun, Taking, Storing, Binding, Acting, Won, Bound, Inflated, Parked, Ending}
+use Rattle.step_core.specs.declared.places.Place.TheVariants.{Idle, Begun, Taking, Storing, Binding, Acting, Won, Bound, Inflated, Direct, Parked, Ending}
 use Rattle.step_core.specs.declared.moves.Move.{Move}
 use Rattle.step_core.specs.declared.moves.Move.TheVariants as move
 use Rattle.step_core.specs.declared.events.Atomic.{Atomic}
@@ -50,6 +50,10 @@ abbrev pub move_for : Call → Reply → Option ThreadId → ThreadId → Move
 move_for c reply.Entered u t = move.Lock t
 move_for c reply.Exited u t = move.Unlock t
 move_for c reply.WaitOver u t = move.Relock t
+move_for c reply.Interrupted u t = move.Early t
+move_for c reply.Done u t = move.Interrupt t
+move_for call.Interrupted reply.Yes u t = move.TestClear t
+move_for call.Interrupted reply.No u t = move.TestClear t
 move_for (call.NotifyAll o) reply.Notified u t = move.NotifyAll t
 move_for c reply.Notified u t = move.Notify t u
 move_for c reply.Yes u t = move.Ask t
@@ -132,6 +136,9 @@ stored_reply (call.Wait o millis nanos) = reply.Entered
 stored_reply (call.Notify o) = reply.Entered
 stored_reply (call.NotifyAll o) = reply.Entered
 stored_reply (call.Holds o) = reply.Entered
+stored_reply (call.Interrupt u) = reply.Entered
+stored_reply call.Interrupted = reply.Entered
+stored_reply (call.IsInterrupted u) = reply.Entered
 stored_reply call.End = reply.Entered
 
 -- the store of a thin or free word
@@ -154,7 +161,7 @@ after_publish w t c true m =
 after_publish w t c false m =
     writes w (target c) (new_word w (target c) (Fat m)) (Inflated c m) (silent (stored_at w (target c) (Fat m)))
 
--- the fat action of a call's own name
+-- the fat action of a call's own name; m is the monitor of the object that the call names, if it names one
 abbrev pub action_of : Call → ℕ → Action
 action_of (call.Enter o) m = action.Enter m
 action_of (call.Exit o) m = action.Exit m
@@ -162,6 +169,9 @@ action_of (call.Wait o millis nanos) m = action.Wait m millis nanos
 action_of (call.Notify o) m = action.Notify m
 action_of (call.NotifyAll o) m = action.NotifyAll m
 action_of (call.Holds o) m = action.Holds m
+action_of (call.Interrupt u) m = action.Interrupt u
+action_of call.Interrupted m = action.Interrupted
+action_of (call.IsInterrupted u) m = action.IsInterrupted u
 action_of call.End m = action.End
 
 -- the move by which thread u became the owner: for an enter it locks, and back from a wait it relocks
@@ -189,14 +199,16 @@ abbrev pub did_act : Call → Action → FatState → ThreadId → Done → Did
 did_act c a f t d = elim d.answer [
   | answer.Reply r ↦ granted_and_replied (atomic.Acted a (answer.Reply r)) (move_for c r d.chosen t) (grant_of f d.granted) t r
   | answer.Parked ↦ parked_by c (atomic.Acted a answer.Parked) t (grant_of f d.granted)
+  | answer.Quiet ↦ silent (atomic.Acted a answer.Quiet)
 ]
 
 -- where the call stands then
 abbrev pub place_after : Answer → Place
 place_after (answer.Reply r) = Idle
 place_after answer.Parked = Parked
+place_after answer.Quiet = Parked
 
--- The fat action of a call. Only a Collect may be refused.
+-- The fat action of a call, which is never refused: only an Expire and a Collect may be.
 abbrev pub after_told : WorldState → ThreadId → Call → Action → Result Done ActFault → FatState → After
 after_told w t c a (Ok d) f = turns w f (place_after d.answer) (did_act c a f t d)
 after_told w t c a (Err e) f = stays w Idle (silent atomic.Label)
@@ -227,5 +239,6 @@ after_go room w k t (Acting c m) = after_act w t c m
 after_go room w k t (Won o) = after_bind w t (call.Enter o) true 1 (bind_cause room w.fats)
 after_go room w k t (Bound c won m) = after_publish w t c won m
 after_go room w k t (Inflated c m) = after_act w t c m
+after_go room w k t (Direct c) = after_act w t c 0
 after_go room w k t Parked = stays w Parked (silent atomic.Label)
 after_go room w k t (Ending n) = after_look w t n (is_own (lock_at w n) (k + 1))

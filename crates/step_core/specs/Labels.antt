@@ -5,7 +5,7 @@ use Rattle.std.specs.Prelude.{◌≡◌, Bool, true, false, List, [], ◌∷◌,
 use Rattle.lock_word.specs.declared.ThreadId.{ThreadId}
 use Rattle.fat_monitor.specs.declared.actions.Reply.{Reply}
 use Rattle.step_core.specs.declared.moves.Move.{Move}
-use Rattle.step_core.specs.declared.moves.Move.TheVariants.{Attach, Call, Return, Lock, Unlock, Illegal, BadArgument, Wait, Notify, NotifyAll, Relock, Ask, Refuse, End}
+use Rattle.step_core.specs.declared.moves.Move.TheVariants.{Attach, Call, Return, Lock, Unlock, Illegal, BadArgument, Early, Wait, Notify, NotifyAll, Interrupt, TestClear, Expire, Relock, Ask, Refuse, End, Time}
 use Rattle.step_core.specs.declared.events.Did.{Did}
 use Rattle.step_core.specs.declared.events.Step.{Step}
 use Rattle.step_core.specs.declared.events.Step.TheVariants as step
@@ -19,13 +19,18 @@ is_label (Lock t) = false
 is_label (Unlock t) = false
 is_label (Illegal t) = false
 is_label (BadArgument t) = false
+is_label (Early t) = false
 is_label (Wait t) = false
 is_label (Notify t u) = false
 is_label (NotifyAll t) = false
+is_label (Interrupt t) = false
+is_label (TestClear t) = false
+is_label (Expire t) = false
 is_label (Relock t) = false
 is_label (Ask t) = false
 is_label (Refuse t c) = false
 is_label (End t) = false
+is_label (Time now) = true
 
 abbrev pub labels_of : List Move → List Move
 labels_of ms = filter is_label ms
@@ -40,6 +45,8 @@ abbrev pub HasLabels : Step → Did → Type 0
 HasLabels (step.Attach t) d = (given d.moves ≡ Attach t ∷ []) × (d.reply ≡ None)
 HasLabels (step.Begin t c) d = (given d.moves ≡ Call t c ∷ []) × (d.reply ≡ None)
 HasLabels (step.Go t) d = EndsWith t (given d.moves) d.reply
+HasLabels (step.Expire t) d = EndsWith t (given d.moves) None × (d.reply ≡ None)
+HasLabels (step.Tick now) d = (given d.moves ≡ Time now ∷ []) × (d.reply ≡ None)
 
 -- the return with a reply, if there is one
 abbrev pub returned_with : ThreadId → Option Reply → List Move
@@ -52,6 +59,8 @@ labels_for s (Err f) = []
 labels_for (step.Attach t) (Ok d) = Attach t ∷ []
 labels_for (step.Begin t c) (Ok d) = Call t c ∷ []
 labels_for (step.Go t) (Ok d) = returned_with t d.reply
+labels_for (step.Expire t) (Ok d) = []
+labels_for (step.Tick now) (Ok d) = Time now ∷ []
 
 -- the labels of a list of steps, each with whether its growth is granted
 abbrev pub labels_after : WorldState → List (Step × Bool) → List Move

@@ -1,21 +1,27 @@
--- What lasts: a notified thread comes back from its wait, and a reply is kept until it is returned.
-use Rattle.std.specs.Prelude.{◌≡◌, ◌⊎◌, ℕ, Bool, List, [], ◌∷◌, Option, Some, Ok}
+-- What lasts: a thread that left a wait set stays back until it has its reply, and a notified one keeps the interrupt
+-- that it has; and a reply is kept until it is returned.
+use Rattle.std.specs.Prelude.{◌≡◌, ◌⊎◌, ℕ, Bool, true, List, [], ◌∷◌, Option, Some, Ok}
 use Rattle.lock_word.specs.declared.ThreadId.{ThreadId}
 use Rattle.lock_word.specs.declared.ObjectId.{ObjectId}
 use Rattle.fat_monitor.specs.declared.actions.Reply.{Reply}
 use Rattle.fat_monitor.specs.declared.actions.Reply.TheVariants.{WaitOver}
+use Rattle.fat_monitor.specs.declared.actions.Why.{Why}
 use Rattle.fat_monitor.specs.declared.actions.Why.TheVariants.{Notified}
 use Rattle.step_core.specs.declared.moves.Doing.TheVariants.{Back, Has}
 use Rattle.step_core.specs.declared.events.Did.{Did}
 use Rattle.step_core.specs.declared.events.Step.{Step}
 use Rattle.step_core.specs.declared.events.Step.TheVariants as step
-use Rattle.step_core.specs.Machine.{State, Is}
+use Rattle.step_core.specs.Machine.{State, Is, reply_of}
 use Rattle.step_core.specs.WorldState.{WorldState}
 use Rattle.step_core.specs.Stepping.{step_of}
 
--- u was notified: it is back from the wait set of o, with n holds
+-- u is back from the wait set of o, with n holds, for this reason
+abbrev pub IsBack : State → ThreadId → ObjectId → ℕ → Why → Type 0
+IsBack s u o n w = (flag : Bool) × Is s u flag (Back o n w)
+
+-- u was notified
 abbrev pub IsNotified : State → ThreadId → ObjectId → ℕ → Type 0
-IsNotified s u o n = (flag : Bool) × Is s u flag (Back o n Notified)
+IsNotified s u o n = IsBack s u o n Notified
 
 -- the call of u has this reply
 abbrev pub HasReply : State → ThreadId → Reply → Type 0
@@ -26,10 +32,15 @@ abbrev pub Returns : Step → Option Reply → ThreadId → Reply → Type 0
 Returns (step.Attach t) d u r = ⊥
 Returns (step.Begin t c) d u r = ⊥
 Returns (step.Go t) d u r = (t.0 ≡ u.0) × (d ≡ Some r)
+Returns (step.Expire t) d u r = ⊥
+Returns (step.Tick now) d u r = ⊥
 
--- what a step with this reply leaves of notified threads and of replies
+-- what a step with this reply leaves of threads that are back, for whatever reason, and of replies
 pub record Lasts (s : State) (did : Step) (d : Option Reply) (s' : State) : Type 0 where
-  pub notified : (u : ThreadId) (o : ObjectId) (n : ℕ) → IsNotified s u o n → IsNotified s' u o n ⊎ HasReply s' u WaitOver
+  -- a thread that is back stays so, or has the reply for its reason
+  pub back : (u : ThreadId) (o : ObjectId) (n : ℕ) (w : Why) → IsBack s u o n w → IsBack s' u o n w ⊎ HasReply s' u (reply_of w)
+  -- whoever was notified first keeps an interrupt that came since
+  pub pending : (u : ThreadId) (o : ObjectId) (n : ℕ) → Is s u true (Back o n Notified) → Is s' u true (Back o n Notified) ⊎ Is s' u true (Has WaitOver)
   pub replied : (u : ThreadId) (r : Reply) → HasReply s u r → HasReply s' u r ⊎ Returns did d u r
 
 -- none of these steps returns from the call of u with this reply

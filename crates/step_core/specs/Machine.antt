@@ -1,11 +1,11 @@
 -- The abstract machine of object monitors (JLS SE 8, 17.1 and 17.2): its states, its moves and its runs. It knows
 -- no header word, thread index, inflation, place in a call or number of a monitor.
-use Rattle.std.specs.Prelude.{◌≡◌, ◌⊎◌, ◌↔◌, ℕ, ◌+◌, ◌*◌, ◌<◌, Bool, true, false, if◌then◌else◌, ◌==◌, List, [], ◌∷◌, ℤ, pos, ◌≤ℤ◌, nat_abs, Option, Some, None}
+use Rattle.std.specs.Prelude.{◌≡◌, ◌⊎◌, ◌↔◌, ℕ, ◌+◌, ◌*◌, ◌<◌, ◌≤◌, Bool, true, false, if◌then◌else◌, ◌==◌, List, [], ◌∷◌, ℤ, pos, ◌≤ℤ◌, nat_abs, Option, Some, None}
 use Rattle.std.specs.Option.{option_map}
 use Rattle.lock_word.specs.declared.ThreadId.{ThreadId}
 use Rattle.lock_word.specs.declared.ObjectId.{ObjectId}
 use Rattle.fat_monitor.specs.declared.actions.Cause.{Cause}
-use Rattle.fat_monitor.specs.declared.actions.Cause.TheVariants.{NoMonitor, Memory, TooDeep, StillOwner}
+use Rattle.fat_monitor.specs.declared.actions.Cause.TheVariants.{NoMonitor, Memory, TooDeep, StillOwner, NoThread}
 use Rattle.fat_monitor.specs.declared.actions.Reply.{Reply}
 use Rattle.fat_monitor.specs.declared.actions.Reply.TheVariants as reply
 use Rattle.fat_monitor.specs.declared.actions.Why.{Why}
@@ -118,9 +118,28 @@ woken o (Has r) = Has r
 abbrev pub all_woken : State → ObjectId → State
 all_woken s o = record s { thread = λ u. option_map (λ x. record { flag = x.flag; act = woken o x.act }) (s.thread u) }
 
--- what a thread that comes back replies
+-- what a thread does once it has been interrupted: it comes back, if it waited
+abbrev pub stirred : Doing → Doing
+stirred (Waits o n d) = Back o n why.Interrupted
+stirred Idle = Idle
+stirred (Wants c) = Wants c
+stirred (Back o n w) = Back o n w
+stirred (Has r) = Has r
+
+-- the same thread, interrupted
+abbrev pub interrupted : Thread → Thread
+interrupted x = record { flag = true; act = stirred x.act }
+
+-- what a thread that comes back replies, and its flag then: an interrupt that ended its wait is forgotten
 abbrev pub reply_of : Why → Reply
 reply_of why.Notified = reply.WaitOver
+reply_of why.Interrupted = reply.Interrupted
+reply_of why.Elapsed = reply.WaitOver
+
+abbrev pub flag_back : Why → Bool → Bool
+flag_back why.Notified flag = flag
+flag_back why.Interrupted flag = false
+flag_back why.Elapsed flag = flag
 
 -- the object whose owner alone may make this call
 abbrev pub owner_only : Call → Option ObjectId
@@ -130,6 +149,9 @@ owner_only (call.Notify o) = Some o
 owner_only (call.NotifyAll o) = Some o
 owner_only (call.Enter o) = None
 owner_only (call.Holds o) = None
+owner_only (call.Interrupt u) = None
+owner_only call.Interrupted = None
+owner_only (call.IsInterrupted u) = None
 owner_only call.End = None
 
 -- the object that a call names exists
@@ -140,6 +162,9 @@ Exists n (call.Wait o millis nanos) = o.0 < n
 Exists n (call.Notify o) = o.0 < n
 Exists n (call.NotifyAll o) = o.0 < n
 Exists n (call.Holds o) = o.0 < n
+Exists n (call.Interrupt u) = Unit {0}
+Exists n call.Interrupted = Unit {0}
+Exists n (call.IsInterrupted u) = Unit {0}
 Exists n call.End = Unit {0}
 
 -- t may be refused for this cause
@@ -148,18 +173,37 @@ MayRefuse s t (call.Enter o) NoMonitor = OwnedBy s o t
 MayRefuse s t (call.Enter o) Memory = OwnedBy s o t
 MayRefuse s t (call.Enter o) TooDeep = OwnedBy s o t × ((s.monitor o).count ≡ 65535)
 MayRefuse s t (call.Enter o) StillOwner = ⊥
+MayRefuse s t (call.Enter o) NoThread = ⊥
 MayRefuse s t (call.Wait o millis nanos) NoMonitor = OwnedBy s o t × AreGood millis nanos
 MayRefuse s t (call.Wait o millis nanos) Memory = OwnedBy s o t × AreGood millis nanos
 MayRefuse s t (call.Wait o millis nanos) TooDeep = ⊥
 MayRefuse s t (call.Wait o millis nanos) StillOwner = ⊥
+MayRefuse s t (call.Wait o millis nanos) NoThread = ⊥
 MayRefuse s t (call.Exit o) cause = ⊥
 MayRefuse s t (call.Notify o) cause = ⊥
 MayRefuse s t (call.NotifyAll o) cause = ⊥
 MayRefuse s t (call.Holds o) cause = ⊥
+MayRefuse s t (call.Interrupt u) cause = (cause ≡ NoThread) × (s.thread u ≡ None)
+MayRefuse s t call.Interrupted cause = ⊥
+MayRefuse s t (call.IsInterrupted u) cause = (cause ≡ NoThread) × (s.thread u ≡ None)
 MayRefuse s t call.End NoMonitor = ⊥
 MayRefuse s t call.End Memory = ⊥
 MayRefuse s t call.End TooDeep = ⊥
 MayRefuse s t call.End StillOwner = (o : ObjectId) × OwnedBy s o t
+MayRefuse s t call.End NoThread = ⊥
+
+-- this is the answer to the question that t asks: does it own the object, or is that thread interrupted?
+abbrev pub IsAnswer : State → ThreadId → Call → Bool → Type 0
+IsAnswer s t (call.Holds o) answer = (answer ≡ true) ↔ OwnedBy s o t
+IsAnswer s t (call.IsInterrupted u) answer = (x : Thread) × (s.thread u ≡ Some x) × (answer ≡ x.flag)
+IsAnswer s t (call.Enter o) answer = ⊥
+IsAnswer s t (call.Exit o) answer = ⊥
+IsAnswer s t (call.Wait o millis nanos) answer = ⊥
+IsAnswer s t (call.Notify o) answer = ⊥
+IsAnswer s t (call.NotifyAll o) answer = ⊥
+IsAnswer s t (call.Interrupt u) answer = ⊥
+IsAnswer s t call.Interrupted answer = ⊥
+IsAnswer s t call.End answer = ⊥
 
 -- From s the machine may make this move, which leads to s'. Whatever a row does not name stays.
 abbrev pub Steps : State → Move → State → Type 0
@@ -180,6 +224,9 @@ Steps s (move.Illegal t) s' =
 Steps s (move.BadArgument t) s' =
     (flag : Bool) × (o : ObjectId) × (millis nanos : ℤ) × Calls s t flag (call.Wait o millis nanos) × OwnedBy s o t × (AreGood millis nanos → ⊥)
     × (s' ≡ answered s t flag reply.IllegalArgument)
+Steps s (move.Early t) s' =
+    (o : ObjectId) × (millis nanos : ℤ) × Calls s t true (call.Wait o millis nanos) × OwnedBy s o t × AreGood millis nanos
+    × (s' ≡ answered s t false reply.Interrupted)
 Steps s (move.Wait t) s' =
     (o : ObjectId) × (millis nanos : ℤ) × Calls s t false (call.Wait o millis nanos) × OwnedBy s o t × AreGood millis nanos
     × (s' ≡ with_monitor (now_is s t false (Waits o (s.monitor o).count (over_at s.moment millis nanos))) o free)
@@ -193,14 +240,21 @@ Steps s (move.Notify t None) s' =
 Steps s (move.NotifyAll t) s' =
     (flag : Bool) × (o : ObjectId) × Calls s t flag (call.NotifyAll o) × OwnedBy s o t
     × (s' ≡ answered (all_woken s o) t flag reply.Notified)
+Steps s (move.Interrupt t) s' =
+    (flag : Bool) × (u : ThreadId) × (x : Thread) × Calls s t flag (call.Interrupt u) × (s.thread u ≡ Some x)
+    × (s' ≡ answered (with_thread s u (Some (interrupted x))) t (if t.0 == u.0 then true else flag) reply.Done)
+Steps s (move.TestClear t) s' = (flag : Bool) × Calls s t flag call.Interrupted × (s' ≡ answered s t false (yes_or_no flag))
+Steps s (move.Expire t) s' =
+    (flag : Bool) × (o : ObjectId) × (n d : ℕ) × Is s t flag (Waits o n (Some d)) × (d ≤ s.moment)
+    × (s' ≡ now_is s t flag (Back o n why.Elapsed))
 Steps s (move.Relock t) s' =
     (flag : Bool) × (o : ObjectId) × (n : ℕ) × (w : Why) × Is s t flag (Back o n w) × Unowned s o
-    × (s' ≡ with_monitor (answered s t flag (reply_of w)) o (held t n))
+    × (s' ≡ with_monitor (answered s t (flag_back w flag) (reply_of w)) o (held t n))
 Steps s (move.Ask t) s' =
-    (flag answer : Bool) × (o : ObjectId) × Calls s t flag (call.Holds o) × ((answer ≡ true) ↔ OwnedBy s o t)
-    × (s' ≡ answered s t flag (yes_or_no answer))
+    (flag answer : Bool) × (c : Call) × Calls s t flag c × IsAnswer s t c answer × (s' ≡ answered s t flag (yes_or_no answer))
 Steps s (move.Refuse t cause) s' =
     (flag : Bool) × (c : Call) × Calls s t flag c × MayRefuse s t c cause × (s' ≡ answered s t flag (reply.Refused cause))
+Steps s (move.Time now) s' = (s.moment ≤ now) × (s' ≡ record s { moment = now })
 Steps s (move.End t) s' = (flag : Bool) × Calls s t flag call.End × ((o : ObjectId) → OwnedBy s o t → ⊥) × (s' ≡ answered s t flag reply.Ended)
 
 -- one move after another

@@ -1,7 +1,7 @@
 -- What is written for a fault.
 use Rattle.std.specs.Prelude.{ℕ, List, codes}
 use Rattle.step_core.specs.declared.events.Fault.{Fault}
-use Rattle.step_core.specs.declared.events.Fault.TheVariants.{NoIndex, Memory, Known, NoThread, NoObject, InCall, NotCalling, Parked}
+use Rattle.step_core.specs.declared.events.Fault.TheVariants.{NoIndex, Memory, Known, NoThread, NoObject, InCall, NotCalling, Parked, NotDue, Backwards}
 
 abbrev pub fault_name : Fault → List ℕ
 fault_name NoIndex = codes "NoIndex"
@@ -12,3 +12,5 @@ fault_name NoObject = codes "NoObject"
 fault_name InCall = codes "InCall"
 fault_name NotCalling = codes "NotCalling"
 fault_name Parked = codes "Parked"
+fault_name NotDue = codes "NotDue"
+fault_name Backwards = codes "Backwards"

@@ -1,13 +1,13 @@
 -- The parts of a world, as the functions over them see it.
-use Rattle.std.specs.Prelude.{ℕ, ◌<◌, ◌≤◌, List, [], length, slice_index_or, Option, IsSome}
+use Rattle.std.specs.Prelude.{◌≡◌, true, ℕ, ◌<◌, ◌≤◌, List, [], length, slice_index_or, Option, IsSome}
 use Rattle.lock_word.specs.declared.ThreadId.{ThreadId}
 use Rattle.lock_word.specs.declared.Word.{Word}
 use Rattle.lock_word.specs.Layout.{Fits, IsMalformed}
 use Rattle.fat_monitor.specs.FatState.{FatState}
 use Rattle.fast_path.specs.Table.{object_of, target}
 use Rattle.step_core.specs.declared.places.Place.{Place}
-use Rattle.step_core.specs.declared.places.Place.TheVariants.{Idle, Begun, Taking, Storing, Binding, Acting, Won, Bound, Inflated, Parked, Ending}
-use Rattle.step_core.specs.WorldState.{WorldState, low_word}
+use Rattle.step_core.specs.declared.places.Place.TheVariants.{Idle, Begun, Taking, Storing, Binding, Acting, Won, Bound, Inflated, Direct, Parked, Ending}
+use Rattle.step_core.specs.WorldState.{WorldState, low_word, is_direct}
 
 -- a world of these parts
 abbrev pub world_of : List Word → List (Option ThreadId) → List Place → FatState → WorldState
@@ -32,6 +32,7 @@ IsReady words f (Acting c m) = IsSome (object_of c) × (m < length f.monitors)
 IsReady words f (Won o) = Unit {0}
 IsReady words f (Bound c won m) = IsSome (object_of c) × ((target c).0 < length words) × (m ≤ 8388607)
 IsReady words f (Inflated c m) = IsSome (object_of c) × (m < length f.monitors)
+IsReady words f (Direct c) = is_direct c ≡ true
 IsReady words f Parked = ⊥
 IsReady words f (Ending n) = n < length words
 
@@ -46,5 +47,6 @@ IsBusyAt objects (Acting c m) = Unit {0}
 IsBusyAt objects (Won o) = Unit {0}
 IsBusyAt objects (Bound c won m) = Unit {0}
 IsBusyAt objects (Inflated c m) = Unit {0}
+IsBusyAt objects (Direct c) = Unit {0}
 IsBusyAt objects Parked = Unit {0}
 IsBusyAt objects (Ending n) = n < objects

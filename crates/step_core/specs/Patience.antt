@@ -9,7 +9,7 @@ use Rattle.fat_monitor.specs.declared.actions.Answer.TheVariants as answer
 use Rattle.fast_path.specs.declared.Call.TheVariants as call
 use Rattle.step_core.specs.declared.moves.Doing.TheVariants as doing
 use Rattle.step_core.specs.declared.places.Place.{Place}
-use Rattle.step_core.specs.declared.places.Place.TheVariants.{Idle, Begun, Taking, Storing, Binding, Acting, Won, Bound, Inflated, Parked, Ending}
+use Rattle.step_core.specs.declared.places.Place.TheVariants.{Idle, Begun, Taking, Storing, Binding, Acting, Won, Bound, Inflated, Direct, Parked, Ending}
 use Rattle.step_core.specs.declared.events.Atomic.{Atomic}
 use Rattle.step_core.specs.declared.events.Atomic.TheVariants.{Label, Load, Won as WonWord, Lost, Stored, Bound as BoundMonitor, NotBound, Acted}
 use Rattle.step_core.specs.declared.events.Did.{Did}
@@ -31,6 +31,7 @@ left_at objects (Acting c m) = 3
 left_at objects (Won o) = 2
 left_at objects (Bound c won m) = if won then 1 else 2
 left_at objects (Inflated c m) = 1
+left_at objects (Direct c) = 4
 left_at objects Parked = 1
 left_at objects (Ending n) = objects + 1 - n
 
@@ -46,7 +47,7 @@ left_of w t = left_of_seat w (seat_of w.seats t)
 abbrev pub HasMet : WorldState → ThreadId → Atomic → Type 0
 HasMet w t Label = ⊥
 HasMet w t (Load o x) =
-    ((p : ObjectId) × Is (shown w) t false (doing.Wants (call.Enter p)))
+    ((p : ObjectId) × (flag : Bool) × Is (shown w) t flag (doing.Wants (call.Enter p)))
     × ((i n : ℕ) × (lock_of x.0 ≡ Thin i n) × (index_of w.seats t ≢ Some i))
 HasMet w t (WonWord o x y) = ⊥
 HasMet w t (Lost o x) = Unit {0}
@@ -66,6 +67,7 @@ HasParked (BoundMonitor o m) = ⊥
 HasParked (NotBound o cause) = ⊥
 HasParked (Acted a (answer.Reply r)) = ⊥
 HasParked (Acted a answer.Parked) = Unit {0}
+HasParked (Acted a answer.Quiet) = ⊥
 
 -- a Go of t that did this replies, parks, meets another thread, or lowers what is left, which stays at least 1
 abbrev pub Advances : WorldState → ThreadId → Did → WorldState → Type 0
@@ -76,6 +78,8 @@ Advances w t d w' =
 abbrev pub IsPatient : WorldState → Step → Did → WorldState → Type 0
 IsPatient w (step.Attach t) d w' = (u : ThreadId) → u.0 ≢ t.0 → left_of w' u ≡ left_of w u
 IsPatient w (step.Begin t c) d w' = (u : ThreadId) → u.0 ≢ t.0 → left_of w' u ≡ left_of w u
+IsPatient w (step.Expire t) d w' = (u : ThreadId) → left_of w' u ≡ left_of w u
+IsPatient w (step.Tick now) d w' = (u : ThreadId) → left_of w' u ≡ left_of w u
 IsPatient w (step.Go t) d w' = Advances w t d w' × ((u : ThreadId) → u.0 ≢ t.0 → left_of w' u ≡ left_of w u)
 
 -- how many of these steps are a Go of t
@@ -84,11 +88,15 @@ goes_of t [] = 0
 goes_of t ((step.Attach u, room) ∷ ss) = goes_of t ss
 goes_of t ((step.Begin u c, room) ∷ ss) = goes_of t ss
 goes_of t ((step.Go u, room) ∷ ss) = if u.0 == t.0 then goes_of t ss + 1 else goes_of t ss
+goes_of t ((step.Expire u, room) ∷ ss) = goes_of t ss
+goes_of t ((step.Tick now, room) ∷ ss) = goes_of t ss
 
 -- a step is no Go of t, or one that is accepted and neither replies nor parks nor meets another thread
 abbrev pub Lingers : WorldState → ThreadId → (Step × Bool) → Type 0
 Lingers w t (step.Attach u, room) = Unit {0}
 Lingers w t (step.Begin u c, room) = Unit {0}
+Lingers w t (step.Expire u, room) = Unit {0}
+Lingers w t (step.Tick now, room) = Unit {0}
 Lingers w t (step.Go u, room) =
     u.0 ≡ t.0 → (d : Did) × ((step_of room w (step.Go u)).answer ≡ Ok d) × (IsSome d.reply → ⊥) × (HasParked d.atomic → ⊥) × (HasMet w u d.atomic → ⊥)
 

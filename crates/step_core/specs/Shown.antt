@@ -1,10 +1,10 @@
 -- The state of the abstract machine that a world shows.
-use Rattle.std.specs.Prelude.{ℕ, ◌+◌, ◌-◌, false, if◌then◌else◌, Option, Some, None, length}
+use Rattle.std.specs.Prelude.{ℕ, ◌+◌, ◌-◌, if◌then◌else◌, Option, Some, None, length}
 use Rattle.lock_word.specs.declared.Lock.{Lock}
 use Rattle.lock_word.specs.declared.Lock.TheVariants.{Free, Thin, Fat}
 use Rattle.thread_index.specs.Indices.{seat_of, holder_at}
 use Rattle.lock_word.specs.declared.ThreadId.{ThreadId}
-use Rattle.fat_monitor.specs.FatState.{FatState, monitor_at, post_at}
+use Rattle.fat_monitor.specs.FatState.{FatState, monitor_at, post_at, flag_at}
 use Rattle.fat_monitor.specs.declared.actions.Post.{Post}
 use Rattle.fat_monitor.specs.declared.actions.Post.TheVariants.{Out, Entering, Waiting, Back, Granted}
 use Rattle.fat_monitor.specs.declared.actions.Reply.TheVariants.{Entered}
@@ -12,7 +12,7 @@ use Rattle.fast_path.specs.declared.Call.TheVariants.{Enter, End}
 use Rattle.step_core.specs.declared.moves.Doing.{Doing}
 use Rattle.step_core.specs.declared.moves.Doing.TheVariants as doing
 use Rattle.step_core.specs.declared.places.Place.{Place}
-use Rattle.step_core.specs.declared.places.Place.TheVariants.{Idle, Begun, Taking, Storing, Binding, Acting, Won, Bound, Inflated, Parked, Ending}
+use Rattle.step_core.specs.declared.places.Place.TheVariants.{Idle, Begun, Taking, Storing, Binding, Acting, Won, Bound, Inflated, Direct, Parked, Ending}
 use Rattle.step_core.specs.Machine.{State, Thread, Monitor, free}
 use Rattle.step_core.specs.WorldState.{WorldState, place_at, lock_at}
 
@@ -28,6 +28,7 @@ doing_of (Acting c m) = doing.Wants c
 doing_of (Won o) = doing.Has Entered
 doing_of (Bound c won m) = if won then doing.Has Entered else doing.Wants c
 doing_of (Inflated c m) = doing.Wants c
+doing_of (Direct c) = doing.Wants c
 doing_of Parked = doing.Idle
 doing_of (Ending n) = doing.Wants End
 
@@ -40,10 +41,10 @@ act_of f (Waiting m n d) p = doing.Waits (monitor_at f m).object n d
 act_of f (Back m n w) p = doing.Back (monitor_at f m).object n w
 act_of f (Granted r) p = doing.Has r
 
--- the thread at a seat: nobody is interrupted yet
+-- the thread at a seat
 abbrev pub thread_of : WorldState → ThreadId → Option ℕ → Option Thread
 thread_of w t None = None
-thread_of w t (Some k) = Some (record { flag = false; act = act_of w.fats (post_at w.fats t) (place_at w k) })
+thread_of w t (Some k) = Some (record { flag = flag_at w.fats t; act = act_of w.fats (post_at w.fats t) (place_at w k) })
 
 -- who owns an object with this lock, and how often: its word says it alone
 abbrev pub monitor_of : WorldState → Lock → Monitor
@@ -57,5 +58,5 @@ shown w = record {
   thread = λ t. thread_of w t (seat_of w.seats t);
   objects = length w.words;
   monitor = λ o. monitor_of w (lock_at w o.0);
-  moment = 0;
+  moment = w.fats.moment;
 }

@@ -2,18 +2,22 @@
 use Rattle.std.specs.Prelude.{ℕ, Bool, true, false, if◌then◌else◌, nat_lt, List, [], ◌∷◌, ◌++◌, length, slice_set, Option, Some, None, Result, Ok, Err}
 use Rattle.lock_word.specs.declared.ThreadId.{ThreadId}
 use Rattle.thread_index.specs.Indices.{seat_of, free_seat}
-use Rattle.fat_monitor.specs.FatState.{FatState, with_thread, without_thread, owns_one, with_post, post_at}
+use Rattle.fat_monitor.specs.FatState.{FatState, with_thread, without_thread, with_moment, owns_one, with_post, post_at}
 use Rattle.fat_monitor.specs.declared.actions.Post.{Post}
 use Rattle.fat_monitor.specs.declared.actions.Post.TheVariants.{Out, Entering, Waiting, Back, Granted}
 use Rattle.fat_monitor.specs.declared.actions.Action.TheVariants as action
+use Rattle.fat_monitor.specs.declared.actions.ActFault.{ActFault}
+use Rattle.fat_monitor.specs.declared.actions.Done.{Done}
+use Rattle.fat_monitor.specs.Acting.{acted}
 use Rattle.fat_monitor.specs.declared.actions.Answer.TheVariants as answer
 use Rattle.fat_monitor.specs.declared.actions.Reply.TheVariants as reply
 use Rattle.fat_monitor.specs.declared.actions.Cause.TheVariants as cause
 use Rattle.lock_word.specs.declared.ObjectId.{ObjectId}
 use Rattle.fast_path.specs.declared.Call.{Call}
+use Rattle.fast_path.specs.declared.Call.TheVariants as call
 use Rattle.fast_path.specs.Table.{object_of}
 use Rattle.step_core.specs.declared.places.Place.{Place}
-use Rattle.step_core.specs.declared.places.Place.TheVariants.{Idle, Begun, Parked as ParkedPlace, Ending}
+use Rattle.step_core.specs.declared.places.Place.TheVariants.{Idle, Begun, Direct, Parked as ParkedPlace, Ending}
 use Rattle.step_core.specs.declared.moves.Move.{Move}
 use Rattle.step_core.specs.declared.moves.Move.TheVariants as move
 use Rattle.step_core.specs.declared.events.Atomic.TheVariants.{Label, Acted}
@@ -21,9 +25,9 @@ use Rattle.step_core.specs.declared.events.Did.{Did}
 use Rattle.step_core.specs.declared.events.Step.{Step}
 use Rattle.step_core.specs.declared.events.Step.TheVariants as step
 use Rattle.step_core.specs.declared.events.Fault.{Fault}
-use Rattle.step_core.specs.declared.events.Fault.TheVariants.{NoIndex, Memory, Known, NoThread, NoObject, InCall, NotCalling, Parked}
+use Rattle.step_core.specs.declared.events.Fault.TheVariants.{NoIndex, Memory, Known, NoThread, NoObject, InCall, NotCalling, Parked, NotDue, Backwards}
 use Rattle.step_core.specs.WorldState.{WorldState, place_at}
-use Rattle.step_core.specs.Going.{moved, replied, returned, turns, after_go, gone}
+use Rattle.step_core.specs.Going.{moved, replied, returned, turns, after_go, gone, grant_of}
 
 -- the answer of a step, and the world after it
 pub record Outcome : Type 0 where
@@ -47,14 +51,22 @@ attached room w t None None = refused w NoIndex
 attached true w t None (Some k) = accepted (with_live w k t) (moved Label (move.Attach t))
 attached false w t None (Some k) = refused w Memory
 
--- where a call begins that names this object, if it names one
-abbrev pub first_place : Call → Option ObjectId → Place
-first_place c None = Ending 0
-first_place c (Some o) = Begun c false
+-- where a call begins: at the load of its object's word, or at the first of all words, or at its action
+abbrev pub first_place : Call → Place
+first_place (call.Enter o) = Begun (call.Enter o) false
+first_place (call.Exit o) = Begun (call.Exit o) false
+first_place (call.Wait o millis nanos) = Begun (call.Wait o millis nanos) false
+first_place (call.Notify o) = Begun (call.Notify o) false
+first_place (call.NotifyAll o) = Begun (call.NotifyAll o) false
+first_place (call.Holds o) = Begun (call.Holds o) false
+first_place (call.Interrupt u) = Direct (call.Interrupt u)
+first_place call.Interrupted = Direct call.Interrupted
+first_place (call.IsInterrupted u) = Direct (call.IsInterrupted u)
+first_place call.End = Ending 0
 
 -- the begin of a call by the thread at seat k, which stands at this place
 abbrev pub begun_at : WorldState → ℕ → ThreadId → Call → Place → Outcome
-begun_at w k t c Idle = accepted (record w { places = slice_set w.places k (first_place c (object_of c)) }) (moved Label (move.Call t c))
+begun_at w k t c Idle = accepted (record w { places = slice_set w.places k (first_place c) }) (moved Label (move.Call t c))
 begun_at w k t c p = refused w InCall
 
 -- a call that names an object asks whether it exists
@@ -114,11 +126,28 @@ abbrev pub went : Bool → WorldState → ThreadId → Option ℕ → Outcome
 went room w t None = refused w NoThread
 went room w t (Some k) = went_at room w k t (place_at w k)
 
+-- the wait of a thread is over, or is not due: what the action told and left
+abbrev pub expired_as : WorldState → ThreadId → Result Done ActFault → FatState → Outcome
+expired_as w t (Ok d) f =
+    accepted (record w { fats = f }) (record { atomic = Acted action.Expire d.answer; moves = Some (move.Expire t) ∷ grant_of f d.granted ∷ None ∷ []; reply = None })
+expired_as w t (Err e) f = refused w NotDue
+
+abbrev pub expired : WorldState → ThreadId → Option ℕ → Outcome
+expired w t None = refused w NoThread
+expired w t (Some k) = expired_as w t (acted w.fats t action.Expire).answer (acted w.fats t action.Expire).after
+
+-- the moment is told; it never falls
+abbrev pub ticked : WorldState → ℕ → Outcome
+ticked w now =
+    if nat_lt now w.fats.moment then refused w Backwards else accepted (record w { fats = with_moment w.fats now }) (moved Label (move.Time now))
+
 -- One step. It is a function but for memory: room says whether a growth that the step asks for is granted.
 abbrev pub step_of : Bool → WorldState → Step → Outcome
 step_of room w (step.Attach t) = attached room w t (seat_of w.seats t) (free_seat w.seats)
 step_of room w (step.Begin t c) = begun w t c (seat_of w.seats t)
 step_of room w (step.Go t) = went room w t (seat_of w.seats t)
+step_of room w (step.Expire t) = expired w t (seat_of w.seats t)
+step_of room w (step.Tick now) = ticked w now
 
 -- the moves that are there
 abbrev pub given : List (Option Move) → List Move

@@ -1,5 +1,5 @@
 -- What a world is: header words, the threads by index, the place of each in its call, and the fat state.
-use Rattle.std.specs.Prelude.{Some, ◌≢◌, is_some, count_by, ◌≡◌, ℕ, ◌+◌, ◌-◌, ◌<◌, ◌≤◌, List, length, slice_index_or, Option, None, IsSome, map, replicate, Bool, false, ◌==◌, ◌⊎◌}
+use Rattle.std.specs.Prelude.{Some, ◌≢◌, is_some, count_by, ◌≡◌, ℕ, ◌+◌, ◌-◌, ◌<◌, ◌≤◌, List, length, slice_index_or, Option, None, IsSome, map, replicate, Bool, true, false, ◌==◌, ◌⊎◌}
 use Rattle.lock_word.specs.declared.ThreadId.{ThreadId}
 use Rattle.lock_word.specs.declared.Word.{Word}
 use Rattle.lock_word.specs.declared.Lock.{Lock}
@@ -11,10 +11,11 @@ use Rattle.fat_monitor.specs.declared.actions.Post.{Post}
 use Rattle.fat_monitor.specs.declared.actions.Post.TheVariants.{Out}
 use Rattle.fat_monitor.specs.FatState as fat
 use Rattle.fast_path.specs.declared.Call.{Call}
+use Rattle.fast_path.specs.declared.Call.TheVariants as call
 use Rattle.fast_path.specs.declared.Next.TheVariants as next
 use Rattle.fast_path.specs.Table.{object_of, target, next_of}
 use Rattle.step_core.specs.declared.places.Place.{Place}
-use Rattle.step_core.specs.declared.places.Place.TheVariants.{Idle, Begun, Taking, Storing, Binding, Acting, Won, Bound, Inflated, Parked, Ending}
+use Rattle.step_core.specs.declared.places.Place.TheVariants.{Idle, Begun, Taking, Storing, Binding, Acting, Won, Bound, Inflated, Direct, Parked, Ending}
 
 -- the word of each object; who has each index, by seat, which is the index less one; the place of the
 -- thread at each seat; and the fat state
@@ -59,6 +60,19 @@ is_own Free me = false
 is_own (Thin i c) me = i == me
 is_own (Fat m) me = false
 
+-- the call is about interrupts: it names no object, and is one action
+abbrev pub is_direct : Call → Bool
+is_direct (call.Interrupt u) = true
+is_direct call.Interrupted = true
+is_direct (call.IsInterrupted u) = true
+is_direct (call.Enter o) = false
+is_direct (call.Exit o) = false
+is_direct (call.Wait o millis nanos) = false
+is_direct (call.Notify o) = false
+is_direct (call.NotifyAll o) = false
+is_direct (call.Holds o) = false
+is_direct call.End = false
+
 -- The thread at seat k may stand at this place: what it found when it loaded still stands, since a thin
 -- word is its owner's, a fat word stays fat, and a monitor that is bound and not stored is nobody else's.
 abbrev pub Fitting : WorldState → ℕ → Place → Type 0
@@ -75,6 +89,7 @@ Fitting w k (Bound c won m) =
     × ((n : ℕ) × (lock_at w (target c).0 ≡ Thin (k + 1) n)
     × (monitor_at w.fats m ≡ record { object = target c; owner = holder_at w.seats k; holds = n + 1 }))
 Fitting w k (Inflated c m) = Reaches w c × (lock_at w (target c).0 ≡ Fat m)
+Fitting w k (Direct c) = is_direct c ≡ true
 Fitting w k Parked = Unit {0}
 Fitting w k (Ending n) = (n ≤ length w.words) × ((p : ℕ) → p < n → is_own (lock_at w p) (k + 1) ≡ false)
 
@@ -89,6 +104,7 @@ bound_by (Acting c m) = None
 bound_by (Won o) = None
 bound_by (Bound c won m) = Some m
 bound_by (Inflated c m) = None
+bound_by (Direct c) = None
 bound_by Parked = None
 bound_by (Ending n) = None
 
@@ -103,6 +119,7 @@ Agrees (Acting c m) p = p ≡ Some Out
 Agrees (Won o) p = p ≡ Some Out
 Agrees (Bound c won m) p = p ≡ Some Out
 Agrees (Inflated c m) p = p ≡ Some Out
+Agrees (Direct c) p = p ≡ Some Out
 Agrees Parked p = p ≢ Some Out
 Agrees (Ending n) p = p ≡ Some Out
 

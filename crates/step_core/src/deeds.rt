@@ -16,12 +16,17 @@ pub(crate) fn move_to(call: Call, reply: Reply, chosen: Option<ThreadId>, thread
         Reply::Entered => Move::Lock { thread },
         Reply::Exited => Move::Unlock { thread },
         Reply::WaitOver => Move::Relock { thread },
+        Reply::Interrupted => Move::Early { thread },
+        Reply::Done => Move::Interrupt { thread },
         Reply::Notified => match call {
             Call::NotifyAll(_) => Move::NotifyAll { thread },
             _ => Move::Notify { thread, chosen },
         },
         Reply::Ended => Move::End { thread },
-        Reply::Yes | Reply::No => Move::Ask { thread },
+        Reply::Yes | Reply::No => match call {
+            Call::Interrupted => Move::TestClear { thread },
+            _ => Move::Ask { thread },
+        },
         Reply::IllegalMonitorState => Move::Illegal { thread },
         Reply::IllegalArgument => Move::BadArgument { thread },
         Reply::Refused(cause) => Move::Refuse { thread, cause },

@@ -16,12 +16,16 @@ pub enum Step {
     Begin { thread: ThreadId, call: Call },
     /// The thread does the next atomic step of its call.
     Go { thread: ThreadId },
+    /// The thread's wait is over: its deadline has come.
+    Expire { thread: ThreadId },
+    /// This is the moment now, in nanoseconds; it never falls.
+    Tick { now: u64 },
 }
 
 /// The one thing that a step did to the words or the fat monitors.
 #[derive(Clone, Copy, PartialEq, Eq, Hash, Debug)]
 pub enum Atomic {
-    /// Nothing: a thread was attached, or a call began.
+    /// Nothing: a thread was attached, a call began, or the moment was told.
     Label,
     /// The object's word was loaded.
     Load {
@@ -55,7 +59,7 @@ pub enum Atomic {
         object: ObjectId,
         cause: Cause,
     },
-    /// An action on a fat monitor was made.
+    /// An action on the fat monitors was made.
     Acted {
         action: Action,
         answer: Answer,
@@ -75,7 +79,7 @@ pub struct Did {
 /// Why a step was refused. The world is then unchanged.
 ///
 /// Attach answers the first of Known, NoIndex and Memory whose cause holds; Begin of NoThread, NoObject
-/// and InCall; Go of NoThread, NotCalling and Parked.
+/// and InCall; Go of NoThread, NotCalling and Parked; Expire of NoThread and NotDue; Tick Backwards.
 #[derive(Clone, Copy, PartialEq, Eq, Hash, Debug)]
 pub enum Fault {
     /// Every index belongs to a live thread.
@@ -94,6 +98,10 @@ pub enum Fault {
     NotCalling = 7,
     /// The thread stands in an entry line or a wait set.
     Parked = 8,
+    /// The thread does not wait, or has no deadline, or the moment is before it.
+    NotDue = 9,
+    /// The moment would fall.
+    Backwards = 10,
 }
 
 impl fmt::Display for Fault {
@@ -112,6 +120,8 @@ impl fmt::Display for Fault {
             Fault::InCall => "InCall",
             Fault::NotCalling => "NotCalling",
             Fault::Parked => "Parked",
+            Fault::NotDue => "NotDue",
+            Fault::Backwards => "Backwards",
         })
     }
 }

@@ -1,17 +1,21 @@
 //! The laws of every list of steps: of any number of threads, in any interleaving, and whatever memory
 //! is granted. A list of steps pairs each step with whether the growth that it asks for is granted.
 
-ghost use Rattle.std.specs.Prelude.{◌≡◌, ◌≢◌, ◌⊎◌, ℕ, ◌+◌, ◌<◌, List, length, Bool, false};
+ghost use Rattle.std.specs.Prelude.{◌≡◌, ◌≢◌, ◌⊎◌, ℕ, ◌+◌, ◌<◌, List, length, Bool, true, false, Option, Some, None};
 ghost use Rattle.lock_word.specs.declared.ThreadId.{ThreadId};
 ghost use Rattle.lock_word.specs.declared.ObjectId.{ObjectId};
 ghost use Rattle.fat_monitor.specs.declared.actions.Reply.{Reply};
-ghost use Rattle.fat_monitor.specs.declared.actions.Reply.TheVariants.{WaitOver};
+ghost use Rattle.fat_monitor.specs.declared.actions.Reply.TheVariants.{WaitOver, Interrupted as Throws};
+ghost use Rattle.fat_monitor.specs.declared.actions.Why.{Why};
+ghost use Rattle.fat_monitor.specs.declared.actions.Why.TheVariants.{Notified, Interrupted};
 ghost use Rattle.thread_index.specs.Indices.{IsOneToOne};
 ghost use Rattle.fast_path.specs.declared.Call.TheVariants as call;
 ghost use Rattle.step_core.specs.declared.events.Step.{Step};
 ghost use Rattle.step_core.specs.declared.moves.Doing.{Doing};
 ghost use Rattle.step_core.specs.declared.moves.Doing.TheVariants as doing;
-ghost use Rattle.step_core.specs.Machine.{Run, opening, Is};
+ghost use Rattle.step_core.specs.declared.moves.Move.{Move};
+ghost use Rattle.step_core.specs.declared.moves.Move.TheVariants as move;
+ghost use Rattle.step_core.specs.Machine.{State, Run, Steps, Calls, opening, Is};
 ghost use Rattle.step_core.specs.WorldState.{opened};
 ghost use Rattle.step_core.specs.Stepping.{moves_after, world_after};
 ghost use Rattle.step_core.specs.Shown.{shown};
@@ -19,7 +23,7 @@ ghost use Rattle.step_core.specs.Labels.{labels_of, labels_after};
 ghost use Rattle.step_core.specs.Laws.{AreWithinLimits, reached};
 ghost use Rattle.step_core.specs.Patience.{goes_of, AllLinger};
 ghost use Rattle.step_core.specs.Kept.{Keeps};
-ghost use Rattle.step_core.specs.Lasting.{IsNotified, HasReply, NeverReturns};
+ghost use Rattle.step_core.specs.Lasting.{IsBack, IsNotified, HasReply, NeverReturns};
 
 /// The moves that the steps hand out are a run of the abstract machine, from its opening state to the
 /// state that the world shows then; and the labels of the run are exactly those of the accepted steps.
@@ -41,14 +45,33 @@ pub fn every_list_of_steps_keeps_the_world()
 /// each object, and one more.
 #[tactic(auto, using(crate::proofs::Reaching::reached_four, crate::proofs::Reaching::reached_all))]
 pub fn every_call_is_patient()
-    ensures within_four { (lows : List ℕ) (monitors indices : ℕ) (steps : List (Step × Bool)) → AreWithinLimits lows monitors indices → (t : ThreadId) (act : Doing) (more : List (Step × Bool)) → Is (shown (reached lows monitors indices steps)) t false act → (act ≡ doing.Idle → ⊥) → (act ≡ doing.Wants call.End → ⊥) → AllLinger (reached lows monitors indices steps) t more → goes_of t more < 4 }
-    ensures within_all { (lows : List ℕ) (monitors indices : ℕ) (steps : List (Step × Bool)) → AreWithinLimits lows monitors indices → (t : ThreadId) (more : List (Step × Bool)) → Is (shown (reached lows monitors indices steps)) t false (doing.Wants call.End) → AllLinger (reached lows monitors indices steps) t more → goes_of t more < length lows + 1 }
+    ensures within_four { (lows : List ℕ) (monitors indices : ℕ) (steps : List (Step × Bool)) → AreWithinLimits lows monitors indices → (t : ThreadId) (flag : Bool) (act : Doing) (more : List (Step × Bool)) → Is (shown (reached lows monitors indices steps)) t flag act → (act ≡ doing.Idle → ⊥) → (act ≡ doing.Wants call.End → ⊥) → AllLinger (reached lows monitors indices steps) t more → goes_of t more < 4 }
+    ensures within_all { (lows : List ℕ) (monitors indices : ℕ) (steps : List (Step × Bool)) → AreWithinLimits lows monitors indices → (t : ThreadId) (flag : Bool) (more : List (Step × Bool)) → Is (shown (reached lows monitors indices steps)) t flag (doing.Wants call.End) → AllLinger (reached lows monitors indices steps) t more → goes_of t more < length lows + 1 }
 {}
 
 /// A thread that was notified stays so, whatever steps come, until its call has the reply that its wait is
-/// over; and a reply, however it was given, is kept until the thread's own Go returns with it.
-#[tactic(auto, using(crate::proofs::Reaching::reached_notified, crate::proofs::Reaching::reached_kept))]
+/// over; one that an interrupt took out of the wait set stays so until its call has the reply Interrupted;
+/// and a reply, however it was given, is kept until the thread's own Go returns with it.
+#[tactic(auto, using(crate::proofs::Reaching::reached_notified, crate::proofs::Reaching::reached_interrupted, crate::proofs::Reaching::reached_kept))]
 pub fn every_notified_thread_comes_back()
     ensures notified { (lows : List ℕ) (monitors indices : ℕ) (steps : List (Step × Bool)) → AreWithinLimits lows monitors indices → (u : ThreadId) (o : ObjectId) (n : ℕ) (more : List (Step × Bool)) → IsNotified (shown (reached lows monitors indices steps)) u o n → NeverReturns (reached lows monitors indices steps) u WaitOver more → IsNotified (shown (world_after (reached lows monitors indices steps) more)) u o n ⊎ HasReply (shown (world_after (reached lows monitors indices steps) more)) u WaitOver }
+    ensures interrupted { (lows : List ℕ) (monitors indices : ℕ) (steps : List (Step × Bool)) → AreWithinLimits lows monitors indices → (u : ThreadId) (o : ObjectId) (n : ℕ) (more : List (Step × Bool)) → IsBack (shown (reached lows monitors indices steps)) u o n Interrupted → NeverReturns (reached lows monitors indices steps) u Throws more → IsBack (shown (world_after (reached lows monitors indices steps) more)) u o n Interrupted ⊎ HasReply (shown (world_after (reached lows monitors indices steps) more)) u Throws }
     ensures kept { (lows : List ℕ) (monitors indices : ℕ) (steps : List (Step × Bool)) → AreWithinLimits lows monitors indices → (u : ThreadId) (r : Reply) (more : List (Step × Bool)) → HasReply (shown (reached lows monitors indices steps)) u r → NeverReturns (reached lows monitors indices steps) u r more → HasReply (shown (world_after (reached lows monitors indices steps) more)) u r }
+{}
+
+/// A waiter that is both notified and interrupted (JLS SE 8, 17.2.4), move by move of the abstract machine.
+/// Where the interrupt comes first, the waiter leaves the wait set for it, a notify goes to another member of
+/// the set, if there is one, and the wait throws, when the interrupt is forgotten. Where the notification
+/// comes first, the wait returns normally, with the interrupt pending. It never returns normally with its
+/// interrupt forgotten.
+#[tactic(auto, using(crate::proofs::Waiters::first_interrupted, crate::proofs::Waiters::not_chosen, crate::proofs::Waiters::another, crate::proofs::Waiters::thrown, crate::proofs::Waiters::first_notified, crate::proofs::Waiters::pending, crate::proofs::Waiters::returned, crate::proofs::Waiters::never_lost))]
+pub fn a_waiter_throws_or_keeps_its_interrupt()
+    ensures first_interrupted { (s s' : State) (t u : ThreadId) (mine theirs : Bool) (o : ObjectId) (n : ℕ) (d : Option ℕ) → Calls s t mine (call.Interrupt u) → Is s u theirs (doing.Waits o n d) → Steps s (move.Interrupt t) s' → Is s' u true (doing.Back o n Interrupted) }
+    ensures not_chosen { (s s' : State) (t u v : ThreadId) (flag : Bool) (o : ObjectId) (n : ℕ) (w : Why) → Is s u flag (doing.Back o n w) → Steps s (move.Notify t (Some v)) s' → v.0 ≡ u.0 → ⊥ }
+    ensures another { (s s' : State) (t v : ThreadId) (f g : Bool) (o : ObjectId) (n : ℕ) (d : Option ℕ) → Calls s t f (call.Notify o) → Is s v g (doing.Waits o n d) → Steps s (move.Notify t None) s' → ⊥ }
+    ensures thrown { (s s' : State) (m : Move) (u : ThreadId) (flag : Bool) (o : ObjectId) (n : ℕ) → Steps s m s' → Is s u flag (doing.Back o n Interrupted) → IsBack s' u o n Interrupted ⊎ Is s' u false (doing.Has Throws) }
+    ensures first_notified { (s s' : State) (t u : ThreadId) (mine theirs : Bool) (o : ObjectId) (n : ℕ) → Calls s t mine (call.Interrupt u) → Is s u theirs (doing.Back o n Notified) → Steps s (move.Interrupt t) s' → Is s' u true (doing.Back o n Notified) }
+    ensures pending { (s s' : State) (m : Move) (u : ThreadId) (o : ObjectId) (n : ℕ) → Steps s m s' → Is s u true (doing.Back o n Notified) → Is s' u true (doing.Back o n Notified) ⊎ Is s' u true (doing.Has WaitOver) }
+    ensures returned { (s s' : State) (m : Move) (u : ThreadId) → Steps s m s' → Is s u true (doing.Has WaitOver) → Is s' u true (doing.Has WaitOver) ⊎ Is s' u true doing.Idle }
+    ensures never { (s s' : State) (m : Move) (u : ThreadId) (o : ObjectId) (n : ℕ) (w : Why) → Steps s m s' → Is s u true (doing.Back o n w) → Is s' u false (doing.Has WaitOver) → ⊥ }
 {}

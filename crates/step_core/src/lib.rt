@@ -2,9 +2,9 @@
 //!
 //! A [`World`] has the header words of its objects, its threads with an index each, the place of each
 //! thread in its call, and the fat monitors. [`World::step`] does one atomic step: one load, exchange
-//! or store of one header word, or one action on the fat monitors; to attach a thread and to begin a
-//! call are steps too. Each step hands out the moves of the abstract machine of `docs/MACHINE.md`
-//! (JLS SE 8, 17.1) that it made.
+//! or store of one header word, or one action on the fat monitors; to attach a thread, to begin a call,
+//! to let a timed wait expire and to tell the moment are steps too. Each step hands out the moves of the
+//! abstract machine of `docs/MACHINE.md` (JLS SE 8, 17.1 and 17.2) that it made.
 #![tactic(auto)]
 
 mod deeds;
@@ -20,8 +20,8 @@ mod worlds;
 
 pub use events::{Atomic, Did, Fault, Step};
 pub use laws::{
-    every_call_is_patient, every_list_of_steps_is_a_run, every_list_of_steps_keeps_the_world,
-    every_notified_thread_comes_back,
+    a_waiter_throws_or_keeps_its_interrupt, every_call_is_patient, every_list_of_steps_is_a_run,
+    every_list_of_steps_keeps_the_world, every_notified_thread_comes_back,
 };
 pub use moves::{Doing, Move};
 pub use places::Place;

@@ -11,7 +11,7 @@ pub enum Doing {
     Idle,
     /// It has made this call, which has no answer yet.
     Wants(Call),
-    /// It stands in the object's wait set, and gave up so many holds. The deadline is in nanoseconds; a
+    /// It stands in the object's wait set, and gave up so many holds. The deadline is a moment in nanoseconds; a
     /// wait of no limit has none.
     Waits {
         object: ObjectId,
@@ -61,6 +61,11 @@ pub enum Move {
     BadArgument {
         thread: ThreadId,
     },
+    /// It owns the object that it wants to wait on, and is interrupted: it does not wait, and the interrupt
+    /// is forgotten.
+    Early {
+        thread: ThreadId,
+    },
     /// It joins the wait set of the object that it owns, and gives up all its locks.
     Wait {
         thread: ThreadId,
@@ -74,7 +79,20 @@ pub enum Move {
     NotifyAll {
         thread: ThreadId,
     },
-    /// It is back from a wait set, and locks the object as often as before.
+    /// It interrupts the thread that its call names, which leaves the wait set that it is in.
+    Interrupt {
+        thread: ThreadId,
+    },
+    /// It is told whether it is interrupted, and is not any more.
+    TestClear {
+        thread: ThreadId,
+    },
+    /// Its time is over, and it leaves the wait set.
+    Expire {
+        thread: ThreadId,
+    },
+    /// It is back from a wait set, and locks the object as often as before; where an interrupt took it out
+    /// of there, the interrupt is forgotten.
     Relock {
         thread: ThreadId,
     },
@@ -90,5 +108,9 @@ pub enum Move {
     /// It owns no object, and is to be live no longer.
     End {
         thread: ThreadId,
+    },
+    /// This is the moment now, in nanoseconds.
+    Time {
+        now: u64,
     },
 }

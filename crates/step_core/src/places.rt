@@ -25,6 +25,8 @@ pub enum Place {
     Bound { call: Call, won: bool, monitor: u32 },
     /// It stored the fat word, and is to act on the monitor.
     Inflated { call: Call, monitor: u32 },
+    /// Its call is about interrupts, and is to act.
+    Direct { call: Call },
     /// It stands in a line of a fat monitor, or was granted its reply, which its next Go collects.
     Parked,
     /// It is to end. It loaded the words of the objects below `loaded`, none of which it owns thinly, and

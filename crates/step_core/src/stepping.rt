@@ -1,20 +1,21 @@
 //! Steps over the parts of a world.
 
 ghost use Rattle.std.specs.Prelude.{◌≡◌, ℕ, ◌+◌, ◌-◌, ◌<◌, ◌≤◌, List, length, Bool, true, false, Option, IsSome, is_some, count_by, Some, Ok};
+ghost use Rattle.lock_word.specs.declared.ThreadId.{ThreadId};
 ghost use Rattle.lock_word.specs.declared.Word.{Word};
 ghost use Rattle.thread_index.specs.Indices.{seat_of, free_seat};
 ghost use Rattle.fat_monitor.specs.declared.actions.Post.TheVariants.{Out};
 ghost use Rattle.fat_monitor.specs.FatState.{FatState, IsAttached, post_of, post_at, thread_count, owns_one};
 ghost use Rattle.step_core.specs.WorldState.{IsSound};
-ghost use Rattle.step_core.specs.Stepping.{Outcome, attached, begun, went, ended, gathered_by};
+ghost use Rattle.step_core.specs.Stepping.{Outcome, attached, begun, first_place, went, ended, gathered_by, expired, ticked};
 ghost use Rattle.step_core.specs.Parts.{world_of, IsBusyAt};
 ghost use Rattle.step_core.specs.declared.places.Place.{Place};
 
-use crate::deeds::{hand_out, move_on, reply_to};
+use crate::deeds::{grant_of, hand_out, move_on, reply_to};
 use crate::turns::go_from;
 use crate::{Atomic, Did, Fault, Move, Place};
 use fast_path::Call;
-use fat_monitor::{ActFault, Action, Answer, AttachFault, Cause, Done, Fats, Reply};
+use fat_monitor::{Action, Answer, AttachFault, Cause, Done, Fats, Reply};
 use lock_word::{ThreadId, Word};
 use thread_index::{Indices, TakeFault};
 
@@ -63,20 +64,30 @@ pub(crate) fn begin(
     let Some(index) = indices.index_of(thread) else {
         return Err(Fault::NoThread);
     };
-    let first = match call.object() {
+    match call.object() {
         Some(object) if object.0 as usize >= words.len() => return Err(Fault::NoObject),
-        Some(_) => Place::Begun {
-            call,
-            contended: false,
-        },
-        None => Place::Ending { loaded: 0 },
-    };
+        _ => {}
+    }
     let seat = index as usize - 1;
     let Place::Idle = places[seat] else {
         return Err(Fault::InCall);
     };
-    places[seat] = first;
+    places[seat] = first_place(call);
     Ok(move_on(Atomic::Label, Move::Call { thread, call }))
+}
+
+/// Where a call begins.
+fn first_place(call: Call) -> Place
+    ensures { result ≡ first_place call }
+{
+    match call {
+        Call::End => Place::Ending { loaded: 0 },
+        Call::Interrupt(_) | Call::Interrupted | Call::IsInterrupted(_) => Place::Direct { call },
+        _ => Place::Begun {
+            call,
+            contended: false,
+        },
+    }
 }
 
 /// Does the next atomic step of a thread's call.
@@ -125,7 +136,38 @@ fn collect(fats: &mut Fats, thread: ThreadId) -> Result<Did, Fault>
             };
             Ok(hand_out(Atomic::Acted { action, answer }, thread, reply))
         }
-        Err(ActFault::Parked) => Err(Fault::Parked),
+        Err(_) => Err(Fault::Parked),
+    }
+}
+
+/// Ends the wait of a thread whose deadline has come.
+pub(crate) fn expire(indices: &Indices, fats: &mut Fats, thread: ThreadId) -> Result<Did, Fault>
+    requires { IsSome (seat_of indices.now thread) → IsAttached fats.old thread }
+    ensures { (words : List Word) → (places : List Place) → record { answer = result; after = world_of words indices.now places fats.new } ≡ expired (world_of words indices.now places fats.old) thread (seat_of indices.now thread) }
+{
+    if indices.index_of(thread).is_none() {
+        return Err(Fault::NoThread);
+    }
+    let action = Action::Expire;
+    let Ok(done) = fats.act(thread, action) else {
+        return Err(Fault::NotDue);
+    };
+    let granted = grant_of(fats, done.granted);
+    let answer = done.answer;
+    Ok(Did {
+        atomic: Atomic::Acted { action, answer },
+        moves: [Some(Move::Expire { thread }), granted, None],
+        reply: None,
+    })
+}
+
+/// Tells the moment.
+pub(crate) fn tick(fats: &mut Fats, now: u64) -> Result<Did, Fault>
+    ensures { (words : List Word) → (seats : List (Option ThreadId)) → (places : List Place) → record { answer = result; after = world_of words seats places fats.new } ≡ ticked (world_of words seats places fats.old) now }
+{
+    match fats.tick(now) {
+        Ok(()) => Ok(move_on(Atomic::Label, Move::Time { now })),
+        Err(_) => Err(Fault::Backwards),
     }
 }
 

@@ -5,6 +5,7 @@ ghost use Rattle.lock_word.specs.declared.Word.{Word};
 ghost use Rattle.lock_word.specs.Layout.{Fits, IsMalformed, lock_of, low_of, with_lock, count_of};
 ghost use Rattle.fat_monitor.specs.declared.actions.Post.TheVariants.{Out};
 ghost use Rattle.fat_monitor.specs.FatState.{FatState, IsAttached, post_of};
+ghost use Rattle.fat_monitor.specs.Acting.{NamesBound};
 ghost use Rattle.fast_path.specs.Table.{object_of, target, next_of};
 ghost use Rattle.step_core.specs.WorldState.{lock_at, is_own};
 ghost use Rattle.step_core.specs.Going.{after_load, after_take, after_store, after_bind, after_publish, after_act, after_look, after_go, action_of, bind_cause};
@@ -44,6 +45,7 @@ pub(crate) fn go_from(
         Place::Won { object } => bind(fats, thread, Call::Enter(object), true, 1),
         Place::Bound { call, won, monitor } => publish(words, thread, call, won, monitor),
         Place::Inflated { call, monitor } => act(fats, thread, call, monitor),
+        Place::Direct { call } => act(fats, thread, call, 0),
         Place::Parked => unreachable!(),
         Place::Ending { loaded } => look(words, me, thread, loaded),
     }
@@ -211,8 +213,7 @@ fn publish(
 /// Makes the call's own action on a fat monitor: the call has its reply then, or is parked.
 fn act(fats: &mut Fats, thread: ThreadId, call: Call, monitor: u32) -> (Place, Did)
     requires out { post_of fats.old thread ≡ Some Out }
-    requires named { IsSome (object_of call) }
-    requires bound { monitor < length fats.old.monitors }
+    requires bound { NamesBound fats.old (action_of call monitor) }
     ensures { (ws : List Word) → record { words = ws; fats = fats.new; place = result.0; did = result.1 } ≡ after_act (bare ws fats.old) thread call monitor }
 {
     let action = action_of(call, monitor);
@@ -233,6 +234,7 @@ fn act(fats: &mut Fats, thread: ThreadId, call: Call, monitor: u32) -> (Place, D
             )
         }
         Answer::Parked => (Place::Parked, park(call, atomic, thread, granted)),
+        Answer::Quiet => (Place::Parked, quietly(atomic)),
     }
 }
 
@@ -251,6 +253,9 @@ fn action_of(call: Call, monitor: u32) -> Action
         Call::Notify(_) => Action::Notify { monitor },
         Call::NotifyAll(_) => Action::NotifyAll { monitor },
         Call::Holds(_) => Action::Holds { monitor },
+        Call::Interrupt(target) => Action::Interrupt { target },
+        Call::Interrupted => Action::Interrupted,
+        Call::IsInterrupted(target) => Action::IsInterrupted { target },
         Call::End => Action::End,
     }
 }

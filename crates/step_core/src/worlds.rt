@@ -6,7 +6,7 @@ ghost use Rattle.fat_monitor.specs.FatState.{monitor_at, StandBehindOwners};
 ghost use Rattle.thread_index.specs.Indices.{seat_of, free_seat, index_of, holder_of};
 ghost use Rattle.step_core.specs.Machine.{Run, opening, Thread, is_waiting};
 ghost use Rattle.step_core.specs.WorldState.{IsSound, opened, word_at, lock_at};
-ghost use Rattle.step_core.specs.Stepping.{Outcome, attached, begun, went, step_of, moves_of};
+ghost use Rattle.step_core.specs.Stepping.{Outcome, attached, begun, went, expired, ticked, step_of, moves_of};
 ghost use Rattle.step_core.specs.Shown.{shown, doing_of};
 ghost use Rattle.step_core.specs.Labels.{HasLabels};
 ghost use Rattle.step_core.specs.Refusals.{IsRefused, IsAcceptable, Spares};
@@ -95,7 +95,8 @@ impl World {
         // A call that is refused leaves every owner, count, wait set and flag.
         ensures spared { IfOk result (λ d. Spares self.old d.reply self.new) }
 
-        // A notified thread stays so until it has its reply, and a reply stays until it is returned.
+        // A thread that is back from a wait set stays so until it has its reply, and a reply stays until it is
+        // returned.
         ensures lasting { IfOk result (λ d. Lasts (shown self.old) step d.reply (shown self.new)) }
 
         // A Go replies, parks, meets another thread, or lowers the steps that its call has left; no other thread's
@@ -117,6 +118,8 @@ impl World {
             Step::Attach { thread } => self.attach(thread),
             Step::Begin { thread, call } => self.begin(thread, call),
             Step::Go { thread } => self.go(thread),
+            Step::Expire { thread } => self.expire(thread),
+            Step::Tick { now } => self.tick(now),
         }
     }
 
@@ -147,6 +150,27 @@ impl World {
             &mut self.fats,
             thread,
         )
+    }
+
+    fn expire(&mut self, thread: ThreadId) -> Result<Did, Fault>
+        ensures was { IsSound self.old }
+        ensures exact { record { answer = result; after = self.new } ≡ expired self.old thread (seat_of self.old.seats thread) }
+    {
+        stepping::expire(&self.indices, &mut self.fats, thread)
+    }
+
+    fn tick(&mut self, now: u64) -> Result<Did, Fault>
+        ensures was { IsSound self.old }
+        ensures exact { record { answer = result; after = self.new } ≡ ticked self.old now }
+    {
+        stepping::tick(&mut self.fats, now)
+    }
+
+    /// The moment that was told last, in nanoseconds; 0 at first.
+    pub fn now(&self) -> u64
+        ensures { result ≡ (shown self.now).moment }
+    {
+        self.fats.now()
     }
 
     /// How many objects there are: they are numbered from 0.
@@ -200,6 +224,13 @@ impl World {
         ensures { result ≡ holder_of self.now.seats index }
     {
         self.indices.id_of(index)
+    }
+
+    /// Whether a live thread is interrupted (JLS SE 8, 17.2.3); None where it is not live.
+    pub fn flag(&self, thread: ThreadId) -> Option<bool>
+        ensures { result ≡ option_map (λ (x : Thread). x.flag) ((shown self.now).thread thread) }
+    {
+        self.fats.flag(thread)
     }
 
     /// What a live thread is doing; None where it is not live.
@@ -277,7 +308,8 @@ fn doing_at(place: Place) -> Doing
         Place::Idle | Place::Parked => Doing::Idle,
         Place::Begun { call, .. } | Place::Storing { call, .. } | Place::Binding { call, .. } =>
             Doing::Wants(call),
-        Place::Acting { call, .. } | Place::Inflated { call, .. } => Doing::Wants(call),
+        Place::Acting { call, .. } | Place::Inflated { call, .. } | Place::Direct { call } =>
+            Doing::Wants(call),
         Place::Taking { object, .. } => Doing::Wants(Call::Enter(object)),
         Place::Won { .. } | Place::Bound { won: true, .. } => Doing::Has(Reply::Entered),
         Place::Bound {

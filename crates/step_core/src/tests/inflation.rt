@@ -1,60 +1,55 @@
 //! The 257th enter binds a fat monitor, or is refused.
 
 use super::*;
-
-const FAT_ENTER: Action = Action::Enter { monitor: 0 };
-
-const FAT_EXIT: Action = Action::Exit { monitor: 0 };
+use fat_calls::{FAT, FAT_ENTER, FAT_EXIT, answers, stands_in_line};
 
 const FAT_HOLDS: Action = Action::Holds { monitor: 0 };
 
 /// A world where x holds the object 257 times, on monitor 0.
-fn inflated(rt: &impl Abort, alloc: std::alloc::Global) -> Result<World, Fail> {
-    let mut world = one_object(rt, alloc, 4)?;
-    attach(rt, &mut world, X, 1);
-    enter_thinly(rt, &mut world, 256);
-    begin(rt, &mut world, X, ENTER);
-    goes(rt, &mut world, X, load(0x0001_FFA5));
-    shows(rt, &world, A, 0x0001_FFA5, Some(X), 256);
-    goes(rt, &mut world, X, bound(0));
-    shows(rt, &world, A, 0x0001_FFA5, Some(X), 256);
-    goes(rt, &mut world, X, stored(0x0001_FFA5, 0x8000_00A5));
-    shows(rt, &world, A, 0x8000_00A5, Some(X), 256);
+fn inflated(rt: &impl Abort, alloc: std::alloc::Global) -> Result<Play, Fail> {
+    let mut play = one_object(rt, alloc, 4)?;
+    attach(rt, &mut play, X, 1);
+    enter_thinly(rt, &mut play, 256);
+    begin(rt, &mut play, X, ENTER);
+    goes(rt, &mut play, X, load(0x0001_FFA5));
+    shows(rt, &play, A, 0x0001_FFA5, Some(X), 256);
+    goes(rt, &mut play, X, bound(0));
+    shows(rt, &play, A, 0x0001_FFA5, Some(X), 256);
+    goes(rt, &mut play, X, stored(0x0001_FFA5, FAT));
+    shows(rt, &play, A, FAT, Some(X), 256);
     replies(
         rt,
-        &mut world,
+        &mut play,
         acted(FAT_ENTER, Reply::Entered),
         Move::Lock { thread: X },
         Reply::Entered,
         X,
     );
-    shows(rt, &world, A, 0x8000_00A5, Some(X), 257);
-    Ok(world)
+    shows(rt, &play, A, FAT, Some(X), 257);
+    Ok(play)
 }
 
-/// A call of x that loads the fat word and acts on monitor 0.
-fn acts(rt: &impl Abort, world: &mut World, call: Call, action: Action, made: Move, reply: Reply) {
-    begin(rt, world, X, call);
-    goes(rt, world, X, load(0x8000_00A5));
-    replies(rt, world, acted(action, reply), made, reply, X);
+/// A call of x at monitor 0.
+fn acts(rt: &impl Abort, play: &mut Play, call: Call, action: Action, made: Move, reply: Reply) {
+    answers(rt, play, X, call, action, made, reply);
 }
 
 #[test]
 fn the_257th_enter_inflates_and_keeps_the_nesting_count(rt: HostRuntime) -> Result<(), Fail> {
-    let mut world = inflated(&rt, rt.alloc())?;
+    let mut play = inflated(&rt, rt.alloc())?;
     let ask = Move::Ask { thread: X };
     let unlock = Move::Unlock { thread: X };
-    acts(&rt, &mut world, HOLDS, FAT_HOLDS, ask, Reply::Yes);
+    acts(&rt, &mut play, HOLDS, FAT_HOLDS, ask, Reply::Yes);
     for holds in 0..257u16 {
-        shows(&rt, &world, A, 0x8000_00A5, Some(X), 257 - holds);
-        acts(&rt, &mut world, EXIT, FAT_EXIT, unlock, Reply::Exited);
+        shows(&rt, &play, A, FAT, Some(X), 257 - holds);
+        acts(&rt, &mut play, EXIT, FAT_EXIT, unlock, Reply::Exited);
     }
-    shows(&rt, &world, A, 0x8000_00A5, None, 0);
-    acts(&rt, &mut world, HOLDS, FAT_HOLDS, ask, Reply::No);
+    shows(&rt, &play, A, FAT, None, 0);
+    acts(&rt, &mut play, HOLDS, FAT_HOLDS, ask, Reply::No);
     let illegal = Move::Illegal { thread: X };
     acts(
         &rt,
-        &mut world,
+        &mut play,
         EXIT,
         FAT_EXIT,
         illegal,
@@ -65,58 +60,50 @@ fn the_257th_enter_inflates_and_keeps_the_nesting_count(rt: HostRuntime) -> Resu
 
 #[test]
 fn without_monitors_the_257th_enter_is_refused(rt: HostRuntime) -> Result<(), Fail> {
-    let mut world = one_object(&rt, rt.alloc(), 0)?;
-    attach(&rt, &mut world, X, 1);
-    enter_thinly(&rt, &mut world, 256);
-    begin(&rt, &mut world, X, ENTER);
-    goes(&rt, &mut world, X, load(0x0001_FFA5));
+    let mut play = one_object(&rt, rt.alloc(), 0)?;
+    attach(&rt, &mut play, X, 1);
+    enter_thinly(&rt, &mut play, 256);
+    begin(&rt, &mut play, X, ENTER);
+    goes(&rt, &mut play, X, load(0x0001_FFA5));
     let cause = Cause::NoMonitor;
     replies(
         &rt,
-        &mut world,
+        &mut play,
         not_bound(cause),
         Move::Refuse { thread: X, cause },
         Reply::Refused(cause),
         X,
     );
-    shows(&rt, &world, A, 0x0001_FFA5, Some(X), 256);
+    shows(&rt, &play, A, 0x0001_FFA5, Some(X), 256);
     Ok(())
 }
 
 #[test]
 fn the_65536th_enter_is_too_deep(rt: HostRuntime) -> Result<(), Fail> {
-    let mut world = inflated(&rt, rt.alloc())?;
+    let mut play = inflated(&rt, rt.alloc())?;
     let lock = Move::Lock { thread: X };
     for _ in 257..65_535 {
-        acts(&rt, &mut world, ENTER, FAT_ENTER, lock, Reply::Entered);
+        acts(&rt, &mut play, ENTER, FAT_ENTER, lock, Reply::Entered);
     }
-    shows(&rt, &world, A, 0x8000_00A5, Some(X), 65_535);
+    shows(&rt, &play, A, FAT, Some(X), 65_535);
     let cause = Cause::TooDeep;
     acts(
         &rt,
-        &mut world,
+        &mut play,
         ENTER,
         FAT_ENTER,
         Move::Refuse { thread: X, cause },
         Reply::Refused(cause),
     );
-    shows(&rt, &world, A, 0x8000_00A5, Some(X), 65_535);
+    shows(&rt, &play, A, FAT, Some(X), 65_535);
     Ok(())
 }
 
 #[test]
 fn an_enter_behind_another_owner_stands_in_line(rt: HostRuntime) -> Result<(), Fail> {
-    let mut world = inflated(&rt, rt.alloc())?;
-    attach(&rt, &mut world, Y, 2);
-    begin(&rt, &mut world, Y, ENTER);
-    goes(&rt, &mut world, Y, load(0x8000_00A5));
-    let parked = Atomic::Acted {
-        action: FAT_ENTER,
-        answer: Answer::Parked,
-    };
-    goes(&rt, &mut world, Y, parked);
-    assert_eq!(rt; world.doing(Y), Some(Doing::Wants(ENTER)));
-    refuses(&rt, &mut world, Step::Go { thread: Y }, Fault::Parked);
-    shows(&rt, &world, A, 0x8000_00A5, Some(X), 257);
+    let mut play = inflated(&rt, rt.alloc())?;
+    attach(&rt, &mut play, Y, 2);
+    stands_in_line(&rt, &mut play, Y);
+    shows(&rt, &play, A, FAT, Some(X), 257);
     Ok(())
 }

@@ -1,5 +1,8 @@
-use Rattle.step_core.proofs.Reaching.{reached_notified}
+use Rattle.step_core.proofs.Reaching.{reached_notified, reached_interrupted}
 use Rattle.step_core.proofs.laws.every_notified_thread_comes_back.Goals as goal
 
 pub returns-clause-notified : goal.returns-clause-notified
 returns-clause-notified c = reached_notified
+
+pub returns-clause-interrupted : goal.returns-clause-interrupted
+returns-clause-interrupted c = reached_interrupted

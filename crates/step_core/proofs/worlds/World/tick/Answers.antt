@@ -1,0 +1,8 @@
+use Rattle.step_core.specs.View.{world_in}
+use Rattle.step_core.proofs.Steps.{tick_kept}
+use Rattle.step_core.proofs.worlds.World.tick.Goals as goal
+
+pub invariant_of-self : goal.invariant_of-self
+invariant_of-self c =
+    tick_kept (world_in c.self.inside) _ c.args.now c.tick.result c.self.invariant
+    (c.tick.ensures c.self.inside.words.items (world_in c.self.inside).seats c.self.inside.places.items)
