@@ -22,24 +22,24 @@ no_sign c cs h e =
     let bound : IsInRange 48 57 c = digit_from_value c digits.0 in
     omega (arith, bound, e)
 
-past_it : (n : ℕ) → (n < 2 ^ 32 → ⊥) → (n < 2 ^ 32) ⊎ (2 ^ 32 ≤ n) → 2 ^ 32 ≤ n
+past_it : (n : ℕ) → (n < 2 ^ 64 → ⊥) → (n < 2 ^ 64) ⊎ (2 ^ 64 ≤ n) → 2 ^ 64 ≤ n
 past_it n never (inl lt) = absurd (never lt)
 past_it n never (inr le) = le
 
 parsed_by : {E : Type 0} (word : List ℕ) (r : Result ℕ E) → is_numeral word ≡ true → 0 < length word → list_all is_ascii_digit word ≡ true
-    → OkIff r ((list_all is_ascii_digit word ≡ true) × (0 < length word) × (digits_value 10 word < 2 ^ 32)) (digits_value 10 word) → result_ok r ≡ number_from word
-parsed_by word (Ok x) is long all h = rw (is, lt-ltb (digits_value 10 word) (2 ^ 32) h.0.2, h.1) refl
+    → OkIff r ((list_all is_ascii_digit word ≡ true) × (0 < length word) × (digits_value 10 word < 2 ^ 64)) (digits_value 10 word) → result_ok r ≡ number_from word
+parsed_by word (Ok x) is long all h = rw (is, lt-ltb (digits_value 10 word) (2 ^ 64) h.0.2, h.1) refl
 parsed_by word (Err e) is long all h =
-    let past : 2 ^ 32 ≤ digits_value 10 word = past_it (digits_value 10 word) (λ lt. h (all, long, lt)) (cases_lt (digits_value 10 word) (2 ^ 32)) in
-    rw (is, le-ltb (digits_value 10 word) (2 ^ 32) past) refl
+    let past : 2 ^ 64 ≤ digits_value 10 word = past_it (digits_value 10 word) (λ lt. h (all, long, lt)) (cases_lt (digits_value 10 word) (2 ^ 64)) in
+    rw (is, le-ltb (digits_value 10 word) (2 ^ 64) past) refl
 
-pub parsed : {E : Type 0} (word : List ℕ) (r : Result ℕ E) → is_numeral word ≡ true → ParsesUnsigned 32 10 word r → result_ok r ≡ number_from word
+pub parsed : {E : Type 0} (word : List ℕ) (r : Result ℕ E) → is_numeral word ≡ true → ParsesUnsigned 64 10 word r → result_ok r ≡ number_from word
 parsed [] r is p = absurd (cc)
 parsed (c ∷ cs) r is p =
     let long : 0 < length (c ∷ cs) = omega arith in
     let all : list_all is_ascii_digit (c ∷ cs) ≡ true = (and_parts _ _ is).1 in
     let ne : c ≢ 43 = no_sign c cs all in
-    parsed_by (c ∷ cs) r is long all (parse_plain own 32 (c ∷ cs) r p ne)
+    parsed_by (c ∷ cs) r is long all (parse_plain own 64 (c ∷ cs) r p ne)
 
 only_zero : (c : ℕ) (cs : List ℕ) → c ≡ 48 → (eqb (length cs) 0 ≡ true) ⊎ (not (eqb c 48) ≡ true) → length (c ∷ cs) ≡ 1
 only_zero c cs e (inl one) = let none : length cs ≡ 0 = eqb-true _ _ one in omega arith
@@ -52,13 +52,13 @@ numeral_spelled (c ∷ cs) form small =
     let parts = and_parts _ _ form in
     decimal-digits_value own (c ∷ cs) parts.1 long (λ zero_first. only_zero c cs zero_first (or_cases _ _ parts.0)) small
 
-pub number_takes : (word : List ℕ) (n : ℕ) → number_from word ≡ Some n → (word ≡ decimal n) × (n < 2 ^ 32)
+pub number_takes : (word : List ℕ) (n : ℕ) → number_from word ≡ Some n → (word ≡ decimal n) × (n < 2 ^ 64)
 number_takes word n e =
     let found = cond_some _ _ _ e in
     let tests = and_parts (is_numeral word) _ found.0 in
-    let small : digits_value 10 word < 2 ^ 32 = ltb-true _ _ tests.1 in
+    let small : digits_value 10 word < 2 ^ 64 = ltb-true _ _ tests.1 in
     let wide : digits_value 10 word < 2 ^ 64 = omega (arith, small) in
-    (subst (λ (m : ℕ). word ≡ decimal m) found.1 (sym (numeral_spelled word tests.0 wide)), subst (λ (m : ℕ). m < 2 ^ 32) found.1 small)
+    (subst (λ (m : ℕ). word ≡ decimal m) found.1 (sym (numeral_spelled word tests.0 wide)), subst (λ (m : ℕ). m < 2 ^ 64) found.1 small)
 
 numeral_by : (n : ℕ) (ds : List ℕ) → 0 < length ds → list_all is_ascii_digit ds ≡ true → (0 < n → 48 < get_or ds 0 0) → (n ≡ 0 → length ds ≡ 1) → is_numeral ds ≡ true
 numeral_by n [] long all first none = absurd (omega arith)
@@ -74,8 +74,8 @@ one_digit n e = let small : n < 10 = omega arith in rw (decimal_digit n small) r
 pub is_numeral_decimal : (n : ℕ) → n < 2 ^ 64 → is_numeral (decimal n) ≡ true
 is_numeral_decimal n small = numeral_by n (decimal n) (decimal_nonempty n small) (digits_decimal own n small) (λ above. first_decimal n above small) (one_digit n)
 
-pub number_again : (n : ℕ) → n < 2 ^ 32 → number_from (decimal n) ≡ Some n
+pub number_again : (n : ℕ) → n < 2 ^ 64 → number_from (decimal n) ≡ Some n
 number_again n small =
     let wide : n < 2 ^ 64 = omega (arith, small) in
     let value : digits_value 10 (decimal n) ≡ n = digits_value-decimal own n wide in
-    rw (is_numeral_decimal n wide, value, lt-ltb n (2 ^ 32) small) refl
+    rw (is_numeral_decimal n wide, value, lt-ltb n (2 ^ 64) small) refl

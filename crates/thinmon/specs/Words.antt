@@ -24,9 +24,9 @@ abbrev pub is_signed_numeral : List ℕ → Bool
 is_signed_numeral [] = false
 is_signed_numeral (c ∷ cs) = if c == 45 then (not (slice_index cs 0 == 48) && is_numeral cs) else is_numeral (c ∷ cs)
 
--- the number of 32 bits that a word is
+-- the number of 64 bits that a word is
 abbrev pub number_from : List ℕ → Option ℕ
-number_from word = if is_numeral word && nat_lt (digits_value 10 word) (2 ^ 32) then Some (digits_value 10 word) else None
+number_from word = if is_numeral word && nat_lt (digits_value 10 word) (2 ^ 64) then Some (digits_value 10 word) else None
 
 -- the upper-case hexadecimal digit of a number below 16
 abbrev pub hex_digit : ℕ → ℕ

@@ -9,7 +9,7 @@ ghost use Rattle.thinmon.specs.Words.{hex_digit, is_numeral, is_signed_numeral, 
 
 /// The number that a word is, where it is at most `most`: decimal digits with no leading zero.
 #[tactic(auto, using(crate::proofs::Digits::number_takes, crate::proofs::Digits::number_again))]
-pub fn number_in(word: &str, most: u32) -> Option<u32>
+pub fn number_in(word: &str, most: u64) -> Option<u64>
     ensures spelled { IfSome result (λ number. word.now ≡ decimal number) }
     ensures within { IfSome result (λ number. number ≤ most) }
     ensures all { (number : ℕ) → number ≤ most → word.now ≡ decimal number → result ≡ Some number }
@@ -18,7 +18,7 @@ pub fn number_in(word: &str, most: u32) -> Option<u32>
     if number <= most { Some(number) } else { None }
 }
 
-fn number_of(word: &str) -> Option<u32>
+fn number_of(word: &str) -> Option<u64>
     ensures { result ≡ number_from word.now }
 {
     if may_be_numeral(word.as_bytes()) {

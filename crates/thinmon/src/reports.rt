@@ -45,6 +45,11 @@ fn put_step(
             let name = names.name_of_thread(thread);
             writeln!(report, "begin {name}")
         }
+        Step::Expire { thread } => {
+            let name = names.name_of_thread(thread);
+            writeln!(report, "expire {name}")
+        }
+        Step::Tick { now } => writeln!(report, "tick {now}"),
         Step::Go { thread } => {
             let name = names.name_of_thread(thread);
             write!(report, "go {name} ")?;

@@ -16,10 +16,10 @@ use std::str;
 use step_core::Step;
 
 /// The most fat monitors that a world has.
-const MOST_MONITORS: u32 = 8_388_608;
+const MOST_MONITORS: u64 = 8_388_608;
 
 /// The most indices that a world has.
-const MOST_INDICES: u32 = 32_767;
+const MOST_INDICES: u64 = 32_767;
 
 /// The most objects that a script declares.
 const MOST_OBJECTS: usize = 65_535;
@@ -57,7 +57,7 @@ impl Script {
         }
         Some(Script {
             names: Names::new(alloc),
-            monitors,
+            monitors: monitors as u32,
             indices: indices as u16,
             lows: Vec::new(alloc),
             steps: Vec::new(alloc),
@@ -115,22 +115,40 @@ impl Script {
                 let Some(thread) = self.names.thread(thread)? else {
                     return Ok(None);
                 };
-                let call = match (object, millis, nanos) {
-                    (None, ..) => call_without_object(verb),
-                    (Some(object), None, _) => call_with(&self.names, verb, object),
-                    (Some(object), Some(millis), Some(nanos)) if verb == "wait" => wait_for(
-                        &self.names,
-                        object,
-                        millis,
-                        nanos,
-                    ),
-                    _ => None,
-                };
+                let call = self.call_in(verb, [object, millis, nanos])?;
                 Ok(call.map(|call| Step::Begin { thread, call }))
             }
             [Some("go"), Some(thread), None, ..] => {
                 let thread = self.names.thread(thread)?;
                 Ok(thread.map(|thread| Step::Go { thread }))
+            }
+            [Some("expire"), Some(thread), None, ..] => {
+                let thread = self.names.thread(thread)?;
+                Ok(thread.map(|thread| Step::Expire { thread }))
+            }
+            [Some("tick"), Some(now), None, ..] => {
+                let now = number_in(now, u64::MAX);
+                Ok(now.map(|now| Step::Tick { now }))
+            }
+            _ => Ok(None),
+        }
+    }
+
+    /// The call that a verb and the words behind it are.
+    fn call_in(&mut self, verb: &str, words: [Option<&str>; 3]) -> Result<Option<Call>, Memory> {
+        match words {
+            [None, ..] => Ok(call_alone(verb)),
+            [Some(target), None, _] if verb == "interrupt" => {
+                let target = self.names.thread(target)?;
+                Ok(target.map(|target| Call::Interrupt(target)))
+            }
+            [Some(target), None, _] if verb == "isinterrupted" => {
+                let target = self.names.thread(target)?;
+                Ok(target.map(|target| Call::IsInterrupted(target)))
+            }
+            [Some(object), None, _] => Ok(call_with(&self.names, verb, object)),
+            [Some(object), Some(millis), Some(nanos)] if verb == "wait" => {
+                Ok(wait_for(&self.names, object, millis, nanos))
             }
             _ => Ok(None),
         }
@@ -168,10 +186,11 @@ fn wait_for(names: &Names, object: &str, millis: &str, nanos: &str) -> Option<Ca
 }
 
 /// The call that a verb is which stands alone.
-fn call_without_object(verb: &str) -> Option<Call>
+fn call_alone(verb: &str) -> Option<Call>
     ensures { result ≡ call_alone verb.now }
 {
     match verb {
+        "interrupted" => Some(Call::Interrupted),
         "end" => Some(Call::End),
         _ => None,
     }

@@ -5,6 +5,7 @@ mod edges;
 mod endings;
 mod examples;
 mod faults;
+mod interrupts;
 mod memory;
 mod numbers;
 mod plays;

@@ -63,7 +63,7 @@ fn a_script_that_is_cut(rt: HostRuntime) {
 
 #[test]
 fn later_lines(rt: HostRuntime) {
-    let scripts: [(&[u8], u64); 40] = [
+    let scripts: [(&[u8], u64); 52] = [
         (b"world 4 4\nworld 4 4\n", 2),
         (b"world 4 4\n\n", 2),
         (b"world 4 4\nobject a a5\n", 2),
@@ -101,8 +101,20 @@ fn later_lines(rt: HostRuntime) {
         (b"world 4 4\nbegin x End\n", 2),
         (b"world 4 4\nbegin end\n", 2),
         (b"world 4 4\nend x\n", 2),
-        (b"world 4 4\nexpire x\n", 2),
-        (b"world 4 4\ntick 5\n", 2),
+        (b"world 4 4\nexpire\n", 2),
+        (b"world 4 4\nexpire x y\n", 2),
+        (b"world 4 4\nexpire X\n", 2),
+        (b"world 4 4\ntick\n", 2),
+        (b"world 4 4\ntick 05\n", 2),
+        (b"world 4 4\ntick -1\n", 2),
+        (b"world 4 4\ntick 5 6\n", 2),
+        (b"world 4 4\ntick 18446744073709551616\n", 2),
+        (b"world 4 4\nbegin x interrupt\n", 2),
+        (b"world 4 4\nbegin x interrupt 1y\n", 2),
+        (b"world 4 4\nbegin x interrupt y 0 0\n", 2),
+        (b"world 4 4\nbegin x interrupted y\n", 2),
+        (b"world 4 4\nbegin x isinterrupted\n", 2),
+        (b"world 4 4\nbegin x isInterrupted y\n", 2),
         (b"world 4 4\nattach \xFF\n", 2),
     ];
     for (script, line) in scripts {
