@@ -26,6 +26,7 @@ pub mod Patient
 pub mod Lingering
 pub mod Bytes
 pub mod Sparing
+pub mod Steady
 pub mod Lasting
 pub mod Waiters
 pub mod Outcomes

@@ -17,7 +17,8 @@ use Rattle.step_core.specs.declared.moves.Move.{Move}
 use Rattle.step_core.specs.declared.moves.Move.TheVariants as move
 use Rattle.step_core.specs.Machine.{State, Thread, Steps, Is, Calls, interrupted, stirred, flag_back, reply_of}
 use Rattle.step_core.specs.Lasting.{IsBack}
-use Rattle.step_core.proofs.Lasting.{Stays, Relocked, Returned, Leaves, one_step, set_stays, reason, relocked_set}
+use Rattle.step_core.proofs.Steady.{Stays, Relocked, Returned, Leaves, one_step}
+use Rattle.step_core.proofs.Lasting.{set_stays, reason, relocked_set}
 
 -- a thread does one thing
 one_thing : (s : State) (u v : ThreadId) (f g : Bool) (x y : Doing) → u.0 ≡ v.0 → Is s u f x → Is s v g y → ◌≡◌ {A = Thread} (record { flag = f; act = x }) (record { flag = g; act = y })
