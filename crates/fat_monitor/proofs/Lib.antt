@@ -10,3 +10,4 @@ pub mod LineEffects
 pub mod Flags
 pub mod Effects
 pub mod Steps
+pub mod Removals

@@ -1,18 +1,12 @@
 -- What an action changes of the monitors, and what it leaves.
-use Rattle.std.specs.Prelude.{◌≡◌, ◌≢◌, ◌⊎◌, ◌↔◌, ℕ, ◌<◌, ◌≤◌, ◌+◌, ◌-◌, ◌==◌, Bool, true, false, if◌then◌else◌, nat_lt, List, [], ◌∷◌, length, slice_get, slice_index_or, slice_set, Contains, Option, Some, None, IsSome, is_some}
-use Rattle.std.specs.Option.{option_map, unwrap_or}
-use Rattle.std.specs.Ordering.{nat_cmp}
-use Rattle.std.specs.Cmp.{nat_cmp_total}
-use Rattle.std.specs.FinMap as map
-use Rattle.std.specs.FinMap.{get-empty, len-insert, len-remove, empty_of_len}
-use Rattle.std.proofs.Common.{refl, sym, ap, ◌∙◌, inl, inr, arith, length-set, get_or-set_same, get_or-set_other}
-use Rattle.std.proofs.lemmas.Bool.{cases_eq, cases_lt, eq-eqb, ne_eqb, cond-true, cond-false}
+use Rattle.std.specs.Prelude.{◌≡◌, ◌≢◌, ◌⊎◌, ℕ, ◌<◌, ◌≤◌, ◌+◌, ◌-◌, ◌==◌, Bool, true, false, if◌then◌else◌, nat_lt, List, [], ◌∷◌, length, slice_index_or, slice_set, Option, Some, None, IsSome, is_some}
+use Rattle.std.proofs.Common.{refl, sym, ap, ◌∙◌, inl, inr, length-set, get_or-set_same, get_or-set_other}
+use Rattle.std.proofs.lemmas.Bool.{cases_eq, cases_lt}
 use Rattle.std.proofs.lemmas.List.{set_past}
 use Rattle.std.proofs.lemmas.Option.{same_Some}
 use Rattle.lock_word.specs.declared.ThreadId.{ThreadId}
 use Rattle.wait_lines.specs.declared.Role.{Role}
 use Rattle.wait_lines.specs.declared.Role.TheVariants.{Entry, Waiting as WaitSet}
-use Rattle.wait_lines.specs.Lines.{Key, key}
 use Rattle.fat_monitor.specs.declared.actions.Post.{Post}
 use Rattle.fat_monitor.specs.declared.actions.Post.TheVariants.{Out, Entering, Waiting, Back, Granted}
 use Rattle.fat_monitor.specs.declared.actions.Why.{Why}
@@ -20,9 +14,9 @@ use Rattle.fat_monitor.specs.declared.actions.Why.TheVariants.{Notified, Interru
 use Rattle.fat_monitor.specs.declared.actions.Action.{Action}
 use Rattle.fat_monitor.specs.declared.actions.Action.TheVariants as action
 use Rattle.fat_monitor.specs.declared.monitors.Monitor.{Monitor}
-use Rattle.fat_monitor.specs.FatState.{FatState, IsSound, IsProper, IsAttached, IsHeld, monitor_at, unbound, post_of, post_at, thread_count, line_of, first_of, with_owner, with_post, with_flag, with_thread, without_thread, flag_at, flag_of, place_of, is_owned_by, owns_one}
+use Rattle.fat_monitor.specs.FatState.{FatState, IsSound, monitor_at, unbound, post_of, post_at, line_of, first_of, with_owner, with_post, with_flag, without_thread, flag_at, flag_of, is_owned_by, owns_one}
 use Rattle.fat_monitor.proofs.WaitSets.{wait_set-queued, monitors-all_queued}
-use Rattle.fat_monitor.specs.Acting.{Outcome, acted, entered, exited, waited, notified, collected, are_good, handed_on, all_removed, parked, removed, sent_back, granted, settled, interrupted, asked, expired, reply_granted, holds_granted, MayAct}
+use Rattle.fat_monitor.specs.Acting.{Outcome, acted, entered, exited, waited, notified, collected, are_good, handed_on, all_removed, parked, removed, sent_back, granted, settled, interrupted, asked, expired, holds_granted}
 
 -- the monitor that an action names
 abbrev pub named : Action → Option ℕ

@@ -78,11 +78,24 @@ abbrev pub handed_on : FatState → ℕ → Option ThreadId → FatState
 handed_on f m None = with_owner f m None 0
 handed_on f m (Some u) = granted f m u (post_at f u) Entry
 
+-- u leaves the wait set of m with this post, and joins the end of the entry line
+abbrev pub rejoined : FatState → ThreadId → ℕ → Post → FatState
+rejoined f u m p = with_lines (with_post f u p) (joined (left f.standing.lines u m WaitSet) u m Entry)
+
+-- A monitor that nobody owns is handed on to the first of its entry line.
+abbrev pub handed_if_free : FatState → ℕ → Option ThreadId → FatState
+handed_if_free f m (Some owner) = f
+handed_if_free f m None = handed_on f m (first_of f m Entry)
+
+abbrev pub next_if_free : FatState → ℕ → Option ThreadId → Option ThreadId
+next_if_free f m (Some owner) = None
+next_if_free f m None = first_of f m Entry
+
 -- u leaves the wait set of m with this post: behind an owner it joins the end of the entry line. A monitor that
 -- nobody owns it gets at once: nobody stands in the entry line of such a monitor, so it would be the first there
--- to whom the monitor is handed on.
+-- to whom the monitor is handed on, as the law of removal says.
 abbrev pub sent_back : FatState → ThreadId → ℕ → Post → Option ThreadId → FatState
-sent_back f u m p (Some owner) = with_lines (with_post f u p) (joined (left f.standing.lines u m WaitSet) u m Entry)
+sent_back f u m p (Some owner) = rejoined f u m p
 sent_back f u m p None = granted f m u p WaitSet
 
 -- u, which has this post, leaves its wait set for this reason, and keeps its holds

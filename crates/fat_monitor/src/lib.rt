@@ -5,6 +5,7 @@
 #![tactic(auto)]
 
 mod actions;
+mod laws;
 mod monitors;
 mod posts;
 mod receipts;
@@ -14,6 +15,7 @@ mod tests;
 mod times;
 
 pub use actions::{ActFault, Action, Answer, Cause, Done, Post, Reply, Why};
+pub use laws::a_removed_thread_joins_the_entry_line;
 pub use monitors::{AttachFault, Backwards, Fats, Monitor};
 pub use receipts::Receipt;
 pub use times::are_good;

@@ -21,7 +21,7 @@ mod worlds;
 pub use events::{Atomic, Did, Fault, Step};
 pub use laws::{
     a_waiter_throws_or_keeps_its_interrupt, every_call_is_patient, every_list_of_steps_is_a_run,
-    every_list_of_steps_keeps_the_world, every_notified_thread_comes_back,
+    every_list_of_steps_keeps_the_world, no_notification_is_lost,
 };
 pub use moves::{Doing, Move};
 pub use places::Place;

@@ -1,5 +1,5 @@
 use Rattle.step_core.proofs.Reaching.{reached_notified, reached_interrupted}
-use Rattle.step_core.proofs.laws.every_notified_thread_comes_back.Goals as goal
+use Rattle.step_core.proofs.laws.no_notification_is_lost.Goals as goal
 
 pub returns-clause-notified : goal.returns-clause-notified
 returns-clause-notified c = reached_notified

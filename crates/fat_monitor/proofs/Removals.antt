@@ -1,0 +1,114 @@
+-- A thread that leaves its wait set joins the entry line, and a monitor that nobody owns is handed on to it.
+use Rattle.std.specs.Prelude.{◌≡◌, ℕ, true, false, Bool, not, cond, List, [], ◌∷◌, ◌++◌, slice_get, Contains, Option, Some, None}
+use Rattle.std.specs.Option.{unwrap_or}
+use Rattle.std.specs.Ordering.{nat_cmp, eq_by_cmp}
+use Rattle.std.specs.Cmp.{nat_cmp_total}
+use Rattle.std.specs.FinMap as map
+use Rattle.std.specs.FinMap.{same_map, get-insert, nat_cmp-IsAntisymmetric}
+use Rattle.std.proofs.Common.{refl, sym, ap, ◌∙◌}
+use Rattle.lock_word.specs.declared.ThreadId.{ThreadId}
+use Rattle.wait_lines.specs.declared.Role.TheVariants.{Entry, Waiting as WaitSet}
+use Rattle.wait_lines.specs.Lines.{LineMap, line, with_line, without, joined, left}
+use Rattle.wait_lines.proofs.LineLemmas.{key-other_role, line-with_line_same, line-with_line_other, with_line-with_line, with_line-line, IsFilled-with_line}
+use Rattle.wait_lines.proofs.ThreadLemmas.{is_same, Contains-cons_first}
+use Rattle.fat_monitor.specs.declared.actions.Post.{Post}
+use Rattle.fat_monitor.specs.declared.actions.Post.TheVariants.{Out, Waiting, Back, Granted}
+use Rattle.fat_monitor.specs.declared.actions.Why.{Why}
+use Rattle.fat_monitor.specs.declared.actions.Why.TheVariants as why
+use Rattle.fat_monitor.specs.FatState.{FatState, IsSound, monitor_at, post_of, post_at, first_of, with_flag}
+use Rattle.fat_monitor.specs.Acting.{removed, served, rejoined, granted, handed_on, handed_if_free, next_if_free, sent_back, served_by, reply_granted}
+use Rattle.fat_monitor.proofs.SoundSteps.{IsSound-flags}
+use Rattle.fat_monitor.proofs.SoundGrants.{granted-is, granted_flags, granted_with}
+use Rattle.fat_monitor.proofs.LineEffects.{post-with_post_same}
+
+written_twice : {X : Type 0} (b : Bool) (x y z : X) → cond b x (cond b y z) ≡ cond b x z
+written_twice true x y z = refl
+written_twice false x y z = refl
+
+-- of two posts that are written for a thread the later stays
+insert_again : {X : Type 0} (m : map.FinMap nat_cmp X) (k : ℕ) (v w : X) → map.insert (map.insert m k v) k w ≡ map.insert m k w
+insert_again m k v w =
+    same_map nat_cmp_total nat_cmp-IsAntisymmetric _ _ (λ q.
+    get-insert nat_cmp_total (map.insert m k v) k w q
+    ∙ ap (λ o. cond (eq_by_cmp nat_cmp q k) (Some w) o) (get-insert nat_cmp_total m k v q)
+    ∙ written_twice (eq_by_cmp nat_cmp q k) (Some w) (Some v) (map.get m q)
+    ∙ sym (get-insert nat_cmp_total m k w q))
+
+-- a list that contains nobody is empty
+nobody_in : (ts : List ThreadId) → ((t : ThreadId) → Contains ts t → ⊥) → ts ≡ []
+nobody_in [] absent = refl
+nobody_in (t ∷ ts) absent = absurd (absent t (Contains-cons_first t ts t refl))
+
+-- a thread that was alone in a list leaves none there
+none_left : (u : ThreadId) → without u (u ∷ []) ≡ []
+none_left u = ap (λ b. cond (not b) (u ∷ []) []) (is_same u u refl)
+
+module _ (f : FatState) (u : ThreadId) (m n : ℕ) (sound : IsSound f) (free : (monitor_at f m).owner ≡ None) where
+  abbrev lines : LineMap
+  lines = left f.standing.lines u m WaitSet
+
+  -- nobody stands in the entry line of a monitor that nobody owns
+  no_line : line lines m Entry ≡ []
+  no_line =
+      line-with_line_other f.standing.lines m m WaitSet Entry (without u (line f.standing.lines m WaitSet)) (key-other_role m m WaitSet Entry (λ e. cc))
+      ∙ nobody_in (line f.standing.lines m Entry) (λ t h. let owned = sound.behind t m h in cc)
+
+  -- so whoever joins it is alone in it, and when it leaves, the lines are as before
+  alone : line (joined lines u m Entry) m Entry ≡ u ∷ []
+  alone = line-with_line_same lines m Entry (line lines m Entry ++ u ∷ []) ∙ ap (λ ts. ts ++ u ∷ []) no_line
+
+  left_again : left (joined lines u m Entry) u m Entry ≡ lines
+  left_again =
+      with_line-with_line lines m Entry (line lines m Entry ++ u ∷ []) (without u (line (joined lines u m Entry) m Entry))
+      ∙ ap (λ ts. with_line lines m Entry ts) (ap (λ ts. without u ts) alone ∙ none_left u ∙ sym no_line)
+      ∙ with_line-line lines m Entry (IsFilled-with_line f.standing.lines m WaitSet (without u (line f.standing.lines m WaitSet)) sound.orderly.filled)
+
+  -- the grant of what is to be the thread's post, where it stands in the entry line and where it still waits
+  abbrev granted_over : Post → map.FinMap nat_cmp Post → LineMap → map.FinMap nat_cmp Bool → FatState
+  granted_over p threads ls flags = record (granted_with f m u p WaitSet flags) { threads = threads; standing = record f.standing { lines = ls } }
+
+  same_flags : (w : Why) → granted_flags (rejoined f u m (Back m n w)) u (Back m n w) ≡ granted_flags f u (Back m n w)
+  same_flags why.Notified = refl
+  same_flags why.Interrupted = refl
+  same_flags why.Elapsed = refl
+
+  granted_rejoined : (w : Why) → granted (rejoined f u m (Back m n w)) m u (Back m n w) Entry ≡ granted f m u (Back m n w) WaitSet
+  granted_rejoined w =
+      granted-is (rejoined f u m back) m u back Entry
+      ∙ ap (λ threads. granted_over back threads (left (joined lines u m Entry) u m Entry) (granted_flags (rejoined f u m back) u back)) (insert_again f.threads u.0 back (Granted (reply_granted back)))
+      ∙ ap (λ ls. granted_over back (map.insert f.threads u.0 (Granted (reply_granted back))) ls (granted_flags (rejoined f u m back) u back)) left_again
+      ∙ ap (λ flags. granted_with f m u back WaitSet flags) (same_flags w) ∙ sym (granted-is f m u back WaitSet)
+    where
+      back : Post
+      back = Back m n w
+
+  -- the thread is first in the entry line then, and has its post
+  next_rejoined : (w : Why) → first_of (rejoined f u m (Back m n w)) m Entry ≡ Some u
+  next_rejoined w = ap (λ ts. slice_get ts 0) alone
+
+  post_rejoined : (w : Why) → post_at (rejoined f u m (Back m n w)) u ≡ Back m n w
+  post_rejoined w = ap (λ o. unwrap_or o Out) (post-with_post_same f u (Back m n w))
+
+  handed_rejoined : (w : Why) → granted f m u (Back m n w) WaitSet ≡ handed_on (rejoined f u m (Back m n w)) m (first_of (rejoined f u m (Back m n w)) m Entry)
+  handed_rejoined w =
+      sym (granted_rejoined w) ∙ ap (λ p. granted (rejoined f u m (Back m n w)) m u p Entry) (sym (post_rejoined w))
+      ∙ ap (λ o. handed_on (rejoined f u m (Back m n w)) m o) (sym (next_rejoined w))
+
+-- the law of removal
+pub removed_rejoins : (f : FatState) (u : ThreadId) (m n : ℕ) (d : Option ℕ) (w : Why) → IsSound f → post_of f u ≡ Some (Waiting m n d) → removed f u w (Waiting m n d) ≡ handed_if_free (rejoined f u m (Back m n w)) m (monitor_at f m).owner
+removed_rejoins f u m n d w sound here = by_owner (monitor_at f m).owner refl
+  where
+    by_owner : (o : Option ThreadId) → (monitor_at f m).owner ≡ o → sent_back f u m (Back m n w) o ≡ handed_if_free (rejoined f u m (Back m n w)) m o
+    by_owner None free = handed_rejoined f u m n sound free w
+    by_owner (Some v) owned = refl
+
+pub interrupted_rejoins : (f : FatState) (u : ThreadId) (m n : ℕ) (d : Option ℕ) → IsSound f → post_of f u ≡ Some (Waiting m n d) → removed (with_flag f u true) u why.Interrupted (Waiting m n d) ≡ handed_if_free (rejoined (with_flag f u true) u m (Back m n why.Interrupted)) m (monitor_at f m).owner
+interrupted_rejoins f u m n d sound here =
+    removed_rejoins (with_flag f u true) u m n d why.Interrupted (IsSound-flags f (map.insert f.flags u.0 true) sound) here
+
+pub served_next : (f : FatState) (u : ThreadId) (m n : ℕ) (d : Option ℕ) (w : Why) → IsSound f → post_of f u ≡ Some (Waiting m n d) → served f u (Waiting m n d) ≡ next_if_free (rejoined f u m (Back m n w)) m (monitor_at f m).owner
+served_next f u m n d w sound here = by_owner (monitor_at f m).owner refl
+  where
+    by_owner : (o : Option ThreadId) → (monitor_at f m).owner ≡ o → served_by u o ≡ next_if_free (rejoined f u m (Back m n w)) m o
+    by_owner None free = sym (next_rejoined f u m n sound free w)
+    by_owner (Some v) owned = refl
