@@ -1,4 +1,4 @@
--- What is written for causes, replies, actions and faults.
+-- What is written for causes, replies, actions and faults; and the numbers of causes.
 use Rattle.std.specs.Prelude.{ℕ, List, ◌++◌, codes}
 use Rattle.fat_monitor.specs.declared.actions.Cause.{Cause}
 use Rattle.fat_monitor.specs.declared.actions.Cause.TheVariants as cause
@@ -17,6 +17,13 @@ cause_name cause.Memory = codes "Memory"
 cause_name cause.TooDeep = codes "TooDeep"
 cause_name cause.StillOwner = codes "StillOwner"
 cause_name cause.NoThread = codes "NoThread"
+
+abbrev pub cause_number : Cause → ℕ
+cause_number cause.NoMonitor = 11
+cause_number cause.Memory = 12
+cause_number cause.TooDeep = 13
+cause_number cause.StillOwner = 14
+cause_number cause.NoThread = 15
 
 -- a refusal is written with its cause behind it
 abbrev pub reply_name : Reply → List ℕ

@@ -1,5 +1,7 @@
 //! What a thread may ask of a fat monitor, and what it is told.
 
+ghost use Rattle.std.specs.Prelude.{◌≡◌};
+
 use lock_word::ThreadId;
 use std::error::Error;
 use std::fmt;
@@ -180,6 +182,17 @@ impl fmt::Display for ActFault {
 }
 
 impl Error for ActFault {}
+
+impl Cause {
+    ghost use Rattle.fat_monitor.specs.Names.{cause_number};
+
+    /// The number of the cause.
+    pub fn number(self) -> u8
+        ensures { result ≡ cause_number self }
+    {
+        self as u8
+    }
+}
 
 impl fmt::Display for Cause {
     ghost use Rattle.std.specs.Prelude.{Some};

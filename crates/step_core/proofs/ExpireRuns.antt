@@ -27,7 +27,7 @@ use Rattle.step_core.specs.declared.places.Place.TheVariants.{Idle}
 use Rattle.step_core.specs.declared.moves.Move.TheVariants as move
 use Rattle.step_core.specs.declared.events.Atomic.TheVariants as atomic
 use Rattle.step_core.specs.declared.events.Did.{Did}
-use Rattle.step_core.specs.Machine.{State, Monitor, Run, held, with_monitor, Is, now_is, Unowned}
+use Rattle.step_core.specs.Machine.{State, Run, held, with_monitor, Is, now_is, Unowned}
 use Rattle.step_core.specs.WorldState.{WorldState, IsSound, place_at, lock_at}
 use Rattle.step_core.specs.Going.{gone, turns, silent}
 use Rattle.step_core.specs.Stepping.{Outcome as Stepped, moves_of, expired, expired_as, ticked}

@@ -2,7 +2,7 @@
 use Rattle.std.specs.Prelude.{◌≡◌, ◌≢◌, ◌⊎◌, ◌↔◌, ℕ, nat_lt, Option, Some, None, Result, Ok, Err}
 use Rattle.std.specs.Option.{unwrap_or}
 use Rattle.std.proofs.Common.{refl, ap, sym, ◌∙◌, inl, inr}
-use Rattle.std.proofs.lemmas.Bool.{cases_eq, cond_both, ltb-false}
+use Rattle.std.proofs.lemmas.Bool.{cases_eq, cond_both}
 use Rattle.lock_word.specs.declared.ThreadId.{ThreadId}
 use Rattle.thread_index.specs.Indices.{seat_of}
 use Rattle.wait_lines.proofs.ThreadLemmas.{same_thread}
@@ -21,12 +21,10 @@ use Rattle.fat_monitor.proofs.Effects.{post-with_post_same, length-acted, object
 use Rattle.step_core.specs.declared.moves.Move.TheVariants as move
 use Rattle.step_core.specs.declared.events.Atomic.TheVariants.{Label}
 use Rattle.step_core.specs.declared.events.Fault.TheVariants as fault
-use Rattle.step_core.specs.Machine.{Run}
 use Rattle.step_core.specs.WorldState.{WorldState, IsSound}
 use Rattle.step_core.specs.Going.{moved}
-use Rattle.step_core.specs.Stepping.{Outcome as Stepped, refused, accepted, expired, expired_as, ticked, moves_of}
+use Rattle.step_core.specs.Stepping.{Outcome as Stepped, refused, accepted, expired, expired_as, ticked}
 use Rattle.step_core.proofs.ExpireRuns.{expire_run, tick_run}
-use Rattle.step_core.specs.Shown.{shown}
 use Rattle.step_core.proofs.KeepsParts.{sound_fats}
 use Rattle.step_core.proofs.Endings.{Right}
 

@@ -10,7 +10,6 @@ use Rattle.thread_index.specs.Indices.{seat_of, holder_at}
 use Rattle.wait_lines.specs.declared.Role.TheVariants.{Waiting as WaitSet}
 use Rattle.fat_monitor.specs.declared.monitors.Monitor as fat
 use Rattle.fat_monitor.specs.declared.actions.Cause.TheVariants as cause
-use Rattle.fat_monitor.specs.declared.actions.Reply.{Reply}
 use Rattle.fat_monitor.specs.declared.actions.Reply.TheVariants as reply
 use Rattle.fat_monitor.specs.declared.actions.Answer.TheVariants as answer
 use Rattle.fat_monitor.specs.declared.actions.Why.TheVariants as why
@@ -30,7 +29,7 @@ use Rattle.step_core.specs.declared.places.Place.TheVariants.{Idle, Begun, Takin
 use Rattle.step_core.specs.declared.moves.Move.TheVariants as move
 use Rattle.step_core.specs.declared.events.Atomic.TheVariants as atomic
 use Rattle.step_core.specs.declared.events.Did.{Did}
-use Rattle.step_core.specs.Machine.{State, Thread, Monitor, Run, held, with_thread, with_monitor, Is, now_is, Unowned, stirred, interrupted}
+use Rattle.step_core.specs.Machine.{State, Thread, Run, held, with_thread, with_monitor, Is, now_is, Unowned, stirred, interrupted}
 use Rattle.step_core.specs.WorldState.{WorldState, IsSound, Stands, Fitting, place_at, lock_at, bound_by, IsPublished, is_direct}
 use Rattle.step_core.specs.Going.{gone, turns, replied, granted_and_replied}
 use Rattle.step_core.specs.Shown.{shown, doing_of, act_of, thread_of}

@@ -15,7 +15,7 @@ use Rattle.fat_monitor.specs.declared.actions.Post.TheVariants as post
 use Rattle.fat_monitor.specs.FatState.{post_of}
 use Rattle.fast_path.specs.declared.Call.{Call}
 use Rattle.step_core.specs.declared.moves.Doing.{Doing}
-use Rattle.step_core.specs.declared.moves.Doing.TheVariants.{Idle, Back, Has}
+use Rattle.step_core.specs.declared.moves.Doing.TheVariants.{Back, Has}
 use Rattle.step_core.specs.declared.moves.Move.{Move}
 use Rattle.step_core.specs.declared.moves.Move.TheVariants as move
 use Rattle.step_core.specs.declared.places.Place.{Place}
@@ -25,7 +25,7 @@ use Rattle.step_core.specs.declared.events.Fault.{Fault}
 use Rattle.step_core.specs.declared.events.Fault.TheVariants.{Memory, Parked}
 use Rattle.step_core.specs.declared.events.Step.{Step}
 use Rattle.step_core.specs.declared.events.Step.TheVariants as step
-use Rattle.step_core.specs.Machine.{State, Thread, Steps, Run, Is, interrupted, flag_back, reply_of}
+use Rattle.step_core.specs.Machine.{State, Thread, Steps, Run, Is, flag_back, reply_of}
 use Rattle.step_core.specs.WorldState.{WorldState, IsSound, place_at}
 use Rattle.step_core.specs.Stepping.{step_of, given, moves_of, world_after}
 use Rattle.step_core.specs.Shown.{shown, doing_of, act_of}

@@ -1,5 +1,5 @@
 -- What a world shows after a fat action, thread by thread and monitor by monitor.
-use Rattle.std.specs.Prelude.{◌≡◌, ℕ, true, false, ◌==◌, length, Option, Some, None, IsSome}
+use Rattle.std.specs.Prelude.{◌≡◌, ℕ, true, ◌==◌, length, Option, Some, None, IsSome}
 use Rattle.std.specs.Option.{option_map, unwrap_or}
 use Rattle.std.proofs.Common.{refl, ap, sym, ◌∙◌, get_or-set_same, get_or-set_other}
 use Rattle.std.proofs.Math.Path.{fun_ext}
@@ -12,15 +12,14 @@ use Rattle.fat_monitor.specs.declared.monitors.Monitor as fat
 use Rattle.fat_monitor.specs.declared.actions.Post.{Post}
 use Rattle.fat_monitor.specs.declared.actions.Post.TheVariants.{Out}
 use Rattle.fat_monitor.specs.FatState.{FatState, post_of, post_at}
-use Rattle.step_core.specs.declared.moves.Doing.{Doing}
 use Rattle.step_core.specs.declared.places.Place.{Place}
 use Rattle.step_core.specs.declared.places.Place.TheVariants.{Idle}
 use Rattle.step_core.specs.declared.events.Did.{Did}
 use Rattle.step_core.specs.Machine.{State, Thread, Monitor}
 use Rattle.step_core.specs.WorldState.{WorldState, IsSound, place_at, lock_at}
 use Rattle.step_core.specs.Going.{gone, turns}
-use Rattle.step_core.specs.Shown.{shown, monitor_of, act_of, thread_of}
-use Rattle.step_core.proofs.Shows.{ActsAlike, does, thread_in}
+use Rattle.step_core.specs.Shown.{shown, monitor_of, thread_of}
+use Rattle.step_core.proofs.Shows.{ActsAlike, thread_in}
 use Rattle.step_core.proofs.Frames.{within}
 
 -- threads with one number are one thread

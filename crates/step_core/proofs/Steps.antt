@@ -4,7 +4,7 @@ use Rattle.lock_word.specs.declared.ObjectId.{ObjectId}
 use Rattle.step_core.proofs.Endings.{Right, ended_right}
 use Rattle.step_core.proofs.Attaching.{attached_right}
 use Rattle.step_core.proofs.Expiring.{expired_sound, expired_right, ticked_right}
-use Rattle.std.specs.Prelude.{◌≡◌, ℕ, ◌-◌, ◌<◌, Bool, true, if◌then◌else◌, nat_lt, List, [], ◌∷◌, ◌++◌, length, Option, Some, None, Result, ◌+◌, ◌≤◌}
+use Rattle.std.specs.Prelude.{◌≡◌, ℕ, ◌<◌, Bool, true, if◌then◌else◌, nat_lt, List, [], ◌∷◌, ◌++◌, length, Option, Some, None, Result, ◌≤◌}
 use Rattle.std.specs.Option.{unwrap_or}
 use Rattle.std.proofs.Common.{arith, refl, sym, ◌∙◌, subst, ap}
 use Rattle.std.proofs.lemmas.Bool.{cond_both, ltb-true, ltb-false}

@@ -1,7 +1,7 @@
 -- What becomes of a waiter that is both notified and interrupted (JLS SE 8, 17.2.4), move by move of the machine.
-use Rattle.std.specs.Prelude.{◌≡◌, ◌⊎◌, ℕ, Bool, true, false, if◌then◌else◌, ◌==◌, Option, Some, None}
+use Rattle.std.specs.Prelude.{◌≡◌, ◌⊎◌, ℕ, Bool, true, false, Option, Some, None}
 use Rattle.std.proofs.Common.{refl, ap, sym, ◌∙◌, subst, inl, inr}
-use Rattle.std.proofs.lemmas.Bool.{eq-eqb, ne_eqb, cases_eq}
+use Rattle.std.proofs.lemmas.Bool.{eq-eqb, ne_eqb}
 use Rattle.std.proofs.lemmas.Option.{same_Some}
 use Rattle.lock_word.specs.declared.ThreadId.{ThreadId}
 use Rattle.lock_word.specs.declared.ObjectId.{ObjectId}
@@ -17,7 +17,7 @@ use Rattle.step_core.specs.declared.moves.Move.{Move}
 use Rattle.step_core.specs.declared.moves.Move.TheVariants as move
 use Rattle.step_core.specs.Machine.{State, Thread, Steps, Is, Calls, interrupted, stirred, flag_back, reply_of}
 use Rattle.step_core.specs.Lasting.{IsBack}
-use Rattle.step_core.proofs.Steady.{Stays, Relocked, Returned, Leaves, one_step}
+use Rattle.step_core.proofs.Steady.{Leaves, one_step}
 use Rattle.step_core.proofs.Lasting.{set_stays, reason, relocked_set}
 
 -- a thread does one thing

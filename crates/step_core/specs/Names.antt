@@ -1,4 +1,4 @@
--- What is written for a fault.
+-- What is written for a fault, and its number.
 use Rattle.std.specs.Prelude.{ℕ, List, codes}
 use Rattle.step_core.specs.declared.events.Fault.{Fault}
 use Rattle.step_core.specs.declared.events.Fault.TheVariants.{NoIndex, Memory, Known, NoThread, NoObject, InCall, NotCalling, Parked, NotDue, Backwards}
@@ -14,3 +14,15 @@ fault_name NotCalling = codes "NotCalling"
 fault_name Parked = codes "Parked"
 fault_name NotDue = codes "NotDue"
 fault_name Backwards = codes "Backwards"
+
+abbrev pub fault_number : Fault → ℕ
+fault_number NoIndex = 1
+fault_number Memory = 2
+fault_number Known = 3
+fault_number NoThread = 4
+fault_number NoObject = 5
+fault_number InCall = 6
+fault_number NotCalling = 7
+fault_number Parked = 8
+fault_number NotDue = 9
+fault_number Backwards = 10

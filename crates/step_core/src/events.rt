@@ -1,5 +1,7 @@
 //! Steps, what they did, and why they were refused.
 
+ghost use Rattle.std.specs.Prelude.{◌≡◌};
+
 use crate::Move;
 use fast_path::Call;
 use fat_monitor::{Action, Answer, Cause, Reply};
@@ -102,6 +104,17 @@ pub enum Fault {
     NotDue = 9,
     /// The moment would fall.
     Backwards = 10,
+}
+
+impl Fault {
+    ghost use Rattle.step_core.specs.Names.{fault_number};
+
+    /// The number by which a report names the fault.
+    pub fn number(self) -> u8
+        ensures { result ≡ fault_number self }
+    {
+        self as u8
+    }
 }
 
 impl fmt::Display for Fault {

@@ -20,7 +20,7 @@ pub fn report_of(alloc: Global, script: &Script) -> Result<String, Memory> {
         }
         match answer {
             Ok(did) => put_step(&mut report, &script.names, &world, *step, did)?,
-            Err(fault) => writeln!(report, "fault {} {fault}", fault as u8)?,
+            Err(fault) => writeln!(report, "fault {} {fault}", fault.number())?,
         }
     }
     put_objects(alloc, &mut report, &script.names, &world)?;

@@ -9,6 +9,7 @@ mod interrupts;
 mod memory;
 mod numbers;
 mod plays;
+mod wait_sets;
 mod words;
 
 use crate::ends::{ReaderSource, WriterSink};

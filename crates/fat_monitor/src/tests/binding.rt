@@ -110,6 +110,6 @@ fn causes_have_numbers(rt: HostRuntime) {
         (Cause::NoThread, 15),
     ];
     for (cause, number) in rows {
-        assert_eq!(rt; cause as u8, number);
+        assert_eq!(rt; cause.number(), number);
     }
 }

@@ -127,7 +127,7 @@ fn faults_have_numbers_and_names(rt: HostRuntime) -> Result<(), Fail> {
         (Fault::Backwards, 10, "Backwards"),
     ];
     for (fault, number, name) in faults {
-        assert_eq!(rt; fault as u8, number);
+        assert_eq!(rt; fault.number(), number);
         assert_eq!(rt; format!(in rt.alloc(); "{fault}")?.as_str(), name);
     }
     Ok(())
