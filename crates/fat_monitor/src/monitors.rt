@@ -1,14 +1,12 @@
 //! The fat monitors and the threads that may use them.
 
-ghost use Rattle.std.specs.Prelude.{true, false, ◌≡◌, ℕ, ◌+◌, ◌-◌, ◌<◌, ◌≤◌, ◌↔◌, IfOk, IfErr, OnErr, IsErrOf, OnOk, length, [], Some, None, IsSome, Option, Ok, unwrap_or};
+ghost use Rattle.std.specs.Prelude.{false, ◌≡◌, ◌-◌, ◌<◌, ◌≤◌, ◌↔◌, IfOk, IfErr, OnErr, IsErrOf, OnOk, length, [], Some, None, Option, Ok};
 ghost use Rattle.std.specs.FinMap as map;
 ghost use Rattle.lock_word.specs.declared.ThreadId.{ThreadId};
-ghost use Rattle.wait_lines.specs.declared.Role.{Role};
 ghost use Rattle.fat_monitor.specs.declared.actions.Action.{Action};
 ghost use Rattle.fat_monitor.specs.declared.actions.Post.{Post};
-ghost use Rattle.wait_lines.specs.Lines.{key};
-ghost use Rattle.fat_monitor.specs.FatState.{FatState, opened, post_at, post_of, flag_of, IsAttached, thread_count, with_thread, without_thread, with_moment, bound_with, refusal, owns_one, monitor_at, object_at, is_owned_by, line_of, first_of, place_of, StandBehindOwners, ComesBack};
-ghost use Rattle.fat_monitor.specs.Acting.{acted, NamesBound, MayAct, handed_on, granted, removed, served};
+ghost use Rattle.fat_monitor.specs.FatState.{FatState, opened, post_of, flag_of, IsAttached, thread_count, with_thread, without_thread, with_moment, bound_with, refusal, owns_one, monitor_at, object_at, StandBehindOwners};
+ghost use Rattle.fat_monitor.specs.Acting.{acted, NamesBound, MayAct};
 
 mod acts;
 

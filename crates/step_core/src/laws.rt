@@ -1,7 +1,7 @@
 //! The laws of every list of steps: of any number of threads, in any interleaving, and whatever memory
 //! is granted. A list of steps pairs each step with whether the growth that it asks for is granted.
 
-ghost use Rattle.std.specs.Prelude.{◌≡◌, ◌≢◌, ◌⊎◌, ℕ, ◌+◌, ◌<◌, List, length, Bool, true, false, Option, Some, None};
+ghost use Rattle.std.specs.Prelude.{◌≡◌, ◌⊎◌, ℕ, ◌+◌, ◌<◌, List, length, Bool, true, false, Option, Some, None};
 ghost use Rattle.lock_word.specs.declared.ThreadId.{ThreadId};
 ghost use Rattle.lock_word.specs.declared.ObjectId.{ObjectId};
 ghost use Rattle.fat_monitor.specs.declared.actions.Reply.{Reply};

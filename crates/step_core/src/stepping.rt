@@ -1,13 +1,13 @@
 //! Steps over the parts of a world.
 
-ghost use Rattle.std.specs.Prelude.{◌≡◌, ℕ, ◌+◌, ◌-◌, ◌<◌, ◌≤◌, List, length, Bool, true, false, Option, IsSome, is_some, count_by, Some, Ok};
+ghost use Rattle.std.specs.Prelude.{◌≡◌, ℕ, ◌-◌, ◌<◌, ◌≤◌, List, length, Bool, true, false, Option, IsSome, is_some, count_by, Some, Ok};
 ghost use Rattle.lock_word.specs.declared.ThreadId.{ThreadId};
 ghost use Rattle.lock_word.specs.declared.Word.{Word};
 ghost use Rattle.thread_index.specs.Indices.{seat_of, free_seat};
 ghost use Rattle.fat_monitor.specs.declared.actions.Post.TheVariants.{Out};
 ghost use Rattle.fat_monitor.specs.FatState.{FatState, IsAttached, post_of, post_at, thread_count, owns_one};
 ghost use Rattle.step_core.specs.WorldState.{IsSound};
-ghost use Rattle.step_core.specs.Stepping.{Outcome, attached, begun, first_place, went, ended, gathered_by, expired, ticked};
+ghost use Rattle.step_core.specs.Stepping.{attached, begun, first_place, went, ended, gathered_by, expired, ticked};
 ghost use Rattle.step_core.specs.Parts.{world_of, IsBusyAt};
 ghost use Rattle.step_core.specs.declared.places.Place.{Place};
 

@@ -1,8 +1,8 @@
 //! What a Go does at each place in a call: one function for each kind of atomic step.
 
-ghost use Rattle.std.specs.Prelude.{Some, IsSome, ◌≡◌, ℕ, ◌+◌, ◌-◌, ◌<◌, ◌≤◌, List, length, Bool, true, false};
+ghost use Rattle.std.specs.Prelude.{Some, IsSome, ◌≡◌, ◌+◌, ◌-◌, ◌<◌, ◌≤◌, List, length, Bool, true, false};
 ghost use Rattle.lock_word.specs.declared.Word.{Word};
-ghost use Rattle.lock_word.specs.Layout.{Fits, IsMalformed, lock_of, low_of, with_lock, count_of};
+ghost use Rattle.lock_word.specs.Layout.{Fits, IsMalformed, lock_of, with_lock, count_of};
 ghost use Rattle.fat_monitor.specs.declared.actions.Post.TheVariants.{Out};
 ghost use Rattle.fat_monitor.specs.FatState.{FatState, IsAttached, post_of};
 ghost use Rattle.fat_monitor.specs.Acting.{NamesBound};

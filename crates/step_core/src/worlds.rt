@@ -1,12 +1,12 @@
 //! The world, and its steps.
 
-ghost use Rattle.std.specs.Prelude.{◌≡◌, ℕ, ◌+◌, ◌<◌, ◌≤◌, List, length, Bool, Option, IfOk, IfErr, OnOk, OnErr, slice_index_or, Some, None};
+ghost use Rattle.std.specs.Prelude.{◌≡◌, ◌+◌, ◌<◌, ◌≤◌, length, Bool, Option, IfOk, IfErr, OnOk, OnErr, Some, None};
 ghost use Rattle.std.specs.Option.{option_map};
 ghost use Rattle.fat_monitor.specs.FatState.{monitor_at, StandBehindOwners};
 ghost use Rattle.thread_index.specs.Indices.{seat_of, free_seat, index_of, holder_of};
 ghost use Rattle.step_core.specs.Machine.{Run, opening, Thread, is_waiting};
 ghost use Rattle.step_core.specs.WorldState.{IsSound, opened, word_at, lock_at};
-ghost use Rattle.step_core.specs.Stepping.{Outcome, attached, begun, went, expired, ticked, step_of, moves_of};
+ghost use Rattle.step_core.specs.Stepping.{attached, begun, went, expired, ticked, step_of, moves_of};
 ghost use Rattle.step_core.specs.Shown.{shown, doing_of};
 ghost use Rattle.step_core.specs.Labels.{HasLabels};
 ghost use Rattle.step_core.specs.Refusals.{IsRefused, IsAcceptable, Spares};

@@ -7,7 +7,7 @@ ghost use Rattle.wait_lines.specs.declared.Role.{Role};
 ghost use Rattle.fat_monitor.specs.declared.actions.Action.{Action};
 ghost use Rattle.fat_monitor.specs.declared.actions.Post.{Post};
 ghost use Rattle.wait_lines.specs.Lines.{key};
-ghost use Rattle.fat_monitor.specs.FatState.{FatState, post_at, post_of, IsAttached, owns_one, monitor_at, is_owned_by, first_of, place_of, ComesBack};
+ghost use Rattle.fat_monitor.specs.FatState.{post_at, post_of, IsAttached, owns_one, monitor_at, is_owned_by, first_of, place_of, ComesBack};
 ghost use Rattle.fat_monitor.specs.Acting.{acted, handed_on, granted, removed, served};
 
 use super::Fats;
