@@ -1,10 +1,8 @@
 -- A thread that leaves its wait set joins the entry line, and a monitor that nobody owns is handed on to it.
-use Rattle.std.specs.Prelude.{◌≡◌, ℕ, true, false, Bool, not, cond, List, [], ◌∷◌, ◌++◌, slice_get, Contains, Option, Some, None}
+use Rattle.std.specs.Prelude.{◌≡◌, ℕ, true, Bool, not, cond, List, [], ◌∷◌, ◌++◌, slice_get, Contains, Option, Some, None}
 use Rattle.std.specs.Option.{unwrap_or}
-use Rattle.std.specs.Ordering.{nat_cmp, eq_by_cmp}
-use Rattle.std.specs.Cmp.{nat_cmp_total}
+use Rattle.std.specs.Ordering.{nat_cmp}
 use Rattle.std.specs.FinMap as map
-use Rattle.std.specs.FinMap.{same_map, get-insert, nat_cmp-IsAntisymmetric}
 use Rattle.std.proofs.Common.{refl, sym, ap, ◌∙◌}
 use Rattle.lock_word.specs.declared.ThreadId.{ThreadId}
 use Rattle.wait_lines.specs.declared.Role.TheVariants.{Entry, Waiting as WaitSet}
@@ -17,22 +15,10 @@ use Rattle.fat_monitor.specs.declared.actions.Why.{Why}
 use Rattle.fat_monitor.specs.declared.actions.Why.TheVariants as why
 use Rattle.fat_monitor.specs.FatState.{FatState, IsSound, monitor_at, post_of, post_at, first_of, with_flag}
 use Rattle.fat_monitor.specs.Acting.{removed, served, rejoined, granted, handed_on, handed_if_free, next_if_free, sent_back, served_by, reply_granted}
+use Rattle.fat_monitor.proofs.SoundCounts.{insert_twice}
 use Rattle.fat_monitor.proofs.SoundSteps.{IsSound-flags}
 use Rattle.fat_monitor.proofs.SoundGrants.{granted-is, granted_flags, granted_with}
 use Rattle.fat_monitor.proofs.LineEffects.{post-with_post_same}
-
-written_twice : {X : Type 0} (b : Bool) (x y z : X) → cond b x (cond b y z) ≡ cond b x z
-written_twice true x y z = refl
-written_twice false x y z = refl
-
--- of two posts that are written for a thread the later stays
-insert_again : {X : Type 0} (m : map.FinMap nat_cmp X) (k : ℕ) (v w : X) → map.insert (map.insert m k v) k w ≡ map.insert m k w
-insert_again m k v w =
-    same_map nat_cmp_total nat_cmp-IsAntisymmetric _ _ (λ q.
-    get-insert nat_cmp_total (map.insert m k v) k w q
-    ∙ ap (λ o. cond (eq_by_cmp nat_cmp q k) (Some w) o) (get-insert nat_cmp_total m k v q)
-    ∙ written_twice (eq_by_cmp nat_cmp q k) (Some w) (Some v) (map.get m q)
-    ∙ sym (get-insert nat_cmp_total m k w q))
 
 -- a list that contains nobody is empty
 nobody_in : (ts : List ThreadId) → ((t : ThreadId) → Contains ts t → ⊥) → ts ≡ []
@@ -75,7 +61,7 @@ module _ (f : FatState) (u : ThreadId) (m n : ℕ) (sound : IsSound f) (free : (
   granted_rejoined : (w : Why) → granted (rejoined f u m (Back m n w)) m u (Back m n w) Entry ≡ granted f m u (Back m n w) WaitSet
   granted_rejoined w =
       granted-is (rejoined f u m back) m u back Entry
-      ∙ ap (λ threads. granted_over back threads (left (joined lines u m Entry) u m Entry) (granted_flags (rejoined f u m back) u back)) (insert_again f.threads u.0 back (Granted (reply_granted back)))
+      ∙ ap (λ threads. granted_over back threads (left (joined lines u m Entry) u m Entry) (granted_flags (rejoined f u m back) u back)) (insert_twice f.threads u.0 back (Granted (reply_granted back)))
       ∙ ap (λ ls. granted_over back (map.insert f.threads u.0 (Granted (reply_granted back))) ls (granted_flags (rejoined f u m back) u back)) left_again
       ∙ ap (λ flags. granted_with f m u back WaitSet flags) (same_flags w) ∙ sym (granted-is f m u back WaitSet)
     where

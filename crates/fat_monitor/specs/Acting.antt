@@ -87,6 +87,7 @@ abbrev pub handed_if_free : FatState → ℕ → Option ThreadId → FatState
 handed_if_free f m (Some owner) = f
 handed_if_free f m None = handed_on f m (first_of f m Entry)
 
+-- the thread to which it goes so, if there is one
 abbrev pub next_if_free : FatState → ℕ → Option ThreadId → Option ThreadId
 next_if_free f m (Some owner) = None
 next_if_free f m None = first_of f m Entry

@@ -31,7 +31,7 @@ use Rattle.step_core.proofs.Lingering.{within_four, within_all}
 use Rattle.step_core.specs.Lasting.{IsBack, IsNotified, HasReply, NeverReturns}
 use Rattle.step_core.proofs.Lasting.{all_back, all_replied}
 use Rattle.fat_monitor.specs.declared.actions.Reply.TheVariants.{WaitOver, Interrupted as Throws}
-use Rattle.fat_monitor.specs.declared.actions.Why.TheVariants.{Notified, Interrupted}
+use Rattle.fat_monitor.specs.declared.actions.Why.TheVariants.{Notified, Interrupted, Elapsed}
 use Rattle.lock_word.specs.declared.ObjectId.{ObjectId}
 
 -- the labels of one step
@@ -105,6 +105,11 @@ module _ (lows : List ℕ) (monitors indices : ℕ) (steps : List (Step × Bool)
       → NeverReturns (reached lows monitors indices steps) u Throws more
       → IsBack (shown (world_after (reached lows monitors indices steps) more)) u o n Interrupted ⊎ HasReply (shown (world_after (reached lows monitors indices steps) more)) u Throws
   reached_interrupted u o n more note never = all_back (reached lows monitors indices steps) reached_sound u o n Interrupted more note never
+
+  pub reached_elapsed : (u : ThreadId) (o : ObjectId) (n : ℕ) (more : List (Step × Bool)) → IsBack (shown (reached lows monitors indices steps)) u o n Elapsed
+      → NeverReturns (reached lows monitors indices steps) u WaitOver more
+      → IsBack (shown (world_after (reached lows monitors indices steps) more)) u o n Elapsed ⊎ HasReply (shown (world_after (reached lows monitors indices steps) more)) u WaitOver
+  reached_elapsed u o n more over never = all_back (reached lows monitors indices steps) reached_sound u o n Elapsed more over never
 
   pub reached_kept : (u : ThreadId) (r : Reply) (more : List (Step × Bool)) → HasReply (shown (reached lows monitors indices steps)) u r
       → NeverReturns (reached lows monitors indices steps) u r more → HasReply (shown (world_after (reached lows monitors indices steps) more)) u r

@@ -7,7 +7,7 @@ ghost use Rattle.lock_word.specs.declared.ObjectId.{ObjectId};
 ghost use Rattle.fat_monitor.specs.declared.actions.Reply.{Reply};
 ghost use Rattle.fat_monitor.specs.declared.actions.Reply.TheVariants.{WaitOver, Interrupted as Throws};
 ghost use Rattle.fat_monitor.specs.declared.actions.Why.{Why};
-ghost use Rattle.fat_monitor.specs.declared.actions.Why.TheVariants.{Notified, Interrupted};
+ghost use Rattle.fat_monitor.specs.declared.actions.Why.TheVariants.{Notified, Interrupted, Elapsed};
 ghost use Rattle.thread_index.specs.Indices.{IsOneToOne};
 ghost use Rattle.fast_path.specs.declared.Call.TheVariants as call;
 ghost use Rattle.step_core.specs.declared.events.Step.{Step};
@@ -50,12 +50,14 @@ pub fn every_call_is_patient()
 {}
 
 /// A thread that was notified stays so, whatever steps come, until its call has the reply that its wait is
-/// over; one that an interrupt took out of the wait set stays so until its call has the reply Interrupted;
-/// and a reply, however it was given, is kept until the thread's own Go returns with it.
-#[tactic(auto, using(crate::proofs::Reaching::reached_notified, crate::proofs::Reaching::reached_interrupted, crate::proofs::Reaching::reached_kept))]
+/// over, and so does one whose time was over; one that an interrupt took out of the wait set stays so until its
+/// call has the reply Interrupted; and a reply, however it was given, is kept until the thread's own Go returns
+/// with it.
+#[tactic(auto, using(crate::proofs::Reaching::reached_notified, crate::proofs::Reaching::reached_interrupted, crate::proofs::Reaching::reached_elapsed, crate::proofs::Reaching::reached_kept))]
 pub fn no_notification_is_lost()
     ensures notified { (lows : List ℕ) (monitors indices : ℕ) (steps : List (Step × Bool)) → AreWithinLimits lows monitors indices → (u : ThreadId) (o : ObjectId) (n : ℕ) (more : List (Step × Bool)) → IsNotified (shown (reached lows monitors indices steps)) u o n → NeverReturns (reached lows monitors indices steps) u WaitOver more → IsNotified (shown (world_after (reached lows monitors indices steps) more)) u o n ⊎ HasReply (shown (world_after (reached lows monitors indices steps) more)) u WaitOver }
     ensures interrupted { (lows : List ℕ) (monitors indices : ℕ) (steps : List (Step × Bool)) → AreWithinLimits lows monitors indices → (u : ThreadId) (o : ObjectId) (n : ℕ) (more : List (Step × Bool)) → IsBack (shown (reached lows monitors indices steps)) u o n Interrupted → NeverReturns (reached lows monitors indices steps) u Throws more → IsBack (shown (world_after (reached lows monitors indices steps) more)) u o n Interrupted ⊎ HasReply (shown (world_after (reached lows monitors indices steps) more)) u Throws }
+    ensures elapsed { (lows : List ℕ) (monitors indices : ℕ) (steps : List (Step × Bool)) → AreWithinLimits lows monitors indices → (u : ThreadId) (o : ObjectId) (n : ℕ) (more : List (Step × Bool)) → IsBack (shown (reached lows monitors indices steps)) u o n Elapsed → NeverReturns (reached lows monitors indices steps) u WaitOver more → IsBack (shown (world_after (reached lows monitors indices steps) more)) u o n Elapsed ⊎ HasReply (shown (world_after (reached lows monitors indices steps) more)) u WaitOver }
     ensures kept { (lows : List ℕ) (monitors indices : ℕ) (steps : List (Step × Bool)) → AreWithinLimits lows monitors indices → (u : ThreadId) (r : Reply) (more : List (Step × Bool)) → HasReply (shown (reached lows monitors indices steps)) u r → NeverReturns (reached lows monitors indices steps) u r more → HasReply (shown (world_after (reached lows monitors indices steps) more)) u r }
 {}
 

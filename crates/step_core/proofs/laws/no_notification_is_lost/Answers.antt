@@ -1,4 +1,4 @@
-use Rattle.step_core.proofs.Reaching.{reached_notified, reached_interrupted}
+use Rattle.step_core.proofs.Reaching.{reached_notified, reached_interrupted, reached_elapsed}
 use Rattle.step_core.proofs.laws.no_notification_is_lost.Goals as goal
 
 pub returns-clause-notified : goal.returns-clause-notified
@@ -6,3 +6,6 @@ returns-clause-notified c = reached_notified
 
 pub returns-clause-interrupted : goal.returns-clause-interrupted
 returns-clause-interrupted c = reached_interrupted
+
+pub returns-clause-elapsed : goal.returns-clause-elapsed
+returns-clause-elapsed c = reached_elapsed
