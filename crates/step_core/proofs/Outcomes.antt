@@ -9,16 +9,16 @@ use Rattle.step_core.specs.Lasting.{Lasts}
 use Rattle.step_core.specs.Patience.{IsPatient}
 use Rattle.std.specs.Prelude.{◌≡◌, Bool, IfOk, IfErr, OnOk, OnErr, MatchResult, Result, Ok, Err}
 use Rattle.std.proofs.Common.{sym, subst}
-use Rattle.step_core.specs.declared.events.Did.{Did}
-use Rattle.step_core.specs.declared.events.Fault.{Fault}
-use Rattle.step_core.specs.declared.events.Step.{Step}
+use Rattle.step_core.specs.declared.steps.Did.{Did}
+use Rattle.step_core.specs.declared.steps.Fault.{Fault}
+use Rattle.step_core.specs.declared.steps.Step.{Step}
 use Rattle.step_core.specs.Machine.{Run}
 use Rattle.step_core.specs.WorldState.{WorldState, IsSound}
 use Rattle.step_core.specs.Stepping.{Outcome, step_of, moves_of}
 use Rattle.step_core.specs.Shown.{shown}
 use Rattle.step_core.specs.Labels.{HasLabels}
 use Rattle.step_core.specs.Refusals.{IsRefused, IsAcceptable, Spares}
-use Rattle.step_core.proofs.Steps.{step_right}
+use Rattle.step_core.proofs.StepRuns.{step_right}
 use Rattle.step_core.proofs.Labelings.{step_labels}
 use Rattle.step_core.proofs.Refusing.{step_judged}
 use Rattle.step_core.proofs.Sparing.{step_spares}

@@ -2,7 +2,10 @@
 
 ghost use Rattle.std.specs.Prelude.{◌≡◌};
 
+mod building;
+
 use crate::Move;
+pub(crate) use building::{grant_of, move_for};
 use fast_path::Call;
 use fat_monitor::{Action, Answer, Cause, Reply};
 use lock_word::{ObjectId, ThreadId, Word};

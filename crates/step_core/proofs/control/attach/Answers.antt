@@ -1,7 +1,7 @@
 use Rattle.std.proofs.Common.{arith, ◌≡◌, ◌<◌, ◌-◌, refl, false, length, count_by}
 use Rattle.std.specs.Prelude.{is_some}
-use Rattle.step_core.proofs.Goings.{undone, free_counted}
-use Rattle.step_core.proofs.stepping.attach.Goals as goal
+use Rattle.step_core.proofs.CodeOfGo.{undone, free_counted}
+use Rattle.step_core.proofs.control.attach.Goals as goal
 
 pub returns-in-Err-Memory-attach : goal.returns-in-Err-Memory-attach
 returns-in-Err-Memory-attach c =
