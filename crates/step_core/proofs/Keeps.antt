@@ -197,7 +197,7 @@ module _ (w : WorldState) (sound : IsSound w) (k : ℕ) (t : ThreadId) (seat : s
     here : (m < length w.fats.monitors) × ((monitor_at w.fats m).object.0 ≡ c.object.0)
     here = rw shows at (stands_at w sound c.object.0)
 
-    bound_there : (p : Operation) → NamesBound w.fats (action_on p m)
+    pub bound_there : (p : Operation) → NamesBound w.fats (action_on p m)
     bound_there op.Enter = here.0
     bound_there op.Exit = here.0
     bound_there (op.Wait millis nanos) = here.0
@@ -205,7 +205,7 @@ module _ (w : WorldState) (sound : IsSound w) (k : ℕ) (t : ThreadId) (seat : s
     bound_there op.NotifyAll = here.0
     bound_there op.Holds = here.0
 
-    may : (p : Operation) → post_of w.fats t ≡ Some Out → MayAct w.fats t (action_on p m)
+    pub may : (p : Operation) → post_of w.fats t ≡ Some Out → MayAct w.fats t (action_on p m)
     may op.Enter out = out
     may op.Exit out = out
     may (op.Wait millis nanos) out = out

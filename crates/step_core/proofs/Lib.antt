@@ -27,6 +27,7 @@ pub mod Refusing
 pub mod Patient
 pub mod Lingering
 pub mod Bytes
+pub mod Changes
 pub mod Sparing
 pub mod Steady
 pub mod Lasting

@@ -61,19 +61,19 @@ abbrev Patient : WorldState → Step → Outcome → Type 0
 Patient w s o = IfOk o.answer (λ d. IsPatient w s d o.after)
 
 -- the call has its reply, or parks
-abbrev IsTold : Answer → Type 0
+abbrev pub IsTold : Answer → Type 0
 IsTold (answer.Reply r) = Unit {0}
 IsTold answer.Parked = Unit {0}
 IsTold answer.Quiet = ⊥
 
 -- the action of a call is never refused
-abbrev IsDone : FatOutcome → Type 0
+abbrev pub IsDone : FatOutcome → Type 0
 IsDone o = MatchResult o.answer (λ d. IsTold d.answer) (λ e. ⊥)
 
 owner_done : (f : FatState) (m : ℕ) (t : ThreadId) (o : FatOutcome) → IsDone o → IsDone (by_owner f m t o)
 owner_done f m t o h = cond_both (is_owned_by (monitor_at f m).owner t) o (fat_replied f reply.IllegalMonitorState) IsDone (λ _. h) (λ _. tt)
 
-done : (f : FatState) (t : ThreadId) (a : Action) → IsOwnAction a → IsDone (acted f t a)
+pub done : (f : FatState) (t : ThreadId) (a : Action) → IsOwnAction a → IsDone (acted f t a)
 done f t (action.Enter m) own = at (monitor_at f m).owner
   where
     at : (owner : Option ThreadId) → IsDone (entered f t m owner)
@@ -103,7 +103,7 @@ done f t action.Expire own = absurd own
 done f t action.Collect own = absurd own
 done f t action.End own = absurd own
 
-own_on : (p : Operation) (m : ℕ) → IsOwnAction (action_on p m)
+pub own_on : (p : Operation) (m : ℕ) → IsOwnAction (action_on p m)
 own_on op.Enter m = tt
 own_on op.Exit m = tt
 own_on (op.Wait millis nanos) m = tt
@@ -111,7 +111,7 @@ own_on op.Notify m = tt
 own_on op.NotifyAll m = tt
 own_on op.Holds m = tt
 
-own_about : (c : InterruptCall) → IsOwnAction (action_about c)
+pub own_about : (c : InterruptCall) → IsOwnAction (action_about c)
 own_about (about.Interrupt u) = tt
 own_about about.Interrupted = tt
 own_about (about.IsInterrupted u) = tt

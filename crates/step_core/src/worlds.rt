@@ -8,6 +8,7 @@ ghost use Rattle.step_core.specs.Machine.{Run, opening, Thread, is_waiting};
 ghost use Rattle.step_core.specs.WorldState.{IsSound, opened, word_at};
 ghost use Rattle.step_core.specs.Stepping.{attached, begun, went, expired, ticked, step_of, moves_of};
 ghost use Rattle.step_core.specs.Shown.{shown, doing_of, doing_in};
+ghost use Rattle.step_core.specs.Changes.{Changes};
 ghost use Rattle.step_core.specs.Labels.{HasLabels};
 ghost use Rattle.step_core.specs.Refusals.{IsRefused, IsAcceptable, Spares};
 ghost use Rattle.step_core.specs.Patience.{IsPatient};
@@ -82,6 +83,9 @@ impl World {
     pub fn step(&mut self, step: Step) -> Result<Did, Fault>
         // The answer and the new world are those of the step relation; room is whether memory is granted.
         ensures exact { (room : Bool) × (record { answer = result; after = self.new } ≡ step_of room self.old step) }
+
+        // The atomic step names the one change of the words and the fat monitors.
+        ensures changes { IfOk result (λ d. Changes self.old step d.atomic self.new) }
 
         // The moves are a run of the machine, and have the labels of the step.
         ensures run { Run (shown self.old) (moves_of result) (shown self.new) }
