@@ -8,9 +8,9 @@ ghost use Rattle.fat_monitor.specs.declared.actions.Action.TheVariants as action
 ghost use Rattle.fat_monitor.specs.declared.actions.Post.TheVariants.{Out};
 ghost use Rattle.fat_monitor.specs.FatState.{FatState, IsAttached, post_of};
 ghost use Rattle.fat_monitor.specs.Acting.{acted};
-ghost use Rattle.step_core.specs.WorldState.{IsSound};
-ghost use Rattle.step_core.specs.Stepping.{went, ended, gathered};
-ghost use Rattle.step_core.specs.Parts.{world_of};
+ghost use Rattle.step_core.specs.Sound.{IsSound};
+ghost use Rattle.step_core.specs.Ready.{world_of};
+ghost use Rattle.step_core.specs.Step.{after_go, after_end, after_collect};
 
 use crate::stages::{go_from, look};
 use crate::steps::move_for;
@@ -33,7 +33,7 @@ pub(crate) fn go(
     ensures exact {
         (room : Bool)
         × (record { answer = result; after = world_of words.new indices.new places.new fats.new }
-        ≡ went room (world_of words.old indices.old places.old fats.old) thread (seat_of indices.old thread))
+        ≡ after_go room (world_of words.old indices.old places.old fats.old) thread (seat_of indices.old thread))
     }
 {
     let Some(index) = indices.index_of(thread) else {
@@ -69,7 +69,7 @@ fn collect(
     ensures {
         (words : List Word) (seats : List (Option ThreadId))
         → record { answer = result; after = world_of words seats places.new fats.new }
-        ≡ gathered (world_of words seats places.old fats.old) seat thread
+        ≡ after_collect (world_of words seats places.old fats.old) seat thread
         (acted fats.old thread action.Collect).answer (acted fats.old thread action.Collect).after
     }
 {
@@ -81,7 +81,7 @@ fn collect(
         unreachable!();
     };
     places[seat] = Place::Idle;
-    Ok(Did::returned(Atomic::Acted { action, answer }, thread, reply))
+    Ok(Did::return_alone(Atomic::Acted { action, answer }, thread, reply))
 }
 
 /// Ends a thread that owns no object thinly: unless it owns a fat monitor, it is live no longer, and its
@@ -99,7 +99,7 @@ fn end(
     ensures {
         (words : List Word)
         → record { answer = Ok result; after = world_of words indices.new places.new fats.new }
-        ≡ ended (world_of words indices.old places.old fats.old) seat thread
+        ≡ after_end (world_of words indices.old places.old fats.old) seat thread
         (acted fats.old thread action.End).answer (acted fats.old thread action.End).after
     }
 {
@@ -115,5 +115,5 @@ fn end(
         let _ = indices.give(thread);
     }
     let made = move_for(Call::End, reply, None, thread);
-    Did::replied(Atomic::Acted { action, answer }, made, thread, reply)
+    Did::move_and_return(Atomic::Acted { action, answer }, made, thread, reply)
 }

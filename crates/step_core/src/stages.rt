@@ -8,10 +8,10 @@ ghost use Rattle.fat_monitor.specs.FatState.{FatState, IsAttached, post_of};
 ghost use Rattle.fat_monitor.specs.Acting.{NamesBound};
 ghost use Rattle.fat_monitor.specs.declared.actions.Action.TheVariants.{End};
 ghost use Rattle.fast_path.specs.Table.{next_of};
-ghost use Rattle.step_core.specs.WorldState.{lock_at, is_own};
-ghost use Rattle.step_core.specs.Going.{after_load, after_take, after_store, after_bind, after_publish, after_act, after_stage, action_on, action_about, bind_cause, entering, stored_reply};
-ghost use Rattle.step_core.specs.Stepping.{looked};
-ghost use Rattle.step_core.specs.Parts.{bare, AreFormed, IsReady, IsOwnAction};
+ghost use Rattle.step_core.specs.World.{lock_at, is_own};
+ghost use Rattle.step_core.specs.Ready.{bare, AreFormed, IsReady, IsOwnAction};
+ghost use Rattle.step_core.specs.Go.{after_load, after_take, after_store, after_bind, after_publish, after_act, after_stage, action_on, action_about, bind_cause, entering, stored_reply};
+ghost use Rattle.step_core.specs.Step.{after_look};
 
 use crate::steps::{grant_of, move_for};
 use crate::{Atomic, Did, Move, Place, Stage};
@@ -96,7 +96,7 @@ fn load(
     let stage = match call.operation.next(lock, me) {
         Next::Reply(reply) => {
             let made = move_for(call.call(), reply, None, thread);
-            return (Place::Idle, Did::replied(atomic, made, thread, reply));
+            return (Place::Idle, Did::move_and_return(atomic, made, thread, reply));
         }
         Next::Cas(_) => Stage::Taking { object, contended },
         Next::Store(lock) => Stage::Storing { call, lock },
@@ -110,7 +110,7 @@ fn load(
             contended: true,
         },
     };
-    (Place::InCall(stage), Did::silent(atomic))
+    (Place::InCall(stage), Did::no_move(atomic))
 }
 
 /// Exchanges the free word for the thread's own, if it is still free.
@@ -139,7 +139,7 @@ fn take(
         let atomic = Atomic::Lost { object, word: old };
         return (
             Place::InCall(Stage::Begun { call, contended }),
-            Did::silent(atomic),
+            Did::no_move(atomic),
         );
     };
     let mine = Lock::Thin {
@@ -153,12 +153,12 @@ fn take(
     if contended {
         return (
             Place::InCall(Stage::Won { object }),
-            Did::moved(atomic, made),
+            Did::one_move(atomic, made),
         );
     }
     (
         Place::Idle,
-        Did::replied(atomic, made, thread, Reply::Entered),
+        Did::move_and_return(atomic, made, thread, Reply::Entered),
     )
 }
 
@@ -180,7 +180,7 @@ fn store(words: &mut [Word], thread: ThreadId, call: MonitorCall, lock: Lock) ->
     let reply = stored_reply(call.operation);
     let made = move_for(call.call(), reply, None, thread);
     let atomic = Atomic::Stored { object, old, new };
-    (Place::Idle, Did::replied(atomic, made, thread, reply))
+    (Place::Idle, Did::move_and_return(atomic, made, thread, reply))
 }
 
 /// What a call replies when its free or thin word is stored: only an enter and an exit store one.
@@ -219,19 +219,19 @@ fn bind(
             let stage = Stage::Bound { call, won, monitor };
             return (
                 Place::InCall(stage),
-                Did::silent(Atomic::Bound { object, monitor }),
+                Did::no_move(Atomic::Bound { object, monitor }),
             );
         }
         Err(cause) => cause,
     };
     let atomic = Atomic::NotBound { object, cause };
     if won {
-        return (Place::Idle, Did::returned(atomic, thread, Reply::Entered));
+        return (Place::Idle, Did::return_alone(atomic, thread, Reply::Entered));
     }
     let made = Move::Refuse { thread, cause };
     (
         Place::Idle,
-        Did::replied(atomic, made, thread, Reply::Refused(cause)),
+        Did::move_and_return(atomic, made, thread, Reply::Refused(cause)),
     )
 }
 
@@ -258,11 +258,11 @@ fn publish(
     words[at] = new;
     let atomic = Atomic::Stored { object, old, new };
     if won {
-        return (Place::Idle, Did::returned(atomic, thread, Reply::Entered));
+        return (Place::Idle, Did::return_alone(atomic, thread, Reply::Entered));
     }
     (
         Place::InCall(Stage::Inflated { call, monitor }),
-        Did::silent(atomic),
+        Did::no_move(atomic),
     )
 }
 
@@ -286,11 +286,11 @@ fn act(fats: &mut Fats, thread: ThreadId, call: Call, action: Action) -> (Place,
     match answer {
         Answer::Reply(reply) => {
             let made = move_for(call, reply, done.chosen, thread);
-            let did = Did::granted_and_replied(atomic, made, granted, thread, reply);
+            let did = Did::move_grant_and_return(atomic, made, granted, thread, reply);
             (Place::Idle, did)
         }
-        Answer::Parked => (Place::AtPost, Did::parked_by(call, atomic, thread, granted)),
-        Answer::Quiet => (Place::AtPost, Did::silent(atomic)),
+        Answer::Parked => (Place::AtPost, Did::parking(call, atomic, thread, granted)),
+        Answer::Quiet => (Place::AtPost, Did::no_move(atomic)),
     }
 }
 
@@ -332,7 +332,7 @@ pub(crate) fn look(words: &[Word], me: u16, thread: ThreadId, loaded: u32) -> (P
     ensures {
         (f : FatState)
         → record { words = words.now; fats = f; place = result.0; did = result.1 }
-        ≡ looked (bare words.now f) (me - 1) thread loaded
+        ≡ after_look (bare words.now f) (me - 1) thread loaded
     }
 {
     let object = ObjectId(loaded);
@@ -343,11 +343,11 @@ pub(crate) fn look(words: &[Word], me: u16, thread: ThreadId, loaded: u32) -> (P
         let made = Move::Refuse { thread, cause };
         return (
             Place::Idle,
-            Did::replied(atomic, made, thread, Reply::Refused(cause)),
+            Did::move_and_return(atomic, made, thread, Reply::Refused(cause)),
         );
     }
     let loaded = loaded + 1;
-    (Place::Ending { loaded }, Did::silent(atomic))
+    (Place::Ending { loaded }, Did::no_move(atomic))
 }
 
 /// Whether a lock is a thin one of the thread with this index.

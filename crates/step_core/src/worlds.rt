@@ -5,15 +5,17 @@ ghost use Rattle.std.specs.Option.{option_map};
 ghost use Rattle.fat_monitor.specs.FatState.{monitor_at, StandBehindOwners};
 ghost use Rattle.thread_index.specs.Indices.{seat_of, free_seat, index_of, holder_of};
 ghost use Rattle.step_core.specs.Machine.{Run, opening, Thread, is_waiting};
-ghost use Rattle.step_core.specs.WorldState.{IsSound, opened, word_at};
-ghost use Rattle.step_core.specs.Stepping.{attached, begun, went, expired, ticked, step_of, moves_of};
+ghost use Rattle.step_core.specs.World.{opening_world, word_at};
 ghost use Rattle.step_core.specs.Shown.{shown, doing_of, doing_in};
+ghost use Rattle.step_core.specs.Sound.{IsSound};
+ghost use Rattle.step_core.specs.Step.{after_attach, after_begin, after_go, after_expire, after_tick, step_of, moves_of};
 ghost use Rattle.step_core.specs.Changes.{Changes};
 ghost use Rattle.step_core.specs.Labels.{HasLabels};
-ghost use Rattle.step_core.specs.Refusals.{IsRefused, IsAcceptable, Spares};
-ghost use Rattle.step_core.specs.Patience.{IsPatient};
-ghost use Rattle.step_core.specs.Kept.{Keeps};
+ghost use Rattle.step_core.specs.Refused.{IsRefused, IsAcceptable};
+ghost use Rattle.step_core.specs.Spared.{Spares};
+ghost use Rattle.step_core.specs.Patient.{IsPatient};
 ghost use Rattle.step_core.specs.Lasting.{Lasts};
+ghost use Rattle.step_core.specs.Kept.{Keeps};
 
 use crate::{Did, Doing, Fault, Place, Stage, Step, control, going};
 use fast_path::Call;
@@ -37,13 +39,14 @@ pub struct World {
 impl Model for World {
     ghost use Rattle.std.specs.Coded.{codes};
     ghost use Rattle.std.specs.FinMap as map;
-    ghost use Rattle.step_core.specs.WorldState.{WorldState, IsSound};
+    ghost use Rattle.step_core.specs.World.{WorldState};
+    ghost use Rattle.step_core.specs.View.{world_in};
+    ghost use Rattle.step_core.specs.Sound.{IsSound};
 
     ghost Value = { WorldState };
 
     ghost coded = { Prim.hlevel (codes, map.code) };
 
-    ghost use Rattle.step_core.specs.View.{world_in};
 
     ghost view = { world_in };
 
@@ -59,7 +62,7 @@ impl World {
         requires monitors { monitors ≤ 8388608 }
         requires low { 1 ≤ indices }
         requires high { indices ≤ 32767 }
-        ensures world { IfOk result (λ w. w ≡ opened lows.now monitors indices) }
+        ensures world { IfOk result (λ w. w ≡ opening_world lows.now monitors indices) }
         ensures shows { IfOk result (λ w. shown w ≡ opening (length lows.now)) }
     {
         let mut words = Vec::with_capacity(alloc, lows.len())?;
@@ -127,25 +130,25 @@ impl World {
         }
     }
 
-    #[tactic(auto, using(crate::proofs::StepRuns::attach_kept))]
+    #[tactic(auto, using(crate::proofs::Sound::AllSteps::attach_kept))]
     fn attach(&mut self, thread: ThreadId) -> Result<Did, Fault>
         ensures was { IsSound self.old }
-        ensures exact { (room : Bool) × (record { answer = result; after = self.new } ≡ attached room self.old thread (seat_of self.old.seats thread) (free_seat self.old.seats)) }
+        ensures exact { (room : Bool) × (record { answer = result; after = self.new } ≡ after_attach room self.old thread (seat_of self.old.seats thread) (free_seat self.old.seats)) }
     {
         control::attach(&mut self.indices, &mut self.places, &mut self.fats, thread)
     }
 
-    #[tactic(auto, using(crate::proofs::StepRuns::begin_kept))]
+    #[tactic(auto, using(crate::proofs::Sound::AllSteps::begin_kept))]
     fn begin(&mut self, thread: ThreadId, call: Call) -> Result<Did, Fault>
         ensures was { IsSound self.old }
-        ensures exact { record { answer = result; after = self.new } ≡ begun self.old thread call (seat_of self.old.seats thread) }
+        ensures exact { record { answer = result; after = self.new } ≡ after_begin self.old thread call (seat_of self.old.seats thread) }
     {
         control::begin(&self.words, &self.indices, &mut self.places, thread, call)
     }
 
     fn go(&mut self, thread: ThreadId) -> Result<Did, Fault>
         ensures was { IsSound self.old }
-        ensures exact { (room : Bool) × (record { answer = result; after = self.new } ≡ went room self.old thread (seat_of self.old.seats thread)) }
+        ensures exact { (room : Bool) × (record { answer = result; after = self.new } ≡ after_go room self.old thread (seat_of self.old.seats thread)) }
     {
         going::go(
             &mut self.words,
@@ -158,14 +161,14 @@ impl World {
 
     fn expire(&mut self, thread: ThreadId) -> Result<Did, Fault>
         ensures was { IsSound self.old }
-        ensures exact { record { answer = result; after = self.new } ≡ expired self.old thread (seat_of self.old.seats thread) }
+        ensures exact { record { answer = result; after = self.new } ≡ after_expire self.old thread (seat_of self.old.seats thread) }
     {
         control::expire(&self.indices, &mut self.fats, thread)
     }
 
     fn tick(&mut self, now: u64) -> Result<Did, Fault>
         ensures was { IsSound self.old }
-        ensures exact { record { answer = result; after = self.new } ≡ ticked self.old now }
+        ensures exact { record { answer = result; after = self.new } ≡ after_tick self.old now }
     {
         control::tick(&mut self.fats, now)
     }
