@@ -1,5 +1,5 @@
 -- Publishes of a history, and lists of bound objects.
-use Rattle.std.proofs.Common.{◌≡◌, ◌⊎◌, ℕ, ◌<◌, Bool, true, Some, List, [], ◌∷◌, ◌++◌, length, ap, ◌∙◌, subst, arith, inl, inr, ⊎_elim, length-append}
+use Rattle.std.proofs.Common.{◌≡◌, ◌⊎◌, ℕ, ◌<◌, Bool, true, Some, List, [], ◌∷◌, ◌++◌, length, sym, ap, ◌∙◌, subst, arith, inl, inr, ⊎_elim, length-append}
 use Rattle.std.proofs.lemmas.Option.{slice_get_within, get_or_from_slice_get, slice_get-get_or}
 use lib.Seq.{get_or-append_seam}
 use lib.ListN.{get_or-append}
@@ -51,6 +51,6 @@ binds_more xs ys m o h =
 pub binds_last : (xs : List ObjectId) (x : ObjectId) → Binds (xs ++ x ∷ []) (length xs) x.0
 binds_last xs x = slice_get-get_or (xs ++ x ∷ []) (length xs) x (let l = length-append xs (x ∷ []) in omega arith) ∙ ap Some (get_or-append_seam xs x [] x)
 
--- and covers as much
-pub covers_more : (xs ys : List ObjectId) (log : List Event) → Covers xs log → Covers (xs ++ ys) log
-covers_more xs ys log h m o p = binds_more xs ys m o (h m o p)
+-- a list that has grown covers as much
+pub covers_grown : (xs ys rest : List ObjectId) (log : List Event) → ys ≡ xs ++ rest → Covers xs log → Covers ys log
+covers_grown xs ys rest log grown h m o p = subst (λ (l : List ObjectId). Binds l m o) (sym grown) (binds_more xs rest m o (h m o p))

@@ -131,3 +131,15 @@ all_last P xs x h = subst P (get_or-append_seam xs x [] x) (h (length xs) x (let
 -- and of those before it
 pub all_front : {X : Type 0} (P : X → Type 0) (xs : List X) (x : X) → All P (xs ++ x ∷ []) → All P xs
 all_front P xs x h k d lt = subst P (get_or-append xs (x ∷ []) d k lt) (h k d (let e : length (xs ++ x ∷ []) ≡ length xs + 1 = length-append xs (x ∷ []) in omega arith))
+
+-- new passes belong to what was opened
+pub new_passes_belong : (z : Opening) (i n : ℕ) → All (λ (p : PassValue). p.opening ≡ z) (new_passes z i n)
+new_passes_belong z i zero k d lt = absurd (let l : k < 0 = lt in omega arith)
+new_passes_belong z i (suc n) zero d lt = refl
+new_passes_belong z i (suc n) (suc k) d lt = new_passes_belong z (suc i) n k d (omega arith)
+
+-- and none of them has the gate
+pub new_passes_without : (z : Opening) (i n : ℕ) → All (λ (p : PassValue). p.has_gate ≡ false) (new_passes z i n)
+new_passes_without z i zero k d lt = absurd (let l : k < 0 = lt in omega arith)
+new_passes_without z i (suc n) zero d lt = refl
+new_passes_without z i (suc n) (suc k) d lt = new_passes_without z (suc i) n k d (omega arith)

@@ -56,11 +56,7 @@ impl<B: Kept> Headers<B> {
     /// The words in the end, where each index has its pass, and the value that was kept.
     ///
     /// A pass that is missing comes before want of memory.
-    pub fn close(
-        self,
-        alloc: Global,
-        passes: Vec<Pass<B>>,
-    ) -> Result<(Vec<Word>, B), CloseFault<B>>
+    pub fn close(self, alloc: Global, passes: Vec<Pass<B>>) -> Result<(Vec<Word>, B), CloseFault<B>>
         requires belong { All (λ p. p.opening ≡ self) passes.items }
         requires without { All (λ p. p.has_gate ≡ false) passes.items }
         ensures words { IfOk result (λ r.
