@@ -113,11 +113,11 @@ all_of P (x ∷ xs) h (suc k) d lt = all_of P xs h.1 k d (omega arith)
 abbrev pub Ended : {B : Type 0} → (B → List ObjectId) → Layout → ℕ → View → List ℕ → List (Option B) → Type 0
 Ended bound key id v ws xs = Final (Seen (Ruled bound key.lows.items key.count) id v) ws xs
 
--- the value of a slot
+-- what a slot has
 some_of : {B : Type 0} (a b : B) → Some a ≡ Some b → a ≡ b
 some_of a b e = cc
 
--- a slot does not both have a value and none
+-- a slot is not both full and empty
 some_or_none : {B : Type 0} (a : B) → Some a ≡ None → ⊥
 some_or_none a e = absurd (cc)
 
@@ -183,7 +183,7 @@ ends_small bound key layout id v ws xs same g o lt =
     let small = small_word (lock_at r.locks o) low (fits_all layout.lows.items layout.count r.log r.locks r.few r.replays o) (r.bytes o) in
     subst (λ (n : ℕ). n < 4294967296) (sym (ap (λ (l : List ℕ). slice_index l (o + 1)) (sym f.2) ∙ r.words o lt)) small
 
--- and the slot has a value
+-- and the slot has the book
 pub ends_some : {B : Type 0} (bound : B → List ObjectId) (key layout : Layout) (id : ℕ) (v : View) (ps : List PassValue) (ws : List ℕ) (xs : List (Option B)) → key ≡ layout → Ended bound key id v ws xs → TookAll ps v → HasAll layout.count ps → get_elem? xs 0 ≡ some None → ⊥
 ends_some bound key layout id v ps ws xs same g is all gone =
     let f : Ended bound layout id v ws xs = subst (λ (k : Layout). Ended bound k id v ws xs) same g in

@@ -1,4 +1,4 @@
--- What steps do to the gate and the value behind it.
+-- What steps do to the gate and the book behind it.
 use Rattle.std.proofs.Common.{◌≡◌, ◌≢◌, ◌⊎◌, ℕ, zero, suc, ◌<◌, ◌≤◌, Bool, true, false, Option, Some, List, [], ◌∷◌, length, set, refl, sym, ap, ◌∙◌, subst, ⊎_elim, true≢false}
 use mathlib.Core.Option.{some, none, some-injective, some-ne-none}
 use mathlib.Core.Option.{Option as Home}
@@ -63,7 +63,7 @@ module _ {B : Type 0} (bound : B → List ObjectId) where
     holders = λ k u found has. let was = r.holders k u (old k u found has) has in (was.0, same was.0 ∙ was.1, was.2);
   }
 
-  -- a seat takes the open gate and the value
+  -- a seat takes the open gate and the book
   pub gated_taken : (count : ℕ) (log : List Event) (seat_of : ℕ → ℕ) (gate : ℕ) (homes : List (Home (Option B))) (views : List View) (id index : ℕ) (v w : View) → get_elem? views id ≡ some v → gate ≡ 0 → index ≢ 0 → index ≤ count → seat_of index ≡ id → w.seen ≡ log → w.has_gate ≡ true
       → Gated bound count log seat_of gate homes views → Gated bound count log seat_of index (set homes 0 none) (set views id w)
   gated_taken count log seat_of gate homes views id index v w at free ne low mine seen has r = record {
@@ -75,7 +75,7 @@ module _ {B : Type 0} (bound : B → List ObjectId) where
         (at_set views id k w u found);
   }
 
-  -- the holder gives the gate back, and a value that binds all that it has seen published
+  -- the holder gives the gate back, and a book that binds all that it has seen published
   pub gated_given : (count : ℕ) (log : List Event) (seat_of : ℕ → ℕ) (gate : ℕ) (homes : List (Home (Option B))) (views : List View) (id : ℕ) (v w : View) (b : B) → get_elem? views id ≡ some v → 0 < length homes → v.has_gate ≡ true → w.has_gate ≡ false → Covers (bound b) v.seen
       → Gated bound count log seat_of gate homes views → Gated bound count log seat_of 0 (set homes 0 (some (Some b))) (set views id w)
   gated_given count log seat_of gate homes views id v w b at room held plain covers r = record {
@@ -87,7 +87,7 @@ module _ {B : Type 0} (bound : B → List ObjectId) where
         (at_set views id k w u found);
   }
 
-  -- at the start the value is at home, and nothing was published
+  -- at the start the book is at home, and nothing was published
   pub gated_first : (count : ℕ) (seat_of : ℕ → ℕ) (b : B) (v : View) → v.has_gate ≡ false → Gated bound count [] seat_of 0 (some (Some b) ∷ []) (v ∷ [])
   gated_first count seat_of b v plain = record {
     home = λ _. (b, refl, λ m o p. absurd p);

@@ -1,4 +1,4 @@
--- A seat takes the gate with the value behind it, and gives both back.
+-- A seat takes the gate with the book behind it, and gives both back.
 use Rattle.std.proofs.Common.{◌≡◌, ◌≢◌, ℕ, suc, ◌+◌, ◌<◌, true, Option, Some, None, List, [], ◌∷◌, length, set, refl, sym, ap, ◌∙◌, subst, arith, eqb, eq-eqb, ne_eqb, length-set, get_or-set_same, get_or-set_other, ⊎_elim, append-nil}
 use Rattle.std.specs.Prelude.{slice_index, MatchOption}
 use mathlib.Core.Logic.{dite}
@@ -23,16 +23,16 @@ use Rattle.header_words.proofs.Gates.{gated_taken, gated_given}
 use Rattle.header_words.proofs.Keeps.{each_map}
 use Rattle.header_words.proofs.Seats.{moved}
 
--- the value of the first slot
+-- what the first slot has
 abbrev first_value : {X : Type 0} → X → List (ℕ × X) → X
 first_value d [] = d
 first_value d (y ∷ ys) = y.1
 
--- the value that the step gave the seat is the one that is read
+-- the book that the step gave the seat is the one that is read
 pub took : {B : Type 0} (x : Option B) (c more : List (ℕ × Option B)) (b : B) → c ≡ (0, Some b) ∷ more → c ≡ (0, x) ∷ rest c → x ≡ Some b
 took x c more b has reads = ap (first_value None) (sym reads ∙ has)
 
--- what a value that is there has to meet
+-- what holds of a value holds where it is there
 pub matched : {X : Type 0} (N : Type 0) (P : X → Type 0) (x : Option X) (b : X) → x ≡ Some b → P b → MatchOption x N P
 matched N P x b e h = subst (λ (y : Option _). MatchOption y N P) (sym e) h
 
@@ -158,7 +158,7 @@ gives_at bound lows count slots id v b more some_slot held covers s r len at _ =
       apart = knows.apart;
     }
 
--- the gate may be given back by the seat that has it, with a value that binds all that it has seen published
+-- the gate may be given back by the seat that has it, with a book that binds all that it has seen published
 pub gives_gate : {B : Type 0} (bound : B → List ObjectId) (lows : List ℕ) (count slots id : ℕ) (me : Me (Option B) View) (b : B) (more : List (ℕ × Option B)) → me.1 ≡ (0, Some b) ∷ more → 0 < slots → me.0.has_gate ≡ true → Covers (bound b) me.0.seen
     → Allows (Ruled bound lows count) slots id me 0 (λ _. 0) (λ _. Gives (step slots 0 0 0 none) me 0)
 gives_gate {B} bound lows count slots id me b more has some_slot held covers =

@@ -63,7 +63,7 @@ word_at z o l = word_of l (low_at z o)
 abbrev pub pass_value : {S : Type 0} → Seat S View → PassValue
 pass_value s = record { opening = record { table = s.table_id; lows = s.me.0.lows; count = s.me.0.count }; index = index_of s.me.0.parts; mine = mine_of s.me.0.parts; seen = s.me.0.seen; has_gate = s.me.0.has_gate; steps = s.me.0.steps }
 
--- the slots that a pass has out: that of the kept value, which is empty, where it has the gate
+-- the slots that a pass has out: where it has the gate, that of the book, which is empty then
 abbrev pub carried : {B : Type 0} → Bool → List (ℕ × Option B)
 carried true = (0, None) ∷ []
 carried false = []

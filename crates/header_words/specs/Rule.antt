@@ -67,7 +67,7 @@ pub record Knows (lows : List ℕ) (count : ℕ) (log : List Event) (seat_of : �
   pub parts : Each (IsMine lows count log seat_of k v) v.parts
   pub apart : AreApart v.parts
 
--- the rule: one history replays to the words, of which 0 is the gate and o + 1 that of the object o, and the value behind the gate binds what it publishes
+-- the rule: one history replays to the words, of which 0 is the gate and o + 1 that of the object o, and the book binds what it publishes
 pub record Ruled {B : Type 0} (bound : B → List ObjectId) (lows : List ℕ) (count : ℕ) (s : State (Option B) View) : Type 0 where
   pub log : List Event
   pub locks : List Lock

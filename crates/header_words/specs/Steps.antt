@@ -86,7 +86,7 @@ pub record TakesGate (v w : View) : Type 0 where
   pub seen : IsPrefix v.seen w.seen
   pub saw : Saw v.lows v.count w.seen (index_of v.parts) (mine_of v.parts)
 
--- the exchange of the gate word: where the gate was open the seat has it, and the value out of its slot; else nothing changed
+-- the exchange of the gate word: where the gate was open the seat has it, and the book's slot; else nothing changed
 abbrev pub Takes : {B : Type 0} → (B → List ObjectId) → Step (Option B) → Me (Option B) View → ℕ → Me (Option B) View → Type 0
 Takes {B} bound st me n me' = (n ≡ 0 → TakesGate me.0 me'.0 × (b : B) × (me'.1 ≡ (0, Some b) ∷ me.1) × Covers (bound b) me'.0.seen) × (n ≢ 0 → me' ≡ me)
 

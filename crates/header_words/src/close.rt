@@ -53,7 +53,7 @@ impl<B: Kept> Headers<B> {
     ghost use Rattle.header_words.specs.Passes.{IsClosed, TookAll};
     ghost use Rattle.header_words.specs.Faults.{IsBack, TellsFault};
 
-    /// The words in the end, where each index has its pass, and the value that was kept.
+    /// The words in the end, where each index has its pass, and the book.
     ///
     /// A pass that is missing comes before want of memory.
     pub fn close(self, alloc: Global, passes: Vec<Pass<B>>) -> Result<(Vec<Word>, B), CloseFault<B>>

@@ -1,4 +1,4 @@
-//! The gate before the kept value.
+//! The gate before the book.
 ghost use Rattle.std.specs.Prelude.{◌≡◌, MatchOption, true, false};
 ghost use Rattle.header_words.specs.Bindings.{Covers};
 
@@ -10,8 +10,8 @@ use crate::rule::{GiveGate, TakeGate};
 impl<B: Kept> Headers<B> {
     ghost use Rattle.header_words.specs.Passes.{HasTaken, has_given};
 
-    /// Takes the gate and the value behind it, by one exchange of the gate word; None where another pass
-    /// has the gate. The value binds every monitor that a word shows to that word's object.
+    /// Takes the gate and the book behind it, by one exchange of the gate word; None where another
+    /// pass has the gate. It never waits. The book binds every monitor that has been published.
     pub fn take(&self, pass: &mut Pass<B>) -> Option<B>
         requires belongs { pass.old.opening ≡ self.now }
         requires without { pass.old.has_gate ≡ false }
@@ -31,7 +31,7 @@ impl<B: Kept> Headers<B> {
         self.table.shared.exchange(&mut pass.seat, 0, None)
     }
 
-    /// Puts the value behind the gate, and opens it by one store of the gate word.
+    /// Puts the book behind the gate, and opens the gate by one store of its word.
     pub fn give(&self, pass: &mut Pass<B>, book: B)
         requires belongs { pass.old.opening ≡ self.now }
         requires gate { pass.old.has_gate ≡ true }

@@ -14,8 +14,8 @@ use lock_word::{Lock, ObjectId, Word, encode};
 use std::alloc::Global;
 use std::marker::Model;
 
-/// The header words of the objects of a world, and a value behind a gate, which threads share. Each thread
-/// has a [`Pass`] of its own.
+/// The header words of the objects of a world, and a book behind a gate, which threads share. Each
+/// thread has a [`Pass`] of its own.
 #[derive(Drop)]
 pub struct Headers<B: Kept> {
     pub(crate) table: Table<Option<B>, View, Layout, Law, Global>,
@@ -40,8 +40,8 @@ impl<B: Kept> Headers<B> {
     ghost use Rattle.header_words.specs.Bindings.{Binds, HasPublish};
     ghost use Rattle.lock_word.specs.Layout.{Fits, lock_of};
 
-    /// Loads the word of the object. Other threads may change it at once, unless the pass holds the object
-    /// thinly.
+    /// Loads the word of the object. Other threads may change it at once, unless the pass holds the
+    /// object thinly.
     pub fn load(&self, pass: &mut Pass<B>, object: ObjectId) -> Word
         requires belongs { pass.old.opening ≡ self.now }
         requires object { object.0 < length self.now.lows }
@@ -64,14 +64,14 @@ impl<B: Kept> Headers<B> {
         Word(found as u32)
     }
 
-    /// Exchanges the free word for the thin word of the pass, with one lock, and says whether it did:
-    /// false where the word was not free. It is one exchange, and no load comes before it.
+    /// Exchanges the free word for the thin word of the pass, with one lock, and says whether it
+    /// did: false where the word was not free. It is one exchange, and no load comes before it.
     pub fn acquire(&self, pass: &mut Pass<B>, object: ObjectId) -> bool
         requires belongs { pass.old.opening ≡ self.now }
         requires object { object.0 < length self.now.lows }
         requires free { depth_at pass.old object.0 ≡ 0 }
-        ensures won { OnTrue result
-            (MakesEvent object.0 Win (word_at self.now object.0 (Thin pass.old.index 0)) pass.old pass.new) }
+        ensures won { OnTrue result (MakesEvent object.0 Win
+            (word_at self.now object.0 (Thin pass.old.index 0)) pass.old pass.new) }
         ensures lost { OnFalse result ((n : ℕ) × MakesEvent object.0 Lose n pass.old pass.new) }
     {
         let at = object.0 as usize;
@@ -89,8 +89,8 @@ impl<B: Kept> Headers<B> {
         false
     }
 
-    // An owner's plain store: nobody else changes the word while the pass holds the object thinly. The row
-    // of depths is written first, so that the store is the last step of the call.
+    // An owner's plain store: nobody else changes the word while the pass holds the object thinly.
+    // The row of depths is written first, so that the store is the last step of the call.
     fn note_then_store<D: Kind>(&self, pass: &mut Pass<B>, object: ObjectId, lock: Lock, left: u16)
         requires belongs { pass.old.opening ≡ self.now }
         requires object { object.0 < length self.now.lows }
@@ -117,7 +117,8 @@ impl<B: Kept> Headers<B> {
         requires some { 1 ≤ depth_at pass.old object.0 }
         requires few { depth_at pass.old object.0 ≤ 255 }
         ensures { MakesEvent object.0 Nest
-            (word_at self.now object.0 (Thin pass.old.index (depth_at pass.old object.0))) pass.old pass.new }
+            (word_at self.now object.0 (Thin pass.old.index (depth_at pass.old object.0)))
+            pass.old pass.new }
     {
         let depth = pass.depth(object);
         let index = pass.index();
@@ -134,7 +135,8 @@ impl<B: Kept> Headers<B> {
         requires object { object.0 < length self.now.lows }
         requires several { 2 ≤ depth_at pass.old object.0 }
         ensures { MakesEvent object.0 Unnest
-            (word_at self.now object.0 (Thin pass.old.index (depth_at pass.old object.0 - 2))) pass.old pass.new }
+            (word_at self.now object.0 (Thin pass.old.index (depth_at pass.old object.0 - 2)))
+            pass.old pass.new }
     {
         let depth = pass.depth(object);
         let index = pass.index();
@@ -155,8 +157,9 @@ impl<B: Kept> Headers<B> {
         self.note_then_store::<Releases>(pass, object, Lock::Free, 0);
     }
 
-    /// Shows the monitor of the receipt in the word of its object, by one plain store. The monitor has the
-    /// holds from then on, and the depth of the pass is 0. The book in hand has bound the monitor.
+    /// Shows the monitor of the receipt in the word of its object, by one plain store. The monitor
+    /// has the holds from then on, and the depth of the pass is 0. The pass has the gate, and the
+    /// book in hand binds the monitor to the object.
     pub fn publish(&self, pass: &mut Pass<B>, book: &B, receipt: Receipt)
         requires belongs { pass.old.opening ≡ self.now }
         requires object { receipt.object.0 < length self.now.lows }
@@ -167,16 +170,17 @@ impl<B: Kept> Headers<B> {
         ensures { MakesEvent receipt.object.0 (Publish receipt.monitor)
             (word_at self.now receipt.object.0 (Fat receipt.monitor)) pass.old pass.new }
     {
-        // The invariants of both are needed: low bytes are below 256, and a receipt has at least one hold.
-        let _ = &self.layout;
+        // The book serves its condition alone. The invariants of the two others are needed: low
+        // bytes are below 256, and a receipt has at least one hold.
         let _ = book;
+        let _ = &self.layout;
         prove!(receipt.holds() >= 1);
         let monitor = receipt.monitor();
         self.note_then_store::<Publishes>(pass, receipt.object(), Lock::Fat { monitor }, 0);
     }
 
-    /// Makes two passes see one history: all that the one or the other has seen, and all that came before
-    /// now. It changes no word.
+    /// Makes two passes see one history: all that the one or the other has seen, and all that came
+    /// before now. It changes no word.
     pub fn meet(&self, left: Pass<B>, right: Pass<B>) -> (Pass<B>, Pass<B>)
         requires left { left.opening ≡ self.now }
         requires right { right.opening ≡ self.now }

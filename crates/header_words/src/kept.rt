@@ -1,8 +1,8 @@
-//! What lies behind the gate.
+//! The book behind the gate.
 use lock_word::ObjectId;
 
-/// A value that is kept behind the gate: a list of bound objects, by monitor number, and whatever else it
-/// has. Contracts see the list alone.
+/// A book that can be kept behind the gate: a list of bound objects, by monitor number, and
+/// whatever else it has. The rule of the words sees the list alone.
 pub trait Kept {
     ghost use Rattle.std.specs.Prelude.{◌≡◌, List, slice_get};
     ghost use Rattle.lock_word.specs.declared.ObjectId.{ObjectId};

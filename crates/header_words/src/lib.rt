@@ -1,6 +1,6 @@
-//! The header words of objects, which threads share, and the atomic steps by which threads lock, nest,
-//! unlock and inflate the objects; and a value behind a gate, which has bound every monitor that a word
-//! shows.
+//! The header words of objects, which threads share, and the atomic steps by which threads lock,
+//! nest, unlock and inflate the objects; and a book behind a gate, which has bound every monitor
+//! that a word shows.
 #![tactic(auto)]
 
 mod close;

@@ -10,7 +10,7 @@ use crate::rule::{Firsts, Law, Layout, View};
 use atomic_table::{Refused, Table};
 use std::alloc::{AllocError, Global};
 
-/// Why the words were not opened. The value to be kept comes back as it was.
+/// Why the words were not opened. The book comes back as it was.
 #[derive(Drop)]
 pub enum OpenFault<B> {
     /// The system refused room for the words or the passes.
@@ -73,7 +73,8 @@ impl<B> Room<B> {
         ensures words { IfOk result (λ r. r.words.items ≡ 0 ∷ lows.now) }
         ensures rows { IfOk result (λ r. All (IsNewRow lows.now) r.rows.items) }
         ensures len { IfOk result (λ r. vec_len r.rows ≡ count) }
-        ensures passes { IfOk result (λ r. (r.passes.items ≡ []) × (count ≤ vec_capacity r.passes)) }
+        ensures passes { IfOk result (λ r. r.passes.items ≡ []) }
+        ensures room { IfOk result (λ r. count ≤ vec_capacity r.passes) }
     {
         Ok(Room {
             layout: Layout {
@@ -91,9 +92,9 @@ impl<B: Kept> Headers<B> {
     ghost use Rattle.header_words.specs.Passes.{new_passes};
     ghost use Rattle.header_words.specs.declared.open.OpenFault.TheVariants.{Memory};
 
-    /// Makes the words of `lows.len()` free objects, of which object `i` keeps the low byte `lows[i]`, and
-    /// passes with the indices 1 to `count`, each with a row of depths. The book lies behind the gate,
-    /// which is open.
+    /// Makes the words of `lows.len()` free objects, of which object `i` keeps the low byte
+    /// `lows[i]`, and passes with the indices 1 to `count`, each with a row of depths. The book
+    /// lies behind the gate, which is open.
     ///
     /// The only error is want of memory.
     pub fn open(

@@ -6,10 +6,10 @@ use atomic_table::Seat;
 use lock_word::ObjectId;
 use std::marker::Model;
 
-/// The right to lock objects under one index, with a row of depths: how many times the pass holds each
-/// object thinly. One thread has it at a time. It has its own copy of the low bytes, so that a call reads
-/// nothing that threads share but the word. It can be dropped, whatever `B` is; a gate that it has then
-/// stays taken for good.
+/// The right to lock objects under one index, with a row of depths: how many times the pass holds
+/// each object thinly. One thread has it at a time. It has its own copy of the low bytes, so that a
+/// call reads nothing that threads share but the word. It can be dropped, whatever `B` is; a gate
+/// that it has then stays taken for good.
 pub struct Pass<B> {
     pub(crate) index: u16,
     pub(crate) depths: Vec<u16>,
@@ -40,7 +40,8 @@ impl<B> Drop for Pass<B> {
     }
 }
 
-/// What a pass is made of. A type with a `drop` of its own can be taken apart in its own methods only.
+/// What a pass is made of. A type with a `drop` of its own can be taken apart in its own methods
+/// only.
 pub(crate) struct Parts<B> {
     pub(crate) index: u16,
     pub(crate) depths: Vec<u16>,
@@ -82,7 +83,8 @@ impl<B> Pass<B> {
         self.index
     }
 
-    /// How many times the pass holds the object thinly, 0 to 256. Holds by a fat monitor do not count.
+    /// How many times the pass holds the object thinly, 0 to 256. Holds by a fat monitor do not
+    /// count.
     pub fn depth(&self, object: ObjectId) -> u16
         requires { object.0 < length self.now.opening.lows }
         ensures value { result ≡ depth_at self.now object.0 }
@@ -92,7 +94,7 @@ impl<B> Pass<B> {
         self.depths[object.0 as usize]
     }
 
-    /// Whether the pass has the gate, and so the kept value is out with its thread.
+    /// Whether the pass has the gate: it has taken the book, and not given it back.
     pub fn has_gate(&self) -> bool
         ensures { result ≡ self.now.has_gate }
     {

@@ -1,4 +1,4 @@
-//! The rule that the words and the kept value follow, and what each step tells the pass that takes it.
+//! The rule that the words and the book follow, and what each step tells the pass that takes it.
 use crate::event::Event;
 use crate::kept::Kept;
 use atomic_table::{Join, Play, Split, TableRule};
@@ -30,7 +30,7 @@ pub struct Layout {
     pub count: u16,
 }
 
-/// There is one history, which replays to the words, and the kept value binds all that it publishes.
+/// There is one history, which replays to the words, and the book binds all that it publishes.
 pub struct Law;
 
 impl<B: Kept> TableRule<Option<B>, View, Layout> for Law {

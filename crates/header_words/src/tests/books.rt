@@ -1,4 +1,4 @@
-//! Values that the tests keep behind the gate.
+//! Books that the tests keep behind the gate.
 ghost use Rattle.std.specs.Prelude.{◌≡◌, ◌≤◌, length, [], ◌++◌, List};
 ghost use Rattle.std.specs.Bool.{OnTrue};
 ghost use Rattle.std.specs.Vec.{vec_len};

@@ -1,4 +1,4 @@
-//! The value behind the gate, and the monitors that are published from it.
+//! The book behind the gate, and the monitors that are published from it.
 ghost use Rattle.std.specs.Prelude.{◌≡◌, ◌<◌, ◌+◌, length, true, false, IfSome};
 ghost use Rattle.header_words.specs.Bindings.{Binds, Covers};
 ghost use Rattle.header_words.specs.Passes.{depth_at};
@@ -12,7 +12,7 @@ use std::thread::{Threads, join};
 
 const OBJECT: ObjectId = ObjectId(0);
 
-// A pass that finds a fat word takes the value, which binds the monitor to the object.
+// A pass that finds a fat word takes the book, which binds the monitor to the object.
 fn monitor_of<B: Kept>(
     headers: &Headers<B>,
     pass: &mut Pass<B>,
@@ -34,8 +34,8 @@ fn monitor_of<B: Kept>(
     Some((monitor, book))
 }
 
-// Binds the monitor of the receipt in the book in hand, publishes it, and gives the book back. False where
-// the book would have another number for it, or there is no memory.
+// Binds the monitor of the receipt in the book in hand, publishes it, and gives the book back.
+// False where the book would have another number for it, or there is no memory.
 fn inflate(
     headers: &Headers<Names>,
     pass: &mut Pass<Names>,
@@ -119,7 +119,7 @@ fn add_often(
 fn crosses_threads<T: Send + Sync>(_value: &T) {}
 
 #[test]
-fn the_value_is_taken_by_one_pass_at_a_time(rt: HostRuntime) -> Result<(), Fail> {
+fn the_book_is_taken_by_one_pass_at_a_time(rt: HostRuntime) -> Result<(), Fail> {
     let names = Names::new(rt.alloc());
     let Ok((headers, mut passes)) = Headers::open(rt.alloc(), &[0xa5], 2, names) else {
         panic!(rt; "memory")
@@ -201,7 +201,7 @@ fn a_type_with_a_model_is_kept(rt: HostRuntime) -> Result<(), Fail> {
 }
 
 #[test]
-fn two_threads_add_to_the_value(rt: HostRuntime) -> Result<(), Fail> {
+fn two_threads_add_to_the_book(rt: HostRuntime) -> Result<(), Fail> {
     let names = Names::new(rt.alloc());
     let Ok((headers, mut passes)) = Headers::open(rt.alloc(), &[0xa5], 2, names) else {
         panic!(rt; "memory")
