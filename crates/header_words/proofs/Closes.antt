@@ -220,3 +220,8 @@ some_pass (p ∷ ps) i h = omega arith
 -- passes that are all there by the layout are so by the opening
 pub all_there : (t : TableId) (layout : Layout) (z : Opening) (ps qs : List PassValue) → opening_of t layout ≡ z → qs ≡ ps → HasAll layout.count qs → HasAll z.count ps
 all_there t layout z ps qs is same h = subst (λ (y : Opening × List PassValue). HasAll y.0.count y.1) (λ k. (is k, same k)) h
+
+-- a number that is not 0 is above it
+pub above_0 : (n : ℕ) → (n ≡ 0 → ⊥) → 0 < n
+above_0 zero h = absurd (h refl)
+above_0 (suc n) h = omega arith

@@ -18,7 +18,8 @@ pub enum CloseFault<B: Kept> {
         headers: Headers<B>,
         passes: Vec<Pass<B>>,
     },
-    /// Each index is there, and the system refused room for the words.
+    /// Each index is there, and the system refused room for the words, of which there is one at
+    /// least.
     Memory {
         headers: Headers<B>,
         passes: Vec<Pass<B>>,

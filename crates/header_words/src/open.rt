@@ -1,13 +1,15 @@
 //! The start of the words of objects.
-ghost use Rattle.std.specs.Prelude.{◌≡◌, ◌+◌, ◌≤◌, length, IfOk, IfErr, [], ◌∷◌, replicate, All};
+ghost use Rattle.std.specs.Prelude.{◌≡◌, ℕ, ◌+◌, ◌<◌, ◌≤◌, length, slice_index, IfOk, IfErr, [], ◌∷◌, replicate, All};
 ghost use Rattle.std.specs.Vec.{vec_len, vec_capacity};
 ghost use Rattle.header_words.specs.Passes.{IsNewRow};
+ghost use Rattle.header_words.specs.Rule.{opening_view};
+ghost use Rattle.header_words.specs.declared.open.OpenFault.TheVariants.{Memory};
 
 use crate::headers::Headers;
 use crate::kept::Kept;
 use crate::pass::Pass;
 use crate::rule::{Firsts, Law, Layout, View};
-use atomic_table::{Refused, Table};
+use atomic_table::{Refused, Seat, Table};
 use std::alloc::{AllocError, Global};
 
 /// Why the words were not opened. The book comes back as it was.
@@ -88,9 +90,49 @@ impl<B> Room<B> {
     }
 }
 
+// The table of these words, with the book in its slot, and its first seat, which has all indices.
+fn new_table<B: Kept>(
+    alloc: Global,
+    words: &[u64],
+    layout: &Layout,
+    book: B,
+) -> Result<
+    (
+        Table<Option<B>, View, Layout, Law, Global>,
+        Seat<Option<B>, View>,
+    ),
+    OpenFault<B>,
+>
+    requires free { words.now ≡ 0 ∷ layout.now.lows.items }
+    requires bytes { (o : ℕ) → slice_index layout.now.lows.items o < 256 }
+    requires few { layout.now.count ≤ 32767 }
+    ensures size { IfOk result (λ t. (t.0.shared.table_id.words ≡ length words.now)
+        × (t.0.shared.table_id.slots ≡ 1)) }
+    ensures key { IfOk result (λ t. t.0.shared.key ≡ layout.now) }
+    ensures place { IfOk result (λ t. t.1.table_id ≡ t.0.shared.table_id) }
+    ensures seat { IfOk result (λ t.
+        t.1.me ≡ (opening_view layout.now.lows.items layout.now.count, [])) }
+    ensures back { IfErr result (λ fault. fault ≡ Memory book) }
+{
+    let Ok(mut slots) = Vec::with_capacity(alloc, 1) else {
+        return Err(OpenFault::Memory { book });
+    };
+    slots.push_reserved(Some(book));
+    match Table::new(alloc, words, slots, layout) {
+        Ok(made) => Ok(made),
+        Err(Refused { mut slots }) => {
+            let last = slots.pop();
+            let Some(Some(book)) = last else {
+                unreachable!()
+            };
+            slots.destroy_empty();
+            Err(OpenFault::Memory { book })
+        }
+    }
+}
+
 impl<B: Kept> Headers<B> {
     ghost use Rattle.header_words.specs.Passes.{new_passes};
-    ghost use Rattle.header_words.specs.declared.open.OpenFault.TheVariants.{Memory};
 
     /// Makes the words of `lows.len()` free objects, of which object `i` keeps the low byte
     /// `lows[i]`, and passes with the indices 1 to `count`, each with a row of depths. The book
@@ -113,32 +155,13 @@ impl<B: Kept> Headers<B> {
         let Ok(room) = Room::new(alloc, lows, count) else {
             return Err(OpenFault::Memory { book });
         };
-        let Ok(mut slots) = Vec::with_capacity(alloc, 1) else {
-            return Err(OpenFault::Memory { book });
-        };
-        slots.push_reserved(Some(book));
         let Room {
             layout,
             words,
             mut rows,
             mut passes,
         } = room;
-        let (table, mut seat) = match Table::<Option<B>, View, Layout, Law, Global>::new(
-            alloc,
-            words.as_slice(),
-            slots,
-            &layout,
-        ) {
-            Ok(made) => made,
-            Err(Refused { mut slots }) => {
-                let last = slots.pop();
-                let Some(Some(book)) = last else {
-                    unreachable!()
-                };
-                slots.destroy_empty();
-                return Err(OpenFault::Memory { book });
-            }
-        };
+        let (table, mut seat) = new_table(alloc, words.as_slice(), &layout, book)?;
         for done in 0..count {
             let Some(Row { depths, lows }) = rows.pop() else {
                 unreachable!()

@@ -1,15 +1,21 @@
-use Rattle.std.proofs.Common.{rules, ◌≡◌, ◌≤◌, ◌+◌, ◌<◌, length, map, sym, ap, ◌∙◌, subst, arith, vec_capacity, vec_len, le_trans, List, Contains}
+use Rattle.std.proofs.Common.{rules, ◌≡◌, ◌≤◌, ◌+◌, ◌<◌, length, map, sym, ap, ◌∙◌, subst, arith, vec_capacity, vec_len, le_trans, true≢false, List, Contains}
 use Rattle.std.specs.Prelude.{slice_index}
 use Rattle.std.specs.Mem.Slots.{slots_items}
 use Rattle.std.proofs.lemmas.List.{length-map}
 use Rattle.lock_word.specs.declared.Word.{Word}
 use Rattle.header_words.specs.Passes.{Opening, PassValue, indices_of, IsClosed}
 use mathlib.Core.Option.{some}
-use Rattle.header_words.proofs.Closes.{all_there, some_pass, ends_some, ends, ends_small, index_at, each_push}
+use Rattle.header_words.proofs.Closes.{above_0, all_there, some_pass, ends_some, ends, ends_small, index_at, each_push}
 use Rattle.header_words.proofs.headers.Headers.close.Goals as goal
 
 pub returns-in_default-clause-fault : goal.returns-in_default-clause-fault
-returns-in_default-clause-fault g c = all_there c.self.inside.table.shared.table_id c.self.inside.layout c.args.self c.args.passes.items c.as_slice.result.now c.self.view_is c.as_slice.ensures.value (c.has_all.ensures.found c.if-not-has_all.false)
+returns-in_default-clause-fault g c =
+    let l : c.len-objects.result ≡ vec_len c.self.inside.layout.lows = c.len-objects.ensures in
+    let n : length c.self.inside.layout.lows.items ≡ vec_len c.self.inside.layout.lows = search rules in
+    let same : length c.self.inside.layout.lows.items ≡ length c.args.self.lows = ap (λ (z : Opening). length z.lows) c.self.view_is in (
+      all_there c.self.inside.table.shared.table_id c.self.inside.layout c.args.self c.args.passes.items c.as_slice.result.now c.self.view_is c.as_slice.ensures.value (c.has_all.ensures.found c.if-not-has_all.false),
+      above_0 (length c.args.self.lows) (λ none. true≢false (sym (c.in_default.ensures.succeeds (omega arith)))),
+    )
 
 pub join_all-seat-requires-clause-some : goal.join_all-seat-requires-clause-some
 join_all-seat-requires-clause-some g c =
