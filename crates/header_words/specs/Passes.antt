@@ -38,7 +38,7 @@ pub record IsHeaders (z : TableId) (table_key layout : Layout) : Type 0 where
   pub slots : z.slots ≡ 1
   pub words : z.words ≡ length layout.lows.items + 1
 
--- A pass as contracts see it: what it was opened with, its index, its own events, the beginning of the history that it has seen, whether it has the gate, and how many atomic steps have changed what it knows.
+-- A pass as contracts see it: what it was opened with, its index, its own events, the beginning of the history that it has seen, whether it has the gate, and how many atomic steps of its own have changed what it knows.
 pub record PassValue : Type 0 where
   pub opening : Opening
   pub index : ℕ
@@ -105,13 +105,13 @@ pub record HoldsThinly (p : PassValue) (o d : ℕ) : Type 0 where
   pub saw : Saw p.opening.lows p.opening.count p.seen p.index p.mine
   pub thin : (c : ℕ) → (d ≡ c + 1) ↔ (lock_at saw.locks o ≡ Thin p.index c)
 
--- a pass that has done and seen nothing
-abbrev pub new_pass : Opening → ℕ → PassValue
-new_pass z i = record { opening = z; index = i; mine = []; seen = []; has_gate = false; steps = 0 }
-
 -- a row for a pass that has done nothing: no locks, and a copy of the low bytes
 abbrev pub IsNewRow : List ℕ → Row → Type 0
 IsNewRow lows r = (r.depths.items ≡ replicate (length lows) 0) × (r.lows.items ≡ lows)
+
+-- a pass that has done and seen nothing
+abbrev pub new_pass : Opening → ℕ → PassValue
+new_pass z i = record { opening = z; index = i; mine = []; seen = []; has_gate = false; steps = 0 }
 
 -- n such passes, with the indices from i on
 abbrev pub new_passes : Opening → ℕ → ℕ → List PassValue

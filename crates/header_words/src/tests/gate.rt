@@ -1,12 +1,13 @@
 //! The book behind the gate, and the monitors that are published from it.
 ghost use Rattle.std.specs.Prelude.{◌≡◌, ◌<◌, ◌+◌, length, true, false, IfSome};
 ghost use Rattle.header_words.specs.Bindings.{Binds, Covers};
-ghost use Rattle.header_words.specs.Passes.{depth_at};
+ghost use Rattle.header_words.specs.Passes.{depth_at, new_passes};
 
 use super::books::{Ledger, Names};
-use crate::{Headers, Kept, Pass};
+use crate::{Headers, Kept, OpenFault, Pass};
 use fat_monitor::{Fats, Receipt};
 use lock_word::{Lock, ObjectId, ThreadId, Word, decode};
+use std::alloc::Global;
 use std::test::Fail;
 use std::thread::{Threads, join};
 
@@ -115,13 +116,24 @@ fn add_often(
     (rounds, pass)
 }
 
+// Opens the words of one object for two passes. Where an allocation is refused, the book comes back,
+// and is opened again.
+fn open_for_two(alloc: Global, names: Names) -> Option<(Headers<Names>, Vec<Pass<Names>>)>
+    ensures { IfSome result (λ r. r.1.items ≡ new_passes r.0 1 2) }
+{
+    match Headers::open(alloc, &[0xa5], 2, names) {
+        Ok(opened) => Some(opened),
+        Err(OpenFault::Memory { book }) => Headers::open(alloc, &[0xa5], 2, book).ok(),
+    }
+}
+
 // A shared reference to the value may cross threads, and the value itself.
 fn crosses_threads<T: Send + Sync>(_value: &T) {}
 
 #[test]
 fn the_book_is_taken_by_one_pass_at_a_time(rt: HostRuntime) -> Result<(), Fail> {
     let names = Names::new(rt.alloc());
-    let Ok((headers, mut passes)) = Headers::open(rt.alloc(), &[0xa5], 2, names) else {
+    let Some((headers, mut passes)) = open_for_two(rt.alloc(), names) else {
         panic!(rt; "memory")
     };
     crosses_threads(&headers);
