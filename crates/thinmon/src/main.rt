@@ -3,22 +3,13 @@
 //! `docs/FORMATS.md` has the forms of scripts and reports.
 #![tactic(auto)]
 
-mod ends;
-mod faults;
-mod names;
-mod numerals;
 mod orders;
-mod reports;
-mod running;
-mod scripts;
 #[cfg(test)]
 mod tests;
 
 use clap::error::ErrorKind;
-use ends::{ReaderSource, WriterSink};
-use faults::FileFault;
+use history::{FileFault, ReaderSource, WriterSink, run};
 use orders::{Order, read_words};
-use running::run;
 use std::process::ExitCode;
 use std::rt::{Env, Files};
 use std::{env, fs, io};

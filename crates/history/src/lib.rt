@@ -1,0 +1,20 @@
+//! Scripts of monitor steps, and the reports of what they did.
+//!
+//! `docs/FORMATS.md` has the forms of both.
+#![tactic(auto)]
+
+mod ends;
+mod faults;
+mod names;
+mod numerals;
+mod reports;
+mod running;
+mod scripts;
+#[cfg(test)]
+mod tests;
+
+pub use ends::{ReaderSource, Sink, Source, WriterSink};
+pub use faults::FileFault;
+pub use names::Names;
+pub use running::run;
+pub use scripts::{Script, read_script};
