@@ -3,6 +3,9 @@
 use clap::{Arg, ArgAction, Command, Error};
 use std::alloc::Global;
 
+/// The version that `--version` tells.
+const VERSION: &str = "0.1.0";
+
 /// What the program is to do.
 #[derive(Clone, Copy, PartialEq, Eq, Debug)]
 pub enum Order<'a> {
@@ -10,9 +13,9 @@ pub enum Order<'a> {
     Run { file: Option<&'a str> },
 }
 
-/// The order that the words give. The first word is the program's own name.
+/// The order that the words behind the program's name give.
 ///
-/// A request for help is an `Err` too: the error knows its text and its exit status.
+/// A request for help or for the version is an `Err` too: the error knows its text.
 pub fn read_words<'a>(alloc: Global, words: &'a [String]) -> Result<Order<'a>, Error> {
     let file = Arg::new(alloc, "file")
         .value_name("FILE")
@@ -23,6 +26,8 @@ pub fn read_words<'a>(alloc: Global, words: &'a [String]) -> Result<Order<'a>, E
         .arg(file)?;
     let program = Command::new(alloc, "thinmon")
         .about("Java monitors on thin locks, one atomic step at a time")
+        .version(VERSION)
+        .no_binary_name(true)
         .subcommand_required(true)
         .bin_name("thinmon")?
         .subcommand(run)?;
