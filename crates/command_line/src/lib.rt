@@ -1,6 +1,6 @@
 //! The words behind `thinmon`: what they order, doing it, and how the program ends.
 //!
-//! The program `thinmon` is `serve` and its exit status, and nothing else.
+//! The program `thinmon` is `serve`, and nothing else.
 #![tactic(auto)]
 
 mod ends;
@@ -9,4 +9,4 @@ mod serving;
 
 pub use ends::{ProgramEnd, end_for};
 pub use orders::{Order, read_words};
-pub use serving::serve;
+pub use serving::{serve, serve_words};

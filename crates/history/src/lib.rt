@@ -10,8 +10,6 @@ mod numerals;
 mod reports;
 mod running;
 mod scripts;
-#[cfg(test)]
-mod tests;
 
 pub use ends::{ReaderSource, Sink, Source, WriterSink};
 pub use faults::FileFault;

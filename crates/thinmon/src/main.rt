@@ -10,5 +10,5 @@ use command_line::serve;
 use std::process::ExitCode;
 
 fn main(rt: HostRuntime) -> ExitCode {
-    ExitCode::from(serve(&rt).status())
+    serve(&rt)
 }

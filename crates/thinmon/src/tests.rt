@@ -1,3 +1,4 @@
-//! The command line.
+//! What no example shows: words of the command line, streams that fail, and want of memory.
 
+mod streams;
 mod words;
