@@ -4,7 +4,6 @@
 #![tactic(auto)]
 
 mod ends;
-mod faults;
 mod names;
 mod numerals;
 mod reports;
@@ -12,7 +11,7 @@ mod running;
 mod scripts;
 
 pub use ends::{ReaderSource, Sink, Source, WriterSink};
-pub use faults::FileFault;
+pub use history_text::FileFault;
 pub use names::Names;
 pub use running::run;
 pub use scripts::{Script, read_script};

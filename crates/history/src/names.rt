@@ -40,7 +40,7 @@ impl Model for Names {
 
 impl Names {
     /// No name.
-    pub fn new(alloc: Global) -> Names
+    pub(crate) fn new(alloc: Global) -> Names
         ensures { result ≡ record { threads = []; objects = [] } }
     {
         Names {
@@ -52,7 +52,7 @@ impl Names {
 
     /// The thread that a word names, which gets the next number where the name is new; None where the
     /// word is no name.
-    pub fn thread(&mut self, word: &str) -> Result<Option<ThreadId>, Memory>
+    pub(crate) fn thread(&mut self, word: &str) -> Result<Option<ThreadId>, Memory>
         ensures found { IfOk result (λ thread. thread ≡ (if is_name word.now then Some (record { 0 = number_of self.old.threads word.now }) else None)) }
         ensures noted { IfOk result (λ thread. self.new ≡ (if is_name word.now then record self.old { threads = with_name self.old.threads word.now } else self.old)) }
         ensures err { OnErr result (self.new ≡ self.old) }
@@ -65,7 +65,7 @@ impl Names {
     }
 
     /// Declares an object by a word. False where the word is no name, or names an object already.
-    pub fn declare(&mut self, word: &str) -> Result<bool, Memory>
+    pub(crate) fn declare(&mut self, word: &str) -> Result<bool, Memory>
         ensures declared { IfOk result (λ declared. declared ≡ (is_name word.now && not (is_named self.old.objects word.now))) }
         ensures counted { IfOk result (λ declared. length self.new.objects ≡ length self.old.objects + (if declared then 1 else 0)) }
         ensures noted { IfOk result (λ declared. self.new ≡ (if declared then record self.old { objects = self.old.objects ++ word.now ∷ [] } else self.old)) }
@@ -80,7 +80,7 @@ impl Names {
 
     /// The object that a word names; None where the word is no name. A name that was not declared
     /// stands for the number of the objects, which no object has.
-    pub fn object(&self, word: &str) -> Option<ObjectId>
+    pub(crate) fn object(&self, word: &str) -> Option<ObjectId>
         ensures { result ≡ (if is_name word.now then Some (record { 0 = number_of self.now.objects word.now }) else None) }
     {
         if !may_be_name(word) {

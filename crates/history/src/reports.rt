@@ -1,6 +1,5 @@
 //! Reports: what each step of a script answered, and how the objects stand behind the last.
 
-use crate::faults::FileFault;
 use crate::names::Names;
 use crate::scripts::Script;
 use fat_monitor::Answer;

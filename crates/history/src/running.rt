@@ -2,16 +2,13 @@
 
 ghost use Rattle.std.specs.Prelude.{◌≡◌, ◌+◌, ◌<◌, ◌≤◌, ◌⊎◌, ℕ, List, length, take, IsErrOf, IfSome, OnOk, OnErr, IfOk, IfErr, Err};
 ghost use Rattle.std.specs.Io.KnownBytes.{Keeps, Appends};
-ghost use Rattle.history.specs.declared.faults.FileFault.TheVariants.{BadLine, Read as ReadFault, Write as WriteFault, Memory};
+ghost use Rattle.history_text.specs.declared.faults.FileFault.TheVariants.{BadLine, Read as ReadFault, Write as WriteFault, Memory};
 
 use crate::ends::{Sink, Source};
-use crate::faults::FileFault;
 use crate::reports::report_of;
 use crate::scripts::read_script;
+use history_text::{FileFault, MOST_BYTES};
 use std::alloc::Global;
-
-/// The most bytes that a script has.
-pub const MOST_BYTES: usize = 16_777_216;
 
 /// How many bytes are read at once.
 const CHUNK: usize = 4096;

@@ -1,15 +1,15 @@
 //! Scripts: the numbers and objects of a world, and the steps to play on it.
 
-ghost use Rattle.std.specs.Prelude.{◌≡◌, ◌<◌, ◌≤◌, ◌+◌, length, vec_len, if◌then◌else◌, None, IfSome, IfErr};
+ghost use Rattle.std.specs.Prelude.{◌≡◌, ◌<◌, ◌≤◌, ◌+◌, length, vec_len, if◌then◌else◌, None, Err, IfSome, IfErr};
 ghost use Rattle.history.specs.Calls.{IsWait, call_alone, call_on};
 ghost use Rattle.history.specs.Faults.{IsOfLines};
 ghost use Rattle.history.specs.NameLists.{number_of};
 ghost use Rattle.history.specs.Words.{is_name};
 
-use crate::faults::FileFault;
 use crate::names::Names;
 use crate::numerals::{low_byte_in, number_in, signed_in};
 use fast_path::Call;
+use history_text::{FileFault, MOST_BYTES};
 use lock_word::{Memory, ThreadId};
 use std::alloc::Global;
 use std::str;
@@ -196,9 +196,20 @@ fn call_alone(verb: &str) -> Option<Call>
     }
 }
 
-/// The script that some bytes are, or the first line that is bad.
+/// The script that some bytes are, or why they are none: the first line that is bad, or more bytes than
+/// a script has, whatever their lines are.
 pub fn read_script(alloc: Global, bytes: &[u8]) -> Result<Script, FileFault>
-    requires { length bytes.now ≤ 16777216 }
+    ensures too_long { MOST_BYTES < length bytes.now → result ≡ Err FileFault.Read }
+    ensures few { length bytes.now ≤ MOST_BYTES → IfErr result (IsOfLines (length bytes.now + 1)) }
+{
+    if bytes.len() > MOST_BYTES {
+        return Err(FileFault::Read);
+    }
+    lines_in(alloc, bytes)
+}
+
+fn lines_in(alloc: Global, bytes: &[u8]) -> Result<Script, FileFault>
+    requires { length bytes.now ≤ MOST_BYTES }
     ensures { IfErr result (IsOfLines (length bytes.now + 1)) }
 {
     let Some((first, mut rest)) = cut_line(bytes) else {

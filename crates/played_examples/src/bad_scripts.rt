@@ -4,7 +4,7 @@
 //! In the script of a row `|` stands for a line feed, `~` for a carriage return, and `^` for the byte
 //! FF, which is no text. No script has one of these three.
 
-use crate::comparing::play as report_of;
+use crate::comparing::{ends_in, play as report_of};
 use history::FileFault;
 use std::alloc::{AllocError, Global};
 use std::rt::Files;
@@ -53,10 +53,7 @@ fn meant_by(byte: u8) -> u8 {
 }
 
 fn has_bad_line(alloc: Global, script: &[u8], number: u64) -> bool {
-    match report_of(alloc, script) {
-        Err(fault) => fault == FileFault::BadLine(number),
-        Ok(_) => false,
-    }
+    ends_in(alloc, script, FileFault::BadLine(number))
 }
 
 /// How many fronts of a script come out otherwise than they should: a front that ends within a line

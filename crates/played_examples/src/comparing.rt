@@ -3,6 +3,7 @@
 ghost use Rattle.std.specs.Prelude.{◌≡◌, ◌↔◌, IsNone};
 
 use history::{FileFault, ReaderSource, WriterSink, run};
+use history_text::{print_script, read_script};
 use std::alloc::Global;
 use std::fmt::{Display, Formatter, Write};
 use std::{fmt, io, str};
@@ -63,6 +64,13 @@ pub fn play(alloc: Global, script: &[u8]) -> Result<Vec<u8>, FileFault> {
     Ok(sink.into_inner())
 }
 
+/// Whether a script is read, and its text is what was read.
+fn is_printed_again(alloc: Global, script: &[u8]) -> Result<bool, FileFault> {
+    let lines = read_script(alloc, script)?;
+    let text = print_script(alloc, &lines)?;
+    Ok(text.as_bytes() == script)
+}
+
 /// Plays a script, and prints whether its report is the wanted one.
 pub fn compare<R>(rt: &R, name: &str, script: &[u8], wanted: &str) -> io::Result<bool>
 where
@@ -79,6 +87,10 @@ where
         println!(rt; "{name}: its report is no text")?;
         return Ok(false);
     };
+    if !is_printed_again(rt.alloc(), script).unwrap_or(false) {
+        println!(rt; "{name}: its script is printed otherwise")?;
+        return Ok(false);
+    }
     match first_difference(report, wanted) {
         None => {
             println!(rt; "{name}: as its report says")?;
@@ -91,23 +103,22 @@ where
     }
 }
 
+/// Whether a script ends in a fault, when it is played and when its text is read.
+pub fn ends_in(alloc: Global, script: &[u8], fault: FileFault) -> bool {
+    play(alloc, script).is_err_and(|found| found == fault)
+        && read_script(alloc, script).is_err_and(|found| found == fault)
+}
+
 /// Plays a script, and prints whether it ends in the wanted fault.
 pub fn compare_fault<R>(rt: &R, name: &str, script: &[u8], wanted: FileFault) -> io::Result<bool>
 where
     R: Print + AllocGlobal,
 {
-    match play(rt.alloc(), script) {
-        Err(fault) if fault == wanted => {
-            println!(rt; "{name}: {fault}, as it should")?;
-            Ok(true)
-        }
-        Err(fault) => {
-            println!(rt; "{name}: {fault} in place of {wanted}")?;
-            Ok(false)
-        }
-        Ok(_) => {
-            println!(rt; "{name}: a report in place of {wanted}")?;
-            Ok(false)
-        }
+    let is_right = ends_in(rt.alloc(), script, wanted);
+    if is_right {
+        println!(rt; "{name}: {wanted}, as it should")?;
+    } else {
+        println!(rt; "{name}: not {wanted}")?;
     }
+    Ok(is_right)
 }

@@ -36,9 +36,15 @@ pub fn play<R: Print + AllocGlobal>(rt: &R) -> io::Result<bool> {
         ("enter_256", enter_256(alloc)?),
         ("enter_257", enter_257(alloc)?),
         ("enter_257_and_exits", enter_257_and_exits(alloc)?),
-        ("enter_257_without_monitors", enter_257_without_monitors(alloc)?),
+        (
+            "enter_257_without_monitors",
+            enter_257_without_monitors(alloc)?,
+        ),
         ("enter_65536", enter_65536(alloc)?),
-        ("interrupt_while_inflating", interrupt_while_inflating(alloc)?),
+        (
+            "interrupt_while_inflating",
+            interrupt_while_inflating(alloc)?,
+        ),
     ];
     for (name, draft) in &drafts {
         all_right &= compare(rt, name, draft.script.as_bytes(), &draft.report)?;

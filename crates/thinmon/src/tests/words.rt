@@ -66,7 +66,10 @@ fn the_version(rt: HostRuntime) -> Result<(), Fail> {
     match read_words(rt.alloc(), &words) {
         Ok(_) => assert!(rt; false),
         Err(error) => {
-            assert_eq!(rt; format!(in rt.alloc(); "{error}")?.as_str(), "thinmon 0.1.0\n");
+            assert_eq!(rt;
+                format!(in rt.alloc(); "{error}")?.as_str(),
+                "thinmon 0.1.0\n"
+            );
         }
     }
     Ok(())

@@ -1,5 +1,5 @@
 use Rattle.std.proofs.Common.{◌≤◌, ◌+◌, length}
-use Rattle.history.proofs.scripts.read_script.Given as goal
+use Rattle.history.proofs.scripts.lines_in.Given as goal
 
 -- each line has at least its line feed
 abbrev pub invariant-lines : goal.invariant-lines
