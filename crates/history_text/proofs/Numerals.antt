@@ -36,9 +36,10 @@ parsed_by word (Err e) is long all h =
 pub parsed : {E : Type 0} (word : List ℕ) (r : Result ℕ E) → is_numeral word ≡ true → ParsesUnsigned 64 10 word r → result_ok r ≡ number_from word
 parsed [] r is p = absurd (cc)
 parsed (c ∷ cs) r is p =
-    let all = (and_parts _ _ is).1 in
+    let long : 0 < length (c ∷ cs) = omega arith in
+    let all : list_all is_ascii_digit (c ∷ cs) ≡ true = (and_parts _ _ is).1 in
     let ne : c ≢ 43 = no_sign c cs all in
-    parsed_by (c ∷ cs) r is (omega arith) all (parse_plain own 64 (c ∷ cs) r p ne)
+    parsed_by (c ∷ cs) r is long all (parse_plain own 64 (c ∷ cs) r p ne)
 
 only_zero : (c : ℕ) (cs : List ℕ) → c ≡ 48 → (eqb (length cs) 0 ≡ true) ⊎ (not (eqb c 48) ≡ true) → length (c ∷ cs) ≡ 1
 only_zero c cs e (inl one) = let none : length cs ≡ 0 = eqb-true _ _ one in omega arith

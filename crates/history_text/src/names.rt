@@ -1,11 +1,10 @@
 //! The names of threads and objects.
 
-ghost use Rattle.std.specs.Prelude.{◌≡◌, IfOk, IsTrue, Some, string_bytes};
+ghost use Rattle.std.specs.Prelude.{◌≡◌, Some};
 ghost use Rattle.std.specs.Int.{is_in_range};
 ghost use Rattle.std.specs.List.{list_all};
 ghost use Rattle.history_text.specs.Words.{is_name_byte, is_name, name_from};
 
-use std::alloc::{AllocError, Global};
 use std::fmt;
 use std::marker::Model;
 
@@ -15,19 +14,19 @@ const LONGEST_NAME: usize = 32;
 /// The name of a thread or an object: 1 to 32 of the bytes `a` to `z`, `0` to `9` and `_`, the first a
 /// letter.
 #[derive(Debug, Drop)]
-pub struct Name {
-    text: String,
+pub struct Name<'a> {
+    text: &'a str,
 }
 
-impl Model for Name {
-    ghost use Rattle.std.specs.Prelude.{◌≡◌, List, ℕ, true, string_bytes};
+impl<'a> Model for Name<'a> {
+    ghost use Rattle.std.specs.Prelude.{◌≡◌, List, ℕ, true};
     ghost use Rattle.history_text.specs.Words.{is_name};
 
     ghost Value = { List ℕ };
 
-    ghost view = { λ n. string_bytes n.text };
+    ghost view = { λ n. n.text.now };
 
-    ghost invariant = { λ n. is_name (string_bytes n.text) ≡ true };
+    ghost invariant = { λ n. is_name n.text.now ≡ true };
 }
 
 fn may_stand_in_name(byte: u8) -> bool
@@ -57,28 +56,27 @@ fn is_right(text: &str) -> bool
     }
 }
 
-impl Name {
+impl<'a> Name<'a> {
     /// The name that a text is.
-    pub fn from_text(alloc: Global, text: &str) -> Result<Option<Name>, AllocError>
-        ensures { IfOk result (λ name. name ≡ name_from text.now) }
+    pub fn from_text(text: &'a str) -> Option<Name<'a>>
+        ensures { result ≡ name_from text.now }
     {
-        if !is_right(text) {
-            return Ok(None);
+        if is_right(text) {
+            Some(Name { text })
+        } else {
+            None
         }
-        Ok(Some(Name {
-            text: String::from_str(alloc, text)?,
-        }))
     }
 
     /// The text of the name.
-    pub fn as_str(&self) -> &str
+    pub fn as_str(&self) -> &'a str
         ensures { result.now ≡ self.now }
     {
-        self.text.as_str()
+        self.text
     }
 }
 
-impl fmt::Display for Name {
+impl fmt::Display for Name<'_> {
     ghost output = { λ name. Some name };
 
     fn fmt<W: fmt::Write>(&self, f: &mut fmt::Formatter<W>) -> fmt::Result {

@@ -11,7 +11,7 @@ use std::alloc::{AllocError, Global};
 pub fn number_of_name(
     alloc: Global,
     names: &mut IndexSet<String>,
-    name: &Name,
+    name: &Name<'_>,
 ) -> Result<usize, AllocError>
     ensures names { IfOk result (λ _. map string_bytes names.new.keys ≡ with_name (map string_bytes names.old.keys) name.now) }
     ensures number { IfOk result (λ number. slice_get (map string_bytes names.new.keys) number ≡ Some name.now) }

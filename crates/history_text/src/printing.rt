@@ -21,7 +21,7 @@ fn hex_char(digit: u8) -> char
 }
 
 /// Writes a call at the end of a line, and the line feed.
-fn put_call(out: &mut String, call: &Call) -> Result<(), AllocError>
+fn put_call(out: &mut String, call: &Call<'_>) -> Result<(), AllocError>
     ensures { OnOk result (string_bytes out.new ≡ string_bytes out.old ++ (join_with_byte 32 (call_words call.now) ++ 10 ∷ [])) }
 {
     match call {
@@ -43,7 +43,7 @@ fn put_call(out: &mut String, call: &Call) -> Result<(), AllocError>
 }
 
 /// Writes a step and its line feed at the end.
-fn put_step(out: &mut String, step: &StepLine) -> Result<(), AllocError>
+fn put_step(out: &mut String, step: &StepLine<'_>) -> Result<(), AllocError>
     ensures { OnOk result (string_bytes out.new ≡ string_bytes out.old ++ (join_with_byte 32 (step_words step.now) ++ 10 ∷ [])) }
 {
     match step {
@@ -59,7 +59,7 @@ fn put_step(out: &mut String, step: &StepLine) -> Result<(), AllocError>
 }
 
 /// Writes a line and its line feed at the end.
-fn put_line(out: &mut String, line: &Line) -> Result<(), AllocError>
+fn put_line(out: &mut String, line: &Line<'_>) -> Result<(), AllocError>
     ensures { OnOk result (string_bytes out.new ≡ string_bytes out.old ++ (line_text line.now ++ 10 ∷ [])) }
 {
     match line {
@@ -74,7 +74,7 @@ fn put_line(out: &mut String, line: &Line) -> Result<(), AllocError>
 }
 
 /// The one text of the lines.
-pub fn print_lines(alloc: Global, lines: &[Line]) -> Result<String, AllocError>
+pub fn print_lines(alloc: Global, lines: &[Line<'_>]) -> Result<String, AllocError>
     ensures { IfOk result (λ text. string_bytes text ≡ script_text lines.now) }
 {
     let mut out = String::new(alloc);

@@ -107,7 +107,7 @@ fn nanos_of(word: &str) -> Option<i32>
     }
 }
 
-fn world_of(monitors: &str, indices: &str) -> Option<Line>
+fn world_of<'a>(monitors: &str, indices: &str) -> Option<Line<'a>>
     ensures { result
         ≡ option_and_then (λ m. option_and_then (world_from m) (number_from indices.now)) (number_from monitors.now) }
 {
@@ -122,7 +122,7 @@ fn world_of(monitors: &str, indices: &str) -> Option<Line>
     })
 }
 
-fn call_alone(verb: &str) -> Option<Call>
+fn call_alone<'a>(verb: &str) -> Option<Call<'a>>
     ensures { result ≡ call_alone verb.now }
 {
     match verb {
@@ -132,8 +132,8 @@ fn call_alone(verb: &str) -> Option<Call>
     }
 }
 
-fn call_with(verb: &str, name: Name) -> Option<Call>
-    ensures { result ≡ call_with verb.now name }
+fn call_with<'a>(verb: &str, name: Name<'a>) -> Option<Call<'a>>
+    ensures { result ≡ call_with verb.now name.entry }
 {
     match verb {
         "enter" => Some(Call::Enter(name)),
@@ -147,130 +147,94 @@ fn call_with(verb: &str, name: Name) -> Option<Call>
     }
 }
 
-fn call_naming(alloc: Global, verb: &str, word: &str) -> Result<Option<Call>, AllocError>
-    ensures { IfOk result (λ call. call ≡ call_naming verb.now word.now) }
+fn call_naming<'a>(verb: &str, word: &'a str) -> Option<Call<'a>>
+    ensures { result ≡ call_naming verb.now word.now }
 {
-    let Some(name) = Name::from_text(alloc, word)? else {
-        return Ok(None);
-    };
-    Ok(call_with(verb, name))
+    let name = Name::from_text(word)?;
+    call_with(verb, name)
 }
 
-fn wait_of(alloc: Global, name: &str, millis: &str, nanos: &str) -> Result<Option<Call>, AllocError>
-    ensures { IfOk result (λ call. call ≡ wait_from name.now millis.now nanos.now) }
+fn wait_of<'a>(name: &'a str, millis: &str, nanos: &str) -> Option<Call<'a>>
+    ensures { result ≡ wait_from name.now millis.now nanos.now }
 {
-    let Some(object) = Name::from_text(alloc, name)? else {
-        return Ok(None);
-    };
-    let Some(millis) = signed_of(millis) else {
-        return Ok(None);
-    };
-    let Some(nanos) = nanos_of(nanos) else {
-        return Ok(None);
-    };
-    Ok(Some(Call::Wait {
+    let object = Name::from_text(name)?;
+    let millis = signed_of(millis)?;
+    let nanos = nanos_of(nanos)?;
+    Some(Call::Wait {
         object,
         millis,
         nanos,
-    }))
-}
-
-fn call_timed(
-    alloc: Global,
-    verb: &str,
-    name: &str,
-    millis: &str,
-    nanos: &str,
-) -> Result<Option<Call>, AllocError>
-    ensures { IfOk result (λ call. call ≡ call_timed verb.now name.now millis.now nanos.now) }
-{
-    if verb == "wait" {
-        wait_of(alloc, name, millis, nanos)
-    } else {
-        Ok(None)
-    }
-}
-
-fn begin_of(
-    alloc: Global,
-    verb: &str,
-    thread: &str,
-    call: Option<Call>,
-) -> Result<Option<Line>, AllocError>
-    ensures { IfOk result (λ line. line ≡ option_map Step (begin_from verb.now thread.now call)) }
-{
-    if verb != "begin" {
-        return Ok(None);
-    }
-    let Some(thread) = Name::from_text(alloc, thread)? else {
-        return Ok(None);
-    };
-    let Some(call) = call else {
-        return Ok(None);
-    };
-    Ok(Some(Line::Step(StepLine::Begin { thread, call })))
-}
-
-fn step_of_two(alloc: Global, verb: &str, word: &str) -> Result<Option<StepLine>, AllocError>
-    ensures { IfOk result (λ step. step ≡ step_of_two verb.now word.now) }
-{
-    Ok(match verb {
-        "attach" => Name::from_text(alloc, word)?.map(StepLine::Attach),
-        "go" => Name::from_text(alloc, word)?.map(StepLine::Go),
-        "expire" => Name::from_text(alloc, word)?.map(StepLine::Expire),
-        "tick" => number_of(word).map(StepLine::Tick),
-        _ => None,
     })
 }
 
-fn object_of(alloc: Global, name: &str, low: &str) -> Result<Option<Line>, AllocError>
-    ensures { IfOk result (λ line. line
-        ≡ option_and_then (λ name. option_map (Object name) (low_from low.now)) (name_from name.now)) }
+fn call_timed<'a>(verb: &str, name: &'a str, millis: &str, nanos: &str) -> Option<Call<'a>>
+    ensures { result ≡ call_timed verb.now name.now millis.now nanos.now }
 {
-    let Some(name) = Name::from_text(alloc, name)? else {
-        return Ok(None);
-    };
-    let Some(low) = low_of(low) else {
-        return Ok(None);
-    };
-    Ok(Some(Line::Object { name, low }))
+    if verb == "wait" {
+        wait_of(name, millis, nanos)
+    } else {
+        None
+    }
 }
 
-fn line_of_three(
-    alloc: Global,
-    verb: &str,
-    first: &str,
-    second: &str,
-) -> Result<Option<Line>, AllocError>
-    ensures { IfOk result (λ line. line ≡ line_of_three verb.now first.now second.now) }
+fn begin_of<'a>(verb: &str, thread: &'a str, call: Option<Call<'a>>) -> Option<Line<'a>>
+    ensures { result ≡ option_map Step (begin_from verb.now thread.now call.entry) }
+{
+    if verb != "begin" {
+        return None;
+    }
+    let thread = Name::from_text(thread)?;
+    let call = call?;
+    Some(Line::Step(StepLine::Begin { thread, call }))
+}
+
+fn step_of_two<'a>(verb: &str, word: &'a str) -> Option<StepLine<'a>>
+    ensures { result ≡ step_of_two verb.now word.now }
+{
+    match verb {
+        "attach" => Name::from_text(word).map(StepLine::Attach),
+        "go" => Name::from_text(word).map(StepLine::Go),
+        "expire" => Name::from_text(word).map(StepLine::Expire),
+        "tick" => Some(StepLine::Tick(number_of(word)?)),
+        _ => None,
+    }
+}
+
+fn object_of<'a>(name: &'a str, low: &str) -> Option<Line<'a>>
+    ensures { result
+        ≡ option_and_then (λ name. option_map (Object name) (low_from low.now)) (name_from name.now) }
+{
+    let name = Name::from_text(name)?;
+    let low = low_of(low)?;
+    Some(Line::Object { name, low })
+}
+
+fn line_of_three<'a>(verb: &str, first: &'a str, second: &'a str) -> Option<Line<'a>>
+    ensures { result ≡ line_of_three verb.now first.now second.now }
 {
     if verb == "world" {
-        return Ok(world_of(first, second));
+        return world_of(first, second);
     }
     if verb == "object" {
-        return object_of(alloc, first, second);
+        return object_of(first, second);
     }
-    begin_of(alloc, verb, first, call_alone(second))
+    begin_of(verb, first, call_alone(second))
 }
 
-fn line_of_words(alloc: Global, words: &[&str]) -> Result<Option<Line>, AllocError>
-    ensures { IfOk result (λ line. line ≡ line_from (map (λ word. word.now) words.now)) }
+fn line_of_words<'a>(words: &[&'a str]) -> Option<Line<'a>>
+    ensures { result ≡ line_from (map (λ word. word.now) words.now) }
 {
     match words {
-        [verb, word] => Ok(step_of_two(alloc, verb, word)?.map(Line::Step)),
-        [verb, first, second] => line_of_three(alloc, verb, first, second),
-        [verb, thread, call, name] => {
-            let call = call_naming(alloc, call, name)?;
-            begin_of(alloc, verb, thread, call)
-        }
+        [verb, word] => step_of_two(verb, word).map(Line::Step),
+        [verb, first, second] => line_of_three(verb, first, second),
+        [verb, thread, call, name] => begin_of(verb, thread, call_naming(call, name)),
         [verb, thread, call, name, millis, nanos] => {
-            let call = call_timed(alloc, call, name, millis, nanos)?;
-            begin_of(alloc, verb, thread, call)
+            begin_of(verb, thread, call_timed(call, name, millis, nanos))
         }
-        [] => Ok(None),
-        [_] => Ok(None),
-        [_, _, _, _, _] => Ok(None),
-        [_, _, _, _, _, _, _, ..] => Ok(None),
+        [] => None,
+        [_] => None,
+        [_, _, _, _, _] => None,
+        [_, _, _, _, _, _, _, ..] => None,
     }
 }
 
@@ -280,16 +244,16 @@ fn words_in<'a>(alloc: Global, text: &'a str) -> Result<Vec<&'a str>, AllocError
     text.split(' ').collect(alloc)
 }
 
-fn line_of_text(alloc: Global, text: &str) -> Result<Option<Line>, AllocError>
+fn line_of_text<'a>(alloc: Global, text: &'a str) -> Result<Option<Line<'a>>, AllocError>
     ensures { IfOk result (λ line. line ≡ line_from (words_of text.now)) }
 {
     let words = words_in(alloc, text)?;
-    line_of_words(alloc, &words)
+    Ok(line_of_words(&words))
 }
 
 /// The line that some bytes are, with no line feed.
 #[tactic(auto, using(crate::proofs::LineLaws::line_at_text, crate::proofs::LineLaws::not_text))]
-pub fn line_of(alloc: Global, bytes: &[u8]) -> Result<Option<Line>, AllocError>
+pub fn line_of<'a>(alloc: Global, bytes: &'a [u8]) -> Result<Option<Line<'a>>, AllocError>
     ensures { IfOk result (λ line. line ≡ line_at bytes.now) }
 {
     match str::from_utf8(bytes) {

@@ -26,11 +26,11 @@ const MOST_OBJECTS: usize = 65_535;
 
 /// A script: lines that keep the rules.
 #[derive(Debug, Drop)]
-pub struct Script {
-    lines: Vec<Line>,
+pub struct Script<'a> {
+    lines: Vec<Line<'a>>,
 }
 
-impl Model for Script {
+impl<'a> Model for Script<'a> {
     ghost use Rattle.std.specs.Prelude.{List};
     ghost use Rattle.history_text.specs.declared.lines.Line.{Line as LineData};
     ghost use Rattle.history_text.specs.Lines.{IsScript};
@@ -42,20 +42,20 @@ impl Model for Script {
     ghost invariant = { λ s. IsScript s.lines.items };
 }
 
-fn is_object_line(line: &Line) -> bool
+fn is_object_line(line: &Line<'_>) -> bool
     ensures { result ≡ is_object line.now }
 {
     matches!(line, Line::Object { .. })
 }
 
-fn has_name(names: &IndexSet<String>, name: &Name) -> bool
+fn has_name(names: &IndexSet<String>, name: &Name<'_>) -> bool
     ensures { result ≡ list_any (bytes_eq name.now) (map string_bytes names.now.keys) }
 {
     names.contains(name.as_str())
 }
 
 /// Whether a line may follow those that the three values note.
-fn follows(first: bool, declaring: bool, objects: &IndexSet<String>, line: &Line) -> bool
+fn follows(first: bool, declaring: bool, objects: &IndexSet<String>, line: &Line<'_>) -> bool
     ensures { result ≡ may_follow_by first declaring (map string_bytes objects.now.keys) line.now }
 {
     match line {
@@ -68,7 +68,11 @@ fn follows(first: bool, declaring: bool, objects: &IndexSet<String>, line: &Line
 }
 
 /// Notes the name of an object line.
-fn note_object(alloc: Global, objects: &mut IndexSet<String>, line: &Line) -> Result<(), AllocError>
+fn note_object(
+    alloc: Global,
+    objects: &mut IndexSet<String>,
+    line: &Line<'_>,
+) -> Result<(), AllocError>
     ensures { OnOk result (map string_bytes objects.new.keys ≡ with_object (map string_bytes objects.old.keys) line.now) }
 {
     match line {
@@ -82,13 +86,13 @@ fn note_object(alloc: Global, objects: &mut IndexSet<String>, line: &Line) -> Re
 
 /// The line that a part of the bytes is, where it may follow those before it.
 #[tactic(auto, using(crate::proofs::NotedLaws::next_steps))]
-fn next_of(
+fn next_of<'a>(
     alloc: Global,
-    lines: &[Line],
+    lines: &[Line<'a>],
     declaring: bool,
     objects: &IndexSet<String>,
-    part: &[u8],
-) -> Result<Option<Line>, AllocError>
+    part: &'a [u8],
+) -> Result<Option<Line<'a>>, AllocError>
     requires { IsNoted lines.now declaring (map string_bytes objects.now.keys) }
     ensures { IfOk result (λ line. line ≡ next_from lines.now part.now) }
 {
@@ -99,7 +103,7 @@ fn next_of(
     if may_stand { Ok(Some(line)) } else { Ok(None) }
 }
 
-fn still_declaring(lines: &[Line], declaring: bool, line: &Line) -> bool
+fn still_declaring(lines: &[Line<'_>], declaring: bool, line: &Line<'_>) -> bool
     ensures { result ≡ (declaring && (length lines.now == 0 || is_object line.now)) }
 {
     declaring && (lines.is_empty() || is_object_line(line))
@@ -109,10 +113,10 @@ fn still_declaring(lines: &[Line], declaring: bool, line: &Line) -> bool
 #[tactic(auto, using(crate::proofs::NotedLaws::noted_more))]
 fn note(
     alloc: Global,
-    lines: &[Line],
+    lines: &[Line<'_>],
     declaring: bool,
     objects: &mut IndexSet<String>,
-    line: &Line,
+    line: &Line<'_>,
 ) -> Result<bool, AllocError>
     requires noted { IsNoted lines.now declaring (map string_bytes objects.old.keys) }
     requires follows { may_follow lines.now line.now ≡ true }
@@ -145,7 +149,7 @@ fn cut_line(bytes: &[u8]) -> Option<(&[u8], &[u8])>
 
 /// The lines that some bytes are, or the first that is bad.
 #[tactic(auto, using(crate::proofs::ScriptLaws::reading_steps))]
-fn lines_of(alloc: Global, bytes: &[u8]) -> Result<Vec<Line>, FileFault>
+fn lines_of<'a>(alloc: Global, bytes: &'a [u8]) -> Result<Vec<Line<'a>>, FileFault>
     ensures { Gives (λ v. v.items) result (lines_from [] (parts_of bytes.now)) }
 {
     let mut lines = Vec::new(alloc);
@@ -171,7 +175,7 @@ fn lines_of(alloc: Global, bytes: &[u8]) -> Result<Vec<Line>, FileFault>
 
 /// The script that some bytes are, or why they are none: the first line that is bad, or more bytes than
 /// a script has, whatever their lines are.
-pub fn read_script(alloc: Global, bytes: &[u8]) -> Result<Script, FileFault>
+pub fn read_script<'a>(alloc: Global, bytes: &'a [u8]) -> Result<Script<'a>, FileFault>
     // What is read is written so.
     ensures found { IfOk result (λ script. IsScript script × (bytes.now ≡ script_text script)) }
     // What is written so is read, unless memory runs out.
@@ -188,7 +192,7 @@ pub fn read_script(alloc: Global, bytes: &[u8]) -> Result<Script, FileFault>
 }
 
 /// The one text of the script.
-pub fn print_script(alloc: Global, script: &Script) -> Result<String, AllocError>
+pub fn print_script(alloc: Global, script: &Script<'_>) -> Result<String, AllocError>
     ensures { IfOk result (λ text. string_bytes text ≡ script_text script.now) }
 {
     print_lines(alloc, &script.lines)
