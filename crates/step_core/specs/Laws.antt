@@ -14,3 +14,10 @@ pub record AreWithinLimits (lows : List ℕ) (monitors indices : ℕ) : Type 0 w
 -- the world that a list of steps, each with whether its growth is granted, leads to
 abbrev pub reached : List ℕ → ℕ → ℕ → List (Step × Bool) → WorldState
 reached lows monitors indices steps = world_after (opening_world lows monitors indices) steps
+
+-- This holds of every list of steps, of any number of threads and in any interleaving: of the low bytes and the world of
+-- the opening, the steps, and the world that they lead to.
+abbrev pub OfEveryList : (List ℕ → WorldState → List (Step × Bool) → WorldState → Type 0) → Type 0
+OfEveryList P =
+    (lows : List ℕ) (monitors indices : ℕ) (steps : List (Step × Bool)) → AreWithinLimits lows monitors indices
+    → P lows (opening_world lows monitors indices) steps (reached lows monitors indices steps)
