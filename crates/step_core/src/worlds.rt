@@ -1,14 +1,15 @@
 //! The world, and its steps.
 
-ghost use Rattle.std.specs.Prelude.{◌≡◌, ◌+◌, ◌<◌, ◌≤◌, length, Bool, Option, IfOk, IfErr, OnOk, OnErr, Some, None};
+ghost use Rattle.std.specs.Prelude.{◌≡◌, ◌+◌, ◌<◌, ◌≤◌, length, Bool, true, Option, IfOk, IfErr, OnOk, OnErr, Some, None};
 ghost use Rattle.std.specs.Option.{option_map};
 ghost use Rattle.fat_monitor.specs.FatState.{monitor_at, StandBehindOwners};
-ghost use Rattle.thread_index.specs.Indices.{seat_of, free_seat, index_of, holder_of};
+ghost use Rattle.thread_index.specs.Indices.{index_of, holder_of};
 ghost use Rattle.step_core.specs.Machine.{Run, opening, Thread, is_waiting};
 ghost use Rattle.step_core.specs.World.{opening_world, word_at};
 ghost use Rattle.step_core.specs.Shown.{shown, doing_of, doing_in};
 ghost use Rattle.step_core.specs.Sound.{IsSound};
-ghost use Rattle.step_core.specs.Step.{after_attach, after_begin, after_go, after_expire, after_tick, step_of, moves_of};
+ghost use Rattle.step_core.specs.declared.steps.Step.TheVariants as step;
+ghost use Rattle.step_core.specs.Step.{step_of, moves_of};
 ghost use Rattle.step_core.specs.Changes.{Changes};
 ghost use Rattle.step_core.specs.Labels.{HasLabels};
 ghost use Rattle.step_core.specs.Refused.{IsRefused, IsAcceptable};
@@ -47,7 +48,6 @@ impl Model for World {
 
     ghost coded = { Prim.hlevel (codes, map.code) };
 
-
     ghost view = { world_in };
 
     ghost invariant = { λ a. IsSound (world_in a) };
@@ -85,7 +85,8 @@ impl World {
     /// memory for a fat monitor is accepted, and says so in its atomic step.
     pub fn step(&mut self, step: Step) -> Result<Did, Fault>
         // The answer and the new world are those of the step relation; room is whether memory is granted.
-        ensures exact { (room : Bool) × (record { answer = result; after = self.new } ≡ step_of room self.old step) }
+        ensures exact { (room : Bool) × (record { answer = result; after = self.new }
+            ≡ step_of room self.old step) }
 
         // The atomic step names the one change of the words and the fat monitors.
         ensures changes { IfOk result (λ d. Changes self.old step d.atomic self.new) }
@@ -119,7 +120,8 @@ impl World {
 
     fn advance(&mut self, step: Step) -> Result<Did, Fault>
         ensures was { IsSound self.old }
-        ensures exact { (room : Bool) × (record { answer = result; after = self.new } ≡ step_of room self.old step) }
+        ensures exact { (room : Bool) × (record { answer = result; after = self.new }
+            ≡ step_of room self.old step) }
     {
         match step {
             Step::Attach { thread } => self.attach(thread),
@@ -133,7 +135,8 @@ impl World {
     #[tactic(auto, using(crate::proofs::Sound::AllSteps::attach_kept))]
     fn attach(&mut self, thread: ThreadId) -> Result<Did, Fault>
         ensures was { IsSound self.old }
-        ensures exact { (room : Bool) × (record { answer = result; after = self.new } ≡ after_attach room self.old thread (seat_of self.old.seats thread) (free_seat self.old.seats)) }
+        ensures exact { (room : Bool) × (record { answer = result; after = self.new }
+            ≡ step_of room self.old (step.Attach thread)) }
     {
         control::attach(&mut self.indices, &mut self.places, &mut self.fats, thread)
     }
@@ -141,14 +144,16 @@ impl World {
     #[tactic(auto, using(crate::proofs::Sound::AllSteps::begin_kept))]
     fn begin(&mut self, thread: ThreadId, call: Call) -> Result<Did, Fault>
         ensures was { IsSound self.old }
-        ensures exact { record { answer = result; after = self.new } ≡ after_begin self.old thread call (seat_of self.old.seats thread) }
+        ensures exact { record { answer = result; after = self.new }
+            ≡ step_of true self.old (step.Begin thread call) }
     {
         control::begin(&self.words, &self.indices, &mut self.places, thread, call)
     }
 
     fn go(&mut self, thread: ThreadId) -> Result<Did, Fault>
         ensures was { IsSound self.old }
-        ensures exact { (room : Bool) × (record { answer = result; after = self.new } ≡ after_go room self.old thread (seat_of self.old.seats thread)) }
+        ensures exact { (room : Bool) × (record { answer = result; after = self.new }
+            ≡ step_of room self.old (step.Go thread)) }
     {
         going::go(
             &mut self.words,
@@ -161,14 +166,15 @@ impl World {
 
     fn expire(&mut self, thread: ThreadId) -> Result<Did, Fault>
         ensures was { IsSound self.old }
-        ensures exact { record { answer = result; after = self.new } ≡ after_expire self.old thread (seat_of self.old.seats thread) }
+        ensures exact { record { answer = result; after = self.new }
+            ≡ step_of true self.old (step.Expire thread) }
     {
         control::expire(&self.indices, &mut self.fats, thread)
     }
 
     fn tick(&mut self, now: u64) -> Result<Did, Fault>
         ensures was { IsSound self.old }
-        ensures exact { record { answer = result; after = self.new } ≡ after_tick self.old now }
+        ensures exact { record { answer = result; after = self.new } ≡ step_of true self.old (step.Tick now) }
     {
         control::tick(&mut self.fats, now)
     }

@@ -114,7 +114,12 @@ impl Did {
     }
 
     /// The call parks: a wait joins the wait set, and another thread may have become the owner.
-    pub(crate) fn parking(call: Call, atomic: Atomic, thread: ThreadId, granted: Option<Move>) -> Did
+    pub(crate) fn parking(
+        call: Call,
+        atomic: Atomic,
+        thread: ThreadId,
+        granted: Option<Move>,
+    ) -> Did
         ensures { result ≡ parking call atomic thread granted }
     {
         match call {
