@@ -6,3 +6,4 @@ pub mod OneThread
 pub mod Cases
 pub mod OneFatAction
 pub mod Grants
+pub mod Existing

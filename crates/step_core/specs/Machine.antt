@@ -151,6 +151,13 @@ owner_only c = None
 abbrev pub Exists : ℕ → Call → Type 0
 Exists n c = MatchOption (object_of c) (Unit {0}) (λ o. o.0 < n)
 
+-- the object that an act names, if it names one, exists
+abbrev pub ActExists : ℕ → Doing → Type 0
+ActExists n (Wants c) = Exists n c
+ActExists n (Waits o holds d) = o.0 < n
+ActExists n (Back o holds w) = o.0 < n
+ActExists n d = Unit {0}
+
 -- t may be refused for this cause
 abbrev pub MayRefuse : State → ThreadId → Call → Cause → Type 0
 MayRefuse s t (call.Enter o) NoMonitor = OwnedBy s o t

@@ -1,10 +1,10 @@
 //! The world, and its steps.
 
-ghost use Rattle.std.specs.Prelude.{◌≡◌, ◌+◌, ◌<◌, ◌≤◌, length, Bool, true, Option, IfOk, IfErr, OnOk, OnErr, Some, None};
+ghost use Rattle.std.specs.Prelude.{◌≡◌, ◌+◌, ◌<◌, ◌≤◌, length, Bool, true, Option, IfOk, IfErr, IfSome, OnOk, OnErr, Some, None};
 ghost use Rattle.std.specs.Option.{option_map};
 ghost use Rattle.fat_monitor.specs.FatState.{monitor_at, StandBehindOwners};
 ghost use Rattle.thread_index.specs.Indices.{index_of, holder_of};
-ghost use Rattle.step_core.specs.Machine.{Run, opening, Thread, is_waiting};
+ghost use Rattle.step_core.specs.Machine.{Run, opening, Thread, ActExists, is_waiting};
 ghost use Rattle.step_core.specs.World.{opening_world, word_at};
 ghost use Rattle.step_core.specs.Shown.{shown, doing_of, doing_in};
 ghost use Rattle.step_core.specs.Sound.{IsSound};
@@ -248,7 +248,15 @@ impl World {
 
     /// What a live thread is doing; None where it is not live.
     pub fn doing(&self, thread: ThreadId) -> Option<Doing>
-        ensures { result ≡ option_map (λ (x : Thread). x.act) ((shown self.now).thread thread) }
+        ensures shown { result ≡ option_map (λ (x : Thread). x.act) ((shown self.now).thread thread) }
+        ensures exists { IfSome result (ActExists (length self.now.words)) }
+    {
+        self.act(thread)
+    }
+
+    fn act(&self, thread: ThreadId) -> Option<Doing>
+        ensures was { IsSound self.now }
+        ensures shown { result ≡ option_map (λ (x : Thread). x.act) ((shown self.now).thread thread) }
     {
         let index = self.indices.index_of(thread)?;
         let doing = match self.fats.post(thread) {
