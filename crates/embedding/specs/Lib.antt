@@ -1,1 +1,3 @@
 pub mod Reading
+pub mod Turns
+pub mod Deadlines

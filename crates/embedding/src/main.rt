@@ -4,6 +4,7 @@
 //! `docs/EMBEDDING.md` tells the loop in words.
 #![tactic(auto)]
 
+mod deadlines;
 mod reading;
 mod runtime;
 

@@ -1,11 +1,14 @@
 //! The loop of the runtime: each thread in turn, and the clock where no thread can go on.
 
-ghost use Rattle.std.specs.Prelude.{◌<◌, length};
+ghost use Rattle.std.specs.Prelude.{◌≡◌, ℕ, ◌<◌, length, slice_get};
+ghost use Rattle.std.specs.Option.{option_map};
+ghost use Rattle.embedding.specs.Turns.{resumed};
 
+use crate::deadlines::{Deadline, first_deadline};
 use crate::reading::{InWords, State, granted, state_after};
 use std::io;
 use std::io::Print;
-use step_core::{Call, Did, Doing, Fault, Memory, Step, ThreadId, World};
+use step_core::{Call, Did, Fault, Memory, Step, ThreadId, World};
 use thiserror::Error;
 
 /// Why the runtime stopped.
@@ -22,7 +25,7 @@ pub enum Trouble {
 /// A thread of the runtime, and the calls that it is still to make.
 #[derive(Clone, Copy)]
 pub struct JavaThread {
-    id: ThreadId,
+    pub id: ThreadId,
     calls: &'static [Call],
     state: State,
 }
@@ -112,53 +115,42 @@ fn turn<R: Print>(
 }
 
 /// A thread that was granted its monitor is not parked any more.
-fn resume(threads: &mut [JavaThread], granted: Option<ThreadId>) {
+fn resume(threads: &mut [JavaThread], granted: Option<ThreadId>)
+    ensures { (k : ℕ)
+        → slice_get threads.new k ≡ option_map (resumed granted) (slice_get threads.old k) }
+{
     for at in 0..threads.len() {
-        if granted == Some(threads[at].id) {
-            threads[at].state = State::Running;
-        }
+        threads[at] = resumed(granted, threads[at]);
     }
 }
 
-/// Lets the time pass until the first deadline of a wait, and ends that wait. No: no wait has one.
+/// What becomes of a thread when this one was granted its monitor.
+fn resumed(granted: Option<ThreadId>, thread: JavaThread) -> JavaThread
+    ensures { result ≡ resumed granted thread }
+{
+    if granted != Some(thread.id) {
+        return thread;
+    }
+    let JavaThread { id, calls, .. } = thread;
+    let state = State::Running;
+    JavaThread { id, calls, state }
+}
+
+/// Lets the time pass until the first deadline of a wait, and ends that wait; answers whether a wait
+/// had a deadline.
 fn pass_time<R: Print>(
     rt: &R,
     world: &mut World,
     threads: &mut [JavaThread],
 ) -> Result<bool, Trouble> {
-    let Some((now, thread)) = first_deadline(world, threads) else {
+    let Some(Deadline { moment, thread }) = first_deadline(world, threads) else {
         return Ok(false);
     };
-    let now = now.max(world.now());
+    let now = moment.max(world.now());
     step(rt, world, Step::Tick { now })?;
     let did = step(rt, world, Step::Expire { thread })?;
     resume(threads, granted(&did));
     Ok(true)
-}
-
-/// The first deadline of a wait, a moment in nanoseconds, and who waits.
-fn first_deadline(world: &World, threads: &[JavaThread]) -> Option<(u64, ThreadId)> {
-    let mut first = None;
-    for thread in threads {
-        let Some(
-            Doing::Waits {
-                deadline: Some(moment),
-                ..
-            },
-        ) = world.doing(thread.id)
-        else {
-            continue;
-        };
-        // The clock of this runtime never comes to a later moment than u64::MAX.
-        let Ok(moment) = u64::try_from(moment) else {
-            continue;
-        };
-        match first {
-            Some((earliest, _)) if earliest <= moment => {}
-            _ => first = Some((moment, thread.id)),
-        }
-    }
-    first
 }
 
 /// Does a step, and prints what it did.
