@@ -12,7 +12,8 @@ Fails faults.Read read = ⊥
 Fails faults.Write read = ⊥
 Fails faults.Memory read = Unit {0}
 
-abbrev pub Gives : {X : Type 0} → (X → List Line) → Result X FileFault → Result (List Line) ℕ → Type 0
+abbrev pub Gives : {X : Type 0} → (X → List Line) → Result X FileFault → Result (List Line) ℕ
+    → Type 0
 Gives view (Ok x) read = read ≡ Ok (view x)
 Gives view (Err e) read = Fails e read
 
