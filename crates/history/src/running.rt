@@ -2,12 +2,14 @@
 
 ghost use Rattle.std.specs.Prelude.{◌≡◌, ◌+◌, ◌<◌, ◌≤◌, ◌⊎◌, ℕ, List, length, take, IsErrOf, IfSome, OnOk, OnErr, IfOk, IfErr, Err};
 ghost use Rattle.std.specs.Io.KnownBytes.{Keeps, Appends};
+ghost use Rattle.history_text.specs.Lines.{IsFirstBad};
+ghost use Rattle.history_text.specs.Scripts.{IsScriptText};
 ghost use Rattle.history_text.specs.declared.faults.FileFault.TheVariants.{BadLine, Read as ReadFault, Write as WriteFault, Memory};
 
 use crate::ends::{Sink, Source};
+use crate::plans::plan_of;
 use crate::reports::report_of;
-use crate::scripts::read_script;
-use history_text::{FileFault, MOST_BYTES};
+use history_text::{FileFault, MOST_BYTES, read_script};
 use std::alloc::Global;
 
 /// How many bytes are read at once.
@@ -23,10 +25,12 @@ pub fn run<S: Source, W: Sink>(alloc: Global, source: &mut S, sink: &mut W) -> R
     ensures written { OnOk result ((report : List ℕ) × Appends (W.holds sink.old) (W.holds sink.new) report) }
     ensures read_whole { OnOk result (S.has_failed source.new → S.has_failed source.old) }
     ensures written_whole { OnOk result (W.has_failed sink.new → W.has_failed sink.old) }
+    ensures a_script { OnOk result (IfSome (S.left source.old) IsScriptText) }
     ensures within { OnOk result (IfSome (S.left source.old) (λ input. length input ≤ MOST_BYTES)) }
 
     // Else a fault tells its cause, and only where writing failed was something written: the front of a report.
-    ensures bad_line { (line : ℕ) → result ≡ Err (BadLine line) → (1 ≤ line) × IfSome (S.left source.old) (λ input. line ≤ length input + 1) }
+    ensures bad_line { (line : ℕ) → result ≡ Err (BadLine line)
+        → IfSome (S.left source.old) (λ input. IsFirstBad input line) }
     ensures read { IsErrOf result ReadFault → S.has_failed source.new ⊎ MOST_BYTES < S.given source.new }
     ensures write { IsErrOf result WriteFault → W.has_failed sink.new }
     ensures cut { IsErrOf result WriteFault → (report : List ℕ) × (n : ℕ) × Appends (W.holds sink.old) (W.holds sink.new) (take n report) }
@@ -34,7 +38,8 @@ pub fn run<S: Source, W: Sink>(alloc: Global, source: &mut S, sink: &mut W) -> R
 {
     let bytes = read_all(alloc, source)?;
     let script = read_script(alloc, &bytes)?;
-    let report = report_of(alloc, &script)?;
+    let plan = plan_of(alloc, script.lines())?;
+    let report = report_of(alloc, &plan)?;
     write_out(sink, report.as_bytes())
 }
 

@@ -42,6 +42,15 @@ impl<'a> Model for Script<'a> {
     ghost invariant = { λ s. IsScript s.lines.items };
 }
 
+impl<'a> Script<'a> {
+    /// The lines: the world, then the objects, then the steps.
+    pub fn lines(&self) -> &[Line<'a>]
+        ensures { result.now ≡ self.now }
+    {
+        &self.lines
+    }
+}
+
 fn is_object_line(line: &Line<'_>) -> bool
     ensures { result ≡ is_object line.now }
 {

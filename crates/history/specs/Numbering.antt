@@ -1,0 +1,16 @@
+-- Lines that are taken one after the other.
+use Rattle.std.specs.Prelude.{◌≡◌, ◌<◌, ℕ, List, [], ◌∷◌, false, length}
+use Rattle.history_text.specs.declared.lines.Line.{Line}
+use Rattle.history_text.specs.declared.lines.Line.TheVariants.{World, Object, Step}
+use Rattle.history_text.specs.Lines.{Continues}
+use Rattle.history.specs.NameLists.{is_named}
+
+-- an object has a new name, and there is room for it
+abbrev pub MayTake : List (List ℕ) → Line → Type 0
+MayTake objects (World monitors indices) = Unit {0}
+MayTake objects (Object name low) = (is_named objects name ≡ false) × (length objects < 65535)
+MayTake objects (Step step) = Unit {0}
+
+-- the lines behind some world
+abbrev pub FollowsWorld : List Line → Type 0
+FollowsWorld lines = (monitors : ℕ) × (indices : ℕ) × Continues (World monitors indices ∷ []) lines
