@@ -1,5 +1,5 @@
 -- Lines behind a world, taken one after the other.
-use Rattle.std.proofs.Common.{◌≡◌, ℕ, zero, suc, ◌+◌, ◌<◌, List, [], ◌∷◌, ◌++◌, length, get_or, take, true, not, ◌&&◌, sym, ap, ◌∙◌, subst, arith, append_assoc, append-nil}
+use Rattle.std.proofs.Common.{refl, ◌≡◌, ℕ, zero, suc, ◌+◌, ◌<◌, List, [], ◌∷◌, ◌++◌, length, get_or, take, true, not, ◌&&◌, sym, ap, ◌∙◌, subst, arith, append_assoc, append-nil}
 use Rattle.std.specs.List.{list_all, list_any}
 use Rattle.std.proofs.lemmas.Bool.{and_parts, not-true, ltb-true}
 use Rattle.std.proofs.lemmas.List.{take_more}
@@ -8,7 +8,7 @@ use Rattle.history_text.specs.declared.lines.Line.TheVariants.{World, Object, St
 use Rattle.history_text.specs.Lines.{Continues, may_follow, is_object, is_object_named}
 use Rattle.history_text.specs.Noted.{object_names, with_object}
 use Rattle.history_text.proofs.NotedLaws.{any_declared, as_many, names_more}
-use Rattle.history.specs.Numbering.{FollowsWorld, MayTake}
+use Rattle.history.specs.Numbering.{FollowsWorld, MayTake, low_bytes, with_low}
 
 follows_at : (ls earlier : List Line) (i : ℕ) (d : Line) → Continues earlier ls → i < length ls → may_follow (earlier ++ take i ls) (get_or ls i d) ≡ true
 follows_at [] earlier i d c within = absurd (omega (arith, within))
@@ -40,3 +40,22 @@ pub names_next : (ls : List Line) (i : ℕ) (x : Line) (names new : List (List �
     → new ≡ with_object names x → new ≡ object_names (take (i + 1) ls)
 names_next ls i x names new f within is same e =
     e ∙ ap (λ (n : List (List ℕ)). with_object n x) same ∙ ap (λ (l : Line). with_object (object_names (take i ls)) l) is ∙ names_at ls i x f within
+
+one_low : (low : ℕ) (lows : List ℕ) (l : Line) → (low ∷ with_low lows l) ≡ with_low (low ∷ lows) l
+one_low low lows (World m k) = refl
+one_low low lows (Object n j) = refl
+one_low low lows (Step step) = refl
+
+lows_append : (ls : List Line) (l : Line) → low_bytes (ls ++ l ∷ []) ≡ with_low (low_bytes ls) l
+lows_append [] (World m k) = refl
+lows_append [] (Object n j) = refl
+lows_append [] (Step step) = refl
+lows_append (World m k ∷ ls) l = lows_append ls l
+lows_append (Object n j ∷ ls) l = ap (λ (lows : List ℕ). j ∷ lows) (lows_append ls l) ∙ one_low j (low_bytes ls) l
+lows_append (Step step ∷ ls) l = lows_append ls l
+
+pub lows_next : (ls : List Line) (i : ℕ) (x : Line) (lows new : List ℕ) → i < length ls → x ≡ get_or ls i x → lows ≡ low_bytes (take i ls)
+    → new ≡ with_low lows x → new ≡ low_bytes (take (i + 1) ls)
+lows_next ls i x lows new within is same e =
+    e ∙ ap (λ (b : List ℕ). with_low b x) same ∙ ap (λ (l : Line). with_low (low_bytes (take i ls)) l) is ∙ sym (lows_append (take i ls) (get_or ls i x))
+    ∙ ap low_bytes (sym (take_more ls i x within))

@@ -2,10 +2,10 @@
 
 ghost use Rattle.std.specs.Prelude.{◌≡◌, ◌<◌, ◌≤◌, ◌++◌, ◌∷◌, [], false, length, vec_len, OnOk, IfOk};
 ghost use Rattle.history_text.specs.Lines.{IsScript};
-ghost use Rattle.history_text.specs.Noted.{with_object};
+ghost use Rattle.history_text.specs.Noted.{object_names, with_object};
 ghost use Rattle.history.specs.Calls.{call_in, names_with};
 ghost use Rattle.history.specs.NameLists.{is_named};
-ghost use Rattle.history.specs.Numbering.{FollowsWorld, MayTake};
+ghost use Rattle.history.specs.Numbering.{FollowsWorld, IsWorldWith, MayTake, low_bytes, with_low};
 
 use crate::names::Names;
 use fast_path::Call;
@@ -36,7 +36,8 @@ impl Plan {
         requires monitors { monitors ≤ 8388608 }
         requires some { 1 ≤ indices }
         requires few { indices ≤ 32767 }
-        ensures { result.names.objects ≡ [] }
+        ensures world { (result.monitors ≡ monitors) × (result.indices ≡ indices) }
+        ensures none { (result.names.objects ≡ []) × (result.lows.items ≡ []) }
     {
         Plan {
             names: Names::new(alloc),
@@ -50,8 +51,11 @@ impl Plan {
     /// Takes a line behind the first.
     fn take_line(&mut self, line: &Line<'_>) -> Result<(), Memory>
         requires { MayTake self.old.names.objects line.now }
-        ensures { OnOk result (self.new.names.objects
+        ensures objects { OnOk result (self.new.names.objects
             ≡ with_object self.old.names.objects line.now) }
+        ensures lows { OnOk result (self.new.lows.items ≡ with_low self.old.lows.items line.now) }
+        ensures world { (self.new.monitors ≡ self.old.monitors)
+            × (self.new.indices ≡ self.old.indices) }
     {
         match line {
             Line::World { .. } => Ok(()),
@@ -63,8 +67,11 @@ impl Plan {
     fn take_object(&mut self, name: &Name<'_>, low: u8) -> Result<(), Memory>
         requires new { is_named self.old.names.objects name.now ≡ false }
         requires room { length self.old.names.objects < 65535 }
-        ensures { OnOk result (self.new.names.objects
+        ensures objects { OnOk result (self.new.names.objects
             ≡ self.old.names.objects ++ name.now ∷ []) }
+        ensures lows { OnOk result (self.new.lows.items ≡ self.old.lows.items ++ low ∷ []) }
+        ensures world { (self.new.monitors ≡ self.old.monitors)
+            × (self.new.indices ≡ self.old.indices) }
     {
         self.lows.reserve(1)?;
         self.names.declare(name)?;
@@ -73,7 +80,10 @@ impl Plan {
     }
 
     fn take_step(&mut self, step: &StepLine<'_>) -> Result<(), Memory>
-        ensures { OnOk result (self.new.names.objects ≡ self.old.names.objects) }
+        ensures objects { OnOk result (self.new.names.objects ≡ self.old.names.objects) }
+        ensures lows { OnOk result (self.new.lows.items ≡ self.old.lows.items) }
+        ensures world { (self.new.monitors ≡ self.old.monitors)
+            × (self.new.indices ≡ self.old.indices) }
     {
         let step = step_of(&mut self.names, step)?;
         self.steps.push(step)?;
@@ -135,8 +145,12 @@ fn call_of(names: &mut Names, call: &history_text::Call<'_>) -> Result<Call, Mem
 
 /// Takes the lines behind the first.
 fn take_lines(plan: &mut Plan, lines: &[Line<'_>]) -> Result<(), Memory>
-    requires none { plan.old.names.objects ≡ [] }
+    requires none { (plan.old.names.objects ≡ []) × (plan.old.lows.items ≡ []) }
     requires follow { FollowsWorld lines.now }
+    ensures objects { OnOk result (plan.new.names.objects ≡ object_names lines.now) }
+    ensures lows { OnOk result (plan.new.lows.items ≡ low_bytes lines.now) }
+    ensures world { OnOk result ((plan.new.monitors ≡ plan.old.monitors)
+        × (plan.new.indices ≡ plan.old.indices)) }
 {
     'lines: for line in lines {
         plan.take_line(line)?;
@@ -147,6 +161,9 @@ fn take_lines(plan: &mut Plan, lines: &[Line<'_>]) -> Result<(), Memory>
 /// What the lines of a script play, with numbers for their names.
 pub fn plan_of(alloc: Global, lines: &[Line<'_>]) -> Result<Plan, Memory>
     requires { IsScript lines.now }
+    ensures world { IfOk result (λ plan. IsWorldWith plan.monitors plan.indices lines.now) }
+    ensures objects { IfOk result (λ plan. plan.names.objects ≡ object_names lines.now) }
+    ensures lows { IfOk result (λ plan. plan.lows.items ≡ low_bytes lines.now) }
 {
     let [first, rest @ ..] = lines else {
         unreachable!()
