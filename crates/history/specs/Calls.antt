@@ -1,28 +1,44 @@
--- The calls of a script, each by its verb.
-use Rattle.std.specs.Prelude.{◌≡◌, ℕ, List, [], ◌∷◌, Option, None, Some, if◌then◌else◌}
-use Rattle.std.specs.Str.{bytes_eq}
-use Rattle.std.specs.Fmt.{signed_decimal}
+-- The calls of a script, by the numbers of their names.
 use Rattle.lock_word.specs.declared.ObjectId.{ObjectId}
+use Rattle.lock_word.specs.declared.ThreadId.{ThreadId}
+use Rattle.std.specs.Prelude.{ℕ, List}
 use Rattle.fast_path.specs.declared.Call.{Call}
 use Rattle.fast_path.specs.declared.Call.TheVariants.{Enter, Exit, Wait, Notify, NotifyAll, Holds, Interrupt, Interrupted, IsInterrupted, End}
+use Rattle.history_text.specs.declared.lines.Call.{Call as CallLine}
+use Rattle.history_text.specs.declared.lines.Call.TheVariants as line
+use Rattle.history.specs.NameLists.{NameLists, number_of, with_name}
 
--- `enter`, `exit`, `notify`, `notifyall` or `holds`, of an object
-abbrev pub call_on : List ℕ → ObjectId → Option Call
-call_on verb object = if bytes_eq verb (101 ∷ 110 ∷ 116 ∷ 101 ∷ 114 ∷ []) then Some (Enter object) else if bytes_eq verb (101 ∷ 120 ∷ 105 ∷ 116 ∷ []) then Some (Exit object) else if bytes_eq verb (110 ∷ 111 ∷ 116 ∷ 105 ∷ 102 ∷ 121 ∷ []) then Some (Notify object) else if bytes_eq verb (110 ∷ 111 ∷ 116 ∷ 105 ∷ 102 ∷ 121 ∷ 97 ∷ 108 ∷ 108 ∷ []) then Some (NotifyAll object) else if bytes_eq verb (104 ∷ 111 ∷ 108 ∷ 100 ∷ 115 ∷ []) then Some (Holds object) else None
+abbrev object_in : NameLists → List ℕ → ObjectId
+object_in names name = record { 0 = number_of names.objects name }
 
--- `interrupted` or `end`, which name nothing
-abbrev pub call_alone : List ℕ → Option Call
-call_alone verb = if bytes_eq verb (105 ∷ 110 ∷ 116 ∷ 101 ∷ 114 ∷ 114 ∷ 117 ∷ 112 ∷ 116 ∷ 101 ∷ 100 ∷ []) then Some Interrupted else if bytes_eq verb (101 ∷ 110 ∷ 100 ∷ []) then Some End else None
+abbrev thread_in : NameLists → List ℕ → ThreadId
+thread_in names name = record { 0 = number_of names.threads name }
 
--- the wait on an object for a time that these words are
-abbrev pub IsWait : ObjectId → List ℕ → List ℕ → Call → Type 0
-IsWait object millis nanos (Wait o m n) = (o ≡ object) × (millis ≡ signed_decimal m) × (nanos ≡ signed_decimal n)
-IsWait object millis nanos (Enter o) = ⊥
-IsWait object millis nanos (Exit o) = ⊥
-IsWait object millis nanos (Notify o) = ⊥
-IsWait object millis nanos (NotifyAll o) = ⊥
-IsWait object millis nanos (Holds o) = ⊥
-IsWait object millis nanos (Interrupt u) = ⊥
-IsWait object millis nanos Interrupted = ⊥
-IsWait object millis nanos (IsInterrupted u) = ⊥
-IsWait object millis nanos End = ⊥
+-- the call that a line has, where these names were there before
+abbrev pub call_in : NameLists → CallLine → Call
+call_in names (line.Enter object) = Enter (object_in names object)
+call_in names (line.Exit object) = Exit (object_in names object)
+call_in names (line.Wait object millis nanos) = Wait (object_in names object) millis nanos
+call_in names (line.Notify object) = Notify (object_in names object)
+call_in names (line.NotifyAll object) = NotifyAll (object_in names object)
+call_in names (line.Holds object) = Holds (object_in names object)
+call_in names (line.Interrupt target) = Interrupt (thread_in names target)
+call_in names line.Interrupted = Interrupted
+call_in names (line.IsInterrupted target) = IsInterrupted (thread_in names target)
+call_in names line.End = End
+
+abbrev with_thread : NameLists → List ℕ → NameLists
+with_thread names name = record names { threads = with_name names.threads name }
+
+-- and the names that are there then
+abbrev pub names_with : NameLists → CallLine → NameLists
+names_with names (line.Enter object) = names
+names_with names (line.Exit object) = names
+names_with names (line.Wait object millis nanos) = names
+names_with names (line.Notify object) = names
+names_with names (line.NotifyAll object) = names
+names_with names (line.Holds object) = names
+names_with names (line.Interrupt target) = with_thread names target
+names_with names line.Interrupted = names
+names_with names (line.IsInterrupted target) = with_thread names target
+names_with names line.End = names

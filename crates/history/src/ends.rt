@@ -20,9 +20,11 @@ pub trait Source {
     /// source fails.
     fn fill(&mut self, chunk: &mut [u8]) -> Option<usize>
         requires { given self.old + length chunk.old < 2 ^ 64 }
-        ensures cases { MatchOption result (has_failed self.new) (λ n. (n ≤ length chunk.new) × (given self.new ≡ given self.old + n)
+        ensures cases { MatchOption result (has_failed self.new) (λ n. (n ≤ length chunk.new)
+            × (given self.new ≡ given self.old + n)
             × Consumes (left self.old) (left self.new) (take n chunk.new)
-            × (n ≡ 0 → 0 < length chunk.new → IsAtEnd (left self.new)) × (has_failed self.new → has_failed self.old)) };
+            × (n ≡ 0 → 0 < length chunk.new → IsAtEnd (left self.new))
+            × (has_failed self.new → has_failed self.old)) };
 }
 
 /// What takes bytes, and tells where it fails.
@@ -35,8 +37,10 @@ pub trait Sink {
     /// Takes some bytes, from the front, and says how many; None where the sink fails.
     fn put(&mut self, bytes: &[u8]) -> Option<usize>
         requires { 0 < length bytes.now }
-        ensures cases { MatchOption result (has_failed self.new × Keeps (holds self.old) (holds self.new))
-            (λ n. (0 < n) × (n ≤ length bytes.now) × Appends (holds self.old) (holds self.new) (take n bytes.now)
+        ensures cases { MatchOption result
+            (has_failed self.new × Keeps (holds self.old) (holds self.new))
+            (λ n. (0 < n) × (n ≤ length bytes.now)
+            × Appends (holds self.old) (holds self.new) (take n bytes.now)
             × (has_failed self.new → has_failed self.old)) };
 }
 

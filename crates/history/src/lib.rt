@@ -5,13 +5,11 @@
 
 mod ends;
 mod names;
-mod numerals;
+mod plans;
 mod reports;
 mod running;
-mod scripts;
 
 pub use ends::{ReaderSource, Sink, Source, WriterSink};
-pub use history_text::FileFault;
+pub use history_text::{FileFault, Script, print_script, read_script};
 pub use names::Names;
 pub use running::run;
-pub use scripts::{Script, read_script};

@@ -1,7 +1,7 @@
 //! Reports: what each step of a script answered, and how the objects stand behind the last.
 
 use crate::names::Names;
-use crate::scripts::Script;
+use crate::plans::Plan;
 use fat_monitor::Answer;
 use lock_word::{Memory, ObjectId, ThreadId};
 use std::alloc::{AllocError, Global};
@@ -9,20 +9,20 @@ use std::fmt::Write;
 use step_core::{Atomic, Did, Doing, Fault, Step, World};
 
 /// Plays a script and writes its report: a line for each step, then a line for each object.
-pub fn report_of(alloc: Global, script: &Script) -> Result<String, Memory> {
-    let mut world = World::new(alloc, &script.lows, script.monitors, script.indices)?;
+pub fn report_of(alloc: Global, plan: &Plan) -> Result<String, Memory> {
+    let mut world = World::new(alloc, &plan.lows, plan.monitors, plan.indices)?;
     let mut report = String::new(alloc);
-    for step in &script.steps {
+    for step in &plan.steps {
         let answer = world.step(*step);
         if let Err(Fault::Memory) = answer {
             return Err(Memory);
         }
         match answer {
-            Ok(did) => put_step(&mut report, &script.names, &world, *step, did)?,
+            Ok(did) => put_step(&mut report, &plan.names, &world, *step, did)?,
             Err(fault) => writeln!(report, "fault {} {fault}", fault.number())?,
         }
     }
-    put_objects(alloc, &mut report, &script.names, &world)?;
+    put_objects(alloc, &mut report, &plan.names, &world)?;
     Ok(report)
 }
 

@@ -8,13 +8,13 @@ use Rattle.history_text.specs.declared.lines.Line.TheVariants.{World, Object, St
 use Rattle.history_text.specs.Lines.{is_object, is_object_named, may_follow, line_at, next_from}
 use Rattle.history_text.specs.Noted.{object_names, IsNoted, may_follow_by, with_object}
 
-any_declared : (name : List ℕ) (ls : List Line) → list_any (bytes_eq name) (object_names ls) ≡ list_any (is_object_named name) ls
+pub any_declared : (name : List ℕ) (ls : List Line) → list_any (bytes_eq name) (object_names ls) ≡ list_any (is_object_named name) ls
 any_declared name [] = refl
 any_declared name (World m k ∷ ls) = any_declared name ls
 any_declared name (Object n low ∷ ls) = ap (λ (b : Bool). bytes_eq name n || b) (any_declared name ls)
 any_declared name (Step step ∷ ls) = any_declared name ls
 
-as_many : (ls : List Line) → list_all is_object ls ≡ true → length (object_names ls) ≡ length ls
+pub as_many : (ls : List Line) → list_all is_object ls ≡ true → length (object_names ls) ≡ length ls
 as_many [] h = refl
 as_many (World m k ∷ ls) h = absurd (cc)
 as_many (Object n low ∷ ls) h = ap suc (as_many ls h)
@@ -78,7 +78,7 @@ names_append (Object n low ∷ ls) l = ap (λ (ns : List (List ℕ)). n ∷ ns) 
 names_append (Step step ∷ ls) l = names_append ls l
 
 -- a line that may stand after these
-names_more : (x : Line) (ls : List Line) (l : Line) → may_follow (x ∷ ls) l ≡ true → with_object (object_names ls) l ≡ object_names (ls ++ l ∷ [])
+pub names_more : (x : Line) (ls : List Line) (l : Line) → may_follow (x ∷ ls) l ≡ true → with_object (object_names ls) l ≡ object_names (ls ++ l ∷ [])
 names_more x ls (World m k) follows = absurd (cc)
 names_more x ls (Object n low) follows =
     let parts = and_parts (list_all is_object ls && not (list_any (is_object_named n) ls)) _ follows in

@@ -16,7 +16,8 @@ use Rattle.history_text.specs.Words.{IsBelow, is_name, name_from, number_from, s
 abbrev pub call_words : Call → List (List ℕ)
 call_words (Enter object) = codes "enter" ∷ object ∷ []
 call_words (Exit object) = codes "exit" ∷ object ∷ []
-call_words (Wait object millis nanos) = codes "wait" ∷ object ∷ signed_decimal millis ∷ signed_decimal nanos ∷ []
+call_words (Wait object millis nanos) =
+    codes "wait" ∷ object ∷ signed_decimal millis ∷ signed_decimal nanos ∷ []
 call_words (Notify object) = codes "notify" ∷ object ∷ []
 call_words (NotifyAll object) = codes "notifyall" ∷ object ∷ []
 call_words (Holds object) = codes "holds" ∷ object ∷ []
@@ -51,7 +52,8 @@ script_text (l ∷ ls) = line_text l ++ (10 ∷ script_text ls)
 abbrev pub CallFits : Call → Type 0
 CallFits (Enter object) = is_name object ≡ true
 CallFits (Exit object) = is_name object ≡ true
-CallFits (Wait object millis nanos) = (is_name object ≡ true) × IsBelow (2 ^ 63) millis × IsBelow (2 ^ 31) nanos
+CallFits (Wait object millis nanos) =
+    (is_name object ≡ true) × IsBelow (2 ^ 63) millis × IsBelow (2 ^ 31) nanos
 CallFits (Notify object) = is_name object ≡ true
 CallFits (NotifyAll object) = is_name object ≡ true
 CallFits (Holds object) = is_name object ≡ true
@@ -92,7 +94,8 @@ is_object_named n (Step step) = false
 abbrev pub may_stand : List Line → Line → Bool
 may_stand more (World monitors indices) = false
 may_stand more (Object name low) =
-    list_all is_object more && not (list_any (is_object_named name) more) && nat_lt (length more) 65535
+    list_all is_object more && not (list_any (is_object_named name) more)
+    && nat_lt (length more) 65535
 may_stand more (Step step) = true
 
 abbrev pub may_follow : List Line → Line → Bool
@@ -102,13 +105,14 @@ may_follow (first ∷ more) l = may_stand more l
 -- these lines, after the earlier ones
 abbrev pub Continues : List Line → List Line → Type 0
 Continues earlier [] = Unit {0}
-Continues earlier (l ∷ ls) = Fits l × (may_follow earlier l ≡ true) × Continues (earlier ++ l ∷ []) ls
+Continues earlier (l ∷ ls) =
+    Fits l × (may_follow earlier l ≡ true) × Continues (earlier ++ l ∷ []) ls
 
 abbrev pub IsScript : List Line → Type 0
 IsScript ls = (0 < length ls) × Continues [] ls
 
--- Line n is the first that breaks a rule: right lines stand before it, and what stands there begins with no line that
--- may follow them. Where nothing stands there, the script has no line at all.
+-- Line n is the first that breaks a rule: right lines stand before it, and what stands there begins
+-- with no line that may follow them. Where nothing stands there, the script has no line at all.
 pub record IsFirstBad (bytes : List ℕ) (n : ℕ) : Type 0 where
   pub before : List Line
   pub rest : List ℕ
@@ -116,7 +120,8 @@ pub record IsFirstBad (bytes : List ℕ) (n : ℕ) : Type 0 where
   pub right : Continues [] before
   pub parts : bytes ≡ script_text before ++ rest
   pub there : 0 < length rest ⊎ before ≡ []
-  pub bad : (l : Line) (after : List ℕ) → Fits l → may_follow before l ≡ true → rest ≡ line_text l ++ (10 ∷ after) → ⊥
+  pub bad : (l : Line) (after : List ℕ) → Fits l → may_follow before l ≡ true
+      → rest ≡ line_text l ++ (10 ∷ after) → ⊥
 
 -- ---- reading
 
@@ -141,14 +146,19 @@ call_naming verb word = option_and_then (call_with verb) (name_from word)
 
 abbrev pub wait_from : List ℕ → List ℕ → List ℕ → Option Call
 wait_from name millis nanos =
-    option_and_then (λ object. option_and_then (λ m. option_map (Wait object m) (nanos_from nanos)) (signed_from millis)) (name_from name)
+    option_and_then
+    (λ object. option_and_then (λ m. option_map (Wait object m) (nanos_from nanos)) (signed_from millis))
+    (name_from name)
 
 abbrev pub call_timed : List ℕ → List ℕ → List ℕ → List ℕ → Option Call
-call_timed verb name millis nanos = if bytes_eq verb (codes "wait") then wait_from name millis nanos else None
+call_timed verb name millis nanos =
+    if bytes_eq verb (codes "wait") then wait_from name millis nanos else None
 
 abbrev pub begin_from : List ℕ → List ℕ → Option Call → Option StepLine
 begin_from verb thread call =
-    if bytes_eq verb (codes "begin") then option_and_then (λ t. option_map (Begin t) call) (name_from thread) else None
+    if bytes_eq verb (codes "begin")
+    then option_and_then (λ t. option_map (Begin t) call) (name_from thread)
+    else None
 
 abbrev pub step_of_two : List ℕ → List ℕ → Option StepLine
 step_of_two verb word =
@@ -162,8 +172,10 @@ world_from m k = if nat_le m 8388608 && nat_le 1 k && nat_le k 32767 then Some (
 
 abbrev pub line_of_three : List ℕ → List ℕ → List ℕ → Option Line
 line_of_three verb a b =
-    if bytes_eq verb (codes "world") then option_and_then (λ m. option_and_then (world_from m) (number_from b)) (number_from a)
-    else (if bytes_eq verb (codes "object") then option_and_then (λ name. option_map (Object name) (low_from b)) (name_from a)
+    if bytes_eq verb (codes "world")
+    then option_and_then (λ m. option_and_then (world_from m) (number_from b)) (number_from a)
+    else (if bytes_eq verb (codes "object")
+    then option_and_then (λ name. option_map (Object name) (low_from b)) (name_from a)
     else option_map Step (begin_from verb a (call_alone b)))
 
 abbrev pub line_from : List (List ℕ) → Option Line
@@ -187,10 +199,16 @@ line_at bytes = line_from (words_of bytes)
 
 -- the line, if it may follow the earlier ones
 unfoldable pub next_from : List Line → List ℕ → Option Line
-next_from earlier part = option_and_then (λ l. if may_follow earlier l then Some l else None) (line_at part)
+next_from earlier part =
+    option_and_then (λ l. if may_follow earlier l then Some l else None) (line_at part)
 
 -- the lines of these parts, after the earlier ones, or the number of the first bad line
 unfoldable pub lines_from : List Line → List (List ℕ) → Result (List Line) ℕ
 lines_from earlier [] = Ok earlier
-lines_from earlier (part ∷ []) = if length part == 0 && nat_lt 0 (length earlier) then Ok earlier else Err (length earlier + 1)
-lines_from earlier (part ∷ q ∷ parts) = elim (next_from earlier part) [ None ↦ Err (length earlier + 1) | Some l ↦ lines_from (earlier ++ l ∷ []) (q ∷ parts) ]
+lines_from earlier (part ∷ []) =
+    if length part == 0 && nat_lt 0 (length earlier) then Ok earlier else Err (length earlier + 1)
+lines_from earlier (part ∷ q ∷ parts) =
+    elim (next_from earlier part) [
+      | None ↦ Err (length earlier + 1)
+      | Some l ↦ lines_from (earlier ++ l ∷ []) (q ∷ parts)
+    ]

@@ -21,7 +21,8 @@ pub record IsNoted (ls : List Line) (declaring : Bool) (names : List (List ℕ))
 
 abbrev pub may_follow_by : Bool → Bool → List (List ℕ) → Line → Bool
 may_follow_by first declaring names (World m k) = first
-may_follow_by first declaring names (Object name low) = not first && declaring && not (list_any (bytes_eq name) names) && nat_lt (length names) 65535
+may_follow_by first declaring names (Object name low) =
+    not first && declaring && not (list_any (bytes_eq name) names) && nat_lt (length names) 65535
 may_follow_by first declaring names (Step step) = not first
 
 abbrev pub with_object : List (List ℕ) → Line → List (List ℕ)

@@ -1,7 +1,7 @@
 -- What reading a script gives.
 use Rattle.std.specs.Prelude.{◌≡◌, ◌<◌, ◌≤◌, ℕ, List, length, Result, Ok, Err}
 use Rattle.history_text.specs.declared.lines.Line.{Line}
-use Rattle.history_text.specs.Lines.{IsFirstBad}
+use Rattle.history_text.specs.Lines.{IsFirstBad, IsScript, script_text}
 use Rattle.history_text.specs.declared.faults.FileFault.{FileFault}
 use Rattle.history_text.specs.declared.faults.FileFault.TheVariants as faults
 
@@ -12,7 +12,8 @@ Fails faults.Read read = ⊥
 Fails faults.Write read = ⊥
 Fails faults.Memory read = Unit {0}
 
-abbrev pub Gives : {X : Type 0} → (X → List Line) → Result X FileFault → Result (List Line) ℕ → Type 0
+abbrev pub Gives : {X : Type 0} → (X → List Line) → Result X FileFault → Result (List Line) ℕ
+    → Type 0
 Gives view (Ok x) read = read ≡ Ok (view x)
 Gives view (Err e) read = Fails e read
 
@@ -22,3 +23,7 @@ IsReasonFor bytes (faults.BadLine n) = (length bytes ≤ 16777216) × IsFirstBad
 IsReasonFor bytes faults.Read = 16777216 < length bytes
 IsReasonFor bytes faults.Write = ⊥
 IsReasonFor bytes faults.Memory = Unit {0}
+
+-- these bytes are the text of a script
+abbrev pub IsScriptText : List ℕ → Type 0
+IsScriptText bytes = (lines : List Line) × IsScript lines × (bytes ≡ script_text lines)

@@ -13,8 +13,10 @@ pub fn number_of_name(
     names: &mut IndexSet<String>,
     name: &Name<'_>,
 ) -> Result<usize, AllocError>
-    ensures names { IfOk result (λ _. map string_bytes names.new.keys ≡ with_name (map string_bytes names.old.keys) name.now) }
-    ensures number { IfOk result (λ number. slice_get (map string_bytes names.new.keys) number ≡ Some name.now) }
+    ensures names { IfOk result (λ _. map string_bytes names.new.keys
+        ≡ with_name (map string_bytes names.old.keys) name.now) }
+    ensures number { IfOk result (λ number.
+        slice_get (map string_bytes names.new.keys) number ≡ Some name.now) }
 {
     let text = String::from_str(alloc, name.as_str())?;
     let (number, _) = names.insert_full(text)?;

@@ -22,7 +22,8 @@ fn hex_char(digit: u8) -> char
 
 /// Writes a call at the end of a line, and the line feed.
 fn put_call(out: &mut String, call: &Call<'_>) -> Result<(), AllocError>
-    ensures { OnOk result (string_bytes out.new ≡ string_bytes out.old ++ (join_with_byte 32 (call_words call.now) ++ 10 ∷ [])) }
+    ensures { OnOk result (string_bytes out.new
+        ≡ string_bytes out.old ++ (join_with_byte 32 (call_words call.now) ++ 10 ∷ [])) }
 {
     match call {
         Call::Enter(object) => writeln!(out, "enter {object}"),
@@ -44,7 +45,8 @@ fn put_call(out: &mut String, call: &Call<'_>) -> Result<(), AllocError>
 
 /// Writes a step and its line feed at the end.
 fn put_step(out: &mut String, step: &StepLine<'_>) -> Result<(), AllocError>
-    ensures { OnOk result (string_bytes out.new ≡ string_bytes out.old ++ (join_with_byte 32 (step_words step.now) ++ 10 ∷ [])) }
+    ensures { OnOk result (string_bytes out.new
+        ≡ string_bytes out.old ++ (join_with_byte 32 (step_words step.now) ++ 10 ∷ [])) }
 {
     match step {
         StepLine::Attach(thread) => writeln!(out, "attach {thread}"),
@@ -60,7 +62,8 @@ fn put_step(out: &mut String, step: &StepLine<'_>) -> Result<(), AllocError>
 
 /// Writes a line and its line feed at the end.
 fn put_line(out: &mut String, line: &Line<'_>) -> Result<(), AllocError>
-    ensures { OnOk result (string_bytes out.new ≡ string_bytes out.old ++ (line_text line.now ++ 10 ∷ [])) }
+    ensures { OnOk result (string_bytes out.new
+        ≡ string_bytes out.old ++ (line_text line.now ++ 10 ∷ [])) }
 {
     match line {
         Line::World { monitors, indices } => writeln!(out, "world {monitors} {indices}"),

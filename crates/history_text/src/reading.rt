@@ -109,7 +109,8 @@ fn nanos_of(word: &str) -> Option<i32>
 
 fn world_of<'a>(monitors: &str, indices: &str) -> Option<Line<'a>>
     ensures { result
-        ≡ option_and_then (λ m. option_and_then (world_from m) (number_from indices.now)) (number_from monitors.now) }
+        ≡ option_and_then (λ m. option_and_then (world_from m) (number_from indices.now))
+        (number_from monitors.now) }
 {
     let monitors = number_of(monitors)?;
     let indices = number_of(indices)?;
@@ -202,7 +203,8 @@ fn step_of_two<'a>(verb: &str, word: &'a str) -> Option<StepLine<'a>>
 
 fn object_of<'a>(name: &'a str, low: &str) -> Option<Line<'a>>
     ensures { result
-        ≡ option_and_then (λ name. option_map (Object name) (low_from low.now)) (name_from name.now) }
+        ≡ option_and_then (λ name. option_map (Object name) (low_from low.now))
+        (name_from name.now) }
 {
     let name = Name::from_text(name)?;
     let low = low_of(low)?;

@@ -42,6 +42,15 @@ impl<'a> Model for Script<'a> {
     ghost invariant = { λ s. IsScript s.lines.items };
 }
 
+impl<'a> Script<'a> {
+    /// The lines: the world, then the objects, then the steps.
+    pub fn lines(&self) -> &[Line<'a>]
+        ensures { result.now ≡ self.now }
+    {
+        &self.lines
+    }
+}
+
 fn is_object_line(line: &Line<'_>) -> bool
     ensures { result ≡ is_object line.now }
 {
@@ -73,7 +82,8 @@ fn note_object(
     objects: &mut IndexSet<String>,
     line: &Line<'_>,
 ) -> Result<(), AllocError>
-    ensures { OnOk result (map string_bytes objects.new.keys ≡ with_object (map string_bytes objects.old.keys) line.now) }
+    ensures { OnOk result (map string_bytes objects.new.keys
+        ≡ with_object (map string_bytes objects.old.keys) line.now) }
 {
     match line {
         Line::Object { name, .. } => {
@@ -120,7 +130,8 @@ fn note(
 ) -> Result<bool, AllocError>
     requires noted { IsNoted lines.now declaring (map string_bytes objects.old.keys) }
     requires follows { may_follow lines.now line.now ≡ true }
-    ensures { IfOk result (λ d. IsNoted (lines.now ++ line.now ∷ []) d (map string_bytes objects.new.keys)) }
+    ensures { IfOk result (λ d.
+        IsNoted (lines.now ++ line.now ∷ []) d (map string_bytes objects.new.keys)) }
 {
     note_object(alloc, objects, line)?;
     Ok(still_declaring(lines, declaring, line))
@@ -134,7 +145,8 @@ fn line_end(bytes: &[u8]) -> Option<usize>
 
 /// The bytes before the first line feed, and those after it.
 fn cut_line(bytes: &[u8]) -> Option<(&[u8], &[u8])>
-    ensures parts { MatchOption result (parts_of bytes.now ≡ bytes.now ∷ []) (λ cut. parts_of bytes.now ≡ cut.0.now ∷ parts_of cut.1.now) }
+    ensures parts { MatchOption result (parts_of bytes.now ≡ bytes.now ∷ [])
+        (λ cut. parts_of bytes.now ≡ cut.0.now ∷ parts_of cut.1.now) }
     ensures shorter { IfSome result (λ cut. length cut.1.now < length bytes.now) }
 {
     match line_end(bytes) {
@@ -201,5 +213,6 @@ pub fn print_script(alloc: Global, script: &Script<'_>) -> Result<String, AllocE
 /// No bytes have two first bad lines, and none that have one are a script.
 pub fn one_fault()
     ensures one { (bs : List ℕ) (m n : ℕ) → IsFirstBad bs m → IsFirstBad bs n → m ≡ n }
-    ensures none { (bs : List ℕ) (n : ℕ) (ls : List LineData) → IsFirstBad bs n → IsScript ls → bs ≡ script_text ls → ⊥ }
+    ensures none { (bs : List ℕ) (n : ℕ) (ls : List LineData)
+        → IsFirstBad bs n → IsScript ls → bs ≡ script_text ls → ⊥ }
 {}

@@ -2,8 +2,7 @@
 
 ghost use Rattle.std.specs.Prelude.{◌≡◌, ◌↔◌, IsNone};
 
-use history::{FileFault, ReaderSource, WriterSink, run};
-use history_text::{print_script, read_script};
+use history::{FileFault, ReaderSource, WriterSink, print_script, read_script, run};
 use std::alloc::Global;
 use std::fmt::{Display, Formatter, Write};
 use std::{fmt, io, str};
@@ -103,10 +102,9 @@ where
     }
 }
 
-/// Whether a script ends in a fault, when it is played and when its text is read.
+/// Whether a script ends in a fault.
 pub fn ends_in(alloc: Global, script: &[u8], fault: FileFault) -> bool {
     play(alloc, script).is_err_and(|found| found == fault)
-        && read_script(alloc, script).is_err_and(|found| found == fault)
 }
 
 /// Plays a script, and prints whether it ends in the wanted fault.

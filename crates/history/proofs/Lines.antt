@@ -1,0 +1,61 @@
+-- Lines behind a world, taken one after the other.
+use Rattle.std.proofs.Common.{refl, ◌≡◌, ℕ, zero, suc, ◌+◌, ◌<◌, List, [], ◌∷◌, ◌++◌, length, get_or, take, true, not, ◌&&◌, sym, ap, ◌∙◌, subst, arith, append_assoc, append-nil}
+use Rattle.std.specs.List.{list_all, list_any}
+use Rattle.std.proofs.lemmas.Bool.{and_parts, not-true, ltb-true}
+use Rattle.std.proofs.lemmas.List.{take_more}
+use Rattle.history_text.specs.declared.lines.Line.{Line}
+use Rattle.history_text.specs.declared.lines.Line.TheVariants.{World, Object, Step}
+use Rattle.history_text.specs.Lines.{Continues, may_follow, is_object, is_object_named}
+use Rattle.history_text.specs.Noted.{object_names, with_object}
+use Rattle.history_text.proofs.NotedLaws.{any_declared, as_many, names_more}
+use Rattle.history.specs.Numbering.{FollowsWorld, MayTake, low_bytes, with_low}
+
+follows_at : (ls earlier : List Line) (i : ℕ) (d : Line) → Continues earlier ls → i < length ls → may_follow (earlier ++ take i ls) (get_or ls i d) ≡ true
+follows_at [] earlier i d c within = absurd (omega (arith, within))
+follows_at (l ∷ ls) earlier zero d c within = subst (λ (e : List Line). may_follow e l ≡ true) (sym (append-nil earlier)) c.1
+follows_at (l ∷ ls) earlier (suc i) d c within =
+    subst (λ (e : List Line). may_follow e (get_or ls i d) ≡ true) (append_assoc earlier (l ∷ []) (take i ls)) (follows_at ls (earlier ++ l ∷ []) i d c.2 (omega (arith, within)))
+
+may_take : (m k : ℕ) (more : List Line) (l : Line) → may_follow (World m k ∷ more) l ≡ true → MayTake (object_names more) l
+may_take m k more (World n j) follows = tt
+may_take m k more (Object name low) follows =
+    let parts = and_parts (list_all is_object more && not (list_any (is_object_named name) more)) _ follows in
+    let new = and_parts (list_all is_object more) _ parts.0 in
+    (any_declared name more ∙ not-true _ new.1, subst (λ (n : ℕ). n < 65535) (sym (as_many more new.0)) (ltb-true (length more) 65535 parts.1))
+may_take m k more (Step step) follows = tt
+
+may_take_at : (ls : List Line) (i : ℕ) (d : Line) → FollowsWorld ls → i < length ls → MayTake (object_names (take i ls)) (get_or ls i d)
+may_take_at ls i d f within = may_take f.0 f.1 (take i ls) (get_or ls i d) (follows_at ls (World f.0 f.1 ∷ []) i d f.2 within)
+
+names_at : (ls : List Line) (i : ℕ) (d : Line) → FollowsWorld ls → i < length ls → with_object (object_names (take i ls)) (get_or ls i d) ≡ object_names (take (i + 1) ls)
+names_at ls i d f within =
+    names_more (World f.0 f.1) (take i ls) (get_or ls i d) (follows_at ls (World f.0 f.1 ∷ []) i d f.2 within) ∙ ap object_names (sym (take_more ls i d within))
+
+-- the next line, with the names of the lines before it
+pub line_may_be_taken : (ls : List Line) (i : ℕ) (x : Line) (names : List (List ℕ)) → FollowsWorld ls → i < length ls → x ≡ get_or ls i x → names ≡ object_names (take i ls) → MayTake names x
+line_may_be_taken ls i x names f within is same =
+    subst (λ (n : List (List ℕ)). MayTake n x) (sym same) (subst (λ (l : Line). MayTake (object_names (take i ls)) l) (sym is) (may_take_at ls i x f within))
+
+pub names_next : (ls : List Line) (i : ℕ) (x : Line) (names new : List (List ℕ)) → FollowsWorld ls → i < length ls → x ≡ get_or ls i x → names ≡ object_names (take i ls)
+    → new ≡ with_object names x → new ≡ object_names (take (i + 1) ls)
+names_next ls i x names new f within is same e =
+    e ∙ ap (λ (n : List (List ℕ)). with_object n x) same ∙ ap (λ (l : Line). with_object (object_names (take i ls)) l) is ∙ names_at ls i x f within
+
+one_low : (low : ℕ) (lows : List ℕ) (l : Line) → (low ∷ with_low lows l) ≡ with_low (low ∷ lows) l
+one_low low lows (World m k) = refl
+one_low low lows (Object n j) = refl
+one_low low lows (Step step) = refl
+
+lows_append : (ls : List Line) (l : Line) → low_bytes (ls ++ l ∷ []) ≡ with_low (low_bytes ls) l
+lows_append [] (World m k) = refl
+lows_append [] (Object n j) = refl
+lows_append [] (Step step) = refl
+lows_append (World m k ∷ ls) l = lows_append ls l
+lows_append (Object n j ∷ ls) l = ap (λ (lows : List ℕ). j ∷ lows) (lows_append ls l) ∙ one_low j (low_bytes ls) l
+lows_append (Step step ∷ ls) l = lows_append ls l
+
+pub lows_next : (ls : List Line) (i : ℕ) (x : Line) (lows new : List ℕ) → i < length ls → x ≡ get_or ls i x → lows ≡ low_bytes (take i ls)
+    → new ≡ with_low lows x → new ≡ low_bytes (take (i + 1) ls)
+lows_next ls i x lows new within is same e =
+    e ∙ ap (λ (b : List ℕ). with_low b x) same ∙ ap (λ (l : Line). with_low (low_bytes (take i ls)) l) is ∙ sym (lows_append (take i ls) (get_or ls i x))
+    ∙ ap low_bytes (sym (take_more ls i x within))

@@ -1,0 +1,177 @@
+//! What a script plays: the world that it makes, and its steps, with numbers for names.
+
+ghost use Rattle.std.specs.Prelude.{◌≡◌, ◌<◌, ◌≤◌, ◌++◌, ◌∷◌, [], false, length, vec_len, OnOk, IfOk};
+ghost use Rattle.history_text.specs.Lines.{IsScript};
+ghost use Rattle.history_text.specs.Noted.{object_names, with_object};
+ghost use Rattle.history.specs.Calls.{call_in, names_with};
+ghost use Rattle.history.specs.NameLists.{is_named};
+ghost use Rattle.history.specs.Numbering.{FollowsWorld, IsWorldWith, MayTake, low_bytes, with_low};
+
+use crate::names::Names;
+use fast_path::Call;
+use history_text::{Line, Name, StepLine};
+use lock_word::Memory;
+use std::alloc::Global;
+use step_core::Step;
+
+/// The world that a script makes, and the steps that it plays on it.
+#[derive(Drop)]
+pub struct Plan {
+    pub names: Names,
+    pub monitors: u32,
+    pub indices: u16,
+    /// The low byte of each object.
+    pub lows: Vec<u8>,
+    pub steps: Vec<Step>,
+    ghost monitors_fit: { monitors ≤ 8388608 },
+    ghost has_indices: { 1 ≤ indices },
+    ghost indices_fit: { indices ≤ 32767 },
+    ghost objects_fit: { vec_len lows ≤ 65535 },
+    ghost objects_are_named: { length names.objects ≡ vec_len lows },
+}
+
+impl Plan {
+    /// A world without objects and steps.
+    fn new(alloc: Global, monitors: u32, indices: u16) -> Plan
+        requires monitors { monitors ≤ 8388608 }
+        requires some { 1 ≤ indices }
+        requires few { indices ≤ 32767 }
+        ensures world { (result.monitors ≡ monitors) × (result.indices ≡ indices) }
+        ensures none { (result.names.objects ≡ []) × (result.lows.items ≡ []) }
+    {
+        Plan {
+            names: Names::new(alloc),
+            monitors,
+            indices,
+            lows: Vec::new(alloc),
+            steps: Vec::new(alloc),
+        }
+    }
+
+    /// Takes a line behind the first.
+    fn take_line(&mut self, line: &Line<'_>) -> Result<(), Memory>
+        requires { MayTake self.old.names.objects line.now }
+        ensures objects { OnOk result (self.new.names.objects
+            ≡ with_object self.old.names.objects line.now) }
+        ensures lows { OnOk result (self.new.lows.items ≡ with_low self.old.lows.items line.now) }
+        ensures world { (self.new.monitors ≡ self.old.monitors)
+            × (self.new.indices ≡ self.old.indices) }
+    {
+        match line {
+            Line::World { .. } => Ok(()),
+            Line::Object { name, low } => self.take_object(name, *low),
+            Line::Step(step) => self.take_step(step),
+        }
+    }
+
+    fn take_object(&mut self, name: &Name<'_>, low: u8) -> Result<(), Memory>
+        requires new { is_named self.old.names.objects name.now ≡ false }
+        requires room { length self.old.names.objects < 65535 }
+        ensures objects { OnOk result (self.new.names.objects
+            ≡ self.old.names.objects ++ name.now ∷ []) }
+        ensures lows { OnOk result (self.new.lows.items ≡ self.old.lows.items ++ low ∷ []) }
+        ensures world { (self.new.monitors ≡ self.old.monitors)
+            × (self.new.indices ≡ self.old.indices) }
+    {
+        self.lows.reserve(1)?;
+        self.names.declare(name)?;
+        self.lows.push(low).unwrap();
+        Ok(())
+    }
+
+    fn take_step(&mut self, step: &StepLine<'_>) -> Result<(), Memory>
+        ensures objects { OnOk result (self.new.names.objects ≡ self.old.names.objects) }
+        ensures lows { OnOk result (self.new.lows.items ≡ self.old.lows.items) }
+        ensures world { (self.new.monitors ≡ self.old.monitors)
+            × (self.new.indices ≡ self.old.indices) }
+    {
+        let step = step_of(&mut self.names, step)?;
+        self.steps.push(step)?;
+        Ok(())
+    }
+}
+
+/// The step that a line is, by the numbers of its names.
+fn step_of(names: &mut Names, step: &StepLine<'_>) -> Result<Step, Memory>
+    ensures { names.new.objects ≡ names.old.objects }
+{
+    match step {
+        StepLine::Attach(thread) => Ok(Step::Attach {
+            thread: names.thread(thread)?,
+        }),
+        StepLine::Begin { thread, call } => Ok(Step::Begin {
+            thread: names.thread(thread)?,
+            call: call_of(names, call)?,
+        }),
+        StepLine::Go(thread) => Ok(Step::Go {
+            thread: names.thread(thread)?,
+        }),
+        StepLine::Expire(thread) => Ok(Step::Expire {
+            thread: names.thread(thread)?,
+        }),
+        StepLine::Tick(now) => Ok(Step::Tick { now: *now }),
+    }
+}
+
+/// The call that a line has, by the numbers of its names.
+fn call_of(names: &mut Names, call: &history_text::Call<'_>) -> Result<Call, Memory>
+    ensures call { IfOk result (λ c. c ≡ call_in names.old call.now) }
+    ensures noted { OnOk result (names.new ≡ names_with names.old call.now) }
+    ensures objects { names.new.objects ≡ names.old.objects }
+{
+    match call {
+        history_text::Call::Enter(object) => Ok(Call::Enter(names.object(object))),
+        history_text::Call::Exit(object) => Ok(Call::Exit(names.object(object))),
+        history_text::Call::Wait {
+            object,
+            millis,
+            nanos,
+        } => Ok(Call::Wait {
+            object: names.object(object),
+            millis: *millis,
+            nanos: *nanos,
+        }),
+        history_text::Call::Notify(object) => Ok(Call::Notify(names.object(object))),
+        history_text::Call::NotifyAll(object) => Ok(Call::NotifyAll(names.object(object))),
+        history_text::Call::Holds(object) => Ok(Call::Holds(names.object(object))),
+        history_text::Call::Interrupt(target) => Ok(Call::Interrupt(names.thread(target)?)),
+        history_text::Call::Interrupted => Ok(Call::Interrupted),
+        history_text::Call::IsInterrupted(target) => {
+            Ok(Call::IsInterrupted(names.thread(target)?))
+        }
+        history_text::Call::End => Ok(Call::End),
+    }
+}
+
+/// Takes the lines behind the first.
+fn take_lines(plan: &mut Plan, lines: &[Line<'_>]) -> Result<(), Memory>
+    requires none { (plan.old.names.objects ≡ []) × (plan.old.lows.items ≡ []) }
+    requires follow { FollowsWorld lines.now }
+    ensures objects { OnOk result (plan.new.names.objects ≡ object_names lines.now) }
+    ensures lows { OnOk result (plan.new.lows.items ≡ low_bytes lines.now) }
+    ensures world { OnOk result ((plan.new.monitors ≡ plan.old.monitors)
+        × (plan.new.indices ≡ plan.old.indices)) }
+{
+    'lines: for line in lines {
+        plan.take_line(line)?;
+    }
+    Ok(())
+}
+
+/// What the lines of a script play, with numbers for their names.
+pub fn plan_of(alloc: Global, lines: &[Line<'_>]) -> Result<Plan, Memory>
+    requires { IsScript lines.now }
+    ensures world { IfOk result (λ plan. IsWorldWith plan.monitors plan.indices lines.now) }
+    ensures objects { IfOk result (λ plan. plan.names.objects ≡ object_names lines.now) }
+    ensures lows { IfOk result (λ plan. plan.lows.items ≡ low_bytes lines.now) }
+{
+    let [first, rest @ ..] = lines else {
+        unreachable!()
+    };
+    let Line::World { monitors, indices } = first else {
+        unreachable!()
+    };
+    let mut plan = Plan::new(alloc, *monitors, *indices);
+    take_lines(&mut plan, rest)?;
+    Ok(plan)
+}
