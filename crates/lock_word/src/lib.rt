@@ -1,7 +1,7 @@
 //! The header words of Java objects, and the locks that they show.
 //!
 //! A header word has 32 bits. Bits 31 to 8 are the lock; bits 7 to 0 belong to others, such as a
-//! collector, and are never changed. `docs/MACHINE.md` has the layout.
+//! collector, and are never changed. `docs/SERVICE.md` has the layout.
 #![tactic(auto)]
 
 ghost use Rattle.std.specs.Prelude.{◌≡◌, ◌<◌, ◌^◌, ◌↔◌, ℕ, IfSome, IsNone, Some};
