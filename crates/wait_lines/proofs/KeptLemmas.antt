@@ -18,7 +18,7 @@ use Rattle.wait_lines.specs.declared.links.Stop.TheVariants.{At, End, Free}
 use Rattle.wait_lines.specs.declared.links.Spot.{Spot}
 use Rattle.wait_lines.specs.declared.links.Ends.{Ends}
 use Rattle.wait_lines.specs.Lines.{Key, key, StandsAt, StandsIn, Stands, StandsNowhere, left, joined, total_count, role_number, is_thread, LineMap, line, standing, IsOrderly}
-use Rattle.wait_lines.specs.Links.{Chart, node, alone, unused, spot_at, ends_at, behind_of, before_of, with_behind, with_before, unlinked, linked, with_thread, with_key, is_node, is_of, grown, BeginsAt, IsThere as AtHand}
+use Rattle.wait_lines.specs.Links.{Chart, node, alone, unused, spot_at, ends_at, behind_of, before_of, with_behind, with_before, unlinked, linked, with_thread, with_key, is_node, is_of, grown, nothing, BeginsAt, IsThere as AtHand}
 use Rattle.wait_lines.specs.Rings.{without_number, Walk, AreRings, IsEnd}
 use Rattle.wait_lines.specs.Walks.{then_from, threads_from, then_node, node_from}
 use Rattle.wait_lines.specs.Rows.{rows_of, end_at, row_at, times_number, times_in_rows, rows_without, rows_with, moved, AreLinked, AreLinkedBut}
@@ -90,8 +90,8 @@ module _ (c : Chart) (n : ℕ) (t : ThreadId) (h : IsKept c) (stands : StandsAt 
           let none = h.linked.absent n past in
           absurd (omega arith)
 
-  sizes : (length (freed c n).spots ≡ length c.spots) × (length (freed c n).ends ≡ length c.ends)
-  sizes =
+  pub sizes_freed : (length (freed c n).spots ≡ length c.spots) × (length (freed c n).ends ≡ length c.ends)
+  sizes_freed =
       let b = AreLinked-unlinked c (rows_of c) n h.linked stands-here in
       let e = sizes-unlinked c (node n) h.linked.rings stands-here in
       let f = sizes-linked (unlinked c (node n)) (node n) Free b.rings b.here tt in
@@ -108,10 +108,10 @@ module _ (c : Chart) (n : ℕ) (t : ThreadId) (h : IsKept c) (stands : StandsAt 
   threads_after : threads_of (freed c n) ≡ threads_of c
   threads_after = threads-linked (unlinked c (node n)) (node n) Free ∙ threads-unlinked c (node n)
 
-  keys_after : keys_of (freed c n) ≡ keys_of c
+  pub keys_after : keys_of (freed c n) ≡ keys_of c
   keys_after = keys-linked (unlinked c (node n)) (node n) Free ∙ keys-unlinked c (node n)
 
-  tail_after : tail_of (rows_of (freed c n)) ≡ rows_without n (tail_of (rows_of c))
+  pub tail_after : tail_of (rows_of (freed c n)) ≡ rows_without n (tail_of (rows_of c))
   tail_after = ap tail_of rows_after
 
   pub arrivals_after : arrivals_of (freed c n) ≡ others t (arrivals_of c)
@@ -138,9 +138,9 @@ module _ (c : Chart) (n : ℕ) (t : ThreadId) (h : IsKept c) (stands : StandsAt 
   pub IsKept-freed : IsKept (freed c n)
   IsKept-freed = record {
     linked = subst (AreLinked (freed c n)) (sym rows_after) linked_after;
-    orderly = rw (arrivals_after, sizes.0) (IsOrderly-others t (arrivals_of c) (length c.spots) h.orderly);
+    orderly = rw (arrivals_after, sizes_freed.0) (IsOrderly-others t (arrivals_of c) (length c.spots) h.orderly);
     solo = λ u. let l = fewer-others t u (arrivals_of c) in let s = h.solo u in rw arrivals_after (omega arith);
-    even = let e = h.even in let s = sizes.0 in let f = sizes.1 in omega arith;
+    even = let e = h.even in let s = sizes_freed.0 in let f = sizes_freed.1 in omega arith;
     one = λ i j i_in j_in same i_full j_full. one i j (rw keys_after at i_in) (rw keys_after at j_in) (rw keys_after at same) (rw tail_after at i_full) (rw tail_after at j_full);
   }
     where
@@ -154,7 +154,7 @@ module _ (c : Chart) (n : ℕ) (t : ThreadId) (h : IsKept c) (stands : StandsAt 
 -- ---- what the first stop of a record says of its row
 
 module _ (c : Chart) (h : IsKept c) (k : ℕ) (there : k < length c.ends) where
-  walk-to_row : Walk (behind_of c) (End k) (row_at (tail_of (rows_of c)) k) (End k)
+  pub walk-to_row : Walk (behind_of c) (End k) (row_at (tail_of (rows_of c)) k) (End k)
   walk-to_row = h.linked.walks (suc k) (let m = h.linked.many in omega arith)
 
   pub row-full : is_node (ends_at c k).first ≡ true → row_at (tail_of (rows_of c)) k ≢ []
@@ -247,7 +247,7 @@ module _ (c : Chart) (n : ℕ) (t : ThreadId) (k m : ℕ) (r : Role) (h : IsKept
     abbrev pub after : Chart
     after = linked (taken c n t k m r) (node n) (End k)
 
-    sizes_joined : (length after.spots ≡ length c.spots) × (length after.ends ≡ length c.ends)
+    pub sizes_joined : (length after.spots ≡ length c.spots) × (length after.ends ≡ length c.ends)
     sizes_joined =
         let e = sizes-linked (taken c n t k m r) (node n) (End k) but-taken.rings but-taken.here (let l = length-set (unlinked c (node n)).ends k (record (ends_at (unlinked c (node n)) k) { place = m; role = r }) in let s = unlinked-sizes.1 in omega arith) in
         let f = length-set (unlinked c (node n)).spots n (record (spot_at (unlinked c (node n)) n) { thread = t }) in
@@ -262,7 +262,7 @@ module _ (c : Chart) (n : ℕ) (t : ThreadId) (k m : ℕ) (r : Role) (h : IsKept
     rows_joined : rows_of after ≡ rows_with (rows_without n (rows_of c)) n (suc k)
     rows_joined = sym (rows-shown after _ linked_joined)
 
-    tail_joined : tail_of (rows_of after) ≡ slice_set (tail_of (rows_of c)) k (row_at (tail_of (rows_of c)) k ++ n ∷ [])
+    pub tail_joined : tail_of (rows_of after) ≡ slice_set (tail_of (rows_of c)) k (row_at (tail_of (rows_of c)) k ++ n ∷ [])
     tail_joined =
         ap tail_of rows_joined
         ∙ ap (λ rs. slice_set rs k (row_at rs k ++ n ∷ [])) (rows-without_out n (tail_of (rows_of c)) out)
@@ -273,7 +273,7 @@ module _ (c : Chart) (n : ℕ) (t : ThreadId) (k m : ℕ) (r : Role) (h : IsKept
         ∙ map-set (λ (s : Spot). s.thread) (unlinked c (node n)).spots n (record (spot_at (unlinked c (node n)) n) { thread = t })
         ∙ ap (λ ts. slice_set ts n t) (threads-unlinked c (node n))
 
-    keys_joined : keys_of after ≡ slice_set (keys_of c) k (key m r)
+    pub keys_joined : keys_of after ≡ slice_set (keys_of c) k (key m r)
     keys_joined =
         keys-linked (taken c n t k m r) (node n) (End k)
         ∙ map-set (λ (e : Ends). key e.place e.role) (unlinked c (node n)).ends k (record (ends_at (unlinked c (node n)) k) { place = m; role = r })
@@ -377,13 +377,13 @@ module _ (c : Chart) (n : ℕ) (t : ThreadId) (k m : ℕ) (r : Role) (h : IsKept
 pub key-shown : (c : Chart) (k : ℕ) → k < length c.ends → slice_index_or (keys_of c) k (key 0 Entry) ≡ key (ends_at c k).place (ends_at c k).role
 key-shown c k there = get_or-map (λ (e : Ends). key e.place e.role) c.ends k (unused (End k)) (key 0 Entry) there
 
-is_of-parts : (m : ℕ) (r : Role) (e : Ends) → is_of m r e ≡ true → (key e.place e.role ≡ key m r) × (is_node e.first ≡ true)
+pub is_of-parts : (m : ℕ) (r : Role) (e : Ends) → is_of m r e ≡ true → (key e.place e.role ≡ key m r) × (is_node e.first ≡ true)
 is_of-parts m r e whole =
     let both = and_parts ((e.place == m) && (role_number e.role == role_number r)) (is_node e.first) whole in
     let keys = and_parts (e.place == m) (role_number e.role == role_number r) both.0 in
     (key-same e.place m e.role r (eqb-true e.place m keys.0) (same_role e.role r (eqb-true (role_number e.role) (role_number r) keys.1)), both.1)
 
-is_of-from : (m : ℕ) (r : Role) (e : Ends) → key e.place e.role ≡ key m r → is_node e.first ≡ true → is_of m r e ≡ true
+pub is_of-from : (m : ℕ) (r : Role) (e : Ends) → key e.place e.role ≡ key m r → is_node e.first ≡ true → is_of m r e ≡ true
 is_of-from m r e same full =
     and_from ((e.place == m) && (role_number e.role == role_number r)) (is_node e.first)
     (and_from (e.place == m) (role_number e.role == role_number r) (eq-eqb e.place m (ap (λ (k : Key). k.0) same)) (eq-eqb (role_number e.role) (role_number r) (ap (λ (k : Key). role_number k.1) same))) full
@@ -493,21 +493,21 @@ module _ (c : Chart) (h : IsKept c) (few : length c.spots < 32767) where
   more : AreLinked (reserved c) (rows_with (rows_of c ++ [] ∷ []) (length c.spots) 0)
   more = AreLinked-linked (grown c) (rows_of c ++ [] ∷ []) (length c.spots) 0 but (let m = but.many in omega arith)
 
-  more_sizes : (length (reserved c).spots ≡ length c.spots + 1) × (length (reserved c).ends ≡ length c.ends + 1)
+  pub more_sizes : (length (reserved c).spots ≡ length c.spots + 1) × (length (reserved c).ends ≡ length c.ends + 1)
   more_sizes =
       let e = sizes-linked (grown c) (node (length c.spots)) Free but.rings but.here tt in
       (e.0 ∙ length-append c.spots _, e.1 ∙ length-append c.ends _)
 
-  more_tail : tail_of (rows_of (reserved c)) ≡ tail_of (rows_of c) ++ [] ∷ []
+  pub more_tail : tail_of (rows_of (reserved c)) ≡ tail_of (rows_of c) ++ [] ∷ []
   more_tail = ap tail_of (sym (rows-shown (reserved c) _ more))
 
   more_threads : threads_of (reserved c) ≡ threads_of c ++ record { 0 = 0 } ∷ []
   more_threads = threads-linked (grown c) (node (length c.spots)) Free ∙ map-append (λ (s : Spot). s.thread) c.spots (alone (node (length c.spots)) ∷ [])
 
-  more_keys : keys_of (reserved c) ≡ keys_of c ++ key 0 Entry ∷ []
+  pub more_keys : keys_of (reserved c) ≡ keys_of c ++ key 0 Entry ∷ []
   more_keys = keys-linked (grown c) (node (length c.spots)) Free ∙ map-append (λ (e : Ends). key e.place e.role) c.ends (unused (End (length c.spots)) ∷ [])
 
-  key_sizes : (length (keys_of c) ≡ length c.ends) × (length (tail_of (rows_of c)) ≡ length c.ends) × (length (threads_of c) ≡ length c.spots)
+  pub key_sizes : (length (keys_of c) ≡ length c.ends) × (length (tail_of (rows_of c)) ≡ length c.ends) × (length (threads_of c) ≡ length c.spots)
   key_sizes = (
     length-map c.ends (λ (e : Ends). key e.place e.role),
     let many = h.linked.many in omega arith,
@@ -551,9 +551,6 @@ module _ (c : Chart) (h : IsKept c) (few : length c.spots < 32767) where
               let z = ap length none in absurd (omega arith)
 
 -- ---- nothing yet
-
-abbrev pub nothing : Chart
-nothing = record { spots = []; ends = []; first_free = Free; last_free = Free }
 
 pub IsKept-nothing : IsKept nothing
 IsKept-nothing = record {

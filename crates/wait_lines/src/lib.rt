@@ -14,6 +14,7 @@ ghost use Rattle.lock_word.specs.declared.ThreadId.{ThreadId};
 
 mod iter;
 mod links;
+mod table;
 #[cfg(test)]
 mod tests;
 
@@ -23,6 +24,7 @@ use links::{Links, Stop};
 use lock_word::{Memory, ThreadId};
 use std::alloc::Global;
 use std::marker::Model;
+use table::Table;
 
 /// Which of a monitor's two lines.
 #[derive(Clone, Copy, PartialEq, Eq, Hash, Debug)]
@@ -40,6 +42,7 @@ pub enum Role {
 #[derive(Debug, Drop)]
 pub struct Lines {
     links: Links,
+    table: Table,
 }
 
 impl Model for Lines {
@@ -52,11 +55,12 @@ impl Model for Lines {
     ghost coded = { Prim.hlevel (codes, map.code) };
 
     ghost use Rattle.wait_lines.specs.Links.{chart};
-    ghost use Rattle.wait_lines.specs.Arrivals.{shown, IsKept};
+    ghost use Rattle.wait_lines.specs.Arrivals.{shown};
+    ghost use Rattle.wait_lines.specs.Tables.{IsWhole};
 
     ghost view = { λ l. shown (chart l.links) };
 
-    ghost invariant = { λ l. IsKept (chart l.links) };
+    ghost invariant = { λ l. IsWhole (chart l.links) l.table };
 }
 
 impl Lines {
@@ -67,12 +71,8 @@ impl Lines {
         ensures orderly { IsOrderly (standing result) }
     {
         Lines {
-            links: Links {
-                spots: Vec::new(alloc),
-                ends: Vec::new(alloc),
-                first_free: Stop::Free,
-                last_free: Stop::Free,
-            },
+            links: Links::new(alloc),
+            table: Table::new(alloc),
         }
     }
 
@@ -86,7 +86,10 @@ impl Lines {
         ensures err { OnErr result (self.new ≡ self.old) }
         ensures orderly { IsOrderly (standing self.new) }
     {
-        self.links.grow()?;
+        self.links.reserve()?;
+        self.table.grow()?;
+        self.links.grow();
+        self.table.spread(&self.links);
         Ok(())
     }
 
@@ -142,7 +145,8 @@ impl Lines {
         ensures few { length result ≤ 32767 }
         ensures orderly { IsOrderly (standing self.now) }
     {
-        All::new(&self.links.spots, self.links.first_of(place, role))
+        let first = self.table.first_of(&self.links, place, role);
+        All::new(&self.links.spots, first)
     }
 
     /// Puts a thread at the end of a line, and answers its node, which stays its node until it leaves.
@@ -157,13 +161,14 @@ impl Lines {
         let Stop::At(node) = self.links.first_free else {
             unreachable!();
         };
-        let Some(line) = self.links.line_for(place, role) else {
+        let Some(line) = self.table.line_for(&self.links, place, role) else {
             unreachable!();
         };
         self.links.unlink(node);
         self.links.seat(node, thread);
         self.links.name(line, place, role);
         self.links.link(node, Stop::End(line));
+        self.table.put(line, place, role);
         node
     }
 
@@ -176,7 +181,9 @@ impl Lines {
         ensures reservations { self.new.reservations ≡ self.old.reservations }
         ensures orderly { IsOrderly (standing self.new) }
     {
+        let before = self.links.before(Stop::At(node));
         self.links.unlink(node);
         self.links.link(node, Stop::Free);
+        self.table.release(&self.links, before);
     }
 }
