@@ -37,6 +37,10 @@ pub enum Role {
 
 /// The lines of all monitors, which are named by their numbers.
 ///
+/// A line is linked from node to node, and a table has the record of each line that has a thread,
+/// so what a call costs does not grow with the number of lines or of those who stand in them,
+/// unless it is said to walk.
+///
 /// A thread stands in one line at most, and once. Joining asks for no memory: it uses a reservation,
 /// and leaving makes that free again.
 #[derive(Debug, Drop)]
@@ -121,8 +125,8 @@ impl Lines {
         }
     }
 
-    /// The node of a thread that stands in a line.
-    fn node_of(&self, thread: ThreadId) -> Option<Node>
+    /// The node at which a thread stands; None where it stands in no line. This walks the lines.
+    pub fn node_of(&self, thread: ThreadId) -> Option<Node>
         ensures found { IfSome result (λ n. StandsAt self.now.nodes thread n.0) }
         ensures stands { IfSome result (λ n. Stands self.now.lines thread) }
         ensures none { IfNone result (StandsNowhere self.now.lines thread) }
@@ -149,7 +153,8 @@ impl Lines {
         All::new(&self.links.spots, first)
     }
 
-    /// Puts a thread at the end of a line, and answers its node, which stays its node until it leaves.
+    /// Puts a thread at the end of a line, and answers its node, which stays its node until it
+    /// leaves. No other thread moves.
     pub fn join(&mut self, thread: ThreadId, place: u32, role: Role) -> Node
         requires nowhere { StandsNowhere self.old.lines thread }
         requires room { total_count self.old.lines < self.old.reservations }
@@ -172,12 +177,16 @@ impl Lines {
         node
     }
 
-    /// Takes the thread that stands at a node out of its line.
+    /// Takes the thread that stands at a node out of its line. No other thread moves.
     pub fn leave_at(&mut self, node: Node)
         requires stands { (t : ThreadId) × StandsAt self.old.nodes t node.0 }
-        ensures left { (t : ThreadId) (m : ℕ) (r : Role) → StandsAt self.old.nodes t node.0 → StandsIn self.old.lines t m r
+        ensures left {
+            (t : ThreadId) (m : ℕ) (r : Role)
+            → StandsAt self.old.nodes t node.0 → StandsIn self.old.lines t m r
             → self.new.lines ≡ left self.old.lines t m r }
-        ensures nodes { (t : ThreadId) → StandsAt self.old.nodes t node.0 → self.new.nodes ≡ map.remove self.old.nodes t.0 }
+        ensures nodes {
+            (t : ThreadId) → StandsAt self.old.nodes t node.0
+            → self.new.nodes ≡ map.remove self.old.nodes t.0 }
         ensures reservations { self.new.reservations ≡ self.old.reservations }
         ensures orderly { IsOrderly (standing self.new) }
     {
