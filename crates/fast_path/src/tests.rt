@@ -1,5 +1,5 @@
 ghost use Rattle.std.specs.Prelude.{IsSome};
-ghost use Rattle.fast_path.specs.Table.{object_of};
+ghost use Rattle.fast_path.specs.Calls.{object_of};
 
 use crate::{Call, Next, decide};
 use fat_monitor::Reply;

@@ -27,7 +27,7 @@ use Rattle.fat_monitor.proofs.PostMaps.{get-insert_by}
 use Rattle.fat_monitor.specs.Slots.{Posted}
 use Rattle.fat_monitor.proofs.SoundGrants.{granted_flags, granted-is}
 use Rattle.fat_monitor.proofs.WaitSets.{queued}
-use Rattle.fat_monitor.proofs.Soundness.{IsSound-acted, stand_behind}
+use Rattle.fat_monitor.proofs.Soundness.{IsSound-acted, IsSound-with_thread}
 
 -- what a read of a monitor found
 pub monitor_read : (f : FatState) (m : ℕ) (b : Monitor) → m < length f.monitors → b ≡ slice_index_or f.monitors m b → monitor_at f m ≡ b
@@ -146,12 +146,6 @@ sound_after f after t a r sound may bound e =
     let same : after ≡ (acted f t a).after = ap (λ (o : Outcome). o.after) e in
     rw (same) (IsSound-acted f t a sound may bound)
 
-pub behind_after : (view f after : FatState) (t : ThreadId) (asked a : Action) (r : Result Done ActFault) → IsSound view → view ≡ f → asked ≡ a → MayAct f t asked → NamesBound f asked
-    → record { answer = r; after = after } ≡ acted f t a → StandBehindOwners after
-behind_after view f after t asked a r sound same is may bound e =
-    stand_behind after (sound_after f after t a r (subst (λ (g : FatState). IsSound g) same sound)
-    (subst (λ (b : Action). MayAct f t b) is may) (subst (λ (b : Action). NamesBound f b) is bound) e)
-
 -- an owned monitor has an owner
 pub owned_by : (o : Option ThreadId) (t : ThreadId) → is_owned_by o t ≡ true → IsSome o
 owned_by None t e = absurd (cc)
@@ -172,3 +166,9 @@ interrupted_outside f u (Entering m) idle = refl
 interrupted_outside f u (Waiting m n d) idle = absurd (idle m n d refl)
 interrupted_outside f u (Back m n w) idle = refl
 interrupted_outside f u (Granted r) idle = refl
+
+-- what an attach leaves is sound
+pub attached_sound : {E : Type 0} (f after : FatState) (t : ThreadId) (r : Result (Unit {0}) E) → IsSound f → thread_count f < 32767
+    → OnOk r (post_of f t ≡ None) → OnOk r (after ≡ with_thread f t) → OnErr r (after ≡ f) → IsSound after
+attached_sound f after t (Ok u) sound few fresh attached err = subst (λ (g : FatState). IsSound g) (sym attached) (IsSound-with_thread f t sound fresh few)
+attached_sound f after t (Err e) sound few fresh attached err = subst (λ (g : FatState). IsSound g) (sym err) sound

@@ -5,7 +5,7 @@ ghost use Rattle.std.specs.FinMap as map;
 ghost use Rattle.lock_word.specs.declared.ThreadId.{ThreadId};
 ghost use Rattle.fat_monitor.specs.declared.actions.Action.{Action};
 ghost use Rattle.fat_monitor.specs.declared.actions.Post.{Post};
-ghost use Rattle.fat_monitor.specs.FatState.{FatState, opened, post_of, flag_of, IsAttached, thread_count, with_thread, without_thread, with_moment, bound_with, refusal, owns_one, monitor_at, object_at, StandBehindOwners};
+ghost use Rattle.fat_monitor.specs.FatState.{FatState, IsSound, opened, post_of, flag_of, IsAttached, thread_count, with_thread, without_thread, with_moment, bound_with, refusal, owns_one, monitor_at, object_at, StandBehindOwners};
 ghost use Rattle.fat_monitor.specs.Acting.{acted, NamesBound, MayAct};
 
 mod acts;
@@ -113,7 +113,8 @@ impl Fats {
     /// 8,388,608, will be bound.
     pub fn new(alloc: Global, limit: u32) -> Fats
         requires { limit ≤ 8388608 }
-        ensures { result ≡ opened limit }
+        ensures opened { result ≡ opened limit }
+        ensures sound { IsSound result }
     {
         Fats {
             monitors: Vec::new(alloc),
@@ -134,6 +135,20 @@ impl Fats {
         ensures fresh { OnOk result (post_of self.old thread ≡ None) }
         ensures known { IsErrOf result AttachFault.Known ↔ IsAttached self.old thread }
         ensures err { OnErr result (self.new ≡ self.old) }
+        ensures sound { IsSound self.new }
+    {
+        self.enroll(thread)
+    }
+
+    fn enroll(&mut self, thread: ThreadId) -> Result<(), AttachFault>
+        requires { thread_count self.old < 32767 }
+        ensures was { IsSound self.old }
+        ensures attached { OnOk result (self.new ≡ with_thread self.old thread) }
+        ensures here { OnOk result (IsAttached self.new thread) }
+        ensures others { (u : ThreadId) → IsAttached self.old u → IsAttached self.new u }
+        ensures fresh { OnOk result (post_of self.old thread ≡ None) }
+        ensures known { IsErrOf result AttachFault.Known ↔ IsAttached self.old thread }
+        ensures err { OnErr result (self.new ≡ self.old) }
     {
         let crowded = self.posts.len() == usize::from(self.lines.reservations());
         self.posts.add(thread)?;
@@ -148,7 +163,8 @@ impl Fats {
     pub fn remove(&mut self, thread: ThreadId)
         requires out { post_of self.old thread ≡ Some Post.Out }
         requires owns_none { owns_one self.old.monitors thread ≡ false }
-        ensures { self.new ≡ without_thread self.old thread }
+        ensures removed { self.new ≡ without_thread self.old thread }
+        ensures sound { IsSound self.new }
     {
         self.posts.remove(thread);
     }
@@ -163,6 +179,7 @@ impl Fats {
         ensures room { OnOk result (length self.old.monitors < self.old.limit) }
         ensures cause { IfErr result (λ c. c ≡ refusal self.old) }
         ensures err { OnErr result (self.new ≡ self.old) }
+        ensures sound { IsSound self.new }
     {
         let number = self.monitors.len();
         if number >= self.limit as usize {
@@ -185,6 +202,7 @@ impl Fats {
         ensures later { OnOk result (self.old.moment ≤ now) }
         ensures earlier { OnErr result (now < self.old.moment) }
         ensures err { OnErr result (self.new ≡ self.old) }
+        ensures sound { IsSound self.new }
     {
         if now < self.moment {
             return Err(Backwards);
@@ -203,6 +221,16 @@ impl Fats {
         requires bound { NamesBound self.old action }
         ensures table { record { answer = result; after = self.new } ≡ acted self.old thread action }
         ensures behind { StandBehindOwners self.new }
+        ensures sound { IsSound self.new }
+    {
+        self.make(thread, action)
+    }
+
+    fn make(&mut self, thread: ThreadId, action: Action) -> Result<Done, ActFault>
+        requires ready { MayAct self.old thread action }
+        requires bound { NamesBound self.old action }
+        ensures was { IsSound self.old }
+        ensures table { record { answer = result; after = self.new } ≡ acted self.old thread action }
     {
         // What follows rests on what always holds of these fields.
         let _ = &self.monitors;
@@ -243,7 +271,8 @@ impl Fats {
 
     /// The moment that was told last, in nanoseconds; 0 at first.
     pub fn now(&self) -> u64
-        ensures { result ≡ self.now.moment }
+        ensures value { result ≡ self.now.moment }
+        ensures sound { IsSound self.now }
     {
         self.moment
     }
@@ -279,6 +308,7 @@ impl Fats {
     pub fn bound(&self) -> u32
         ensures value { result ≡ length self.now.monitors }
         ensures most { result ≤ self.now.limit }
+        ensures sound { IsSound self.now }
     {
         self.monitors.len() as u32
     }

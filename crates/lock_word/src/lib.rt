@@ -49,6 +49,10 @@ pub enum Lock {
 pub struct Memory;
 
 impl fmt::Display for Memory {
+    ghost use Rattle.std.specs.Prelude.{Some, codes};
+
+    ghost output = { λ _. Some (codes "out of memory") };
+
     fn fmt<W: fmt::Write>(&self, f: &mut fmt::Formatter<W>) -> fmt::Result {
         f.write_str("out of memory")
     }
@@ -108,11 +112,37 @@ pub fn encode(lock: Lock, low: u8) -> Word
     }
 }
 
+/// The lock of a word that decodes.
+pub fn lock_of(word: Word) -> Lock
+    requires { IsMalformed word.0 → ⊥ }
+    ensures { result ≡ lock_of word.0 }
+{
+    match decode(word) {
+        Some((lock, _)) => lock,
+        None => unreachable!(),
+    }
+}
+
+/// The word with this lock, and with the low byte of the word that was there.
+pub fn with_lock(word: Word, lock: Lock) -> Word
+    requires { Fits lock }
+    ensures { result.0 ≡ with_lock word.0 lock }
+{
+    encode(lock, (word.0 % 256) as u8)
+}
+
 /// The layout is one to one: what `encode` writes, `decode` reads back; a word that is not malformed
 /// is the one word of its lock and low byte; and another lock leaves the low byte as it is.
 #[tactic(auto, using(crate::proofs::Words::read_back, crate::proofs::Words::one_spelling, crate::proofs::Words::low_kept))]
 pub fn layout_is_one_to_one()
-    ensures read_back { (l : Lock) (low : ℕ) → Fits l → low < 256 → (lock_of (word_of l low) ≡ l) × (low_of (word_of l low) ≡ low) × (IsMalformed (word_of l low) → ⊥) }
-    ensures one_spelling { (w : ℕ) → w < 2 ^ 32 → (IsMalformed w → ⊥) → Fits (lock_of w) × (word_of (lock_of w) (low_of w) ≡ w) }
+    ensures read_back {
+        (l : Lock) (low : ℕ) → Fits l → low < 256
+        → (lock_of (word_of l low) ≡ l) × (low_of (word_of l low) ≡ low)
+        × (IsMalformed (word_of l low) → ⊥)
+    }
+    ensures one_spelling {
+        (w : ℕ) → w < 2 ^ 32 → (IsMalformed w → ⊥)
+        → Fits (lock_of w) × (word_of (lock_of w) (low_of w) ≡ w)
+    }
     ensures low_kept { (w : ℕ) (l : Lock) → Fits l → low_of (with_lock w l) ≡ low_of w }
 {}

@@ -1,4 +1,4 @@
-use super::{Lock, Memory, Word, decode, encode};
+use super::{Lock, Memory, Word, decode, encode, lock_of, with_lock};
 use std::test::Fail;
 
 #[test]
@@ -44,6 +44,9 @@ fn words_and_their_locks(rt: HostRuntime) {
         Word(0xFFFF_FF00)
     );
     assert_eq!(rt; encode(Lock::Free, 0xA5), Word(0x0000_00A5));
+    let word = with_lock(Word(0x0001_01A5), Lock::Fat { monitor: 9 });
+    assert_eq!(rt; word, Word(0x8000_09A5));
+    assert_eq!(rt; lock_of(Word(0x8000_09A5)), Lock::Fat { monitor: 9 });
 }
 
 #[test]

@@ -11,6 +11,7 @@ use Rattle.thread_index.specs.Indices.{seat_of}
 use Rattle.wait_lines.specs.declared.Role.TheVariants.{Entry}
 use Rattle.fat_monitor.specs.declared.monitors.Monitor as fat
 use Rattle.fat_monitor.specs.declared.actions.Reply.{Reply}
+use Rattle.fat_monitor.specs.declared.actions.Action.{Action}
 use Rattle.fat_monitor.specs.declared.actions.Answer.TheVariants as answer
 use Rattle.fat_monitor.specs.declared.actions.Why.{Why}
 use Rattle.fat_monitor.specs.declared.actions.Why.TheVariants as why
@@ -20,18 +21,18 @@ use Rattle.fat_monitor.specs.FatState.{FatState, monitor_at, unbound, is_owned_b
 use Rattle.fat_monitor.specs.Acting.{Outcome, acted, replied as fat_replied, holds_granted, reply_granted}
 use Rattle.fat_monitor.proofs.Effects.{first_entering}
 use Rattle.fat_monitor.proofs.Flags.{settled_flag, flag-with_flag_same, flag-with_flag_other}
-use Rattle.fast_path.specs.declared.Call.{Call}
-use Rattle.fast_path.specs.declared.Call.TheVariants as call
-use Rattle.step_core.specs.declared.moves.Doing.{Doing}
-use Rattle.step_core.specs.declared.moves.Doing.TheVariants as doing
+use Rattle.fast_path.specs.declared.calls.Call.{Call}
+use Rattle.fast_path.specs.declared.calls.Call.TheVariants as call
+use Rattle.step_core.specs.declared.machine.Doing.{Doing}
+use Rattle.step_core.specs.declared.machine.Doing.TheVariants as doing
 use Rattle.step_core.specs.declared.places.Place.{Place}
 use Rattle.step_core.specs.declared.places.Place.TheVariants.{Idle}
-use Rattle.step_core.specs.declared.moves.Move.TheVariants as move
-use Rattle.step_core.specs.declared.events.Atomic.TheVariants as atomic
-use Rattle.step_core.specs.declared.events.Did.{Did}
+use Rattle.step_core.specs.declared.machine.Move.TheVariants as move
+use Rattle.step_core.specs.declared.steps.Atomic.TheVariants as atomic
+use Rattle.step_core.specs.declared.steps.Did.{Did}
 use Rattle.step_core.specs.Machine.{State, Run, Steps, free, held, with_monitor, Is, now_is, OwnedBy}
 use Rattle.step_core.specs.WorldState.{WorldState, IsSound, Stands, place_at, lock_at}
-use Rattle.step_core.specs.Going.{gone, turns, replied, move_for, after_act, after_told, action_of, granting}
+use Rattle.step_core.specs.Going.{gone, turns, replied, move_for, after_act, after_told, granting}
 use Rattle.step_core.specs.Stepping.{given}
 use Rattle.step_core.specs.Shown.{shown, monitor_of, doing_of, act_of, thread_of}
 use Rattle.step_core.proofs.Machines.{grant_lock, grant_relock}
@@ -96,15 +97,15 @@ module _ (w : WorldState) (sound : IsSound w) (o : ObjectId) (m : ℕ) (shows : 
       by_object (inr ne) = rw (ne_eqb q.0 o.0 ne) (at_lock ne (lock_at w q.0) (stands_at w sound q.0))
 
 -- the action of a call, by what it tells
-module _ (w : WorldState) (k : ℕ) (t : ThreadId) (c : Call) (m : ℕ) where
+module _ (w : WorldState) (k : ℕ) (t : ThreadId) (c : Call) (a : Action) where
   abbrev pub Goal : Type 0
-  Goal = Run (shown w) (given (after_act w t c m).did.moves) (shown (gone w k (after_act w t c m)))
+  Goal = Run (shown w) (given (after_act w t c a).did.moves) (shown (gone w k (after_act w t c a)))
 
-  pub by_outcome : (x : Outcome) → acted w.fats t (action_of c m) ≡ x
-      → Run (shown w) (given (after_told w t c (action_of c m) x.answer x.after).did.moves) (shown (gone w k (after_told w t c (action_of c m) x.answer x.after)))
+  pub by_outcome : (x : Outcome) → acted w.fats t a ≡ x
+      → Run (shown w) (given (after_told w t c a x.answer x.after).did.moves) (shown (gone w k (after_told w t c a x.answer x.after)))
       → Goal
   by_outcome x e run =
-      subst (λ (y : Outcome). Run (shown w) (given (after_told w t c (action_of c m) y.answer y.after).did.moves) (shown (gone w k (after_told w t c (action_of c m) y.answer y.after))))
+      subst (λ (y : Outcome). Run (shown w) (given (after_told w t c a y.answer y.after).did.moves) (shown (gone w k (after_told w t c a y.answer y.after))))
       (sym e) run
 
 module _ (w : WorldState) (sound : IsSound w) (k : ℕ) (t : ThreadId) (seat : seat_of w.seats t ≡ Some k) (out : post_of w.fats t ≡ Some Out) where
@@ -127,12 +128,12 @@ module _ (w : WorldState) (sound : IsSound w) (k : ℕ) (t : ThreadId) (seat : s
           (acts_alike w.fats g v sound.fats (flag-with_flag_other w.fats t v flag (λ e. ne (ap (λ (x : ThreadId). x.0) e))) refl (λ j h. refl)))
 
   -- a reply that leaves the fat state as it is
-  pub keeps_all : (c : Call) (m : ℕ) (r : Reply) → acted w.fats t (action_of c m) ≡ fat_replied w.fats r
-      → Run (shown w) (move_for c r None t ∷ move.Return t r ∷ []) (now_is (shown w) t (flag_at w.fats t) doing.Idle) → Goal w k t c m
-  keeps_all c m r e run =
-      by_outcome w k t c m (fat_replied w.fats r) e
+  pub keeps_all : (c : Call) (a : Action) (r : Reply) → acted w.fats t a ≡ fat_replied w.fats r
+      → Run (shown w) (move_for c r None t ∷ move.Return t r ∷ []) (now_is (shown w) t (flag_at w.fats t) doing.Idle) → Goal w k t c a
+  keeps_all c a r e run =
+      by_outcome w k t c a (fat_replied w.fats r) e
       (subst (λ (s : State). Run (shown w) (move_for c r None t ∷ move.Return t r ∷ []) s)
-      (sym (shown_stays w sound k t seat Idle (replied (atomic.Acted (action_of c m) (answer.Reply r)) (move_for c r None t) t r) out)) run)
+      (sym (shown_stays w sound k t seat Idle (replied (atomic.Acted a (answer.Reply r)) (move_for c r None t) t r) out)) run)
 
   module _ (c : Call) (o : ObjectId) (m : ℕ) (is : Is (shown w) t (flag_at w.fats t) (doing.Wants c)) (shows : lock_at w o.0 ≡ Fat m) where
     -- where the owner and the holds of this monitor change, and no post of another thread
@@ -153,12 +154,12 @@ module _ (w : WorldState) (sound : IsSound w) (k : ℕ) (t : ThreadId) (seat : s
             (acts_alike w.fats (with_owner w.fats m x n) v sound.fats refl refl (λ j h. object-with_owner w.fats m x n j (here w sound o m shows).0)))
 
     -- a reply that changes the owner and the holds
-    pub owner_changes : (r : Reply) (x : Option ThreadId) (n : ℕ) → acted w.fats t (action_of c m) ≡ fat_replied (with_owner w.fats m x n) r
-        → Run (shown w) (move_for c r None t ∷ move.Return t r ∷ []) (with_monitor (now_is (shown w) t (flag_at w.fats t) doing.Idle) o (record { owner = x; count = n })) → Goal w k t c m
-    owner_changes r x n e run =
-        by_outcome w k t c m (fat_replied (with_owner w.fats m x n) r) e
+    pub owner_changes : (a : Action) (r : Reply) (x : Option ThreadId) (n : ℕ) → acted w.fats t a ≡ fat_replied (with_owner w.fats m x n) r
+        → Run (shown w) (move_for c r None t ∷ move.Return t r ∷ []) (with_monitor (now_is (shown w) t (flag_at w.fats t) doing.Idle) o (record { owner = x; count = n })) → Goal w k t c a
+    owner_changes a r x n e run =
+        by_outcome w k t c a (fat_replied (with_owner w.fats m x n) r) e
         (subst (λ (s : State). Run (shown w) (move_for c r None t ∷ move.Return t r ∷ []) s)
-        (sym (shown_owned Idle (replied (atomic.Acted (action_of c m) (answer.Reply r)) (move_for c r None t) t r) x n)) run)
+        (sym (shown_owned Idle (replied (atomic.Acted a (answer.Reply r)) (move_for c r None t) t r) x n)) run)
 
     pub owned_by_me : (monitor_at w.fats m).owner ≡ Some t → OwnedBy (shown w) o t
     owned_by_me e = rw shows e

@@ -2,7 +2,7 @@
 use Rattle.step_core.proofs.Endings.{Right}
 use Rattle.std.specs.Prelude.{◌≡◌, ◌⊎◌, ℕ, ◌-◌, ◌<◌, Bool, true, false, if◌then◌else◌, ◌==◌, length, set, get_or, Option, Some, None, IsSome, is_some, count_by, ◌+◌, ◌≤◌}
 use Rattle.std.specs.Option.{unwrap_or}
-use Rattle.std.proofs.Common.{arith, refl, sym, ◌∙◌, inl, inr, get_or-set_same, get_or-set_other, length-set, ap}
+use Rattle.std.proofs.Common.{arith, refl, sym, ◌∙◌, inl, inr, get_or-set_same, get_or-set_other, length-set, ap, subst}
 use Rattle.std.proofs.Math.Path.{fun_ext}
 use Rattle.std.proofs.lemmas.Bool.{cases_eq, eq-eqb, ne_eqb}
 use Rattle.std.proofs.lemmas.Option.{same_Some}
@@ -18,17 +18,20 @@ use Rattle.fat_monitor.specs.FatState.{IsAttached, monitor_at, post_of, flag_at,
 use Rattle.fat_monitor.proofs.PostMaps.{get-insert_by}
 use Rattle.fat_monitor.proofs.Soundness.{IsSound-with_thread}
 use Rattle.fat_monitor.proofs.Effects.{count-with_thread}
-use Rattle.step_core.specs.declared.moves.Doing.TheVariants as doing
+use Rattle.step_core.specs.declared.machine.Doing.TheVariants as doing
 use Rattle.step_core.specs.declared.places.Place.{Place}
-use Rattle.step_core.specs.declared.places.Place.TheVariants.{Idle, Begun, Taking, Storing, Binding, Acting, Won, Bound, Inflated, Direct, Parked, Ending}
-use Rattle.step_core.specs.declared.moves.Move.TheVariants as move
-use Rattle.step_core.specs.declared.events.Atomic.TheVariants.{Label}
+use Rattle.step_core.specs.declared.places.Place.TheVariants.{Idle, InCall}
+use Rattle.step_core.specs.declared.places.Stage.TheVariants.{Bound}
+use Rattle.step_core.specs.declared.machine.Move.TheVariants as move
+use Rattle.step_core.specs.declared.steps.Atomic.TheVariants.{Label}
 use Rattle.step_core.specs.Machine.{Thread, now_is}
-use Rattle.step_core.specs.WorldState.{WorldState, IsSound, Stands, Fitting, Agrees, place_at, lock_at, bound_by, IsPublished}
+use Rattle.fast_path.specs.declared.calls.MonitorCall.{MonitorCall}
+use Rattle.step_core.specs.WorldState.{FittingStage, WorldState, IsSound, Stands, Fitting, Agrees, place_at, lock_at, bound_by, IsPublished}
 use Rattle.step_core.specs.Going.{moved}
 use Rattle.step_core.specs.Stepping.{accepted, with_live, attached}
 use Rattle.step_core.specs.Shown.{shown, thread_of, monitor_of}
 use Rattle.step_core.proofs.Shows.{ActsAlike, acts_alike}
+use Rattle.step_core.proofs.PlaceFacts.{who_bound, fitting_kept, bound_kept}
 use Rattle.step_core.proofs.Frames.{stands_at}
 use Rattle.step_core.proofs.KeepsPosts.{count_taken, count_below}
 
@@ -94,18 +97,12 @@ module _ (w : WorldState) (sound : IsSound w) (t : ThreadId) where
     old_stands q (Fat m) st = st
 
     old_fits : (j : ℕ) → (j ≡ k → ⊥) → (p : Place) → Fitting w j p → Fitting now j p
-    old_fits j ne Idle fit = fit
-    old_fits j ne (Begun c b) fit = fit
-    old_fits j ne (Taking c b) fit = fit
-    old_fits j ne (Storing c l) fit = fit
-    old_fits j ne (Binding c n) fit = fit
-    old_fits j ne (Acting c m) fit = fit
-    old_fits j ne (Won o) fit = fit
-    old_fits j ne (Bound c won m) fit = (fit.0, fit.1, (fit.2.0, fit.2.1, rw (holder_kept j ne) fit.2.2))
-    old_fits j ne (Inflated c m) fit = fit
-    old_fits j ne (Direct c) fit = fit
-    old_fits j ne Parked fit = fit
-    old_fits j ne (Ending n) fit = fit
+    old_fits j ne = fitting_kept w now j refl (λ q n e. e) (λ q m e. e) still (λ q e. e)
+      where
+        still : (c : MonitorCall) (won : Bool) (m : ℕ) → FittingStage w j (Bound c won m)
+            → (m < length w.fats.monitors)
+            × (monitor_at w.fats m ≡ record { object = c.object; owner = holder_at now.seats j; holds = (monitor_at w.fats m).holds })
+        still c won m fit = let kept = bound_kept w j c won m fit in (kept.0, rw (holder_kept j ne) kept.1)
 
     attached_now : (u : ThreadId) → (u.0 ≡ t.0) ⊎ (u.0 ≡ t.0 → ⊥) → IsSome (seat_of now.seats u) → IsAttached now.fats u
     attached_now u (inl same) h = rw (post_own u same) refl
@@ -153,31 +150,21 @@ module _ (w : WorldState) (sound : IsSound w) (t : ThreadId) where
         omega arith
 
     -- a free seat has bound nothing: a monitor that it had bound would have no owner
-    none_bound : (p : Place) → Fitting w k p → bound_by p ≡ None
-    none_bound Idle f = refl
-    none_bound (Begun c b) f = refl
-    none_bound (Taking o b) f = refl
-    none_bound (Storing c l) f = refl
-    none_bound (Binding c n) f = refl
-    none_bound (Acting c m) f = refl
-    none_bound (Won o) f = refl
-    none_bound (Bound c won m) f =
-        let owner : (monitor_at w.fats m).owner ≡ None = ap (λ (b : fat.Monitor). b.owner) f.2.2 ∙ (free_found w.seats k free).1 in
-        let holds : (monitor_at w.fats m).holds ≡ f.2.0 + 1 = ap (λ (b : fat.Monitor). b.holds) f.2.2 in
-        let nothing : (monitor_at w.fats m).holds ≡ 0 = (sound.fats.fair m f.1).1.0 owner in
-        absurd (omega arith)
-    none_bound (Inflated c m) f = refl
-    none_bound (Direct c) f = refl
-    none_bound Parked f = refl
-    none_bound (Ending n) f = refl
+    none_bound : (m : ℕ) → bound_by (place_at w k) ≡ Some m → ⊥
+    none_bound m bound =
+        let b = who_bound (place_at w k) m bound in
+        let fit : Fitting w k (InCall (Bound b.0 b.1 m)) = subst (λ (x : Place). Fitting w k x) b.2 (sound.places k has_place) in
+        let owner : (monitor_at w.fats m).owner ≡ None = ap (λ (x : fat.Monitor). x.owner) fit.2.2 ∙ (free_found w.seats k free).1 in
+        let holds : (monitor_at w.fats m).holds ≡ fit.2.0 + 1 = ap (λ (x : fat.Monitor). x.holds) fit.2.2 in
+        let nothing : (monitor_at w.fats m).holds ≡ 0 = (sound.fats.fair m fit.1).1.0 owner in
+        omega arith
 
     published_now : (m : ℕ) → IsPublished w m → IsPublished now m
     published_now m (inl shows) = inl shows
     published_now m (inr (j, there, bound)) = by_seat (cases_eq j k)
       where
         by_seat : (j ≡ k) ⊎ (j ≡ k → ⊥) → IsPublished now m
-        by_seat (inl e) =
-            let never : None ≡ Some m = sym (none_bound (place_at w k) (sound.places k has_place)) ∙ rw e at bound in absurd (cc)
+        by_seat (inl e) = absurd (none_bound m (rw e at bound))
         by_seat (inr ne) = inr (j, rw (length-set w.places k Idle) there, rw (get_or-set_other w.places k j Idle Idle ne) bound)
 
     now_sound : IsSound now

@@ -1,6 +1,6 @@
 -- A thread that owns nothing ends: it is live no longer, and its seat is free.
 use Rattle.fat_monitor.specs.declared.actions.Post.{Post}
-use Rattle.std.specs.Prelude.{◌≡◌, ◌⊎◌, ℕ, ◌+◌, ◌-◌, ◌<◌, ◌≤◌, Bool, true, false, if◌then◌else◌, ◌==◌, List, [], ◌∷◌, length, set, get_or, Option, Some, None, IsSome, is_some, count_by, ◌||◌}
+use Rattle.std.specs.Prelude.{◌≡◌, ◌⊎◌, ℕ, ◌+◌, ◌-◌, ◌<◌, ◌≤◌, Bool, true, false, if◌then◌else◌, ◌==◌, List, [], ◌∷◌, length, set, slice_set, get_or, Option, Some, None, IsSome, is_some, count_by, ◌||◌}
 use Rattle.std.specs.Option.{unwrap_or}
 use Rattle.std.specs.List.{list_any}
 use Rattle.std.proofs.Common.{zero, suc, arith, refl, ap, sym, ◌∙◌, subst, inl, inr, get_or-set_same, get_or-set_other, length-set}
@@ -20,26 +20,30 @@ use Rattle.fat_monitor.specs.declared.actions.Cause.TheVariants as cause
 use Rattle.fat_monitor.specs.declared.actions.Action.TheVariants as action
 use Rattle.fat_monitor.specs.declared.actions.Answer.TheVariants as answer
 use Rattle.fat_monitor.specs.declared.actions.Post.TheVariants.{Out}
-use Rattle.fat_monitor.specs.FatState.{IsAttached, owns_one, monitor_at, unbound, is_owned_by, post_of, flag_at, thread_count}
+use Rattle.fat_monitor.specs.FatState.{without_thread, IsAttached, owns_one, monitor_at, unbound, is_owned_by, post_of, flag_at, thread_count}
 use Rattle.fat_monitor.proofs.PostMaps.{get-remove_by}
 use Rattle.fat_monitor.proofs.Soundness.{IsSound-without_thread}
 use Rattle.fat_monitor.proofs.Effects.{count-without_thread}
-use Rattle.fast_path.specs.declared.Call.TheVariants as call
-use Rattle.step_core.specs.declared.events.Did.{Did}
+use Rattle.fast_path.specs.declared.calls.Call.TheVariants as call
+use Rattle.step_core.specs.declared.steps.Did.{Did}
 use Rattle.step_core.specs.declared.places.Place.{Place}
-use Rattle.step_core.specs.declared.places.Place.TheVariants.{Idle, Begun, Taking, Storing, Binding, Acting, Won, Bound, Inflated, Direct, Parked, Ending}
-use Rattle.step_core.specs.declared.moves.Move.TheVariants as move
-use Rattle.step_core.specs.declared.events.Atomic.TheVariants as atomic
+use Rattle.step_core.specs.declared.places.Place.TheVariants.{Idle, InCall, Ending}
+use Rattle.step_core.specs.declared.places.Stage.TheVariants.{Bound}
+use Rattle.step_core.specs.declared.machine.Move.TheVariants as move
+use Rattle.step_core.specs.declared.steps.Atomic.TheVariants as atomic
 use Rattle.step_core.specs.Machine.{State, Thread, Run, with_thread, OwnedBy}
-use Rattle.step_core.specs.WorldState.{WorldState, IsSound, Stands, Fitting, Agrees, is_own, place_at, lock_at, bound_by, IsPublished}
+use Rattle.fast_path.specs.declared.calls.MonitorCall.{MonitorCall}
+use Rattle.step_core.specs.WorldState.{FittingStage, WorldState, IsSound, Stands, Fitting, Agrees, is_own, place_at, lock_at, bound_by, IsPublished}
 use Rattle.step_core.specs.Going.{replied}
-use Rattle.step_core.specs.Stepping.{Outcome, without_live, ended, moves_of}
+use Rattle.step_core.specs.Stepping.{Outcome, moves_of}
 use Rattle.step_core.specs.Shown.{shown, thread_of, monitor_of}
 use Rattle.step_core.proofs.Machines.{run_ended, run_refused}
 use Rattle.step_core.proofs.Shows.{ActsAlike, acts_alike}
 use Rattle.step_core.proofs.Frames.{stands_at, within, is_at, out_at, other, shown_stays}
 use Rattle.step_core.proofs.KeepsPosts.{count_given}
 use Rattle.step_core.proofs.KeepsParts.{sound_stays}
+use Rattle.step_core.proofs.PlaceFacts.{who_bound, fitting_kept, bound_kept}
+use Rattle.step_core.proofs.Cases.{ended_as}
 
 -- what a step is to show: a sound world, and a run to what it shows
 abbrev pub Right : WorldState → Outcome → Type 0
@@ -99,29 +103,15 @@ module _ (w : WorldState) (sound : IsSound w) (k : ℕ) (t : ThreadId) (seat : s
   -- a fat monitor that the thread owns is shown by its object: nobody else has bound it and not stored it
   shows_owner : (m : ℕ) → (monitor_at w.fats m).owner ≡ Some t → IsPublished w m → (o : ObjectId) × OwnedBy (shown w) o t
   shows_owner m owner (inl shows) = ((monitor_at w.fats m).object, rw shows owner)
-  shows_owner m owner (inr (j, there, bound)) = absurd (elsewhere (place_at w j) refl bound (sound.places j there))
-    where
-      elsewhere : (p : Place) → place_at w j ≡ p → bound_by p ≡ Some m → Fitting w j p → ⊥
-      elsewhere Idle e b f = cc
-      elsewhere (Begun c x) e b f = cc
-      elsewhere (Taking o x) e b f = cc
-      elsewhere (Storing c l) e b f = cc
-      elsewhere (Binding c x) e b f = cc
-      elsewhere (Acting c x) e b f = cc
-      elsewhere (Won o) e b f = cc
-      elsewhere (Bound c won x) e b f =
-          let same : x ≡ m = same_Some x m b in
-          let own : holder_at w.seats j ≡ Some t = sym (ap (λ (y : fat.Monitor). y.owner) f.2.2) ∙ rw same owner in
-          let here : j ≡ k = same_Some j k (sym (sound.one_to_one j t own) ∙ seat) in
-          let both : Bound c won x ≡ Ending n = sym e ∙ rw here at in
-          cc
-      elsewhere (Inflated c x) e b f = cc
-      elsewhere (Direct c) e b f = cc
-      elsewhere Parked e b f = cc
-      elsewhere (Ending x) e b f = cc
+  shows_owner m owner (inr (j, there, bound)) =
+      let b = who_bound (place_at w j) m bound in
+      let fits : Fitting w j (InCall (Bound b.0 b.1 m)) = subst (λ (x : Place). Fitting w j x) b.2 (sound.places j there) in
+      let own : holder_at w.seats j ≡ Some t = sym (ap (λ (y : fat.Monitor). y.owner) fits.2.2) ∙ owner in
+      let here : j ≡ k = same_Some j k (sym (sound.one_to_one j t own) ∙ seat) in
+      let both : InCall (Bound b.0 b.1 m) ≡ Ending n = sym b.2 ∙ rw here at in absurd (cc)
 
   -- where the thread owns a fat monitor, it may not end
-  refused_right : owns_one w.fats.monitors t ≡ true → Right w (ended w k t true)
+  refused_right : owns_one w.fats.monitors t ≡ true → Right w (ended_as w k t true)
   refused_right owns =
       let there = owned_one w.fats.monitors t owns in
       let owner = shows_owner there.0 (owner_is (monitor_at w.fats there.0).owner t there.2) (sound.published there.0 there.1) in
@@ -134,7 +124,7 @@ module _ (w : WorldState) (sound : IsSound w) (k : ℕ) (t : ThreadId) (seat : s
   -- where it owns none, it owns no object
   module _ (owns : owns_one w.fats.monitors t ≡ false) where
     abbrev now : WorldState
-    now = without_live w k t
+    now = record w { seats = slice_set w.seats k None; places = slice_set w.places k Idle; fats = without_thread w.fats t }
 
     owns_none : (o : ObjectId) → OwnedBy (shown w) o t → ⊥
     owns_none o = by_lock (lock_at w o.0) refl
@@ -195,18 +185,12 @@ module _ (w : WorldState) (sound : IsSound w) (k : ℕ) (t : ThreadId) (seat : s
     old_stands q (Fat m) e st = st
 
     old_fits : (j : ℕ) → (j ≡ k → ⊥) → (p : Place) → Fitting w j p → Fitting now j p
-    old_fits j ne Idle f = f
-    old_fits j ne (Begun c b) f = f
-    old_fits j ne (Taking c b) f = f
-    old_fits j ne (Storing c l) f = f
-    old_fits j ne (Binding c x) f = f
-    old_fits j ne (Acting c m) f = f
-    old_fits j ne (Won o) f = f
-    old_fits j ne (Bound c won m) f = (f.0, f.1, (f.2.0, f.2.1, rw (holder_kept j ne) f.2.2))
-    old_fits j ne (Inflated c m) f = f
-    old_fits j ne (Direct c) f = f
-    old_fits j ne Parked f = f
-    old_fits j ne (Ending x) f = f
+    old_fits j ne = fitting_kept w now j refl (λ q m e. e) (λ q m e. e) still (λ q e. e)
+      where
+        still : (c : MonitorCall) (won : Bool) (m : ℕ) → FittingStage w j (Bound c won m)
+            → (m < length w.fats.monitors)
+            × (monitor_at w.fats m ≡ record { object = c.object; owner = holder_at now.seats j; holds = (monitor_at w.fats m).holds })
+        still c won m fit = let kept = bound_kept w j c won m fit in (kept.0, rw (holder_kept j ne) kept.1)
 
     attached_now : (u : ThreadId) → (u.0 ≡ t.0) ⊎ (u.0 ≡ t.0 → ⊥) → IsSome (seat_of now.seats u) → IsAttached now.fats u
     attached_now u (inl same) h = let never : is_some {T = ℕ} None ≡ true = rw (seat_now_same u same) at h in absurd (cc)
@@ -267,7 +251,7 @@ module _ (w : WorldState) (sound : IsSound w) (k : ℕ) (t : ThreadId) (seat : s
         let monitors : (shown now).monitor ≡ (shown w).monitor = fun_ext (λ q. old_monitor q.0 (lock_at w q.0) refl (stands_at w sound q.0)) in
         λ i. record { thread = threads i; objects = length w.words; monitor = monitors i; moment = w.fats.moment }
 
-    gone_right : Right w (ended w k t false)
+    gone_right : Right w (ended_as w k t false)
     gone_right = (
       now_sound,
       subst (λ (s : State). Run (shown w) (move.End t ∷ move.Return t reply.Ended ∷ []) s) (sym now_shows)
@@ -276,9 +260,9 @@ module _ (w : WorldState) (sound : IsSound w) (k : ℕ) (t : ThreadId) (seat : s
 
 -- the action of a thread that ends
 pub ended_right : (w : WorldState) (sound : IsSound w) (k : ℕ) (t : ThreadId) (seat : seat_of w.seats t ≡ Some k) (n : ℕ) → place_at w k ≡ Ending n → length w.words ≤ n
-    → Right w (ended w k t (owns_one w.fats.monitors t))
+    → Right w (ended_as w k t (owns_one w.fats.monitors t))
 ended_right w sound k t seat n at all = by_owner (owns_one w.fats.monitors t) refl
   where
-    by_owner : (b : Bool) → owns_one w.fats.monitors t ≡ b → Right w (ended w k t b)
+    by_owner : (b : Bool) → owns_one w.fats.monitors t ≡ b → Right w (ended_as w k t b)
     by_owner true e = refused_right w sound k t seat n at all e
     by_owner false e = gone_right w sound k t seat n at all e

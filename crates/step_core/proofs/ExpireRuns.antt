@@ -20,13 +20,13 @@ use Rattle.fat_monitor.specs.declared.actions.Post.TheVariants.{Out, Entering, W
 use Rattle.fat_monitor.specs.FatState.{FatState, monitor_at, unbound, post_of, post_at, flag_at, with_owner, with_moment}
 use Rattle.fat_monitor.specs.Acting.{Outcome, acted, told, granted, sent_back}
 use Rattle.fat_monitor.proofs.Effects.{post-with_post_same, post-with_post_other}
-use Rattle.step_core.specs.declared.moves.Doing.{Doing}
-use Rattle.step_core.specs.declared.moves.Doing.TheVariants as doing
+use Rattle.step_core.specs.declared.machine.Doing.{Doing}
+use Rattle.step_core.specs.declared.machine.Doing.TheVariants as doing
 use Rattle.step_core.specs.declared.places.Place.{Place}
 use Rattle.step_core.specs.declared.places.Place.TheVariants.{Idle}
-use Rattle.step_core.specs.declared.moves.Move.TheVariants as move
-use Rattle.step_core.specs.declared.events.Atomic.TheVariants as atomic
-use Rattle.step_core.specs.declared.events.Did.{Did}
+use Rattle.step_core.specs.declared.machine.Move.TheVariants as move
+use Rattle.step_core.specs.declared.steps.Atomic.TheVariants as atomic
+use Rattle.step_core.specs.declared.steps.Did.{Did}
 use Rattle.step_core.specs.Machine.{State, Run, held, with_monitor, Is, now_is, Unowned}
 use Rattle.step_core.specs.WorldState.{WorldState, IsSound, place_at, lock_at}
 use Rattle.step_core.specs.Going.{gone, turns, silent}

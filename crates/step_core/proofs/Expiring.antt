@@ -18,9 +18,9 @@ use Rattle.fat_monitor.specs.Acting.{acted, Outcome as Told, expired as over, se
 use Rattle.fat_monitor.proofs.Soundness.{IsSound-acted}
 use Rattle.fat_monitor.proofs.SoundSteps.{IsSound-moment}
 use Rattle.fat_monitor.proofs.Effects.{post-with_post_same, length-acted, object-acted, other-acted, count-acted, attached-acted, out-acted}
-use Rattle.step_core.specs.declared.moves.Move.TheVariants as move
-use Rattle.step_core.specs.declared.events.Atomic.TheVariants.{Label}
-use Rattle.step_core.specs.declared.events.Fault.TheVariants as fault
+use Rattle.step_core.specs.declared.machine.Move.TheVariants as move
+use Rattle.step_core.specs.declared.steps.Atomic.TheVariants.{Label}
+use Rattle.step_core.specs.declared.steps.Fault.TheVariants as fault
 use Rattle.step_core.specs.WorldState.{WorldState, IsSound}
 use Rattle.step_core.specs.Going.{moved}
 use Rattle.step_core.specs.Stepping.{Outcome as Stepped, refused, accepted, expired, expired_as, ticked}

@@ -1,5 +1,5 @@
 -- Each action about interrupts is a run of the machine on the shown states.
-use Rattle.std.specs.Prelude.{◌≡◌, ◌≢◌, ◌⊎◌, ℕ, ◌+◌, ◌-◌, ◌<◌, Bool, true, false, length, [], ◌∷◌, Option, Some, None, IsSome}
+use Rattle.std.specs.Prelude.{◌≡◌, ◌≢◌, ◌⊎◌, ℕ, ◌+◌, ◌-◌, ◌<◌, Bool, true, false, length, [], ◌∷◌, Option, Some, None, IsSome, is_some}
 use Rattle.std.proofs.Common.{arith, refl, ap, sym, ◌∙◌, subst, inl, inr}
 use Rattle.std.proofs.lemmas.Bool.{cases_eq, eq-eqb, ne_eqb}
 use Rattle.std.proofs.lemmas.Option.{same_Some}
@@ -20,81 +20,55 @@ use Rattle.fat_monitor.specs.FatState.{FatState, monitor_at, IsAttached, post_of
 use Rattle.fat_monitor.specs.Acting.{acted, told, granted, sent_back, replied as fat_replied}
 use Rattle.fat_monitor.proofs.Effects.{post-with_post_same, post-with_post_other}
 use Rattle.fat_monitor.proofs.Flags.{flag-with_flag_same, flag-with_flag_other}
-use Rattle.fast_path.specs.declared.Call.{Call}
-use Rattle.fast_path.specs.declared.Call.TheVariants as call
-use Rattle.fast_path.specs.Table.{target}
-use Rattle.step_core.specs.declared.moves.Doing.TheVariants as doing
+use Rattle.fast_path.specs.declared.calls.InterruptCall.{InterruptCall}
+use Rattle.fast_path.specs.declared.calls.InterruptCall.TheVariants as about
+use Rattle.fast_path.specs.Calls.{call_about}
+use Rattle.fast_path.specs.declared.calls.Call.TheVariants as call
+use Rattle.step_core.specs.declared.machine.Doing.TheVariants as doing
 use Rattle.step_core.specs.declared.places.Place.{Place}
-use Rattle.step_core.specs.declared.places.Place.TheVariants.{Idle, Begun, Taking, Storing, Binding, Acting, Won, Bound, Inflated, Direct, Parked, Ending}
-use Rattle.step_core.specs.declared.moves.Move.TheVariants as move
-use Rattle.step_core.specs.declared.events.Atomic.TheVariants as atomic
-use Rattle.step_core.specs.declared.events.Did.{Did}
+use Rattle.step_core.specs.declared.places.Place.TheVariants.{Idle, InCall}
+use Rattle.step_core.specs.declared.places.Stage.TheVariants.{Bound, Direct}
+use Rattle.step_core.specs.declared.machine.Move.TheVariants as move
+use Rattle.step_core.specs.declared.steps.Atomic.TheVariants as atomic
+use Rattle.step_core.specs.declared.steps.Did.{Did}
 use Rattle.step_core.specs.Machine.{State, Thread, Run, held, with_thread, with_monitor, Is, now_is, Unowned, stirred, interrupted}
-use Rattle.step_core.specs.WorldState.{WorldState, IsSound, Stands, Fitting, place_at, lock_at, bound_by, IsPublished, is_direct}
-use Rattle.step_core.specs.Going.{gone, turns, replied, granted_and_replied}
+use Rattle.step_core.specs.WorldState.{WorldState, IsSound, Stands, Fitting, place_at, lock_at, bound_by, IsPublished}
+use Rattle.step_core.specs.Going.{gone, turns, replied, granted_and_replied, action_about}
 use Rattle.step_core.specs.Shown.{shown, doing_of, act_of, thread_of}
 use Rattle.step_core.proofs.Machines.{with_thread-with_thread, run_refused, run_interrupted, run_tested, run_asked}
 use Rattle.step_core.proofs.Regaining.{run_stirred}
+use Rattle.step_core.proofs.PlaceFacts.{stirred_out, who_bound}
 use Rattle.step_core.proofs.Shows.{does, thread_in, ActsAlike, acts_alike}
 use Rattle.step_core.proofs.Shifts.{one_thread, same_post, post_is, own_thread, kept_thread, by_seat, shown_turned}
 use Rattle.step_core.proofs.Frames.{stands_at, is_at, act_out}
 use Rattle.step_core.proofs.Grants.{monitors-granted, post-granted_same, post-granted_other, flag-granted_same, flag-granted_other, moment-granted}
 use Rattle.step_core.proofs.ActShows.{act_same, monitors_kept, Goal, by_outcome, shown_flagged, keeps_all, shown_handed_over}
 
--- an interrupt changes nothing that a thread does which is out of every fat action
-stirred_out : (p : Place) → stirred (doing_of p) ≡ doing_of p
-stirred_out Idle = refl
-stirred_out (Begun c b) = refl
-stirred_out (Taking o b) = refl
-stirred_out (Storing c l) = refl
-stirred_out (Binding c n) = refl
-stirred_out (Acting c m) = refl
-stirred_out (Won o) = refl
-stirred_out (Bound c true m) = refl
-stirred_out (Bound c false m) = refl
-stirred_out (Inflated c m) = refl
-stirred_out (Direct c) = refl
-stirred_out Parked = refl
-stirred_out (Ending n) = refl
-
 -- A monitor that nobody owns is shown by its object: whoever is to store one owns it.
-pub unowned_shows : (w : WorldState) → IsSound w → (m : ℕ) → m < length w.fats.monitors → (monitor_at w.fats m).owner ≡ None → lock_at w (monitor_at w.fats m).object.0 ≡ Fat m
-unowned_shows w sound m bound free = by_published (sound.published m bound)
+pub unowned_shows : (w : WorldState) → IsSound w → (m : ℕ) → m < length w.fats.monitors → (monitor_at w.fats m).owner ≡ None
+    → lock_at w (monitor_at w.fats m).object.0 ≡ Fat m
+unowned_shows w sound m inside free = by_published (sound.published m inside)
   where
-    by_place : (j : ℕ) (p : Place) → bound_by p ≡ Some m → Fitting w j p → ⊥
-    by_place j Idle b fit = absurd (cc)
-    by_place j (Begun c x) b fit = absurd (cc)
-    by_place j (Taking q x) b fit = absurd (cc)
-    by_place j (Storing c l) b fit = absurd (cc)
-    by_place j (Binding c x) b fit = absurd (cc)
-    by_place j (Acting c x) b fit = absurd (cc)
-    by_place j (Won q) b fit = absurd (cc)
-    by_place j (Bound c won i) b fit =
-        let number : i ≡ m = same_Some i m b in
-        let none : holder_at w.seats j ≡ None = sym (ap (λ (x : fat.Monitor). x.owner) fit.2.2) ∙ ap (λ (x : ℕ). (monitor_at w.fats x).owner) number ∙ free in
-        let thin : Stands w (target c).0 (Thin (j + 1) fit.2.0) = rw fit.2.1 at (stands_at w sound (target c).0) in
-        let seat : j + 1 - 1 ≡ j = omega arith in
-        let some : IsSome (holder_at w.seats j) = rw seat at thin.3 in
-        let never : IsSome {T = ThreadId} None = rw none at some in absurd (cc)
-    by_place j (Inflated c x) b fit = absurd (cc)
-    by_place j (Direct c) b fit = absurd (cc)
-    by_place j Parked b fit = absurd (cc)
-    by_place j (Ending x) b fit = absurd (cc)
-
     by_published : IsPublished w m → lock_at w (monitor_at w.fats m).object.0 ≡ Fat m
     by_published (inl shows) = shows
-    by_published (inr (j, there, b)) = absurd (by_place j (place_at w j) b (sound.places j there))
+    by_published (inr (j, there, bound)) =
+        let b = who_bound (place_at w j) m bound in
+        let fit : Fitting w j (InCall (Bound b.0 b.1 m)) = subst (λ (x : Place). Fitting w j x) b.2 (sound.places j there) in
+        let none : holder_at w.seats j ≡ None = sym (ap (λ (x : fat.Monitor). x.owner) fit.2.2) ∙ free in
+        let stands : Stands w b.0.object.0 (Thin (j + 1) fit.2.0) = rw fit.2.1 at (stands_at w sound b.0.object.0) in
+        let here : j + 1 - 1 ≡ j = omega arith in
+        let never : is_some {T = ThreadId} None ≡ true = rw (here, none) at stands.3 in absurd (cc)
 
 module _ (w : WorldState) (sound : IsSound w) (k : ℕ) (t : ThreadId) (seat : seat_of w.seats t ≡ Some k) (out : post_of w.fats t ≡ Some Out) where
   -- t asks whether it is interrupted
-  test_run : (flag : Bool) → flag_at w.fats t ≡ flag → Is (shown w) t flag (doing.Wants call.Interrupted) → Goal w k t call.Interrupted 0
+  test_run : (flag : Bool) → flag_at w.fats t ≡ flag → Is (shown w) t flag (doing.Wants call.Interrupted) → Goal w k t call.Interrupted action.Interrupted
   test_run true e is =
-      by_outcome w k t call.Interrupted 0 (fat_replied (with_flag w.fats t false) reply.Yes) (rw e refl)
+      by_outcome w k t call.Interrupted action.Interrupted (fat_replied (with_flag w.fats t false) reply.Yes) (rw e refl)
       (subst (λ (s : State). Run (shown w) (move.TestClear t ∷ move.Return t reply.Yes ∷ []) s)
       (sym (shown_flagged w sound k t seat out false (replied (atomic.Acted action.Interrupted (answer.Reply reply.Yes)) (move.TestClear t) t reply.Yes)))
       (run_tested (shown w) t true is))
   test_run false e is =
-      by_outcome w k t call.Interrupted 0 (fat_replied (with_flag w.fats t false) reply.No) (rw e refl)
+      by_outcome w k t call.Interrupted action.Interrupted (fat_replied (with_flag w.fats t false) reply.No) (rw e refl)
       (subst (λ (s : State). Run (shown w) (move.TestClear t ∷ move.Return t reply.No ∷ []) s)
       (sym (shown_flagged w sound k t seat out false (replied (atomic.Acted action.Interrupted (answer.Reply reply.No)) (move.TestClear t) t reply.No)))
       (run_tested (shown w) t false is))
@@ -117,23 +91,23 @@ module _ (w : WorldState) (sound : IsSound w) (k : ℕ) (t : ThreadId) (seat : s
 
   -- t asks whether u is interrupted
   ask_run : (u : ThreadId) (p : Option Post) → post_of w.fats u ≡ p → (flag : Bool) → flag_at w.fats u ≡ flag
-      → Is (shown w) t (flag_at w.fats t) (doing.Wants (call.IsInterrupted u)) → Goal w k t (call.IsInterrupted u) 0
+      → Is (shown w) t (flag_at w.fats t) (doing.Wants (call.IsInterrupted u)) → Goal w k t (call.IsInterrupted u) (action.IsInterrupted u)
   ask_run u None e flag set is =
-      keeps_all w sound k t seat out (call.IsInterrupted u) 0 (reply.Refused cause.NoThread) (rw e refl)
-      (run_refused (shown w) t (flag_at w.fats t) (call.IsInterrupted u) cause.NoThread is (refl, not_live u e))
+      keeps_all w sound k t seat out (call.IsInterrupted u) (action.IsInterrupted u) (reply.Refused cause.NoThread) (rw e refl)
+      (run_refused (shown w) t (flag_at w.fats t) (call.IsInterrupted u) cause.NoThread is (not_live u e))
   ask_run u (Some p) e true set is =
       let j = live_at u p e in
-      keeps_all w sound k t seat out (call.IsInterrupted u) 0 reply.Yes (rw (e, set) refl)
+      keeps_all w sound k t seat out (call.IsInterrupted u) (action.IsInterrupted u) reply.Yes (rw (e, set) refl)
       (run_asked (shown w) t u (flag_at w.fats t) true (thread_in w.fats u (place_at w j.0)) is (rw j.1 refl) (sym set))
   ask_run u (Some p) e false set is =
       let j = live_at u p e in
-      keeps_all w sound k t seat out (call.IsInterrupted u) 0 reply.No (rw (e, set) refl)
+      keeps_all w sound k t seat out (call.IsInterrupted u) (action.IsInterrupted u) reply.No (rw (e, set) refl)
       (run_asked (shown w) t u (flag_at w.fats t) false (thread_in w.fats u (place_at w j.0)) is (rw j.1 refl) (sym set))
 
   -- t interrupts itself
-  own_run : Is (shown w) t (flag_at w.fats t) (doing.Wants (call.Interrupt t)) → Goal w k t (call.Interrupt t) 0
+  own_run : Is (shown w) t (flag_at w.fats t) (doing.Wants (call.Interrupt t)) → Goal w k t (call.Interrupt t) (action.Interrupt t)
   own_run is =
-      by_outcome w k t (call.Interrupt t) 0 (told (with_flag w.fats t true) (answer.Reply reply.Done) None None) (rw out refl)
+      by_outcome w k t (call.Interrupt t) (action.Interrupt t) (told (with_flag w.fats t true) (answer.Reply reply.Done) None None) (rw out refl)
       (subst (λ (s : State). Run (shown w) (move.Interrupt t ∷ move.Return t reply.Done ∷ []) s)
       (with_thread-with_thread (shown w) t (Some (interrupted x)) (Some (does true doing.Idle))
       ∙ sym (shown_flagged w sound k t seat out true (replied (atomic.Acted (action.Interrupt t) (answer.Reply reply.Done)) (move.Interrupt t) t reply.Done)))
@@ -170,9 +144,9 @@ module _ (w : WorldState) (sound : IsSound w) (k : ℕ) (t : ThreadId) (seat : s
         → g.monitors ≡ w.fats.monitors → g.moment ≡ w.fats.moment → post_of g t ≡ Some Out → flag_at g t ≡ flag_at w.fats t
         → ((q : Place) → thread_in g u q ≡ interrupted (thread_in w.fats u q))
         → ((v : ThreadId) → (v.0 ≡ t.0 → ⊥) → (v.0 ≡ u.0 → ⊥) → ActsAlike w.fats g v)
-        → Is (shown w) t (flag_at w.fats t) (doing.Wants (call.Interrupt u)) → Goal w k t (call.Interrupt u) 0
+        → Is (shown w) t (flag_at w.fats t) (doing.Wants (call.Interrupt u)) → Goal w k t (call.Interrupt u) (action.Interrupt u)
     stirred_run g e same moment mine flag stirs others is =
-        by_outcome w k t (call.Interrupt u) 0 (told g (answer.Reply reply.Done) None None) e
+        by_outcome w k t (call.Interrupt u) (action.Interrupt u) (told g (answer.Reply reply.Done) None None) e
         (subst (λ (s : State). Run (shown w) (move.Interrupt t ∷ move.Return t reply.Done ∷ []) s)
         (sym (shown_stirred g (replied (atomic.Acted (action.Interrupt u) (answer.Reply reply.Done)) (move.Interrupt t) t reply.Done) same moment mine flag stirs others))
         (rw (ne_eqb t.0 u.0 (λ x. apart (sym x))) at (run_interrupted (shown w) t u (flag_at w.fats t) them is (rw theirs refl))))
@@ -180,7 +154,7 @@ module _ (w : WorldState) (sound : IsSound w) (k : ℕ) (t : ThreadId) (seat : s
     -- u does not wait: its flag is set
     flagged_run : (p : Post) → post_of w.fats u ≡ Some p → acted w.fats t (action.Interrupt u) ≡ told (with_flag w.fats u true) (answer.Reply reply.Done) None None
         → ((q : Place) → act_of w.fats p q ≡ stirred (act_of w.fats p q))
-        → Is (shown w) t (flag_at w.fats t) (doing.Wants (call.Interrupt u)) → Goal w k t (call.Interrupt u) 0
+        → Is (shown w) t (flag_at w.fats t) (doing.Wants (call.Interrupt u)) → Goal w k t (call.Interrupt u) (action.Interrupt u)
     flagged_run p at e stays is =
         stirred_run (with_flag w.fats u true) e refl refl out (flag-with_flag_other w.fats u t true (λ x. apart (sym (ap (λ (y : ThreadId). y.0) x))))
         (λ q. rw (flag-with_flag_same w.fats u true)
@@ -190,7 +164,7 @@ module _ (w : WorldState) (sound : IsSound w) (k : ℕ) (t : ThreadId) (seat : s
 
     -- u waits behind an owner
     behind_run : (m n : ℕ) (d : Option ℕ) → post_of w.fats u ≡ Some (Waiting m n d) → (owner : ThreadId) → (monitor_at w.fats m).owner ≡ Some owner
-        → Is (shown w) t (flag_at w.fats t) (doing.Wants (call.Interrupt u)) → Goal w k t (call.Interrupt u) 0
+        → Is (shown w) t (flag_at w.fats t) (doing.Wants (call.Interrupt u)) → Goal w k t (call.Interrupt u) (action.Interrupt u)
     behind_run m n d at owner own is =
         stirred_run g (rw (at, own) refl) refl refl
         (post-with_post_other (with_flag w.fats u true) u t (Back m n why.Interrupted) (λ x. apart (sym (ap (λ (y : ThreadId). y.0) x))) ∙ out)
@@ -205,9 +179,9 @@ module _ (w : WorldState) (sound : IsSound w) (k : ℕ) (t : ThreadId) (seat : s
 
     -- u waits on a monitor that nobody owns, and gets it at once
     served_run : (m n : ℕ) (d : Option ℕ) → post_of w.fats u ≡ Some (Waiting m n d) → (monitor_at w.fats m).owner ≡ None
-        → Is (shown w) t (flag_at w.fats t) (doing.Wants (call.Interrupt u)) → Goal w k t (call.Interrupt u) 0
+        → Is (shown w) t (flag_at w.fats t) (doing.Wants (call.Interrupt u)) → Goal w k t (call.Interrupt u) (action.Interrupt u)
     served_run m n d at free is =
-        by_outcome w k t (call.Interrupt u) 0 (told g (answer.Reply reply.Done) (Some u) None) (rw (at, free) refl)
+        by_outcome w k t (call.Interrupt u) (action.Interrupt u) (told g (answer.Reply reply.Done) (Some u) None) (rw (at, free) refl)
         (rw their_post
         (subst (λ (s : State). Run (shown w) (move.Interrupt t ∷ move.Relock u ∷ move.Return t reply.Done ∷ []) s) (sym shown_then)
         (run_stirred (shown w) t u (flag_at w.fats t) (flag_at w.fats u) o n d is waits unowned (λ x. apart (sym x)))))
@@ -250,12 +224,12 @@ module _ (w : WorldState) (sound : IsSound w) (k : ℕ) (t : ThreadId) (seat : s
             (monitors-granted (with_flag w.fats u true) m u p WaitSet)
 
     -- by the post of u
-    other_run : (p : Post) → post_of w.fats u ≡ Some p → Is (shown w) t (flag_at w.fats t) (doing.Wants (call.Interrupt u)) → Goal w k t (call.Interrupt u) 0
+    other_run : (p : Post) → post_of w.fats u ≡ Some p → Is (shown w) t (flag_at w.fats t) (doing.Wants (call.Interrupt u)) → Goal w k t (call.Interrupt u) (action.Interrupt u)
     other_run Out at is = flagged_run Out at (rw at refl) (λ q. sym (stirred_out q)) is
     other_run (Entering m) at is = flagged_run (Entering m) at (rw at refl) (λ q. refl) is
     other_run (Waiting m n d) at is = by_owner (monitor_at w.fats m).owner refl
       where
-        by_owner : (x : Option ThreadId) → (monitor_at w.fats m).owner ≡ x → Goal w k t (call.Interrupt u) 0
+        by_owner : (x : Option ThreadId) → (monitor_at w.fats m).owner ≡ x → Goal w k t (call.Interrupt u) (action.Interrupt u)
         by_owner (Some owner) own = behind_run m n d at owner own is
         by_owner None free = served_run m n d at free is
     other_run (Back m n y) at is = flagged_run (Back m n y) at (rw at refl) (λ q. refl) is
@@ -263,26 +237,19 @@ module _ (w : WorldState) (sound : IsSound w) (k : ℕ) (t : ThreadId) (seat : s
 
   -- t interrupts a thread
   interrupt_run : (u : ThreadId) (p : Option Post) → post_of w.fats u ≡ p → (u.0 ≡ t.0) ⊎ (u.0 ≡ t.0 → ⊥)
-      → Is (shown w) t (flag_at w.fats t) (doing.Wants (call.Interrupt u)) → Goal w k t (call.Interrupt u) 0
+      → Is (shown w) t (flag_at w.fats t) (doing.Wants (call.Interrupt u)) → Goal w k t (call.Interrupt u) (action.Interrupt u)
   interrupt_run u None e x is =
-      keeps_all w sound k t seat out (call.Interrupt u) 0 (reply.Refused cause.NoThread) (rw e refl)
-      (run_refused (shown w) t (flag_at w.fats t) (call.Interrupt u) cause.NoThread is (refl, not_live u e))
+      keeps_all w sound k t seat out (call.Interrupt u) (action.Interrupt u) (reply.Refused cause.NoThread) (rw e refl)
+      (run_refused (shown w) t (flag_at w.fats t) (call.Interrupt u) cause.NoThread is (not_live u e))
   interrupt_run u (Some p) e (inl same) is =
       let one : u ≡ t = one_thread u t same in
-      subst (λ (x : ThreadId). Goal w k t (call.Interrupt x) 0) (sym one)
+      subst (λ (x : ThreadId). Goal w k t (call.Interrupt x) (action.Interrupt x)) (sym one)
       (own_run (subst (λ (x : ThreadId). Is (shown w) t (flag_at w.fats t) (doing.Wants (call.Interrupt x))) one is))
   interrupt_run u (Some p) e (inr apart) is = let j = live_at u p e in other_run u j.0 j.1 apart p e is
 
   -- A call about interrupts makes its own action.
-  pub direct_run : (c : Call) → place_at w k ≡ Direct c → is_direct c ≡ true → Goal w k t c 0
-  direct_run (call.Interrupt u) at direct = interrupt_run u (post_of w.fats u) refl (cases_eq u.0 t.0) (is_at w sound k t seat (Direct (call.Interrupt u)) at out)
-  direct_run call.Interrupted at direct = test_run (flag_at w.fats t) refl (is_at w sound k t seat (Direct call.Interrupted) at out)
-  direct_run (call.IsInterrupted u) at direct =
-      ask_run u (post_of w.fats u) refl (flag_at w.fats u) refl (is_at w sound k t seat (Direct (call.IsInterrupted u)) at out)
-  direct_run (call.Enter o) at direct = absurd (cc)
-  direct_run (call.Exit o) at direct = absurd (cc)
-  direct_run (call.Wait o millis nanos) at direct = absurd (cc)
-  direct_run (call.Notify o) at direct = absurd (cc)
-  direct_run (call.NotifyAll o) at direct = absurd (cc)
-  direct_run (call.Holds o) at direct = absurd (cc)
-  direct_run call.End at direct = absurd (cc)
+  pub direct_run : (c : InterruptCall) → place_at w k ≡ InCall (Direct c) → Goal w k t (call_about c) (action_about c)
+  direct_run (about.Interrupt u) at = interrupt_run u (post_of w.fats u) refl (cases_eq u.0 t.0) (is_at w sound k t seat (InCall (Direct (about.Interrupt u))) at out)
+  direct_run about.Interrupted at = test_run (flag_at w.fats t) refl (is_at w sound k t seat (InCall (Direct about.Interrupted)) at out)
+  direct_run (about.IsInterrupted u) at =
+      ask_run u (post_of w.fats u) refl (flag_at w.fats u) refl (is_at w sound k t seat (InCall (Direct (about.IsInterrupted u))) at out)

@@ -14,16 +14,17 @@ use Rattle.lock_word.specs.Layout.{lock_of, low_of, Fits}
 use Rattle.lock_word.proofs.Words.{lock_of-word_of}
 use Rattle.thread_index.specs.Indices.{seat_of}
 use Rattle.thread_index.proofs.Seats.{seat_found}
-use Rattle.step_core.specs.declared.moves.Doing.{Doing}
+use Rattle.step_core.specs.declared.machine.Doing.{Doing}
 use Rattle.fat_monitor.specs.declared.actions.Post.TheVariants.{Out}
 use Rattle.fat_monitor.specs.FatState.{FatState, post_of, post_at, flag_at}
 use Rattle.step_core.specs.declared.places.Place.{Place}
-use Rattle.step_core.specs.declared.places.Place.TheVariants.{Idle, Begun, Taking, Storing, Binding, Acting, Won, Bound, Inflated, Direct, Parked, Ending}
-use Rattle.step_core.specs.declared.events.Did.{Did}
+use Rattle.step_core.specs.declared.places.Place.TheVariants.{Idle, AtPost}
+use Rattle.step_core.specs.declared.steps.Did.{Did}
 use Rattle.step_core.specs.Machine.{State, Thread, Monitor, held, with_monitor, Is, now_is, OwnedBy}
-use Rattle.step_core.specs.WorldState.{WorldState, IsSound, Stands, Agrees, place_at, word_at, lock_at, low_word}
+use Rattle.step_core.specs.WorldState.{WorldState, IsSound, Stands, place_at, word_at, lock_at, low_word}
 use Rattle.step_core.specs.Going.{gone, stays, writes, new_word}
 use Rattle.step_core.specs.Shown.{shown, monitor_of, doing_of, act_of}
+use Rattle.step_core.proofs.PlaceFacts.{agrees_out}
 use Rattle.step_core.proofs.Shows.{does, shown_changed, shown_kept}
 
 -- the state is as it was where a thread is written as it is
@@ -65,23 +66,9 @@ module _ (w : WorldState) (sound : IsSound w) (k : ℕ) (t : ThreadId) (seat : s
   pub thin_stands : (q c : ℕ) → c ≤ 255 → Stands w q (Thin (k + 1) c)
   thin_stands q c h = let n : k + 1 - 1 ≡ k = omega arith in (omega arith, index_fits, h, rw (n, (seat_found w.seats t k seat).1) refl)
 
-  -- a thread that is not parked is out of every fat action
-  pub out_at : (p : Place) → place_at w k ≡ p → (p ≡ Parked → ⊥) → post_of w.fats t ≡ Some Out
-  out_at p e busy = by_place p (rw e at (sound.posted t k seat)) busy
-    where
-      by_place : (p : Place) → Agrees p (post_of w.fats t) → (p ≡ Parked → ⊥) → post_of w.fats t ≡ Some Out
-      by_place Idle h busy = h
-      by_place (Begun c b) h busy = h
-      by_place (Taking o b) h busy = h
-      by_place (Storing c l) h busy = h
-      by_place (Binding c n) h busy = h
-      by_place (Acting c m) h busy = h
-      by_place (Won o) h busy = h
-      by_place (Bound c won m) h busy = h
-      by_place (Inflated c m) h busy = h
-      by_place (Direct c) h busy = h
-      by_place Parked h busy = absurd (busy refl)
-      by_place (Ending n) h busy = h
+  -- a thread that is not at its post is out of every fat action
+  pub out_at : (p : Place) → place_at w k ≡ p → (p ≡ AtPost → ⊥) → post_of w.fats t ≡ Some Out
+  out_at p e free = agrees_out p (post_of w.fats t) free (rw e at (sound.posted t k seat))
 
   pub is_at : (p : Place) → place_at w k ≡ p → post_of w.fats t ≡ Some Out → Is (shown w) t (flag_at w.fats t) (doing_of p)
   is_at p e out = rw (seat, e) (ap (λ (x : Doing). Some (does (flag_at w.fats t) x)) (act_out w.fats t p out))

@@ -1,6 +1,6 @@
 -- What keeps the world sound: a write of a word, one monitor more, another fat state, and a new place alone.
 use Rattle.std.proofs.lemmas.Option.{same_Some}
-use Rattle.std.specs.Prelude.{◌≡◌, ◌≢◌, ◌⊎◌, ◌↔◌, ℕ, ◌+◌, ◌-◌, ◌<◌, ◌≤◌, false, List, [], ◌∷◌, length, set, get_or, slice_set, Some, None, IsSome}
+use Rattle.std.specs.Prelude.{◌≡◌, ◌≢◌, ◌⊎◌, ◌↔◌, ℕ, ◌+◌, ◌-◌, ◌<◌, ◌≤◌, Bool, false, List, [], ◌∷◌, length, set, get_or, slice_set, Some, None, IsSome}
 use Rattle.std.proofs.Common.{arith, refl, ap, sym, ◌∙◌, subst, inl, inr, get_or-set_same, get_or-set_other, length-set, length-append}
 use Rattle.std.proofs.lemmas.Bool.{cases_eq, ne_eqb}
 use Rattle.std.proofs.lemmas.List.{get_or_append_left}
@@ -18,15 +18,16 @@ use Rattle.fat_monitor.specs.declared.actions.Post.TheVariants.{Out}
 use Rattle.fat_monitor.specs.FatState.{FatState, monitor_at, bound_with, unbound, post_of, thread_count, IsAttached}
 use Rattle.fat_monitor.specs.FatState as book
 use Rattle.fat_monitor.proofs.Soundness.{IsSound-bound_with}
-use Rattle.fast_path.specs.declared.Call.{Call}
-use Rattle.fast_path.specs.Table.{target}
+use Rattle.fast_path.specs.declared.calls.MonitorCall.{MonitorCall}
 use Rattle.step_core.specs.declared.places.Place.{Place}
-use Rattle.step_core.specs.declared.places.Place.TheVariants.{Idle, Begun, Taking, Storing, Binding, Acting, Won, Bound, Inflated, Direct, Parked, Ending}
-use Rattle.step_core.specs.declared.events.Did.{Did}
-use Rattle.step_core.specs.WorldState.{WorldState, IsSound, Stands, Fitting, Agrees, place_at, word_at, lock_at, low_word, is_own, Reaches, bound_by, IsPublished}
+use Rattle.step_core.specs.declared.places.Place.TheVariants.{Idle}
+use Rattle.step_core.specs.declared.places.Stage.TheVariants.{Bound}
+use Rattle.step_core.specs.declared.steps.Did.{Did}
+use Rattle.step_core.specs.WorldState.{WorldState, IsSound, Stands, Fitting, FittingStage, Agrees, place_at, word_at, lock_at, low_word, is_own, bound_by, IsPublished}
 use Rattle.step_core.specs.Going.{After, gone, stays, writes, turns, new_word}
 use Rattle.step_core.proofs.Frames.{lock_of-new_word, stands_at, within}
-use Rattle.step_core.proofs.KeepsPosts.{KeepsPosts, posts_same, agrees_kept}
+use Rattle.step_core.proofs.KeepsPosts.{KeepsPosts, posts_same}
+use Rattle.step_core.proofs.PlaceFacts.{agrees_kept, fitting_kept, bound_kept}
 
 module _ (w : WorldState) (sound : IsSound w) where
   -- who shows a thin lock is live
@@ -49,23 +50,18 @@ module _ (w : WorldState) (sound : IsSound w) where
     stands_changed ps q (Fat m) h = (rw size h.0, ap (λ (o : ObjectId). o.0) (objects m) ∙ h.1)
 
     -- a thread that has bound a monitor and not stored it is its owner
-    pub fits_changed : (ps : List Place) (j : ℕ) (x : Place) → Fitting w j x → Fitting (with_fats ps) j x
-    fits_changed ps j Idle fit = fit
-    fits_changed ps j (Begun q x) fit = fit
-    fits_changed ps j (Taking q x) fit = fit
-    fits_changed ps j (Storing q l) fit = fit
-    fits_changed ps j (Binding q x) fit = fit
-    fits_changed ps j (Acting q m) fit = fit
-    fits_changed ps j (Won q) fit = fit
-    fits_changed ps j (Bound q won m) fit =
-        let object : (monitor_at w.fats m).object.0 ≡ (target q).0 = ap (λ (x : fat.Monitor). x.object.0) fit.2.2 in
-        let owner : (monitor_at w.fats m).owner ≡ holder_at w.seats j = ap (λ (x : fat.Monitor). x.owner) fit.2.2 in
-        let owned : IsSome (monitor_at w.fats m).owner = rw owner (thin_owner (target q).0 j fit.2.0 fit.2.1) in
-        (fit.0, rw size fit.1, (fit.2.0, fit.2.1, thin m (j + 1) fit.2.0 (rw object fit.2.1) owned ∙ fit.2.2))
-    fits_changed ps j (Inflated q m) fit = fit
-    fits_changed ps j (Direct q) fit = fit
-    fits_changed ps j Parked fit = fit
-    fits_changed ps j (Ending n) fit = fit
+    pub fits_changed : (ps : List Place) (j : ℕ) (p : Place) → Fitting w j p → Fitting (with_fats ps) j p
+    fits_changed ps j = fitting_kept w (with_fats ps) j refl (λ q n e. e) (λ q m e. e) bound (λ q e. e)
+      where
+        bound : (c : MonitorCall) (won : Bool) (m : ℕ) → FittingStage w j (Bound c won m)
+            → (m < length g.monitors) × (monitor_at g m ≡ record { object = c.object; owner = holder_at w.seats j; holds = (monitor_at w.fats m).holds })
+        bound c won m fit =
+            let object : (monitor_at w.fats m).object.0 ≡ c.object.0 = ap (λ (x : fat.Monitor). x.object.0) fit.2.2 in
+            let owned : IsSome (monitor_at w.fats m).owner = rw fit.2.2 (thin_owner c.object.0 j fit.2.0 fit.2.1) in
+            let shows : lock_at w (monitor_at w.fats m).object.0 ≡ Thin (j + 1) fit.2.0 = rw object fit.2.1 in
+            let same : monitor_at g m ≡ monitor_at w.fats m = thin m (j + 1) fit.2.0 shows owned in
+            let holds : (monitor_at w.fats m).holds ≡ fit.2.0 + 1 = ap (λ (x : fat.Monitor). x.holds) fit.2.2 in
+            (rw size fit.1, rw holds (same ∙ fit.2.2))
 
     -- Where nothing but the fat state changes, and the same threads are attached and out, the world stays sound.
     pub sound_fats : book.IsSound g → thread_count g ≡ thread_count w.fats → ((u : ThreadId) → IsAttached g u ↔ IsAttached w.fats u)
@@ -185,9 +181,6 @@ module _ (w : WorldState) (sound : IsSound w) (k : ℕ) (t : ThreadId) (seat : s
     lock_kept : (p : Place) (d : Did) (q : ℕ) → (Mine (lock_at w q) → ⊥) → lock_at (gone w k (after p d)) q ≡ lock_at w q
     lock_kept p d q h = lock_elsewhere p d q (λ e. h (rw e old))
 
-    inside_still : (n : ℕ) → n < length w.words → n < length (set w.words o.0 (new_word w o l))
-    inside_still n h = rw (length-set w.words o.0 (new_word w o l)) h
-
     -- another thread's thin word stays
     thin_kept : (p : Place) (d : Did) (j : ℕ) → (j ≡ k → ⊥) → (q n : ℕ) → lock_at w q ≡ Thin (j + 1) n → lock_at (gone w k (after p d)) q ≡ Thin (j + 1) n
     thin_kept p d j ne q n e = lock_kept p d q (λ h. ne (let same : j + 1 ≡ k + 1 = rw e at h in omega arith)) ∙ e
@@ -202,22 +195,10 @@ module _ (w : WorldState) (sound : IsSound w) (k : ℕ) (t : ThreadId) (seat : s
     ending_kept p d j ne q h (inl e) = subst (λ (x : ℕ). is_own (lock_at (gone w k (after p d)) x) (j + 1) ≡ false) (sym e) (rw (lock_there p d) (not_own l new j ne))
     ending_kept p d j ne q h (inr other) = rw (lock_elsewhere p d q other) h
 
-    reaches_still : (p : Place) (d : Did) (c : Call) → Reaches w c → Reaches (gone w k (after p d)) c
-    reaches_still p d c h = (h.0, inside_still (target c).0 h.1)
-
     others_kept : (p : Place) (d : Did) (j : ℕ) → (j ≡ k → ⊥) → (x : Place) → Fitting w j x → Fitting (gone w k (after p d)) j x
-    others_kept p d j ne Idle fit = tt
-    others_kept p d j ne (Begun c b) fit = reaches_still p d c fit
-    others_kept p d j ne (Taking q b) fit = inside_still q.0 fit
-    others_kept p d j ne (Storing c n) fit = (reaches_still p d c fit.0, (fit.1.0, thin_kept p d j ne (target c).0 fit.1.0 fit.1.1, fit.1.2))
-    others_kept p d j ne (Binding c n) fit = (reaches_still p d c fit.0, thin_kept p d j ne (target c).0 n fit.1, fit.2)
-    others_kept p d j ne (Acting c m) fit = (reaches_still p d c fit.0, fat_kept p d (target c).0 m fit.1)
-    others_kept p d j ne (Won q) fit = (inside_still q.0 fit.0, thin_kept p d j ne q.0 0 fit.1)
-    others_kept p d j ne (Bound c won m) fit = (reaches_still p d c fit.0, fit.1, (fit.2.0, thin_kept p d j ne (target c).0 fit.2.0 fit.2.1, fit.2.2))
-    others_kept p d j ne (Inflated c m) fit = (reaches_still p d c fit.0, fat_kept p d (target c).0 m fit.1)
-    others_kept p d j ne (Direct c) fit = fit
-    others_kept p d j ne Parked fit = tt
-    others_kept p d j ne (Ending n) fit = (rw (length-set w.words o.0 (new_word w o l)) fit.0, λ q h. ending_kept p d j ne q (fit.1 q h) (cases_eq q o.0))
+    others_kept p d j ne =
+        fitting_kept w (gone w k (after p d)) j (length-set w.words o.0 (new_word w o l)) (thin_kept p d j ne) (fat_kept p d) (bound_kept w j)
+        (λ q h. ending_kept p d j ne q h (cases_eq q o.0))
 
     -- a write keeps the world sound, where it publishes what the thread has bound
     pub sound_writes : (p : Place) (d : Did) → ((m : ℕ) → bound_by (place_at w k) ≡ Some m → IsPublished (gone w k (after p d)) m)
@@ -262,18 +243,12 @@ module _ (w : WorldState) (sound : IsSound w) (k : ℕ) (t : ThreadId) (seat : s
     stands_bound p d q (Fat m) h = (more m h.0, rw (monitor_kept m h.0) h.1)
 
     fits_bound : (p : Place) (d : Did) (j : ℕ) (x : Place) → Fitting w j x → Fitting (gone w k (bound p d)) j x
-    fits_bound p d j Idle fit = fit
-    fits_bound p d j (Begun c b) fit = fit
-    fits_bound p d j (Taking c b) fit = fit
-    fits_bound p d j (Storing c l) fit = fit
-    fits_bound p d j (Binding c x) fit = fit
-    fits_bound p d j (Acting c m) fit = fit
-    fits_bound p d j (Won q) fit = fit
-    fits_bound p d j (Bound c won m) fit = (fit.0, more m fit.1, (fit.2.0, fit.2.1, monitor_kept m fit.1 ∙ fit.2.2))
-    fits_bound p d j (Inflated c m) fit = fit
-    fits_bound p d j (Direct c) fit = fit
-    fits_bound p d j Parked fit = fit
-    fits_bound p d j (Ending n) fit = fit
+    fits_bound p d j = fitting_kept w (gone w k (bound p d)) j refl (λ q n e. e) (λ q m e. e) still (λ q e. e)
+      where
+        still : (c : MonitorCall) (won : Bool) (m : ℕ) → FittingStage w j (Bound c won m)
+            → (m < length (bound_with w.fats o t n).monitors)
+            × (monitor_at (bound_with w.fats o t n) m ≡ record { object = c.object; owner = holder_at w.seats j; holds = (monitor_at w.fats m).holds })
+        still c won m fit = let kept = bound_kept w j c won m fit in (more m fit.1, monitor_kept m fit.1 ∙ kept.1)
 
     -- the new monitor is the thread's to publish
     bound_published : (p : Place) (d : Did) → bound_by (place_at w k) ≡ None → bound_by p ≡ Some (length w.fats.monitors)

@@ -23,8 +23,6 @@ use Rattle.fat_monitor.specs.FatState as book
 use Rattle.fat_monitor.specs.Acting.{Outcome, acted, entered, waited, notified, interrupted, asked, granted, settled, sent_back, removed, handed_on, are_good, deadline, holds_granted, reply_granted}
 use Rattle.fat_monitor.proofs.Effects.{post-with_post_same, post-with_post_other, first_entering, first_waiting, post-all_removed, called_back}
 use Rattle.fat_monitor.proofs.Flags.{threads-settled}
-use Rattle.step_core.specs.declared.places.Place.{Place}
-use Rattle.step_core.specs.declared.places.Place.TheVariants.{Idle, Begun, Taking, Storing, Binding, Acting, Won, Bound, Inflated, Direct, Parked, Ending}
 use Rattle.step_core.specs.WorldState.{Agrees}
 use Rattle.step_core.specs.Going.{place_after}
 
@@ -39,21 +37,6 @@ KeepsPosts f t g =
 
 pub posts_same : (f : FatState) (t : ThreadId) (g : FatState) → g.threads ≡ f.threads → KeepsPosts f t g
 posts_same f t g e = rw e (refl, (λ u. ((λ h. h), (λ h. h))), (λ u other. ((λ h. h), (λ h. h))))
-
--- a place agrees with the one post as with the other
-pub agrees_kept : (p : Place) (x y : Option Post) → (y ≡ Some Out) ↔ (x ≡ Some Out) → Agrees p x → Agrees p y
-agrees_kept Idle x y same h = same.1 h
-agrees_kept (Begun c b) x y same h = same.1 h
-agrees_kept (Taking o b) x y same h = same.1 h
-agrees_kept (Storing c l) x y same h = same.1 h
-agrees_kept (Binding c n) x y same h = same.1 h
-agrees_kept (Acting c m) x y same h = same.1 h
-agrees_kept (Won o) x y same h = same.1 h
-agrees_kept (Bound c won m) x y same h = same.1 h
-agrees_kept (Inflated c m) x y same h = same.1 h
-agrees_kept (Direct c) x y same h = same.1 h
-agrees_kept Parked x y same h = λ e. h (same.0 e)
-agrees_kept (Ending n) x y same h = same.1 h
 
 -- ---- the thread that acts
 

@@ -13,18 +13,17 @@ use Rattle.fat_monitor.specs.declared.actions.Why.TheVariants as why
 use Rattle.fat_monitor.specs.declared.actions.Post.{Post}
 use Rattle.fat_monitor.specs.declared.actions.Post.TheVariants as post
 use Rattle.fat_monitor.specs.FatState.{post_of}
-use Rattle.fast_path.specs.declared.Call.{Call}
-use Rattle.step_core.specs.declared.moves.Doing.{Doing}
-use Rattle.step_core.specs.declared.moves.Doing.TheVariants.{Back, Has}
-use Rattle.step_core.specs.declared.moves.Move.{Move}
-use Rattle.step_core.specs.declared.moves.Move.TheVariants as move
+use Rattle.fast_path.specs.declared.calls.Call.{Call}
+use Rattle.step_core.specs.declared.machine.Doing.{Doing}
+use Rattle.step_core.specs.declared.machine.Doing.TheVariants.{Back, Has}
+use Rattle.step_core.specs.declared.machine.Move.{Move}
+use Rattle.step_core.specs.declared.machine.Move.TheVariants as move
 use Rattle.step_core.specs.declared.places.Place.{Place}
-use Rattle.step_core.specs.declared.places.Place.TheVariants as place
-use Rattle.step_core.specs.declared.events.Did.{Did}
-use Rattle.step_core.specs.declared.events.Fault.{Fault}
-use Rattle.step_core.specs.declared.events.Fault.TheVariants.{Memory, Parked}
-use Rattle.step_core.specs.declared.events.Step.{Step}
-use Rattle.step_core.specs.declared.events.Step.TheVariants as step
+use Rattle.step_core.specs.declared.steps.Did.{Did}
+use Rattle.step_core.specs.declared.steps.Fault.{Fault}
+use Rattle.step_core.specs.declared.steps.Fault.TheVariants.{Memory, Parked}
+use Rattle.step_core.specs.declared.steps.Step.{Step}
+use Rattle.step_core.specs.declared.steps.Step.TheVariants as step
 use Rattle.step_core.specs.Machine.{State, Thread, Steps, Run, Is, flag_back, reply_of}
 use Rattle.step_core.specs.WorldState.{WorldState, IsSound, place_at}
 use Rattle.step_core.specs.Stepping.{step_of, given, moves_of, world_after}
@@ -32,7 +31,8 @@ use Rattle.step_core.specs.Shown.{shown, doing_of, act_of}
 use Rattle.step_core.specs.Labels.{is_label, labels_of, EndsWith, HasLabels}
 use Rattle.step_core.specs.Refusals.{IsParked, IsRefused, IsAcceptable}
 use Rattle.step_core.specs.Lasting.{IsBack, HasReply, Returns, Lasts, NeverReturns}
-use Rattle.step_core.proofs.Steps.{step_right}
+use Rattle.step_core.proofs.PlaceFacts.{not_back as out_not_back}
+use Rattle.step_core.proofs.StepRuns.{step_right}
 use Rattle.step_core.proofs.Labelings.{step_labels}
 use Rattle.step_core.proofs.Refusing.{step_judged, shows}
 use Rattle.step_core.proofs.Steady.{Stays, Relocked, Returned, Leaves, one_step}
@@ -232,26 +232,10 @@ module _ (s s' : State) (m : Move) (other : (t : ThreadId) (r : Reply) → m ≡
           by_case (inr (inl (o, n, w, e, h))) = absurd (cc)
           by_case (inr (inr (v, q, e, same, h))) = absurd (other v q e)
 
--- only a post shows that a thread is back
-never_back : (p : Place) (o : ObjectId) (n : ℕ) (w : Why) → doing_of p ≡ Back o n w → ⊥
-never_back place.Idle o n w e = cc
-never_back (place.Begun c b) o n w e = cc
-never_back (place.Taking q b) o n w e = cc
-never_back (place.Storing c l) o n w e = cc
-never_back (place.Binding c k) o n w e = cc
-never_back (place.Acting c m) o n w e = cc
-never_back (place.Won q) o n w e = cc
-never_back (place.Bound c true m) o n w e = cc
-never_back (place.Bound c false m) o n w e = cc
-never_back (place.Inflated c m) o n w e = cc
-never_back (place.Direct c) o n w e = cc
-never_back place.Parked o n w e = cc
-never_back (place.Ending k) o n w e = cc
-
 module _ (w : WorldState) (sound : IsSound w) (t : ThreadId) where
   back_parked : (p : Place) (o : ObjectId) (n : ℕ) (y : Why) (x : Option Post) → post_of w.fats t ≡ x → act_of w.fats (unwrap_or x post.Out) p ≡ Back o n y → IsParked w t
-  back_parked p o n y None there e = absurd (never_back p o n y e)
-  back_parked p o n y (Some post.Out) there e = absurd (never_back p o n y e)
+  back_parked p o n y None there e = absurd (out_not_back p e)
+  back_parked p o n y (Some post.Out) there e = absurd (out_not_back p e)
   back_parked p o n y (Some (post.Entering m)) there e = absurd (cc)
   back_parked p o n y (Some (post.Waiting m k d)) there e = absurd (cc)
   back_parked p o n y (Some (post.Back m k z)) there e = (m, Entry, sound.fats.posted t (post.Back m k z) m Entry there refl)

@@ -1,6 +1,8 @@
 pub mod Machines
+pub mod PlaceFacts
 pub mod Shows
 pub mod Frames
+pub mod Cases
 pub mod WordRuns
 pub mod Shifts
 pub mod Grants
@@ -17,14 +19,15 @@ pub mod Keeps
 pub mod Attaching
 pub mod Endings
 pub mod Expiring
-pub mod Steps
+pub mod StepRuns
 pub mod Opening
-pub mod Goings
+pub mod CodeOfGo
 pub mod Labelings
 pub mod Refusing
 pub mod Patient
 pub mod Lingering
 pub mod Bytes
+pub mod Changes
 pub mod Sparing
 pub mod Steady
 pub mod Lasting

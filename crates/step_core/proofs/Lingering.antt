@@ -6,26 +6,33 @@ use Rattle.lock_word.specs.declared.ThreadId.{ThreadId}
 use Rattle.lock_word.specs.declared.ObjectId.{ObjectId}
 use Rattle.thread_index.specs.Indices.{seat_of}
 use Rattle.thread_index.proofs.Seats.{seat_same}
-use Rattle.fast_path.specs.declared.Call.{Call}
-use Rattle.fast_path.specs.declared.Call.TheVariants as call
-use Rattle.fast_path.specs.Table.{object_of}
-use Rattle.step_core.specs.declared.moves.Doing.{Doing}
-use Rattle.step_core.specs.declared.moves.Doing.TheVariants as doing
+use Rattle.fast_path.specs.declared.calls.Call.{Call}
+use Rattle.fast_path.specs.declared.calls.Call.TheVariants as call
+use Rattle.fast_path.specs.declared.calls.Operation.{Operation}
+use Rattle.fast_path.specs.declared.calls.Operation.TheVariants as op
+use Rattle.fast_path.specs.declared.calls.InterruptCall.{InterruptCall}
+use Rattle.fast_path.specs.declared.calls.InterruptCall.TheVariants as about
+use Rattle.fast_path.specs.Calls.{object_of, call_on, call_about}
+use Rattle.step_core.specs.declared.machine.Doing.{Doing}
+use Rattle.step_core.specs.declared.machine.Doing.TheVariants as doing
 use Rattle.step_core.specs.declared.places.Place.{Place}
-use Rattle.step_core.specs.declared.places.Place.TheVariants.{Idle, Begun, Taking, Storing, Binding, Acting, Won, Bound, Inflated, Direct, Parked, Ending}
-use Rattle.step_core.specs.declared.events.Step.{Step}
-use Rattle.step_core.specs.declared.events.Step.TheVariants as step
-use Rattle.step_core.specs.declared.events.Did.{Did}
-use Rattle.step_core.specs.declared.events.Fault.{Fault}
-use Rattle.step_core.specs.declared.events.Fault.TheVariants.{Memory, Known, NoObject, InCall}
+use Rattle.step_core.specs.declared.places.Place.TheVariants.{Idle, InCall, Ending, AtPost}
+use Rattle.step_core.specs.declared.places.Stage.{Stage}
+use Rattle.step_core.specs.declared.places.Stage.TheVariants.{Begun, Taking, Storing, Binding, Acting, Won, Bound, Inflated, Direct}
+use Rattle.step_core.specs.declared.steps.Step.{Step}
+use Rattle.step_core.specs.declared.steps.Step.TheVariants as step
+use Rattle.step_core.specs.declared.steps.Did.{Did}
+use Rattle.step_core.specs.declared.steps.Fault.{Fault}
+use Rattle.step_core.specs.declared.steps.Fault.TheVariants as fault
+use Rattle.step_core.specs.declared.steps.Fault.TheVariants.{Memory, Known, NoObject}
 use Rattle.step_core.specs.Machine.{Thread, Is}
-use Rattle.step_core.specs.WorldState.{WorldState, IsSound, Fitting, place_at, is_direct}
+use Rattle.step_core.specs.WorldState.{WorldState, IsSound, Fitting, place_at}
 use Rattle.step_core.specs.Stepping.{step_of}
-use Rattle.step_core.specs.Shown.{shown, doing_of}
+use Rattle.step_core.specs.Shown.{shown, doing_of, doing_in}
 use Rattle.step_core.specs.Refusals.{IsLive, IsBusy, IsRefused, IsAcceptable}
-use Rattle.step_core.specs.Patience.{left_at, left_of_seat, left_of, HasMet, HasParked, goes_of, Lingers, AllLinger}
+use Rattle.step_core.specs.Patience.{left_in, left_at, left_of_seat, left_of, HasMet, HasParked, goes_of, Lingers, AllLinger}
 use Rattle.step_core.proofs.Frames.{within}
-use Rattle.step_core.proofs.Steps.{step_right}
+use Rattle.step_core.proofs.StepRuns.{step_right}
 use Rattle.step_core.proofs.Refusing.{step_judged, does, does_out, shows, busy}
 use Rattle.step_core.proofs.Patient.{step_patient}
 
@@ -36,17 +43,9 @@ same_left w t u e = ap (λ (o : Option ℕ). left_of_seat w o) (seat_same w.seat
 -- a place with steps left is in a call
 busy_place : (objects : ℕ) (p : Place) → 1 ≤ left_at objects p → p ≡ Idle → ⊥
 busy_place objects Idle h e = absurd (omega arith)
-busy_place objects (Begun c b) h e = cc
-busy_place objects (Taking o b) h e = cc
-busy_place objects (Storing c l) h e = cc
-busy_place objects (Binding c n) h e = cc
-busy_place objects (Acting c m) h e = cc
-busy_place objects (Won o) h e = cc
-busy_place objects (Bound c won m) h e = cc
-busy_place objects (Inflated c m) h e = cc
-busy_place objects (Direct c) h e = cc
-busy_place objects Parked h e = cc
+busy_place objects (InCall s) h e = cc
 busy_place objects (Ending n) h e = cc
+busy_place objects AtPost h e = cc
 
 -- and so is a thread with steps left
 is_busy : (w : WorldState) → IsSound w → (t : ThreadId) → 1 ≤ left_of w t → IsBusy w t
@@ -63,25 +62,16 @@ busy_live w t busy = rw busy.1 refl
 no_attach : (w : WorldState) (t : ThreadId) → IsBusy w t → IsAcceptable w (step.Attach t) → ⊥
 no_attach w t busy all = let never : Known ≡ Memory = all Known (busy_live w t busy) in cc
 
-no_begin_on : (w : WorldState) (t : ThreadId) (c : Call) (o : ObjectId) → object_of c ≡ Some o
-    → (o.0 < (shown w).objects → IsRefused w (step.Begin t c) InCall) → IsBusy w t → IsAcceptable w (step.Begin t c) → ⊥
-no_begin_on w t c o names in_call busy all = by_place (cases_lt o.0 (shown w).objects)
-  where
-    by_place : (o.0 < (shown w).objects) ⊎ ((shown w).objects ≤ o.0) → ⊥
-    by_place (inl h) = let never : InCall ≡ Memory = all InCall (in_call h) in cc
-    by_place (inr h) = let never : NoObject ≡ Memory = all NoObject (busy_live w t busy, (o, names, h)) in cc
-
 no_begin : (w : WorldState) (t : ThreadId) (c : Call) → IsBusy w t → IsAcceptable w (step.Begin t c) → ⊥
-no_begin w t (call.Enter o) busy all = no_begin_on w t (call.Enter o) o refl (λ h. (busy, h)) busy all
-no_begin w t (call.Exit o) busy all = no_begin_on w t (call.Exit o) o refl (λ h. (busy, h)) busy all
-no_begin w t (call.Wait o millis nanos) busy all = no_begin_on w t (call.Wait o millis nanos) o refl (λ h. (busy, h)) busy all
-no_begin w t (call.Notify o) busy all = no_begin_on w t (call.Notify o) o refl (λ h. (busy, h)) busy all
-no_begin w t (call.NotifyAll o) busy all = no_begin_on w t (call.NotifyAll o) o refl (λ h. (busy, h)) busy all
-no_begin w t (call.Holds o) busy all = no_begin_on w t (call.Holds o) o refl (λ h. (busy, h)) busy all
-no_begin w t (call.Interrupt who) busy all = let never : InCall ≡ Memory = all InCall (busy, tt) in cc
-no_begin w t call.Interrupted busy all = let never : InCall ≡ Memory = all InCall (busy, tt) in cc
-no_begin w t (call.IsInterrupted who) busy all = let never : InCall ≡ Memory = all InCall (busy, tt) in cc
-no_begin w t call.End busy all = let never : InCall ≡ Memory = all InCall (busy, tt) in cc
+no_begin w t c busy all = by_object (object_of c) refl
+  where
+    by_object : (o : Option ObjectId) → object_of c ≡ o → ⊥
+    by_object None names = let never : fault.InCall ≡ Memory = all fault.InCall (busy, rw names tt) in cc
+    by_object (Some o) names = by_place (cases_lt o.0 (shown w).objects)
+      where
+        by_place : (o.0 < (shown w).objects) ⊎ ((shown w).objects ≤ o.0) → ⊥
+        by_place (inl h) = let never : fault.InCall ≡ Memory = all fault.InCall (busy, rw names h) in cc
+        by_place (inr h) = let never : NoObject ≡ Memory = all NoObject (busy_live w t busy, (o, names, h)) in cc
 
 same_Ok : (d e : Did) → ◌≡◌ {A = Result Did Fault} (Ok d) (Ok e) → d ≡ e
 same_Ok d e h = cc
@@ -171,72 +161,65 @@ lingers w sound t ((step.Go u, room) ∷ ss) left all = by_thread (cases_eq u.0 
         let one = others w sound t left u room (step_of room w (step.Go u)).answer refl other in let more = rest one.1 in
         rw (ne_eqb u.0 t.0 other) (omega arith)
 
--- what a call has left, by its place
+-- what a call has left, by its stage
+left_in_bounds : (s : Stage) → (1 ≤ left_in s) × (left_in s ≤ 4)
+left_in_bounds (Begun c b) = (omega arith, omega arith)
+left_in_bounds (Taking o b) = (omega arith, omega arith)
+left_in_bounds (Storing c l) = (omega arith, omega arith)
+left_in_bounds (Binding c n) = (omega arith, omega arith)
+left_in_bounds (Acting c m) = (omega arith, omega arith)
+left_in_bounds (Won o) = (omega arith, omega arith)
+left_in_bounds (Bound c true m) = (omega arith, omega arith)
+left_in_bounds (Bound c false m) = (omega arith, omega arith)
+left_in_bounds (Inflated c m) = (omega arith, omega arith)
+left_in_bounds (Direct c) = (omega arith, omega arith)
+
+-- and by its place
 left_bounds : (w : WorldState) (k : ℕ) (p : Place) → Fitting w k p → (p ≡ Idle → ⊥) → 1 ≤ left_at (length w.words) p
 left_bounds w k Idle fit h = absurd (h refl)
-left_bounds w k (Begun c b) fit h = omega arith
-left_bounds w k (Taking o b) fit h = omega arith
-left_bounds w k (Storing c l) fit h = omega arith
-left_bounds w k (Binding c n) fit h = omega arith
-left_bounds w k (Acting c m) fit h = omega arith
-left_bounds w k (Won o) fit h = omega arith
-left_bounds w k (Bound c true m) fit h = omega arith
-left_bounds w k (Bound c false m) fit h = omega arith
-left_bounds w k (Inflated c m) fit h = omega arith
-left_bounds w k (Direct c) fit h = omega arith
-left_bounds w k Parked fit h = omega arith
+left_bounds w k (InCall s) fit h = (left_in_bounds s).0
 left_bounds w k (Ending n) fit h = let within : n ≤ length w.words = fit.0 in omega arith
+left_bounds w k AtPost fit h = omega arith
 
 at_most_four : (objects : ℕ) (p : Place) → ((n : ℕ) → p ≡ Ending n → ⊥) → left_at objects p ≤ 4
 at_most_four objects Idle h = omega arith
-at_most_four objects (Begun c b) h = omega arith
-at_most_four objects (Taking o b) h = omega arith
-at_most_four objects (Storing c l) h = omega arith
-at_most_four objects (Binding c n) h = omega arith
-at_most_four objects (Acting c m) h = omega arith
-at_most_four objects (Won o) h = omega arith
-at_most_four objects (Bound c true m) h = omega arith
-at_most_four objects (Bound c false m) h = omega arith
-at_most_four objects (Inflated c m) h = omega arith
-at_most_four objects (Direct c) h = omega arith
-at_most_four objects Parked h = omega arith
+at_most_four objects (InCall s) h = (left_in_bounds s).1
 at_most_four objects (Ending n) h = absurd (h n refl)
+at_most_four objects AtPost h = omega arith
 
--- an end names no object
-names_none : (c : Call) → IsSome (object_of c) → doing.Wants c ≡ doing.Wants call.End → ⊥
-names_none (call.Enter o) names e = cc
-names_none (call.Exit o) names e = cc
-names_none (call.Wait o millis nanos) names e = cc
-names_none (call.Notify o) names e = cc
-names_none (call.NotifyAll o) names e = cc
-names_none (call.Holds o) names e = cc
-names_none (call.Interrupt who) names e = cc
-names_none call.Interrupted names e = cc
-names_none (call.IsInterrupted who) names e = cc
-names_none call.End names e = cc
+-- neither a call on an object nor one about interrupts is an end
+on_no_end : (o : ObjectId) (p : Operation) → doing.Wants (call_on o p) ≡ doing.Wants call.End → ⊥
+on_no_end o op.Enter e = cc
+on_no_end o op.Exit e = cc
+on_no_end o (op.Wait millis nanos) e = cc
+on_no_end o op.Notify e = cc
+on_no_end o op.NotifyAll e = cc
+on_no_end o op.Holds e = cc
 
--- nor does one about interrupts
-not_direct : (c : Call) → is_direct c ≡ true → doing.Wants c ≡ doing.Wants call.End → ⊥
-not_direct c direct e = let same : c ≡ call.End = wanted e in let never : is_direct call.End ≡ true = ap is_direct (sym same) ∙ direct in absurd (cc)
-  where
-    wanted : {c d : Call} → doing.Wants c ≡ doing.Wants d → c ≡ d
-    wanted e = cc
+about_no_end : (c : InterruptCall) → doing.Wants (call_about c) ≡ doing.Wants call.End → ⊥
+about_no_end (about.Interrupt u) e = cc
+about_no_end about.Interrupted e = cc
+about_no_end (about.IsInterrupted u) e = cc
+
+-- so no stage is one of an end
+stage_no_end : (s : Stage) → doing_in s ≡ doing.Wants call.End → ⊥
+stage_no_end (Begun c b) e = on_no_end c.object c.operation e
+stage_no_end (Taking o b) e = cc
+stage_no_end (Storing c l) e = on_no_end c.object c.operation e
+stage_no_end (Binding c n) e = on_no_end c.object c.operation e
+stage_no_end (Acting c m) e = on_no_end c.object c.operation e
+stage_no_end (Won o) e = cc
+stage_no_end (Bound c true m) e = cc
+stage_no_end (Bound c false m) e = on_no_end c.object c.operation e
+stage_no_end (Inflated c m) e = on_no_end c.object c.operation e
+stage_no_end (Direct c) e = about_no_end c e
 
 -- a thread that ends has a Go for each word, and one more
-at_most_all : (w : WorldState) (k : ℕ) (p : Place) → Fitting w k p → ((p ≡ Parked → ⊥) → doing_of p ≡ doing.Wants call.End) → left_at (length w.words) p ≤ length w.words + 1
-at_most_all w k Idle fit h = let e = h (λ i. cc) in absurd (cc)
-at_most_all w k (Begun c b) fit h = absurd (names_none c fit.0 (h (λ i. cc)))
-at_most_all w k (Taking o b) fit h = let e = h (λ i. cc) in absurd (cc)
-at_most_all w k (Storing c l) fit h = absurd (names_none c fit.0.0 (h (λ i. cc)))
-at_most_all w k (Binding c n) fit h = absurd (names_none c fit.0.0 (h (λ i. cc)))
-at_most_all w k (Acting c m) fit h = absurd (names_none c fit.0.0 (h (λ i. cc)))
-at_most_all w k (Won o) fit h = let e = h (λ i. cc) in absurd (cc)
-at_most_all w k (Bound c true m) fit h = let e = h (λ i. cc) in absurd (cc)
-at_most_all w k (Bound c false m) fit h = absurd (names_none c fit.0.0 (h (λ i. cc)))
-at_most_all w k (Inflated c m) fit h = absurd (names_none c fit.0.0 (h (λ i. cc)))
-at_most_all w k (Direct c) fit h = absurd (not_direct c fit (h (λ i. cc)))
-at_most_all w k Parked fit h = omega arith
-at_most_all w k (Ending n) fit h = omega arith
+at_most_all : (objects : ℕ) (p : Place) → ((p ≡ AtPost → ⊥) → doing_of p ≡ doing.Wants call.End) → left_at objects p ≤ objects + 1
+at_most_all objects Idle h = let e = h (λ i. cc) in absurd (cc)
+at_most_all objects (InCall s) h = absurd (stage_no_end s (h (λ i. cc)))
+at_most_all objects (Ending n) h = omega arith
+at_most_all objects AtPost h = omega arith
 
 module _ (w : WorldState) (sound : IsSound w) (t : ThreadId) (flag : Bool) (act : Doing) (is : Is (shown w) t flag act) where
   -- the seat of a thread that is doing this
@@ -248,7 +231,7 @@ module _ (w : WorldState) (sound : IsSound w) (t : ThreadId) (flag : Bool) (act 
       by_seat (Some k) e = (k, e, shows w sound t k e (record { flag = flag; act = act }) is)
 
   -- its place, where it is not parked
-  place_does : (k : ℕ) → seat_of w.seats t ≡ Some k → does w sound t k ≡ act → (p : Place) → place_at w k ≡ p → (p ≡ Parked → ⊥) → doing_of p ≡ act
+  place_does : (k : ℕ) → seat_of w.seats t ≡ Some k → does w sound t k ≡ act → (p : Place) → place_at w k ≡ p → (p ≡ AtPost → ⊥) → doing_of p ≡ act
   place_does k e h p at free = sym (does_out w sound t k e p at free) ∙ h
 
   has_left : (act ≡ doing.Idle → ⊥) → 1 ≤ left_of w t
@@ -266,6 +249,5 @@ module _ (w : WorldState) (sound : IsSound w) (t : ThreadId) (flag : Bool) (act 
 pub within_all : (w : WorldState) → IsSound w → (t : ThreadId) (flag : Bool) → Is (shown w) t flag (doing.Wants call.End) → (ss : List (Step × Bool)) → AllLinger w t ss → goes_of t ss < length w.words + 1
 within_all w sound t flag is ss all =
     let p = placed w sound t flag (doing.Wants call.End) is in
-    let fit : Fitting w p.0 (place_at w p.0) = sound.places p.0 (within w sound p.0 t p.1) in
-    let most : left_of w t ≤ length w.words + 1 = rw p.1 (at_most_all w p.0 (place_at w p.0) fit (λ free. place_does w sound t flag (doing.Wants call.End) is p.0 p.1 p.2 (place_at w p.0) refl free)) in
+    let most : left_of w t ≤ length w.words + 1 = rw p.1 (at_most_all (length w.words) (place_at w p.0) (λ free. place_does w sound t flag (doing.Wants call.End) is p.0 p.1 p.2 (place_at w p.0) refl free)) in
     let fewer : goes_of t ss < left_of w t = lingers w sound t ss (has_left w sound t flag (doing.Wants call.End) is (λ e. cc)) all in omega arith

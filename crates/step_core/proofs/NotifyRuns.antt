@@ -24,46 +24,33 @@ use Rattle.fat_monitor.specs.FatState.{FatState, monitor_at, is_owned_by, IsFair
 use Rattle.fat_monitor.specs.Acting.{told, granted, sent_back, all_removed}
 use Rattle.fat_monitor.proofs.Effects.{post-with_post_same, post-with_post_other, first_waiting, nobody_waiting, called_back, post-all_removed, monitors-all_removed, moment-all_removed}
 use Rattle.fat_monitor.proofs.Flags.{flags-all_removed}
-use Rattle.fast_path.specs.declared.Call.{Call}
-use Rattle.fast_path.specs.declared.Call.TheVariants as call
-use Rattle.fast_path.specs.Table.{target, object_of}
-use Rattle.step_core.specs.declared.moves.Doing.{Doing}
-use Rattle.step_core.specs.declared.moves.Doing.TheVariants as doing
+use Rattle.fast_path.specs.declared.calls.Operation.{Operation}
+use Rattle.fast_path.specs.declared.calls.Operation.TheVariants as op
+use Rattle.fast_path.specs.declared.calls.MonitorCall.{MonitorCall}
+use Rattle.fast_path.specs.declared.calls.Call.TheVariants as call
+use Rattle.fast_path.specs.Calls.{call_on, call_of}
+use Rattle.step_core.specs.declared.machine.Doing.{Doing}
+use Rattle.step_core.specs.declared.machine.Doing.TheVariants as doing
 use Rattle.step_core.specs.declared.places.Place.{Place}
-use Rattle.step_core.specs.declared.places.Place.TheVariants.{Idle, Begun, Taking, Storing, Binding, Acting, Won, Bound, Inflated, Direct, Parked, Ending}
-use Rattle.step_core.specs.declared.moves.Move.TheVariants as move
-use Rattle.step_core.specs.declared.events.Atomic.TheVariants as atomic
-use Rattle.step_core.specs.declared.events.Did.{Did}
+use Rattle.step_core.specs.declared.places.Place.TheVariants.{Idle, InCall, Ending, AtPost}
+use Rattle.step_core.specs.declared.places.Stage.TheVariants.{Bound}
+use Rattle.step_core.specs.declared.machine.Move.TheVariants as move
+use Rattle.step_core.specs.declared.steps.Atomic.TheVariants as atomic
+use Rattle.step_core.specs.declared.steps.Did.{Did}
 use Rattle.step_core.specs.Machine.{State, Thread, Run, Is, now_is, NobodyWaits, woken, all_woken}
 use Rattle.step_core.specs.WorldState.{WorldState, IsSound, Stands, Fitting, place_at, lock_at, bound_by, IsPublished}
-use Rattle.step_core.specs.Going.{gone, turns, replied, returned, after_act}
+use Rattle.step_core.specs.Going.{gone, turns, replied, returned, action_on}
 use Rattle.step_core.specs.Stepping.{given}
 use Rattle.step_core.specs.Shown.{shown, monitor_of, doing_of, act_of, thread_of}
 use Rattle.step_core.proofs.Machines.{run_unnoticed, run_returned, run_notified, run_notified_all, IsPlain}
 use Rattle.step_core.proofs.Machines.{one_object}
+use Rattle.step_core.proofs.PlaceFacts.{not_waiting, woken_out, who_bound}
 use Rattle.step_core.proofs.Shows.{does, thread_in, acts_alike, proper_at}
 use Rattle.step_core.proofs.Shifts.{one_thread, same_post, post_is, own_thread, kept_thread, given_thread, by_seat, shown_turned}
 use Rattle.step_core.proofs.Frames.{stands_at, is_at, act_out}
 use Rattle.step_core.proofs.WordRuns.{waits_object}
 use Rattle.step_core.proofs.ActShows.{act_same, object_here, monitors_kept, Goal, by_outcome, keeps_all, owned_by_me, mine}
 use Rattle.step_core.proofs.ActRuns.{enter_run, holds_run, illegal_run, exit_run, wait_run}
-use Rattle.step_core.proofs.WordRuns.{not_waiting}
-
--- what a thread at a place does is not changed where all are woken that wait
-woken_out : (o : ObjectId) (p : Place) → woken o (doing_of p) ≡ doing_of p
-woken_out o Idle = refl
-woken_out o (Begun c b) = refl
-woken_out o (Taking q b) = refl
-woken_out o (Storing c l) = refl
-woken_out o (Binding c n) = refl
-woken_out o (Acting c m) = refl
-woken_out o (Won q) = refl
-woken_out o (Bound c true m) = refl
-woken_out o (Bound c false m) = refl
-woken_out o (Inflated c m) = refl
-woken_out o (Direct c) = refl
-woken_out o Parked = refl
-woken_out o (Ending n) = refl
 
 -- the post of a thread that is called back, if it waited
 called_post : (m : ℕ) (x : Option Post) → unwrap_or (option_map (called_back m) x) Out ≡ called_back m (unwrap_or x Out)
@@ -74,24 +61,11 @@ module _ (w : WorldState) (sound : IsSound w) (k : ℕ) (t : ThreadId) (seat : s
   -- two bound monitors have two objects: each is shown by its own, or is to be stored over a thin word
   one_monitor : (o : ObjectId) (m j : ℕ) → lock_at w o.0 ≡ Fat m → (monitor_at w.fats j).object ≡ o → IsPublished w j → j ≡ m
   one_monitor o m j shows same (inl fat) = let e : Fat j ≡ Fat m = sym (rw same at fat) ∙ shows in cc
-  one_monitor o m j shows same (inr (i, there, bound)) = absurd (by_place (place_at w i) bound (sound.places i there))
-    where
-      by_place : (p : Place) → bound_by p ≡ Some j → Fitting w i p → ⊥
-      by_place Idle b fit = absurd (cc)
-      by_place (Begun c x) b fit = absurd (cc)
-      by_place (Taking q x) b fit = absurd (cc)
-      by_place (Storing c l) b fit = absurd (cc)
-      by_place (Binding c x) b fit = absurd (cc)
-      by_place (Acting c x) b fit = absurd (cc)
-      by_place (Won q) b fit = absurd (cc)
-      by_place (Bound c won x) b fit =
-          let number : x ≡ j = same_Some x j b in
-          let object : target c ≡ o = sym (ap (λ (y : fat.Monitor). y.object) fit.2.2) ∙ ap (λ (y : ℕ). (monitor_at w.fats y).object) number ∙ same in
-          let never : Thin (i + 1) fit.2.0 ≡ Fat m = sym fit.2.1 ∙ ap (λ (y : ObjectId). lock_at w y.0) object ∙ shows in absurd (cc)
-      by_place (Inflated c x) b fit = absurd (cc)
-      by_place (Direct c) b fit = absurd (cc)
-      by_place Parked b fit = absurd (cc)
-      by_place (Ending x) b fit = absurd (cc)
+  one_monitor o m j shows same (inr (i, there, bound)) =
+      let b = who_bound (place_at w i) j bound in
+      let fit : Fitting w i (InCall (Bound b.0 b.1 j)) = subst (λ (x : Place). Fitting w i x) b.2 (sound.places i there) in
+      let object : b.0.object ≡ o = sym (ap (λ (y : fat.Monitor). y.object) fit.2.2) ∙ same in
+      let never : Thin (i + 1) fit.2.0 ≡ Fat m = sym fit.2.1 ∙ ap (λ (y : ObjectId). lock_at w y.0) object ∙ shows in absurd (cc)
 
   -- nobody waits on the object where nobody waits on its monitor
   nobody_waits : (o : ObjectId) (m : ℕ) → lock_at w o.0 ≡ Fat m → first_of w.fats m WaitSet ≡ None → NobodyWaits (shown w) o
@@ -116,14 +90,14 @@ module _ (w : WorldState) (sound : IsSound w) (k : ℕ) (t : ThreadId) (seat : s
 
   notify_run : (o : ObjectId) (m : ℕ) (is : Is (shown w) t (flag_at w.fats t) (doing.Wants (call.Notify o))) (shows : lock_at w o.0 ≡ Fat m)
       → (b : Bool) → is_owned_by (monitor_at w.fats m).owner t ≡ b → (first : Option ThreadId) → first_of w.fats m WaitSet ≡ first
-      → Goal w k t (call.Notify o) m
-  notify_run o m is shows false b first e = illegal_run w sound k t seat out (call.Notify o) o m is shows refl b (rw b refl)
+      → Goal w k t (call.Notify o) (action.Notify m)
+  notify_run o m is shows false b first e = illegal_run w sound k t seat out (call.Notify o) (action.Notify m) o m is shows refl b (rw b refl)
   notify_run o m is shows true b None e =
       let own = mine w sound k t seat out (call.Notify o) o m is shows (monitor_at w.fats m).owner refl b in
-      keeps_all w sound k t seat out (call.Notify o) m reply.Notified (rw (b, e) refl)
+      keeps_all w sound k t seat out (call.Notify o) (action.Notify m) reply.Notified (rw (b, e) refl)
       (run_unnoticed (shown w) t (flag_at w.fats t) o is (owned_by_me w sound k t seat out (call.Notify o) o m is shows own) (nobody_waits o m shows e))
   notify_run o m is shows true b (Some u) e =
-      by_outcome w k t (call.Notify o) m (told g (answer.Reply reply.Notified) None (Some u)) (rw (b, e, post_is w.fats u (Waiting m n d) at, own) refl)
+      by_outcome w k t (call.Notify o) (action.Notify m) (told g (answer.Reply reply.Notified) None (Some u)) (rw (b, e, post_is w.fats u (Waiting m n d) at, own) refl)
       (subst (λ (s : State). Run (shown w) (move.Notify t (Some u) ∷ move.Return t reply.Notified ∷ []) s) (sym shown_then)
       (run_notified (shown w) t u (flag_at w.fats t) (flag_at w.fats u) o n d is (owned_by_me w sound k t seat out (call.Notify o) o m is shows own) waiting (λ x. apart (sym x))))
     where
@@ -181,10 +155,10 @@ module _ (w : WorldState) (sound : IsSound w) (k : ℕ) (t : ThreadId) (seat : s
           (λ v. at_thread v (cases_eq v.0 t.0) (cases_eq v.0 u.0)) (monitors_kept w k g Idle did refl)
 
   notify_all_run : (o : ObjectId) (m : ℕ) (is : Is (shown w) t (flag_at w.fats t) (doing.Wants (call.NotifyAll o))) (shows : lock_at w o.0 ≡ Fat m)
-      → (b : Bool) → is_owned_by (monitor_at w.fats m).owner t ≡ b → Goal w k t (call.NotifyAll o) m
-  notify_all_run o m is shows false b = illegal_run w sound k t seat out (call.NotifyAll o) o m is shows refl b (rw b refl)
+      → (b : Bool) → is_owned_by (monitor_at w.fats m).owner t ≡ b → Goal w k t (call.NotifyAll o) (action.NotifyAll m)
+  notify_all_run o m is shows false b = illegal_run w sound k t seat out (call.NotifyAll o) (action.NotifyAll m) o m is shows refl b (rw b refl)
   notify_all_run o m is shows true b =
-      by_outcome w k t (call.NotifyAll o) m (told g (answer.Reply reply.Notified) None None) (rw b refl)
+      by_outcome w k t (call.NotifyAll o) (action.NotifyAll m) (told g (answer.Reply reply.Notified) None None) (rw b refl)
       (subst (λ (s : State). Run (shown w) (move.NotifyAll t ∷ move.Return t reply.Notified ∷ []) s) (sym shown_then)
       (run_notified_all (shown w) t (flag_at w.fats t) o is (owned_by_me w sound k t seat out (call.NotifyAll o) o m is shows own)))
     where
@@ -243,35 +217,31 @@ module _ (w : WorldState) (sound : IsSound w) (k : ℕ) (t : ThreadId) (seat : s
       shown_then = shown_turned w sound k t seat g Idle did (now_is (all_woken (shown w) o) t (flag_at w.fats t) doing.Idle) refl (sym (moment-all_removed w.fats (line_of w.fats m WaitSet)))
           (λ v. at_thread v (cases_eq v.0 t.0)) (monitors_kept w k g Idle did same)
 
-  -- a Go that makes the call's own action
-  pub act_run : (c : Call) (m : ℕ) (p : Place) → IsSome (object_of c) → place_at w k ≡ p → doing_of p ≡ doing.Wants c → lock_at w (target c).0 ≡ Fat m
-      → Run (shown w) (given (after_act w t c m).did.moves) (shown (gone w k (after_act w t c m)))
-  act_run c m p names at wants shows = by_call c names (rw wants at (is_at w sound k t seat p at out)) shows
+  -- a Go that makes the action of an operation's own name
+  pub act_run : (c : MonitorCall) (m : ℕ) (p : Place) → place_at w k ≡ p → doing_of p ≡ doing.Wants (call_of c) → lock_at w c.object.0 ≡ Fat m
+      → Goal w k t (call_of c) (action_on c.operation m)
+  act_run c m p at wants shows = by_operation c.object c.operation (rw wants at (is_at w sound k t seat p at out)) shows
     where
       fair : (o : ObjectId) → lock_at w o.0 ≡ Fat m → IsFair (monitor_at w.fats m)
       fair o shows = let st : Stands w o.0 (Fat m) = rw shows at (stands_at w sound o.0) in sound.fats.fair m st.0
 
-      by_call : (c : Call) → IsSome (object_of c) → Is (shown w) t (flag_at w.fats t) (doing.Wants c) → lock_at w (target c).0 ≡ Fat m
-          → Run (shown w) (given (after_act w t c m).did.moves) (shown (gone w k (after_act w t c m)))
-      by_call (call.Enter o) names is shows = enter_run w sound k t seat out o m is shows (fair o shows) (monitor_at w.fats m).owner refl
-      by_call (call.Exit o) names is shows = exit_run w sound k t seat out o m is shows (fair o shows) (is_owned_by (monitor_at w.fats m).owner t) refl
-      by_call (call.Wait o millis nanos) names is shows = wait_run w sound k t seat out o millis nanos m is shows (is_owned_by (monitor_at w.fats m).owner t) refl
-      by_call (call.Notify o) names is shows = notify_run o m is shows (is_owned_by (monitor_at w.fats m).owner t) refl (first_of w.fats m WaitSet) refl
-      by_call (call.NotifyAll o) names is shows = notify_all_run o m is shows (is_owned_by (monitor_at w.fats m).owner t) refl
-      by_call (call.Holds o) names is shows = holds_run w sound k t seat out o m is shows (is_owned_by (monitor_at w.fats m).owner t) refl
-      by_call (call.Interrupt who) names is shows = absurd (cc)
-      by_call call.Interrupted names is shows = absurd (cc)
-      by_call (call.IsInterrupted who) names is shows = absurd (cc)
-      by_call call.End names is shows = absurd (cc)
+      by_operation : (o : ObjectId) (p : Operation) → Is (shown w) t (flag_at w.fats t) (doing.Wants (call_on o p)) → lock_at w o.0 ≡ Fat m
+          → Goal w k t (call_on o p) (action_on p m)
+      by_operation o op.Enter is shows = enter_run w sound k t seat out o m is shows (fair o shows) (monitor_at w.fats m).owner refl
+      by_operation o op.Exit is shows = exit_run w sound k t seat out o m is shows (fair o shows) (is_owned_by (monitor_at w.fats m).owner t) refl
+      by_operation o (op.Wait millis nanos) is shows = wait_run w sound k t seat out o millis nanos m is shows (is_owned_by (monitor_at w.fats m).owner t) refl
+      by_operation o op.Notify is shows = notify_run o m is shows (is_owned_by (monitor_at w.fats m).owner t) refl (first_of w.fats m WaitSet) refl
+      by_operation o op.NotifyAll is shows = notify_all_run o m is shows (is_owned_by (monitor_at w.fats m).owner t) refl
+      by_operation o op.Holds is shows = holds_run w sound k t seat out o m is shows (is_owned_by (monitor_at w.fats m).owner t) refl
 
--- a parked thread that was granted its reply returns with it
+-- a thread that was granted its reply returns with it
 module _ (w : WorldState) (sound : IsSound w) (k : ℕ) (t : ThreadId) (seat : seat_of w.seats t ≡ Some k) where
   plain : (r : Reply) → (r ≡ reply.Entered) ⊎ ((r ≡ reply.WaitOver) ⊎ (r ≡ reply.Interrupted)) → IsPlain r
   plain r (inl e) = rw e tt
   plain r (inr (inl e)) = rw e tt
   plain r (inr (inr e)) = rw e tt
 
-  pub collect_run : (r : Reply) → place_at w k ≡ Parked → post_of w.fats t ≡ Some (Granted r)
+  pub collect_run : (r : Reply) → place_at w k ≡ AtPost → post_of w.fats t ≡ Some (Granted r)
       → Run (shown w) (given (returned (atomic.Acted action.Collect (answer.Reply r)) t r).moves)
       (shown (gone w k (turns w (with_post w.fats t Out) Idle (returned (atomic.Acted action.Collect (answer.Reply r)) t r))))
   collect_run r at granted =
@@ -285,7 +255,7 @@ module _ (w : WorldState) (sound : IsSound w) (k : ℕ) (t : ThreadId) (seat : s
       did = returned (atomic.Acted action.Collect (answer.Reply r)) t r
 
       has : Is (shown w) t (flag_at w.fats t) (doing.Has r)
-      has = rw (seat, at) (ap (λ (q : Post). Some (does (flag_at w.fats t) (act_of w.fats q Parked))) (post_is w.fats t (Granted r) granted))
+      has = rw (seat, at) (ap (λ (q : Post). Some (does (flag_at w.fats t) (act_of w.fats q AtPost))) (post_is w.fats t (Granted r) granted))
 
       at_thread : (v : ThreadId) → (v.0 ≡ t.0) ⊎ (v.0 ≡ t.0 → ⊥) → thread_of (gone w k (turns w g Idle did)) v (seat_of w.seats v) ≡ (now_is (shown w) t (flag_at w.fats t) doing.Idle).thread v
       at_thread v (inl e) = rw (eq-eqb v.0 t.0 e) (own_thread w sound k t seat g Idle did (does (flag_at w.fats t) doing.Idle) (ap (does (flag_at w.fats t)) (act_out g t Idle (post-with_post_same w.fats t Out))) v e)

@@ -16,12 +16,12 @@ use Rattle.fat_monitor.specs.declared.actions.Post.{Post}
 use Rattle.fat_monitor.specs.FatState.{IsAttached}
 use Rattle.fat_monitor.proofs.Soundness.{IsSound-opened}
 use Rattle.step_core.specs.declared.places.Place.TheVariants.{Idle}
-use Rattle.step_core.specs.declared.events.Step.{Step}
+use Rattle.step_core.specs.declared.steps.Step.{Step}
 use Rattle.step_core.specs.Machine.{State, Run, opening}
 use Rattle.step_core.specs.WorldState.{WorldState, IsSound, opened, low_word, lock_at}
 use Rattle.step_core.specs.Stepping.{moves_after, world_after}
 use Rattle.step_core.specs.Shown.{shown}
-use Rattle.step_core.proofs.Steps.{steps_run}
+use Rattle.step_core.proofs.StepRuns.{steps_run}
 
 -- a word of a low byte alone
 low_words : (lows : List ℕ) → ((k : ℕ) → k < length lows → get_or lows k 0 < 256) → (p : ℕ) → (get_or (map low_word lows) p (low_word 0)).0 < 256

@@ -9,16 +9,18 @@ use Rattle.step_core.specs.Lasting.{Lasts}
 use Rattle.step_core.specs.Patience.{IsPatient}
 use Rattle.std.specs.Prelude.{◌≡◌, Bool, IfOk, IfErr, OnOk, OnErr, MatchResult, Result, Ok, Err}
 use Rattle.std.proofs.Common.{sym, subst}
-use Rattle.step_core.specs.declared.events.Did.{Did}
-use Rattle.step_core.specs.declared.events.Fault.{Fault}
-use Rattle.step_core.specs.declared.events.Step.{Step}
+use Rattle.step_core.specs.declared.steps.Did.{Did}
+use Rattle.step_core.specs.declared.steps.Fault.{Fault}
+use Rattle.step_core.specs.declared.steps.Step.{Step}
 use Rattle.step_core.specs.Machine.{Run}
 use Rattle.step_core.specs.WorldState.{WorldState, IsSound}
 use Rattle.step_core.specs.Stepping.{Outcome, step_of, moves_of}
 use Rattle.step_core.specs.Shown.{shown}
 use Rattle.step_core.specs.Labels.{HasLabels}
 use Rattle.step_core.specs.Refusals.{IsRefused, IsAcceptable, Spares}
-use Rattle.step_core.proofs.Steps.{step_right}
+use Rattle.step_core.proofs.StepRuns.{step_right}
+use Rattle.step_core.specs.Changes.{Changes}
+use Rattle.step_core.proofs.Changes.{step_changes}
 use Rattle.step_core.proofs.Labelings.{step_labels}
 use Rattle.step_core.proofs.Refusing.{step_judged}
 use Rattle.step_core.proofs.Sparing.{step_spares}
@@ -26,6 +28,7 @@ use Rattle.step_core.proofs.Sparing.{step_spares}
 pub record Tells (w : WorldState) (s : Step) (o : Outcome) : Type 0 where
   pub sound : IsSound o.after
   pub run : Run (shown w) (moves_of o.answer) (shown o.after)
+  pub changes : IfOk o.answer (λ d. Changes w s d.atomic o.after)
   pub labels : IfOk o.answer (HasLabels s)
   pub judged : MatchResult o.answer (λ d. IsAcceptable w s) (λ f. IsRefused w s f)
   pub unchanged : OnErr o.answer (o.after ≡ w)
@@ -39,7 +42,7 @@ step_tells : (w : WorldState) → IsSound w → (room : Bool) (s : Step) → Tel
 step_tells w sound room s =
     let right = step_right w sound room s in
     let judged = step_judged w sound room s in
-    record { sound = right.0; run = right.1; labels = step_labels w sound room s; judged = judged.0; unchanged = judged.1; patient = step_patient w sound room s; kept = step_keeps w sound room s; behind = stand_behind (step_of room w s).after.fats right.0.fats; lasting = step_lasts w sound room s; spared = step_spares w sound room s }
+    record { sound = right.0; run = right.1; changes = step_changes w sound room s; labels = step_labels w sound room s; judged = judged.0; unchanged = judged.1; patient = step_patient w sound room s; kept = step_keeps w sound room s; behind = stand_behind (step_of room w s).after.fats right.0.fats; lasting = step_lasts w sound room s; spared = step_spares w sound room s }
 
 -- what a step of the code answers and leaves
 pub tells : (w w' : WorldState) (s : Step) (r : Result Did Fault) (room : Bool) → IsSound w

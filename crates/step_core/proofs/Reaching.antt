@@ -6,15 +6,15 @@ use Rattle.std.proofs.lemmas.List.Elements.{filter-append}
 use Rattle.lock_word.specs.declared.ThreadId.{ThreadId}
 use Rattle.thread_index.specs.Indices.{IsOneToOne}
 use Rattle.fat_monitor.specs.declared.actions.Reply.{Reply}
-use Rattle.fast_path.specs.declared.Call.TheVariants as call
-use Rattle.step_core.specs.declared.moves.Doing.{Doing}
-use Rattle.step_core.specs.declared.moves.Doing.TheVariants as doing
-use Rattle.step_core.specs.declared.moves.Move.{Move}
-use Rattle.step_core.specs.declared.moves.Move.TheVariants as move
-use Rattle.step_core.specs.declared.events.Step.{Step}
-use Rattle.step_core.specs.declared.events.Step.TheVariants as step
-use Rattle.step_core.specs.declared.events.Did.{Did}
-use Rattle.step_core.specs.declared.events.Fault.{Fault}
+use Rattle.fast_path.specs.declared.calls.Call.TheVariants as call
+use Rattle.step_core.specs.declared.machine.Doing.{Doing}
+use Rattle.step_core.specs.declared.machine.Doing.TheVariants as doing
+use Rattle.step_core.specs.declared.machine.Move.{Move}
+use Rattle.step_core.specs.declared.machine.Move.TheVariants as move
+use Rattle.step_core.specs.declared.steps.Step.{Step}
+use Rattle.step_core.specs.declared.steps.Step.TheVariants as step
+use Rattle.step_core.specs.declared.steps.Did.{Did}
+use Rattle.step_core.specs.declared.steps.Fault.{Fault}
 use Rattle.step_core.specs.Machine.{Run, opening, Is}
 use Rattle.step_core.specs.WorldState.{WorldState, IsSound, opened, low_word}
 use Rattle.step_core.specs.Stepping.{step_of, given, moves_of, moves_after, world_after}
@@ -23,7 +23,7 @@ use Rattle.step_core.specs.Labels.{is_label, labels_of, EndsWith, HasLabels, ret
 use Rattle.step_core.specs.Laws.{AreWithinLimits, reached}
 use Rattle.step_core.specs.Patience.{goes_of, AllLinger}
 use Rattle.step_core.specs.Kept.{Keeps}
-use Rattle.step_core.proofs.Steps.{step_right}
+use Rattle.step_core.proofs.StepRuns.{step_right}
 use Rattle.step_core.proofs.Opening.{opened_sound, opened_run}
 use Rattle.step_core.proofs.Labelings.{step_labels}
 use Rattle.step_core.proofs.Bytes.{step_keeps}

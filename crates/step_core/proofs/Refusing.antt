@@ -8,7 +8,7 @@ use Rattle.fat_monitor.specs.FatState.{FatState, monitor_at, post_of, post_at, f
 use Rattle.fat_monitor.specs.Acting.{Outcome as FatOutcome, told, removed, served, not_due, expired as fat_expired}
 use Rattle.fat_monitor.specs.declared.actions.Why.TheVariants.{Elapsed}
 use Rattle.fat_monitor.specs.declared.actions.Answer.TheVariants.{Quiet}
-use Rattle.step_core.specs.Going.{after_go, gone, moved}
+use Rattle.step_core.specs.Going.{moved}
 use Rattle.lock_word.specs.declared.ObjectId.{ObjectId}
 use Rattle.std.specs.Prelude.{zero, suc, ◌≡◌, ◌⊎◌, ℕ, ◌+◌, ◌<◌, ◌≤◌, Bool, true, false, nat_lt, List, [], ◌∷◌, length, Option, Some, None, IsSome, is_some, is_none, MatchResult, OnErr, if◌then◌else◌}
 use Rattle.std.specs.List.{position_from}
@@ -18,23 +18,23 @@ use Rattle.std.proofs.lemmas.Option.{same_Some}
 use Rattle.lock_word.specs.declared.ThreadId.{ThreadId}
 use Rattle.thread_index.specs.Indices.{seat_of, free_seat, holder_at}
 use Rattle.thread_index.proofs.Seats.{free_found}
-use Rattle.fast_path.specs.declared.Call.{Call}
-use Rattle.fast_path.specs.declared.Call.TheVariants as call
-use Rattle.fast_path.specs.Table.{object_of}
-use Rattle.step_core.specs.declared.moves.Doing.{Doing}
-use Rattle.step_core.specs.declared.moves.Doing.TheVariants as doing
+use Rattle.fast_path.specs.declared.calls.Call.{Call}
+use Rattle.step_core.specs.declared.machine.Doing.{Doing}
+use Rattle.step_core.specs.declared.machine.Doing.TheVariants as doing
 use Rattle.step_core.specs.declared.places.Place.{Place}
-use Rattle.step_core.specs.declared.places.Place.TheVariants.{Idle, Begun, Taking, Storing, Binding, Acting, Won, Bound, Inflated, Direct, Parked as ParkedPlace, Ending}
-use Rattle.step_core.specs.declared.events.Step.{Step}
-use Rattle.step_core.specs.declared.events.Step.TheVariants as step
-use Rattle.step_core.specs.declared.events.Fault.{Fault}
-use Rattle.step_core.specs.declared.events.Atomic.TheVariants.{Label}
-use Rattle.step_core.specs.declared.moves.Move.TheVariants as move
-use Rattle.step_core.proofs.WordRuns.{not_waiting}
-use Rattle.step_core.specs.declared.events.Fault.TheVariants.{NoIndex, Memory, Known, NoThread, NoObject, InCall, NotCalling, Parked, NotDue, Backwards}
+use Rattle.step_core.specs.declared.places.Place.TheVariants.{Idle, InCall, Ending, AtPost}
+use Rattle.step_core.specs.declared.steps.Step.{Step}
+use Rattle.step_core.specs.declared.steps.Step.TheVariants as step
+use Rattle.step_core.specs.declared.steps.Fault.{Fault}
+use Rattle.step_core.specs.declared.steps.Atomic.TheVariants.{Label}
+use Rattle.step_core.specs.declared.machine.Move.TheVariants as move
+use Rattle.step_core.specs.declared.steps.Fault.TheVariants as fault
+use Rattle.step_core.specs.declared.steps.Fault.TheVariants.{NoIndex, Memory, Known, NoThread, NoObject, NotCalling, Parked, NotDue, Backwards}
 use Rattle.step_core.specs.Machine.{Thread, Exists}
 use Rattle.step_core.specs.WorldState.{WorldState, IsSound, place_at}
-use Rattle.step_core.specs.Stepping.{Outcome, attached, begun, begun_at, refused, went, went_at, step_of, ended, accepted, gathered, expired, expired_as, ticked}
+use Rattle.step_core.specs.Stepping.{Outcome, attached, begun, begun_at, refused, went, step_of, accepted, expired, expired_as, ticked}
+use Rattle.step_core.proofs.PlaceFacts.{not_waiting, not_idle}
+use Rattle.step_core.proofs.Cases.{ended_as, begin_cases, go_cases}
 use Rattle.step_core.specs.Shown.{shown, doing_of, act_of}
 use Rattle.step_core.specs.Refusals.{IsLive, IsNotLive, IsBusy, IsIdle, IsParked, IsRefused, IsAcceptable}
 use Rattle.step_core.proofs.Frames.{act_out, out_at}
@@ -57,20 +57,11 @@ full_from i [] e k h = absurd (omega arith)
 full_from i (x ∷ xs) e k h = full_by_test i x xs (is_none x) refl (full_from (i + 1) xs) e k h
 
 -- a thread in a call that is out of every fat action is not idle
-not_idle : (p : Place) → (p ≡ Idle → ⊥) → (p ≡ ParkedPlace → ⊥) → doing_of p ≡ doing.Idle → ⊥
-not_idle Idle busy free e = busy refl
-not_idle (Begun c b) busy free e = cc
-not_idle (Taking o b) busy free e = cc
-not_idle (Storing c l) busy free e = cc
-not_idle (Binding c n) busy free e = cc
-not_idle (Acting c m) busy free e = cc
-not_idle (Won o) busy free e = cc
-not_idle (Bound c true m) busy free e = cc
-not_idle (Bound c false m) busy free e = cc
-not_idle (Inflated c m) busy free e = cc
-not_idle (Direct c) busy free e = cc
-not_idle ParkedPlace busy free e = free refl
-not_idle (Ending n) busy free e = cc
+busy_out : (p : Place) → (p ≡ Idle → ⊥) → (p ≡ AtPost → ⊥) → doing_of p ≡ doing.Idle → ⊥
+busy_out Idle busy free e = busy refl
+busy_out (InCall s) busy free e = not_idle s e
+busy_out (Ending n) busy free e = cc
+busy_out AtPost busy free e = free refl
 
 -- nor is one that is in a fat action
 parked_acts : (f : FatState) (p : Place) (o : Option Post) → IsSome o → (o ≡ Some Out → ⊥) → act_of f (unwrap_or o Out) p ≡ doing.Idle → ⊥
@@ -81,20 +72,12 @@ parked_acts f p (Some (Waiting m n d)) some other e = cc
 parked_acts f p (Some (Back m n w)) some other e = cc
 parked_acts f p (Some (Granted r)) some other e = cc
 
--- whether a place is the one of parked threads
-parked_or_not : (p : Place) → (p ≡ ParkedPlace) ⊎ (p ≡ ParkedPlace → ⊥)
-parked_or_not Idle = inr (λ e. cc)
-parked_or_not (Begun c b) = inr (λ e. cc)
-parked_or_not (Taking o b) = inr (λ e. cc)
-parked_or_not (Storing c l) = inr (λ e. cc)
-parked_or_not (Binding c n) = inr (λ e. cc)
-parked_or_not (Acting c m) = inr (λ e. cc)
-parked_or_not (Won o) = inr (λ e. cc)
-parked_or_not (Bound c won m) = inr (λ e. cc)
-parked_or_not (Inflated c m) = inr (λ e. cc)
-parked_or_not (Direct c) = inr (λ e. cc)
-parked_or_not ParkedPlace = inl refl
-parked_or_not (Ending n) = inr (λ e. cc)
+-- whether a thread is at its post
+at_post_or_not : (p : Place) → (p ≡ AtPost) ⊎ (p ≡ AtPost → ⊥)
+at_post_or_not Idle = inr (λ e. cc)
+at_post_or_not (InCall s) = inr (λ e. cc)
+at_post_or_not (Ending n) = inr (λ e. cc)
+at_post_or_not AtPost = inl refl
 
 -- the time of a wait
 waits_until : {p o : ObjectId} {m n c d : ℕ} → doing.Waits p m (Some c) ≡ doing.Waits o n (Some d) → c ≡ d
@@ -109,16 +92,16 @@ module _ (w : WorldState) (sound : IsSound w) (t : ThreadId) where
   does k = act_of w.fats (post_at w.fats t) (place_at w k)
 
   -- which its place says alone, unless it is parked
-  pub does_out : (k : ℕ) → seat_of w.seats t ≡ Some k → (p : Place) → place_at w k ≡ p → (p ≡ ParkedPlace → ⊥) → does k ≡ doing_of p
+  pub does_out : (k : ℕ) → seat_of w.seats t ≡ Some k → (p : Place) → place_at w k ≡ p → (p ≡ AtPost → ⊥) → does k ≡ doing_of p
   does_out k e p at free = act_out w.fats t (place_at w k) (out_at w sound k t e p at free) ∙ ap doing_of at
 
   -- a thread in a call is not idle
   pub does_not_idle : (k : ℕ) → seat_of w.seats t ≡ Some k → (place_at w k ≡ Idle → ⊥) → does k ≡ doing.Idle → ⊥
-  does_not_idle k e busy idle = by_place (parked_or_not (place_at w k))
+  does_not_idle k e busy idle = by_place (at_post_or_not (place_at w k))
     where
-      by_place : (place_at w k ≡ ParkedPlace) ⊎ (place_at w k ≡ ParkedPlace → ⊥) → ⊥
+      by_place : (place_at w k ≡ AtPost) ⊎ (place_at w k ≡ AtPost → ⊥) → ⊥
       by_place (inl parked) = parked_acts w.fats (place_at w k) (post_of w.fats t) (sound.attached t (rw e refl)) (rw parked at (sound.posted t k e)) idle
-      by_place (inr free) = not_idle (place_at w k) busy free (sym (does_out k e (place_at w k) refl free) ∙ idle)
+      by_place (inr free) = busy_out (place_at w k) busy free (sym (does_out k e (place_at w k) refl free) ∙ idle)
 
   live : (k : ℕ) → seat_of w.seats t ≡ Some k → IsLive w t
   live k e = rw e refl
@@ -166,62 +149,36 @@ module _ (w : WorldState) (sound : IsSound w) (t : ThreadId) where
       accepted_only Memory h = refl
       accepted_only NoThread h = absurd h
       accepted_only NoObject h = absurd h
-      accepted_only InCall h = absurd h
+      accepted_only fault.InCall h = absurd h
       accepted_only NotCalling h = absurd h
       accepted_only Parked h = absurd h
       accepted_only NotDue h = absurd h
       accepted_only Backwards h = absurd h
   attaches false None (Some k) e free = let there = free_found w.seats k free in ((not_live e, (k, there.0, there.1)), refl)
 
-  -- a call that names no object that is missing
-  begins_at : (c : Call) (k : ℕ) → seat_of w.seats t ≡ Some k → Exists (length w.words) c
-      → ((o : ObjectId) → object_of c ≡ Some o → length w.words ≤ o.0 → ⊥) → (p : Place) → place_at w k ≡ p
-      → Judged w (step.Begin t c) (begun_at w k t c p)
-  begins_at c k e h there Idle at = (accepted_only, tt)
+  -- each Begin
+  begins : (c : Call) → Judged w (step.Begin t c) (begun w t c (seat_of w.seats t))
+  begins c = begin_cases w t c (Judged w (step.Begin t c))
+      (λ none. (not_live none, refl))
+      (λ k o seat names past. ((live k seat, (o, names, past)), refl))
+      (λ k seat there in_call. ((busy k seat in_call, there), refl))
+      begins_call
     where
-      accepted_only : (f : Fault) → IsRefused w (step.Begin t c) f → f ≡ Memory
-      accepted_only NoThread r = absurd (apart_too k e r)
-      accepted_only NoObject r = absurd (there r.1.0 r.1.1 r.1.2)
-      accepted_only InCall r = let x = r.0 in absurd (x.2 (sym (shows k e x.0 x.1) ∙ does_out k e Idle at (λ i. cc)))
-      accepted_only Known r = absurd r
-      accepted_only NoIndex r = absurd r
-      accepted_only Memory r = refl
-      accepted_only NotCalling r = absurd r
-      accepted_only Parked r = absurd r
-      accepted_only NotDue r = absurd r
-      accepted_only Backwards r = absurd r
-  begins_at c k e h there (Begun d b) at = ((busy k e (λ i. let x = sym at ∙ i in cc), h), refl)
-  begins_at c k e h there (Taking d b) at = ((busy k e (λ i. let x = sym at ∙ i in cc), h), refl)
-  begins_at c k e h there (Storing d l) at = ((busy k e (λ i. let x = sym at ∙ i in cc), h), refl)
-  begins_at c k e h there (Binding d n) at = ((busy k e (λ i. let x = sym at ∙ i in cc), h), refl)
-  begins_at c k e h there (Acting d m) at = ((busy k e (λ i. let x = sym at ∙ i in cc), h), refl)
-  begins_at c k e h there (Won o) at = ((busy k e (λ i. let x = sym at ∙ i in cc), h), refl)
-  begins_at c k e h there (Bound d won m) at = ((busy k e (λ i. let x = sym at ∙ i in cc), h), refl)
-  begins_at c k e h there (Inflated d m) at = ((busy k e (λ i. let x = sym at ∙ i in cc), h), refl)
-  begins_at c k e h there (Direct d) at = ((busy k e (λ i. let x = sym at ∙ i in cc), h), refl)
-  begins_at c k e h there ParkedPlace at = ((busy k e (λ i. let x = sym at ∙ i in cc), h), refl)
-  begins_at c k e h there (Ending n) at = ((busy k e (λ i. let x = sym at ∙ i in cc), h), refl)
-
-  begins_on : (c : Call) (o : ObjectId) (k : ℕ) → seat_of w.seats t ≡ Some k → object_of c ≡ Some o → (o.0 < length w.words → Exists (length w.words) c)
-      → Judged w (step.Begin t c) (if nat_lt o.0 (length w.words) then begun_at w k t c (place_at w k) else refused w NoObject)
-  begins_on c o k e names there =
-      cond_both (nat_lt o.0 (length w.words)) (begun_at w k t c (place_at w k)) (refused w NoObject) (Judged w (step.Begin t c))
-      (λ h. let low : o.0 < length w.words = ltb-true o.0 (length w.words) h in
-      begins_at c k e (there low) (λ p same past. let one : o.0 ≡ p.0 = ap (λ (x : ObjectId). x.0) (same_Some o p (sym names ∙ same)) in absurd (omega arith)) (place_at w k) refl)
-      (λ h. ((live k e, (o, names, ltb-false o.0 (length w.words) h)), refl))
-
-  begins : (c : Call) (o : Option ℕ) → seat_of w.seats t ≡ o → Judged w (step.Begin t c) (begun w t c o)
-  begins c None e = (not_live e, refl)
-  begins (call.Enter o) (Some k) e = begins_on (call.Enter o) o k e refl (λ h. h)
-  begins (call.Exit o) (Some k) e = begins_on (call.Exit o) o k e refl (λ h. h)
-  begins (call.Wait o millis nanos) (Some k) e = begins_on (call.Wait o millis nanos) o k e refl (λ h. h)
-  begins (call.Notify o) (Some k) e = begins_on (call.Notify o) o k e refl (λ h. h)
-  begins (call.NotifyAll o) (Some k) e = begins_on (call.NotifyAll o) o k e refl (λ h. h)
-  begins (call.Holds o) (Some k) e = begins_on (call.Holds o) o k e refl (λ h. h)
-  begins (call.Interrupt who) (Some k) e = begins_at (call.Interrupt who) k e tt (λ o same past. cc) (place_at w k) refl
-  begins call.Interrupted (Some k) e = begins_at call.Interrupted k e tt (λ o same past. cc) (place_at w k) refl
-  begins (call.IsInterrupted who) (Some k) e = begins_at (call.IsInterrupted who) k e tt (λ o same past. cc) (place_at w k) refl
-  begins call.End (Some k) e = begins_at call.End k e tt (λ o same past. cc) (place_at w k) refl
+      begins_call : (k : ℕ) → seat_of w.seats t ≡ Some k → Exists (length w.words) c → place_at w k ≡ Idle → Judged w (step.Begin t c) (begun_at w k t c Idle)
+      begins_call k seat there at = (accepted_only, tt)
+        where
+          accepted_only : (f : Fault) → IsRefused w (step.Begin t c) f → f ≡ Memory
+          accepted_only NoThread r = absurd (apart_too k seat r)
+          accepted_only NoObject r =
+              let past : length w.words ≤ r.1.0.0 = r.1.2 in let inside : r.1.0.0 < length w.words = rw r.1.1 at there in absurd (omega arith)
+          accepted_only fault.InCall r = let x = r.0 in absurd (x.2 (sym (shows k seat x.0 x.1) ∙ does_out k seat Idle at (λ i. cc)))
+          accepted_only Known r = absurd r
+          accepted_only NoIndex r = absurd r
+          accepted_only Memory r = refl
+          accepted_only NotCalling r = absurd r
+          accepted_only Parked r = absurd r
+          accepted_only NotDue r = absurd r
+          accepted_only Backwards r = absurd r
 
   -- a Go of a thread that is in a call and stands nowhere is accepted
   goes : (k : ℕ) → seat_of w.seats t ≡ Some k → (place_at w k ≡ Idle → ⊥) → (IsParked w t → ⊥) → (f : Fault) → IsRefused w (step.Go t) f → f ≡ Memory
@@ -232,47 +189,28 @@ module _ (w : WorldState) (sound : IsSound w) (t : ThreadId) where
   goes k e h free NoIndex r = absurd r
   goes k e h free Memory r = refl
   goes k e h free NoObject r = absurd r
-  goes k e h free InCall r = absurd r
+  goes k e h free fault.InCall r = absurd r
   goes k e h free NotDue r = absurd r
   goes k e h free Backwards r = absurd r
 
   -- and so is one at any place but these two
-  goes_at : (k : ℕ) → seat_of w.seats t ≡ Some k → (p : Place) → place_at w k ≡ p → (p ≡ Idle → ⊥) → (p ≡ ParkedPlace → ⊥) → IsAcceptable w (step.Go t)
+  goes_at : (k : ℕ) → seat_of w.seats t ≡ Some k → (p : Place) → place_at w k ≡ p → (p ≡ Idle → ⊥) → (p ≡ AtPost → ⊥) → IsAcceptable w (step.Go t)
   goes_at k e p at busy free = goes k e (λ i. busy (sym at ∙ i)) (nowhere Out (out_at w sound k t e p at free) refl)
 
-  -- a Go of a parked thread is refused until it is granted its reply
-  gathers : (k : ℕ) → seat_of w.seats t ≡ Some k → place_at w k ≡ ParkedPlace → (o : Option Post) → post_of w.fats t ≡ o
-      → Judged w (step.Go t) (gathered w k t (unwrap_or o Out))
-  gathers k e at None there = let never : is_some {T = Post} None ≡ true = rw there at (sound.attached t (rw e refl)) in absurd (cc)
-  gathers k e at (Some Out) there = absurd (rw at at (sound.posted t k e) there)
-  gathers k e at (Some (Entering m)) there = ((live k e, (m, Entry, sound.fats.posted t (Entering m) m Entry there refl)), refl)
-  gathers k e at (Some (Waiting m n d)) there = ((live k e, (m, WaitSet, sound.fats.posted t (Waiting m n d) m WaitSet there refl)), refl)
-  gathers k e at (Some (Back m n y)) there = ((live k e, (m, Entry, sound.fats.posted t (Back m n y) m Entry there refl)), refl)
-  gathers k e at (Some (Granted r)) there = (goes k e (λ i. let x = sym at ∙ i in cc) (nowhere (Granted r) there refl), tt)
-
-  wents_at : (room : Bool) (k : ℕ) → seat_of w.seats t ≡ Some k → (p : Place) → place_at w k ≡ p → Judged w (step.Go t) (went_at room w k t p)
-  wents_at room k e Idle at = (idle k e at, refl)
-  wents_at room k e (Begun d b) at = (goes_at k e (Begun d b) at (λ i. cc) (λ i. cc), tt)
-  wents_at room k e (Taking d b) at = (goes_at k e (Taking d b) at (λ i. cc) (λ i. cc), tt)
-  wents_at room k e (Storing d l) at = (goes_at k e (Storing d l) at (λ i. cc) (λ i. cc), tt)
-  wents_at room k e (Binding d n) at = (goes_at k e (Binding d n) at (λ i. cc) (λ i. cc), tt)
-  wents_at room k e (Acting d m) at = (goes_at k e (Acting d m) at (λ i. cc) (λ i. cc), tt)
-  wents_at room k e (Won o) at = (goes_at k e (Won o) at (λ i. cc) (λ i. cc), tt)
-  wents_at room k e (Bound d won m) at = (goes_at k e (Bound d won m) at (λ i. cc) (λ i. cc), tt)
-  wents_at room k e (Inflated d m) at = (goes_at k e (Inflated d m) at (λ i. cc) (λ i. cc), tt)
-  wents_at room k e (Direct d) at = (goes_at k e (Direct d) at (λ i. cc) (λ i. cc), tt)
-  wents_at room k e ParkedPlace at = gathers k e at (post_of w.fats t) refl
-  wents_at room k e (Ending n) at =
-      cond_both (nat_lt n (length w.words)) (accepted (gone w k (after_go room w k t (Ending n))) (after_go room w k t (Ending n)).did) (ended w k t (owns_one w.fats.monitors t)) (Judged w (step.Go t))
-      (λ _. (goes_at k e (Ending n) at (λ i. cc) (λ i. cc), tt)) (λ _. ends (owns_one w.fats.monitors t))
+  -- each Go
+  wents : (room : Bool) → Judged w (step.Go t) (went room w t (seat_of w.seats t))
+  wents = go_cases w sound t (Judged w (step.Go t))
+      (λ none. (not_live none, refl))
+      (λ k seat at. (idle k seat at, refl))
+      (λ k seat out room s at fit. (goes_at k seat (InCall s) at (λ i. cc) (λ i. cc), tt))
+      (λ k seat out n at more. (goes_at k seat (Ending n) at (λ i. cc) (λ i. cc), tt))
+      (λ k seat out n at all. ends k (goes_at k seat (Ending n) at (λ i. cc) (λ i. cc)) (owns_one w.fats.monitors t))
+      (λ k seat at stands. ((live k seat, stands), refl))
+      (λ k seat r at granted. (goes k seat (λ i. let x = sym at ∙ i in cc) (nowhere (Granted r) granted refl), tt))
     where
-      ends : (b : Bool) → Judged w (step.Go t) (ended w k t b)
-      ends true = (goes_at k e (Ending n) at (λ i. cc) (λ i. cc), tt)
-      ends false = (goes_at k e (Ending n) at (λ i. cc) (λ i. cc), tt)
-
-  wents : (room : Bool) (o : Option ℕ) → seat_of w.seats t ≡ o → Judged w (step.Go t) (went room w t o)
-  wents room None e = (not_live e, refl)
-  wents room (Some k) e = wents_at room k e (place_at w k) refl
+      ends : (k : ℕ) → IsAcceptable w (step.Go t) → (b : Bool) → Judged w (step.Go t) (ended_as w k t b)
+      ends k may true = (may, tt)
+      ends k may false = (may, tt)
 
   -- a thread with another post than this one waits for no time that is over
   not_due_at : (k : ℕ) → seat_of w.seats t ≡ Some k → (p : Post) → post_at w.fats t ≡ p
@@ -314,7 +252,7 @@ module _ (w : WorldState) (sound : IsSound w) (t : ThreadId) where
       accepted_only due NoIndex r = absurd r
       accepted_only due Memory r = refl
       accepted_only due NoObject r = absurd r
-      accepted_only due InCall r = absurd r
+      accepted_only due fault.InCall r = absurd r
       accepted_only due NotCalling r = absurd r
       accepted_only due Parked r = absurd r
       accepted_only due Backwards r = absurd r
@@ -338,7 +276,7 @@ ticks w now =
     accepted_only on Memory r = refl
     accepted_only on NoThread r = absurd r
     accepted_only on NoObject r = absurd r
-    accepted_only on InCall r = absurd r
+    accepted_only on fault.InCall r = absurd r
     accepted_only on NotCalling r = absurd r
     accepted_only on Parked r = absurd r
     accepted_only on NotDue r = absurd r
@@ -346,7 +284,7 @@ ticks w now =
 -- Each answer is the right one, and a refused step changes nothing.
 pub step_judged : (w : WorldState) → IsSound w → (room : Bool) (s : Step) → MatchResult (step_of room w s).answer (λ d. IsAcceptable w s) (λ f. IsRefused w s f) × OnErr (step_of room w s).answer ((step_of room w s).after ≡ w)
 step_judged w sound room (step.Attach t) = attaches w sound t room (seat_of w.seats t) (free_seat w.seats) refl refl
-step_judged w sound room (step.Begin t c) = begins w sound t c (seat_of w.seats t) refl
-step_judged w sound room (step.Go t) = wents w sound t room (seat_of w.seats t) refl
+step_judged w sound room (step.Begin t c) = begins w sound t c
+step_judged w sound room (step.Go t) = wents w sound t room
 step_judged w sound room (step.Expire t) = expires w sound t (seat_of w.seats t) refl
 step_judged w sound room (step.Tick now) = ticks w now

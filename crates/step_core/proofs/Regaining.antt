@@ -7,9 +7,9 @@ use Rattle.lock_word.specs.declared.ThreadId.{ThreadId}
 use Rattle.lock_word.specs.declared.ObjectId.{ObjectId}
 use Rattle.fat_monitor.specs.declared.actions.Why.TheVariants as why
 use Rattle.fat_monitor.specs.declared.actions.Reply.TheVariants as reply
-use Rattle.fast_path.specs.declared.Call.TheVariants as call
-use Rattle.step_core.specs.declared.moves.Doing.TheVariants.{Idle, Waits, Back, Has}
-use Rattle.step_core.specs.declared.moves.Move.TheVariants as move
+use Rattle.fast_path.specs.declared.calls.Call.TheVariants as call
+use Rattle.step_core.specs.declared.machine.Doing.TheVariants.{Idle, Waits, Back, Has}
+use Rattle.step_core.specs.declared.machine.Move.TheVariants as move
 use Rattle.step_core.specs.Machine.{State, Thread, Run, held, with_monitor, Is, now_is, answered, Unowned, Calls}
 use Rattle.step_core.proofs.Machines.{return_row, with_thread-with_thread, now_is-Is, now_is-other}
 

@@ -14,7 +14,7 @@ use Rattle.fat_monitor.specs.declared.actions.Post.TheVariants.{Out}
 use Rattle.fat_monitor.specs.FatState.{FatState, post_of, post_at}
 use Rattle.step_core.specs.declared.places.Place.{Place}
 use Rattle.step_core.specs.declared.places.Place.TheVariants.{Idle}
-use Rattle.step_core.specs.declared.events.Did.{Did}
+use Rattle.step_core.specs.declared.steps.Did.{Did}
 use Rattle.step_core.specs.Machine.{State, Thread, Monitor}
 use Rattle.step_core.specs.WorldState.{WorldState, IsSound, place_at, lock_at}
 use Rattle.step_core.specs.Going.{gone, turns}

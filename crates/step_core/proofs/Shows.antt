@@ -11,9 +11,9 @@ use Rattle.fat_monitor.specs.declared.actions.Post.{Post}
 use Rattle.fat_monitor.specs.declared.actions.Post.TheVariants.{Out, Entering, Waiting, Back, Granted}
 use Rattle.fat_monitor.specs.FatState.{FatState, monitor_at, post_of, post_at, flag_at, IsProper}
 use Rattle.fat_monitor.specs.FatState as fat
-use Rattle.fast_path.specs.declared.Call.TheVariants.{Enter}
-use Rattle.step_core.specs.declared.moves.Doing.{Doing}
-use Rattle.step_core.specs.declared.moves.Doing.TheVariants as doing
+use Rattle.fast_path.specs.declared.calls.Call.TheVariants.{Enter}
+use Rattle.step_core.specs.declared.machine.Doing.{Doing}
+use Rattle.step_core.specs.declared.machine.Doing.TheVariants as doing
 use Rattle.step_core.specs.declared.places.Place.{Place}
 use Rattle.step_core.specs.declared.places.Place.TheVariants.{Idle}
 use Rattle.step_core.specs.Machine.{Thread, Monitor, with_monitor, now_is}

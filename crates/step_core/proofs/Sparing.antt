@@ -6,17 +6,16 @@ use Rattle.std.proofs.lemmas.Bool.{cases_eq, eq-eqb, ne_eqb}
 use Rattle.std.proofs.lemmas.Option.{same_Some}
 use Rattle.lock_word.specs.declared.ThreadId.{ThreadId}
 use Rattle.lock_word.specs.declared.ObjectId.{ObjectId}
-use Rattle.thread_index.specs.Indices.{seat_of}
 use Rattle.fat_monitor.specs.declared.actions.Cause.{Cause}
 use Rattle.fat_monitor.specs.declared.actions.Reply.{Reply}
 use Rattle.fat_monitor.specs.declared.actions.Reply.TheVariants as reply
-use Rattle.fast_path.specs.declared.Call.{Call}
-use Rattle.step_core.specs.declared.moves.Doing.TheVariants.{Idle, Wants, Has}
-use Rattle.step_core.specs.declared.moves.Move.TheVariants as move
-use Rattle.step_core.specs.declared.events.Did.{Did}
-use Rattle.step_core.specs.declared.events.Fault.{Fault}
-use Rattle.step_core.specs.declared.events.Step.{Step}
-use Rattle.step_core.specs.declared.events.Step.TheVariants as step
+use Rattle.fast_path.specs.declared.calls.Call.{Call}
+use Rattle.step_core.specs.declared.machine.Doing.TheVariants.{Idle, Wants, Has}
+use Rattle.step_core.specs.declared.machine.Move.TheVariants as move
+use Rattle.step_core.specs.declared.steps.Did.{Did}
+use Rattle.step_core.specs.declared.steps.Fault.{Fault}
+use Rattle.step_core.specs.declared.steps.Step.{Step}
+use Rattle.step_core.specs.declared.steps.Step.TheVariants as step
 use Rattle.step_core.specs.Machine.{State, Thread, Run, Is, Calls, now_is, answered, is_waiting}
 use Rattle.step_core.specs.WorldState.{WorldState, IsSound}
 use Rattle.step_core.specs.Stepping.{step_of, moves_of}
@@ -24,7 +23,7 @@ use Rattle.step_core.specs.Labels.{HasLabels}
 use Rattle.step_core.specs.Shown.{shown}
 use Rattle.step_core.specs.Refusals.{IsSpared, Spares}
 use Rattle.step_core.proofs.Machines.{now_is-Is}
-use Rattle.step_core.proofs.Steps.{step_right}
+use Rattle.step_core.proofs.StepRuns.{step_right}
 use Rattle.step_core.proofs.Labelings.{Shapely, go_shape, step_labels}
 
 module _ (s : State) (t : ThreadId) (flag : Bool) (c : Call) (x : Cause) (calls : Calls s t flag c) where
@@ -94,7 +93,7 @@ step_spares w sound room (step.Attach t) =
 step_spares w sound room (step.Begin t c) =
     begin_spares w (step_of room w (step.Begin t c)).after t c (step_of room w (step.Begin t c)).answer (step_labels w sound room (step.Begin t c))
 step_spares w sound room (step.Go t) =
-    go_spares w (step_of room w (step.Go t)).after t (step_of room w (step.Go t)).answer (go_shape room w sound t (seat_of w.seats t)) (step_right w sound room (step.Go t)).1
+    go_spares w (step_of room w (step.Go t)).after t (step_of room w (step.Go t)).answer (go_shape room w sound t) (step_right w sound room (step.Go t)).1
 step_spares w sound room (step.Expire t) =
     expire_spares w (step_of room w (step.Expire t)).after t (step_of room w (step.Expire t)).answer (step_labels w sound room (step.Expire t))
 step_spares w sound room (step.Tick now) =

@@ -9,12 +9,12 @@ use Rattle.fat_monitor.specs.declared.actions.Reply.{Reply}
 use Rattle.fat_monitor.specs.declared.actions.Reply.TheVariants as reply
 use Rattle.fat_monitor.specs.declared.actions.Why.{Why}
 use Rattle.fat_monitor.specs.declared.actions.Why.TheVariants as why
-use Rattle.fast_path.specs.declared.Call.{Call}
-use Rattle.fast_path.specs.declared.Call.TheVariants as call
-use Rattle.step_core.specs.declared.moves.Doing.{Doing}
-use Rattle.step_core.specs.declared.moves.Doing.TheVariants.{Idle, Wants, Waits, Back, Has}
-use Rattle.step_core.specs.declared.moves.Move.{Move}
-use Rattle.step_core.specs.declared.moves.Move.TheVariants as move
+use Rattle.fast_path.specs.declared.calls.Call.{Call}
+use Rattle.fast_path.specs.declared.calls.Call.TheVariants as call
+use Rattle.step_core.specs.declared.machine.Doing.{Doing}
+use Rattle.step_core.specs.declared.machine.Doing.TheVariants.{Idle, Wants, Waits, Back, Has}
+use Rattle.step_core.specs.declared.machine.Move.{Move}
+use Rattle.step_core.specs.declared.machine.Move.TheVariants as move
 use Rattle.step_core.specs.Machine.{State, Thread, Steps, Is, Calls, interrupted, stirred, flag_back, reply_of}
 use Rattle.step_core.specs.Lasting.{IsBack}
 use Rattle.step_core.proofs.Steady.{Leaves, one_step}

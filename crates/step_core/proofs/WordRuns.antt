@@ -20,37 +20,48 @@ use Rattle.fat_monitor.specs.declared.actions.Post.{Post}
 use Rattle.fat_monitor.specs.declared.actions.Post.TheVariants.{Out, Entering, Waiting, Back, Granted}
 use Rattle.fat_monitor.specs.FatState.{bound_with, unbound, monitor_at, post_of, post_at, flag_at, IsProper}
 use Rattle.fat_monitor.specs.Acting.{are_good}
-use Rattle.fast_path.specs.declared.Call.{Call}
-use Rattle.fast_path.specs.declared.Call.TheVariants as call
+use Rattle.fast_path.specs.declared.calls.Call.{Call}
+use Rattle.fast_path.specs.declared.calls.Call.TheVariants as call
+use Rattle.fast_path.specs.declared.calls.Operation.{Operation}
+use Rattle.fast_path.specs.declared.calls.Operation.TheVariants as op
+use Rattle.fast_path.specs.declared.calls.MonitorCall.{MonitorCall}
+use Rattle.fast_path.specs.Calls.{call_on, call_of}
 use Rattle.fast_path.specs.declared.Next.{Next}
 use Rattle.fast_path.specs.declared.Next.TheVariants as next
-use Rattle.fast_path.specs.Table.{target, next_of, when_free, when_own, when_anothers}
+use Rattle.fast_path.specs.Table.{next_of, when_free, when_own, when_anothers}
 use Rattle.fast_path.proofs.Tables.{StoresOwn}
-use Rattle.step_core.specs.declared.moves.Doing.TheVariants as doing
+use Rattle.step_core.specs.declared.machine.Doing.TheVariants as doing
 use Rattle.step_core.specs.declared.places.Place.{Place}
-use Rattle.step_core.specs.declared.places.Place.TheVariants.{Idle, Begun, Taking, Storing, Binding, Acting, Won, Bound, Inflated, Direct, Parked, Ending}
-use Rattle.step_core.specs.declared.moves.Move.{Move}
-use Rattle.step_core.specs.declared.moves.Move.TheVariants as move
-use Rattle.step_core.specs.declared.events.Atomic.{Atomic}
-use Rattle.step_core.specs.declared.events.Atomic.TheVariants as atomic
-use Rattle.step_core.specs.declared.events.Did.{Did}
+use Rattle.step_core.specs.declared.places.Place.TheVariants.{Idle, InCall, Ending, AtPost}
+use Rattle.step_core.specs.declared.places.Stage.{Stage}
+use Rattle.step_core.specs.declared.places.Stage.TheVariants.{Begun, Taking, Storing, Binding, Acting, Won, Bound, Inflated, Direct}
+use Rattle.step_core.specs.declared.machine.Move.{Move}
+use Rattle.step_core.specs.declared.machine.Move.TheVariants as move
+use Rattle.step_core.specs.declared.steps.Atomic.{Atomic}
+use Rattle.step_core.specs.declared.steps.Atomic.TheVariants as atomic
+use Rattle.step_core.specs.declared.steps.Did.{Did}
 use Rattle.step_core.specs.Machine.{State, Thread, Monitor, Run, free, held, Is, now_is, OwnedBy, NobodyWaits, MayRefuse, AreGood, owner_only}
 use Rattle.step_core.specs.WorldState.{WorldState, IsSound, Stands, Fitting, place_at, lock_at, is_own, bound_by, IsPublished}
-use Rattle.step_core.specs.Going.{gone, stays, turns, writes, new_word, silent, moved, replied, returned, move_for, load_of, lost_at, won_at, stored_at, after_load, after_take, after_store, after_bind, after_publish, bind_cause, after_look}
+use Rattle.step_core.specs.Going.{gone, stays, turns, writes, new_word, silent, moved, replied, returned, move_for, load_of, lost_at, won_at, stored_at, after_load, after_take, after_store, after_bind, after_publish, bind_cause, after_look, entering}
 use Rattle.step_core.specs.Stepping.{given}
 use Rattle.step_core.specs.Shown.{shown, monitor_of, doing_of, act_of, thread_of}
 use Rattle.step_core.proofs.Machines.{run_entered, run_exited, run_illegal, run_bad, run_unnoticed, run_unnoticed_all, run_yes, run_no, run_refused, run_returned, run_lock}
+use Rattle.step_core.proofs.PlaceFacts.{not_waiting, who_bound}
 use Rattle.step_core.proofs.Shows.{does, shown_kept, ActsAlike, acts_alike, proper_at}
 use Rattle.step_core.proofs.Frames.{now_is_same, act_out, shown_stays, lock_of-new_word, stands_at, within, thin_fits, is_at, mine, other, owned, not_owned, written, shown_written, as_it_was}
 
 -- a load found what the call may do next
-abbrev LoadFact : State → ThreadId → Bool → Call → Next → Type 0
-LoadFact s t flag c (next.Reply r) = Run s (move_for c r None t ∷ move.Return t r ∷ []) (now_is s t flag doing.Idle)
-LoadFact s t flag c (next.Cas l) = doing.Wants (call.Enter (target c)) ≡ doing.Wants c
+abbrev LoadFact : State → ThreadId → Bool → MonitorCall → Next → Type 0
+LoadFact s t flag c (next.Reply r) = Run s (move_for (call_of c) r None t ∷ move.Return t r ∷ []) (now_is s t flag doing.Idle)
+LoadFact s t flag c (next.Cas l) = doing.Wants (call.Enter c.object) ≡ doing.Wants (call_of c)
 LoadFact s t flag c (next.Store l) = Unit {0}
 LoadFact s t flag c next.Bind = Unit {0}
 LoadFact s t flag c (next.Fat m) = Unit {0}
 LoadFact s t flag c next.Spin = Unit {0}
+
+-- the call with this operation on o
+abbrev at_object : ObjectId → Operation → MonitorCall
+at_object o p = record { object = o; operation = p }
 
 -- the index of a thin lock, and the object of a wait
 pub thin_index : (j k m n : ℕ) → Thin (j + 1) m ≡ Thin (k + 1) n → j ≡ k
@@ -58,22 +69,6 @@ thin_index j k m n e = let same : j + 1 ≡ k + 1 = cc in omega arith
 
 pub waits_object : (p o : ObjectId) (m n : ℕ) (c d : Option ℕ) → doing.Waits p m c ≡ doing.Waits o n d → p ≡ o
 waits_object p o m n c d e = cc
-
--- a thread that is out of every fat action does not wait
-pub not_waiting : (q : Place) {o : ObjectId} {n : ℕ} {d : Option ℕ} → doing_of q ≡ doing.Waits o n d → ⊥
-not_waiting Idle e = absurd (cc)
-not_waiting (Begun c b) e = absurd (cc)
-not_waiting (Taking o b) e = absurd (cc)
-not_waiting (Storing c l) e = absurd (cc)
-not_waiting (Binding c n) e = absurd (cc)
-not_waiting (Acting c m) e = absurd (cc)
-not_waiting (Won o) e = absurd (cc)
-not_waiting (Bound c true m) e = absurd (cc)
-not_waiting (Bound c false m) e = absurd (cc)
-not_waiting (Inflated c m) e = absurd (cc)
-not_waiting (Direct c) e = absurd (cc)
-not_waiting Parked e = absurd (cc)
-not_waiting (Ending n) e = absurd (cc)
 
 -- the time of a wait is in its range where the test says so, and only there
 is_true : (b : Bool) → T b → b ≡ true
@@ -113,26 +108,13 @@ module _ (w : WorldState) (sound : IsSound w) (k : ℕ) (t : ThreadId) (seat : s
       → IsPublished w m → ⊥
   unbound_here o n m e none same (inl fat) =
       let never : Fat m ≡ Thin (k + 1) n = sym (rw same at fat) ∙ e in absurd (cc)
-  unbound_here o n m e none same (inr (j, there, bound)) = by_place (place_at w j) refl bound (sound.places j there)
-    where
-      by_place : (p : Place) → place_at w j ≡ p → bound_by p ≡ Some m → Fitting w j p → ⊥
-      by_place Idle at b fit = absurd (cc)
-      by_place (Begun c x) at b fit = absurd (cc)
-      by_place (Taking q x) at b fit = absurd (cc)
-      by_place (Storing c l) at b fit = absurd (cc)
-      by_place (Binding c x) at b fit = absurd (cc)
-      by_place (Acting c x) at b fit = absurd (cc)
-      by_place (Won q) at b fit = absurd (cc)
-      by_place (Bound c won i) at b fit =
-          let number : i ≡ m = same_Some i m b in
-          let object : target c ≡ o = sym (ap (λ (x : fat.Monitor). x.object) fit.2.2) ∙ ap (λ (x : ℕ). (monitor_at w.fats x).object) number ∙ same in
-          let index : Thin (j + 1) fit.2.0 ≡ Thin (k + 1) n = sym fit.2.1 ∙ ap (λ (x : ObjectId). lock_at w x.0) object ∙ e in
-          let seat_same : j ≡ k = thin_index j k fit.2.0 n index in
-          let never : None ≡ Some i = sym none ∙ ap (λ (x : ℕ). bound_by (place_at w x)) (sym seat_same) ∙ ap bound_by at in absurd (cc)
-      by_place (Inflated c x) at b fit = absurd (cc)
-      by_place (Direct c) at b fit = absurd (cc)
-      by_place Parked at b fit = absurd (cc)
-      by_place (Ending x) at b fit = absurd (cc)
+  unbound_here o n m e none same (inr (j, there, bound)) =
+      let b = who_bound (place_at w j) m bound in
+      let fit : Fitting w j (InCall (Bound b.0 b.1 m)) = subst (λ (x : Place). Fitting w j x) b.2 (sound.places j there) in
+      let object : b.0.object ≡ o = sym (ap (λ (x : fat.Monitor). x.object) fit.2.2) ∙ same in
+      let index : Thin (j + 1) fit.2.0 ≡ Thin (k + 1) n = sym fit.2.1 ∙ ap (λ (x : ObjectId). lock_at w x.0) object ∙ e in
+      let seat_same : j ≡ k = thin_index j k fit.2.0 n index in
+      let never : None ≡ Some m = sym none ∙ ap (λ (x : ℕ). bound_by (place_at w x)) (sym seat_same) ∙ bound in absurd (cc)
 
   nobody_waits : (o : ObjectId) (n : ℕ) → lock_at w o.0 ≡ Thin (k + 1) n → bound_by (place_at w k) ≡ None → NobodyWaits (shown w) o
   nobody_waits o n e none u flag x d is = by_seat (seat_of w.seats u) is
@@ -150,94 +132,74 @@ module _ (w : WorldState) (sound : IsSound w) (k : ℕ) (t : ThreadId) (seat : s
           by_post (post_at w.fats u) (place_at w j) (proper_at w.fats u sound.fats) (ap (λ (y : Thread). y.act) (same_Some _ _ same))
 
   -- an owner of a thin word: its notify finds nobody, since who waits on an object waits on its fat monitor
-  own_facts : (c : Call) (n : ℕ) → Is (shown w) t (flag_at w.fats t) (doing.Wants c) → lock_at w (target c).0 ≡ Thin (k + 1) n → bound_by (place_at w k) ≡ None
-      → LoadFact (shown w) t (flag_at w.fats t) c (when_own c (k + 1) n)
-  own_facts (call.Enter o) n is e none = cond_both (nat_lt n 255) _ _ (LoadFact (shown w) t (flag_at w.fats t) (call.Enter o)) (λ _. tt) (λ _. tt)
-  own_facts (call.Exit o) n is e none = cond_both (nat_lt 0 n) _ _ (LoadFact (shown w) t (flag_at w.fats t) (call.Exit o)) (λ _. tt) (λ _. tt)
-  own_facts (call.Wait o millis nanos) n is e none =
-      cond_both (are_good millis nanos) next.Bind (next.Reply reply.IllegalArgument) (LoadFact (shown w) t (flag_at w.fats t) (call.Wait o millis nanos)) (λ _. tt)
+  own_facts : (o : ObjectId) (p : Operation) (n : ℕ) → Is (shown w) t (flag_at w.fats t) (doing.Wants (call_on o p)) → lock_at w o.0 ≡ Thin (k + 1) n
+      → bound_by (place_at w k) ≡ None → LoadFact (shown w) t (flag_at w.fats t) (at_object o p) (when_own p (k + 1) n)
+  own_facts o op.Enter n is e none = cond_both (nat_lt n 255) _ _ (LoadFact (shown w) t (flag_at w.fats t) (at_object o op.Enter)) (λ _. tt) (λ _. tt)
+  own_facts o op.Exit n is e none = cond_both (nat_lt 0 n) _ _ (LoadFact (shown w) t (flag_at w.fats t) (at_object o op.Exit)) (λ _. tt) (λ _. tt)
+  own_facts o (op.Wait millis nanos) n is e none =
+      cond_both (are_good millis nanos) next.Bind (next.Reply reply.IllegalArgument) (LoadFact (shown w) t (flag_at w.fats t) (at_object o (op.Wait millis nanos))) (λ _. tt)
       (λ bad. run_bad (shown w) t (flag_at w.fats t) o millis nanos is (owned_by o n e) (not_good millis nanos bad))
-  own_facts (call.Notify o) n is e none = run_unnoticed (shown w) t (flag_at w.fats t) o is (owned_by o n e) (nobody_waits o n e none)
-  own_facts (call.NotifyAll o) n is e none = run_unnoticed_all (shown w) t (flag_at w.fats t) o is (owned_by o n e) (nobody_waits o n e none)
-  own_facts (call.Holds o) n is e none = run_yes (shown w) t (flag_at w.fats t) o is (owned_by o n e)
-  own_facts (call.Interrupt who) n is e none = tt
-  own_facts call.Interrupted n is e none = tt
-  own_facts (call.IsInterrupted who) n is e none = tt
-  own_facts call.End n is e none = tt
+  own_facts o op.Notify n is e none = run_unnoticed (shown w) t (flag_at w.fats t) o is (owned_by o n e) (nobody_waits o n e none)
+  own_facts o op.NotifyAll n is e none = run_unnoticed_all (shown w) t (flag_at w.fats t) o is (owned_by o n e) (nobody_waits o n e none)
+  own_facts o op.Holds n is e none = run_yes (shown w) t (flag_at w.fats t) o is (owned_by o n e)
 
-  pub load_facts : (c : Call) (l : Lock) → Is (shown w) t (flag_at w.fats t) (doing.Wants c) → lock_at w (target c).0 ≡ l → Stands w (target c).0 l → bound_by (place_at w k) ≡ None
-      → LoadFact (shown w) t (flag_at w.fats t) c (next_of c l (k + 1))
-  load_facts c Free is e stands none = by_call c is e
-    where
-      illegal : (c : Call) (o : ObjectId) → owner_only c ≡ Some o → Is (shown w) t (flag_at w.fats t) (doing.Wants c) → lock_at w o.0 ≡ Free
-          → Run (shown w) (move.Illegal t ∷ move.Return t reply.IllegalMonitorState ∷ []) (now_is (shown w) t (flag_at w.fats t) doing.Idle)
-      illegal c o only is e = run_illegal (shown w) t (flag_at w.fats t) c o only is (not_owned w sound k t seat o Free e (λ h. cc))
+  -- a thread that is not the owner
+  module _ (o : ObjectId) (other : OwnedBy (shown w) o t → ⊥) where
+    illegal : (c : Call) → owner_only c ≡ Some o → Is (shown w) t (flag_at w.fats t) (doing.Wants c)
+        → Run (shown w) (move.Illegal t ∷ move.Return t reply.IllegalMonitorState ∷ []) (now_is (shown w) t (flag_at w.fats t) doing.Idle)
+    illegal c only is = run_illegal (shown w) t (flag_at w.fats t) c o only is other
 
-      by_call : (c : Call) → Is (shown w) t (flag_at w.fats t) (doing.Wants c) → lock_at w (target c).0 ≡ Free → LoadFact (shown w) t (flag_at w.fats t) c (when_free c (k + 1))
-      by_call (call.Enter o) is e = refl
-      by_call (call.Exit o) is e = illegal (call.Exit o) o refl is e
-      by_call (call.Wait o millis nanos) is e = illegal (call.Wait o millis nanos) o refl is e
-      by_call (call.Notify o) is e = illegal (call.Notify o) o refl is e
-      by_call (call.NotifyAll o) is e = illegal (call.NotifyAll o) o refl is e
-      by_call (call.Holds o) is e = run_no (shown w) t (flag_at w.fats t) o is (not_owned w sound k t seat o Free e (λ h. cc))
-      by_call (call.Interrupt who) is e = tt
-      by_call call.Interrupted is e = tt
-      by_call (call.IsInterrupted who) is e = tt
-      by_call call.End is e = tt
+    free_facts : (p : Operation) → Is (shown w) t (flag_at w.fats t) (doing.Wants (call_on o p)) → LoadFact (shown w) t (flag_at w.fats t) (at_object o p) (when_free p (k + 1))
+    free_facts op.Enter is = refl
+    free_facts op.Exit is = illegal (call.Exit o) refl is
+    free_facts (op.Wait millis nanos) is = illegal (call.Wait o millis nanos) refl is
+    free_facts op.Notify is = illegal (call.Notify o) refl is
+    free_facts op.NotifyAll is = illegal (call.NotifyAll o) refl is
+    free_facts op.Holds is = run_no (shown w) t (flag_at w.fats t) o is other
+
+    anothers_facts : (p : Operation) → Is (shown w) t (flag_at w.fats t) (doing.Wants (call_on o p)) → LoadFact (shown w) t (flag_at w.fats t) (at_object o p) (when_anothers p)
+    anothers_facts op.Enter is = tt
+    anothers_facts op.Exit is = illegal (call.Exit o) refl is
+    anothers_facts (op.Wait millis nanos) is = illegal (call.Wait o millis nanos) refl is
+    anothers_facts op.Notify is = illegal (call.Notify o) refl is
+    anothers_facts op.NotifyAll is = illegal (call.NotifyAll o) refl is
+    anothers_facts op.Holds is = run_no (shown w) t (flag_at w.fats t) o is other
+
+  pub load_facts : (c : MonitorCall) (l : Lock) → Is (shown w) t (flag_at w.fats t) (doing.Wants (call_of c)) → lock_at w c.object.0 ≡ l → Stands w c.object.0 l → bound_by (place_at w k) ≡ None
+      → LoadFact (shown w) t (flag_at w.fats t) c (next_of c.operation l (k + 1))
+  load_facts c Free is e stands none = free_facts c.object (not_owned w sound k t seat c.object Free e (λ h. cc)) c.operation is
   load_facts c (Thin i n) is e stands none =
-      cond_both (i == k + 1) (when_own c (k + 1) n) (when_anothers c) (LoadFact (shown w) t (flag_at w.fats t) c)
-      (λ same. own_facts c n is (e ∙ ap (λ (j : ℕ). Thin j n) (eqb-true i (k + 1) same)) none) (λ ne. others c is e ne)
-    where
-      not_mine : (o : ObjectId) → lock_at w o.0 ≡ Thin i n → (i == k + 1) ≡ false → OwnedBy (shown w) o t → ⊥
-      not_mine o e ne = not_owned w sound k t seat o (Thin i n) e (other w sound k t seat i n (eqb-false i (k + 1) ne) stands.0)
-
-      others : (c : Call) → Is (shown w) t (flag_at w.fats t) (doing.Wants c) → lock_at w (target c).0 ≡ Thin i n → (i == k + 1) ≡ false → LoadFact (shown w) t (flag_at w.fats t) c (when_anothers c)
-      others (call.Enter o) is e ne = tt
-      others (call.Exit o) is e ne = run_illegal (shown w) t (flag_at w.fats t) (call.Exit o) o refl is (not_mine o e ne)
-      others (call.Wait o millis nanos) is e ne = run_illegal (shown w) t (flag_at w.fats t) (call.Wait o millis nanos) o refl is (not_mine o e ne)
-      others (call.Notify o) is e ne = run_illegal (shown w) t (flag_at w.fats t) (call.Notify o) o refl is (not_mine o e ne)
-      others (call.NotifyAll o) is e ne = run_illegal (shown w) t (flag_at w.fats t) (call.NotifyAll o) o refl is (not_mine o e ne)
-      others (call.Holds o) is e ne = run_no (shown w) t (flag_at w.fats t) o is (not_mine o e ne)
-      others (call.Interrupt who) is e ne = tt
-      others call.Interrupted is e ne = tt
-      others (call.IsInterrupted who) is e ne = tt
-      others call.End is e ne = tt
+      cond_both (i == k + 1) (when_own c.operation (k + 1) n) (when_anothers c.operation) (LoadFact (shown w) t (flag_at w.fats t) c)
+      (λ same. own_facts c.object c.operation n is (e ∙ ap (λ (j : ℕ). Thin j n) (eqb-true i (k + 1) same)) none)
+      (λ ne. anothers_facts c.object (not_owned w sound k t seat c.object (Thin i n) e (other w sound k t seat i n (eqb-false i (k + 1) ne) stands.0)) c.operation is)
   load_facts c (Fat m) is e stands none = tt
 
-  pub load_run : (c : Call) (contended : Bool) (n : Next) → place_at w k ≡ Begun c contended → LoadFact (shown w) t (flag_at w.fats t) c n
+  pub load_run : (c : MonitorCall) (contended : Bool) (n : Next) → place_at w k ≡ InCall (Begun c contended) → LoadFact (shown w) t (flag_at w.fats t) c n
       → Run (shown w) (given (after_load w t c contended n).did.moves) (shown (gone w k (after_load w t c contended n)))
-  load_run c b (next.Reply r) e fact = told (load_of w (target c)) (move_for c r None t) r fact
-  load_run c b (next.Cas l) e fact = quiet (Begun c b) (Taking (target c) b) (load_of w (target c)) e fact
-  load_run c b (next.Store l) e fact = quiet (Begun c b) (Storing c l) (load_of w (target c)) e refl
-  load_run c b next.Bind e fact = quiet (Begun c b) (Binding c (count_of (lock_at w (target c).0))) (load_of w (target c)) e refl
-  load_run c b (next.Fat m) e fact = quiet (Begun c b) (Acting c m) (load_of w (target c)) e refl
-  load_run c b next.Spin e fact = quiet (Begun c b) (Begun c true) (load_of w (target c)) e refl
+  load_run c b (next.Reply r) e fact = told (load_of w c.object) (move_for (call_of c) r None t) r fact
+  load_run c b (next.Cas l) e fact = quiet (InCall (Begun c b)) (InCall (Taking c.object b)) (load_of w c.object) e fact
+  load_run c b (next.Store l) e fact = quiet (InCall (Begun c b)) (InCall (Storing c l)) (load_of w c.object) e refl
+  load_run c b next.Bind e fact = quiet (InCall (Begun c b)) (InCall (Binding c (count_of (lock_at w c.object.0)))) (load_of w c.object) e refl
+  load_run c b (next.Fat m) e fact = quiet (InCall (Begun c b)) (InCall (Acting c m)) (load_of w c.object) e refl
+  load_run c b next.Spin e fact = quiet (InCall (Begun c b)) (InCall (Begun c true)) (load_of w c.object) e refl
 
-  pub take_run : (o : ObjectId) (contended : Bool) (l : Lock) → place_at w k ≡ Taking o contended → o.0 < length w.words → lock_at w o.0 ≡ l
+  pub take_run : (o : ObjectId) (contended : Bool) (l : Lock) → place_at w k ≡ InCall (Taking o contended) → o.0 < length w.words → lock_at w o.0 ≡ l
       → Run (shown w) (given (after_take w k t o contended l).did.moves) (shown (gone w k (after_take w k t o contended l)))
   take_run o true Free e h el =
       subst (λ (s : State). Run (shown w) (move.Lock t ∷ []) s)
-      (sym (shown_written w sound k t seat o (Thin (k + 1) 0) (held t 1) (Won o) (moved (won_at w o (Thin (k + 1) 0)) (move.Lock t)) out h (thin_fits w sound k t seat 0 (omega arith)) (mine w sound k t seat 0)))
-      (run_lock (shown w) t (flag_at w.fats t) o 0 (is_at w sound k t seat (Taking o true) e out) (inl (rw el refl)) (rw el refl) (omega arith))
+      (sym (shown_written w sound k t seat o (Thin (k + 1) 0) (held t 1) (InCall (Won o)) (moved (won_at w o (Thin (k + 1) 0)) (move.Lock t)) out h (thin_fits w sound k t seat 0 (omega arith)) (mine w sound k t seat 0)))
+      (run_lock (shown w) t (flag_at w.fats t) o 0 (is_at w sound k t seat (InCall (Taking o true)) e out) (inl (rw el refl)) (rw el refl) (omega arith))
   take_run o false Free e h el =
       subst (λ (s : State). Run (shown w) (move.Lock t ∷ move.Return t reply.Entered ∷ []) s)
       (sym (shown_written w sound k t seat o (Thin (k + 1) 0) (held t 1) Idle (replied (won_at w o (Thin (k + 1) 0)) (move.Lock t) t reply.Entered) out h (thin_fits w sound k t seat 0 (omega arith)) (mine w sound k t seat 0)))
-      (run_entered (shown w) t (flag_at w.fats t) o 0 (is_at w sound k t seat (Taking o false) e out) (inl (rw el refl)) (rw el refl) (omega arith))
-  take_run o b (Thin i c) e h el = quiet (Taking o b) (Begun (call.Enter o) true) (lost_at w o) e refl
-  take_run o b (Fat m) e h el = quiet (Taking o b) (Begun (call.Enter o) true) (lost_at w o) e refl
+      (run_entered (shown w) t (flag_at w.fats t) o 0 (is_at w sound k t seat (InCall (Taking o false)) e out) (inl (rw el refl)) (rw el refl) (omega arith))
+  take_run o b (Thin i c) e h el = quiet (InCall (Taking o b)) (InCall (Begun (entering o) true)) (lost_at w o) e refl
+  take_run o b (Fat m) e h el = quiet (InCall (Taking o b)) (InCall (Begun (entering o) true)) (lost_at w o) e refl
 
-  pub store_run : (c : Call) (l : Lock) → place_at w k ≡ Storing c l → (target c).0 < length w.words
-      → StoresOwn (k + 1) (lock_at w (target c).0) l c
+  pub store_run : (c : MonitorCall) (l : Lock) → place_at w k ≡ InCall (Storing c l) → c.object.0 < length w.words
+      → StoresOwn (k + 1) (lock_at w c.object.0) l c.operation
       → Run (shown w) (given (after_store w t c l).did.moves) (shown (gone w k (after_store w t c l)))
-  store_run (call.Enter o) l e h (n, old, few, new) =
-      subst (λ (s : State). Run (shown w) (move.Lock t ∷ move.Return t reply.Entered ∷ []) s)
-      (sym (shown_written w sound k t seat o l (held t (n + 1 + 1)) Idle (replied (stored_at w o l) (move.Lock t) t reply.Entered) out h (rw new (thin_fits w sound k t seat (n + 1) (omega arith))) (rw new (mine w sound k t seat (n + 1)))))
-      (run_entered (shown w) t (flag_at w.fats t) o (n + 1) (is_at w sound k t seat (Storing (call.Enter o) l) e out)
-      (inr (owned w sound k t seat o (Thin (k + 1) n) old (ap (λ (m : Monitor). m.owner) (mine w sound k t seat n)))) (rw old refl) (omega arith))
-  store_run (call.Exit o) l e h (n, old, new) =
-      subst (λ (s : State). Run (shown w) (move.Unlock t ∷ move.Return t reply.Exited ∷ []) s)
-      (sym (shown_written w sound k t seat o l (if n == 0 then free else held t n) Idle (replied (stored_at w o l) (move.Unlock t) t reply.Exited) out h (rw new (less_fits n (rw old at (stands_at w sound o.0)).2)) (rw new (less n))))
-      (run_exited (shown w) t (flag_at w.fats t) o n (is_at w sound k t seat (Storing (call.Exit o) l) e out) (rw old (mine w sound k t seat n)))
+  store_run c l e h fact = by_operation c.object c.operation e h fact
     where
       less : (n : ℕ) → monitor_of w (if nat_lt 0 n then Thin (k + 1) (n - 1) else Free) ≡ (if n == 0 then free else held t n)
       less zero = refl
@@ -250,37 +212,46 @@ module _ (w : WorldState) (sound : IsSound w) (k : ℕ) (t : ThreadId) (seat : s
       less_fits : (n : ℕ) → n ≤ 255 → Fits (if nat_lt 0 n then Thin (k + 1) (n - 1) else Free)
       less_fits zero b = tt
       less_fits (suc m) b = rw (lt-ltb 0 (suc m) (omega arith)) (thin_fits w sound k t seat (suc m - 1) (omega arith))
-  store_run (call.Wait o millis nanos) l e h fact = absurd fact
-  store_run (call.Notify o) l e h fact = absurd fact
-  store_run (call.NotifyAll o) l e h fact = absurd fact
-  store_run (call.Holds o) l e h fact = absurd fact
-  store_run (call.Interrupt who) l e h fact = absurd fact
-  store_run call.Interrupted l e h fact = absurd fact
-  store_run (call.IsInterrupted who) l e h fact = absurd fact
-  store_run call.End l e h fact = absurd fact
 
-  pub publish_run : (c : Call) (won : Bool) (m : ℕ) → place_at w k ≡ Bound c won m → Fitting w k (Bound c won m)
+      by_operation : (o : ObjectId) (p : Operation) → place_at w k ≡ InCall (Storing (at_object o p) l) → o.0 < length w.words
+          → StoresOwn (k + 1) (lock_at w o.0) l p
+          → Run (shown w) (given (after_store w t (at_object o p) l).did.moves) (shown (gone w k (after_store w t (at_object o p) l)))
+      by_operation o op.Enter e h (n, old, few, new) =
+          subst (λ (s : State). Run (shown w) (move.Lock t ∷ move.Return t reply.Entered ∷ []) s)
+          (sym (shown_written w sound k t seat o l (held t (n + 1 + 1)) Idle (replied (stored_at w o l) (move.Lock t) t reply.Entered) out h (rw new (thin_fits w sound k t seat (n + 1) (omega arith))) (rw new (mine w sound k t seat (n + 1)))))
+          (run_entered (shown w) t (flag_at w.fats t) o (n + 1) (is_at w sound k t seat (InCall (Storing (at_object o op.Enter) l)) e out)
+          (inr (owned w sound k t seat o (Thin (k + 1) n) old (ap (λ (m : Monitor). m.owner) (mine w sound k t seat n)))) (rw old refl) (omega arith))
+      by_operation o op.Exit e h (n, old, new) =
+          subst (λ (s : State). Run (shown w) (move.Unlock t ∷ move.Return t reply.Exited ∷ []) s)
+          (sym (shown_written w sound k t seat o l (if n == 0 then free else held t n) Idle (replied (stored_at w o l) (move.Unlock t) t reply.Exited) out h (rw new (less_fits n (rw old at (stands_at w sound o.0)).2)) (rw new (less n))))
+          (run_exited (shown w) t (flag_at w.fats t) o n (is_at w sound k t seat (InCall (Storing (at_object o op.Exit) l)) e out) (rw old (mine w sound k t seat n)))
+      by_operation o (op.Wait millis nanos) e h fact = absurd fact
+      by_operation o op.Notify e h fact = absurd fact
+      by_operation o op.NotifyAll e h fact = absurd fact
+      by_operation o op.Holds e h fact = absurd fact
+
+  pub publish_run : (c : MonitorCall) (won : Bool) (m : ℕ) → place_at w k ≡ InCall (Bound c won m) → Fitting w k (InCall (Bound c won m))
       → m ≤ 8388607
       → Run (shown w) (given (after_publish w t c won m).did.moves) (shown (gone w k (after_publish w t c won m)))
   publish_run c won m e fit few = by_win won e fit
     where
       -- the monitor holds what the word held
-      same : (won : Bool) → Fitting w k (Bound c won m) → monitor_of w (Fat m) ≡ monitor_of w (lock_at w (target c).0)
+      same : (won : Bool) → Fitting w k (InCall (Bound c won m)) → monitor_of w (Fat m) ≡ monitor_of w (lock_at w c.object.0)
       same won fit = let n : k + 1 - 1 ≡ k = omega arith in rw (fit.2.1, fit.2.2, n) refl
 
-      kept : (won : Bool) (p : Place) (d : Did) → Fitting w k (Bound c won m)
-          → shown (gone w k (writes w (target c) (new_word w (target c) (Fat m)) p d)) ≡ now_is (shown w) t (flag_at w.fats t) (doing_of p)
-      kept won p d fit = shown_kept w k t (writes w (target c) (new_word w (target c) (Fat m)) p d) (flag_at w.fats t) (doing_of p) seat (within w sound k t seat) (length-set w.words (target c).0 (new_word w (target c) (Fat m))) refl
+      kept : (won : Bool) (p : Place) (d : Did) → Fitting w k (InCall (Bound c won m))
+          → shown (gone w k (writes w c.object (new_word w c.object (Fat m)) p d)) ≡ now_is (shown w) t (flag_at w.fats t) (doing_of p)
+      kept won p d fit = shown_kept w k t (writes w c.object (new_word w c.object (Fat m)) p d) (flag_at w.fats t) (doing_of p) seat (within w sound k t seat) (length-set w.words c.object.0 (new_word w c.object (Fat m))) refl
           (ap (does (flag_at w.fats t)) (act_out w.fats t p out)) (λ u ne x. refl)
-          (λ q. written w sound k t seat (target c) (new_word w (target c) (Fat m)) p d (Fat m) fit.0.1 (lock_of-new_word w (target c) (Fat m) few) q
-          ∙ as_it_was w sound k t seat (target c) (monitor_of w (Fat m)) (same won fit) q)
+          (λ q. written w sound k t seat c.object (new_word w c.object (Fat m)) p d (Fat m) fit.0 (lock_of-new_word w c.object (Fat m) few) q
+          ∙ as_it_was w sound k t seat c.object (monitor_of w (Fat m)) (same won fit) q)
 
-      by_win : (won : Bool) → place_at w k ≡ Bound c won m → Fitting w k (Bound c won m)
+      by_win : (won : Bool) → place_at w k ≡ InCall (Bound c won m) → Fitting w k (InCall (Bound c won m))
           → Run (shown w) (given (after_publish w t c won m).did.moves) (shown (gone w k (after_publish w t c won m)))
       by_win true e fit = subst (λ (s : State). Run (shown w) (move.Return t reply.Entered ∷ []) s)
-          (sym (kept true Idle (returned (stored_at w (target c) (Fat m)) t reply.Entered) fit))
-          (run_returned (shown w) t (flag_at w.fats t) reply.Entered tt (is_at w sound k t seat (Bound c true m) e out))
-      by_win false e fit = kept false (Inflated c m) (silent (stored_at w (target c) (Fat m))) fit ∙ now_is_same (shown w) t (flag_at w.fats t) (doing.Wants c) (is_at w sound k t seat (Bound c false m) e out)
+          (sym (kept true Idle (returned (stored_at w c.object (Fat m)) t reply.Entered) fit))
+          (run_returned (shown w) t (flag_at w.fats t) reply.Entered tt (is_at w sound k t seat (InCall (Bound c true m)) e out))
+      by_win false e fit = kept false (InCall (Inflated c m)) (silent (stored_at w c.object (Fat m))) fit ∙ now_is_same (shown w) t (flag_at w.fats t) (doing.Wants (call_of c)) (is_at w sound k t seat (InCall (Bound c false m)) e out)
 
   -- a new monitor is shown by no word
   after_bound : (o : ObjectId) (n : ℕ) (p : Place) (d : Did) (l : Lock) (q : ℕ) → Stands w q l
@@ -290,27 +261,27 @@ module _ (w : WorldState) (sound : IsSound w) (k : ℕ) (t : ThreadId) (seat : s
   after_bound o n p d (Fat m) q st = rw (get_or_append_left w.fats.monitors (record { object = o; owner = Some t; holds = n } ∷ []) unbound m st.0) refl
 
   -- what a bind that is refused tells
-  refused_run : (c : Call) (x : Cause) → Is (shown w) t (flag_at w.fats t) (doing.Wants c) → MayRefuse (shown w) t c x
-      → Run (shown w) (given (replied (atomic.NotBound (target c) x) (move.Refuse t x) t (reply.Refused x)).moves)
-      (shown (gone w k (stays w Idle (replied (atomic.NotBound (target c) x) (move.Refuse t x) t (reply.Refused x)))))
-  refused_run c x is may = told (atomic.NotBound (target c) x) (move.Refuse t x) (reply.Refused x) (run_refused (shown w) t (flag_at w.fats t) c x is may)
+  refused_run : (c : MonitorCall) (x : Cause) → Is (shown w) t (flag_at w.fats t) (doing.Wants (call_of c)) → MayRefuse (shown w) t (call_of c) x
+      → Run (shown w) (given (replied (atomic.NotBound c.object x) (move.Refuse t x) t (reply.Refused x)).moves)
+      (shown (gone w k (stays w Idle (replied (atomic.NotBound c.object x) (move.Refuse t x) t (reply.Refused x)))))
+  refused_run c x is may = told (atomic.NotBound c.object x) (move.Refuse t x) (reply.Refused x) (run_refused (shown w) t (flag_at w.fats t) (call_of c) x is may)
 
   -- a new monitor changes nothing that another thread shows
   alike_bound : (o : ObjectId) (n : ℕ) (u : ThreadId) → ActsAlike w.fats (bound_with w.fats o t n) u
   alike_bound o n u = acts_alike w.fats (bound_with w.fats o t n) u sound.fats refl refl
       (λ m h. ap (λ (b : fat.Monitor). b.object) (get_or_append_left w.fats.monitors (record { object = o; owner = Some t; holds = n } ∷ []) unbound m h))
 
-  pub bind_run : (c : Call) (won : Bool) (n : ℕ) (p : Place) (refused : Option Cause) → place_at w k ≡ p
-      → doing_of p ≡ (if won then doing.Has reply.Entered else doing.Wants c)
-      → MatchOption refused (Unit {0}) (λ x. won ≡ false → MayRefuse (shown w) t c x)
+  pub bind_run : (c : MonitorCall) (won : Bool) (n : ℕ) (p : Place) (refused : Option Cause) → place_at w k ≡ p
+      → doing_of p ≡ (if won then doing.Has reply.Entered else doing.Wants (call_of c))
+      → MatchOption refused (Unit {0}) (λ x. won ≡ false → MayRefuse (shown w) t (call_of c) x)
       → Run (shown w) (given (after_bind w t c won n refused).did.moves) (shown (gone w k (after_bind w t c won n refused)))
   bind_run c won n p None e same may =
-      shown_kept w k t (after_bind w t c won n None) (flag_at w.fats t) (doing_of p) seat (within w sound k t seat) refl refl (ap (does (flag_at w.fats t)) (act_out (bound_with w.fats (target c) t n) t (Bound c won (length w.fats.monitors)) out ∙ sym same)) (λ u ne. alike_bound (target c) n u)
-      (λ q. after_bound (target c) n (Bound c won (length w.fats.monitors)) (silent (atomic.Bound (target c) (length w.fats.monitors))) (lock_at w q.0) q.0 (stands_at w sound q.0))
+      shown_kept w k t (after_bind w t c won n None) (flag_at w.fats t) (doing_of p) seat (within w sound k t seat) refl refl (ap (does (flag_at w.fats t)) (act_out (bound_with w.fats c.object t n) t (InCall (Bound c won (length w.fats.monitors))) out ∙ sym same)) (λ u ne. alike_bound c.object n u)
+      (λ q. after_bound c.object n (InCall (Bound c won (length w.fats.monitors))) (silent (atomic.Bound c.object (length w.fats.monitors))) (lock_at w q.0) q.0 (stands_at w sound q.0))
       ∙ now_is_same (shown w) t (flag_at w.fats t) (doing_of p) (is_at w sound k t seat p e out)
   bind_run c true n p (Some x) e same may =
       subst (λ (s : State). Run (shown w) (move.Return t reply.Entered ∷ []) s)
-      (sym (shown_stays w sound k t seat Idle (returned (atomic.NotBound (target c) x) t reply.Entered) out))
+      (sym (shown_stays w sound k t seat Idle (returned (atomic.NotBound c.object x) t reply.Entered) out))
       (run_returned (shown w) t (flag_at w.fats t) reply.Entered tt (rw same at (is_at w sound k t seat p e out)))
   bind_run c false n p (Some x) e same may = refused_run c x (rw same at (is_at w sound k t seat p e out)) (may refl)
 

@@ -20,18 +20,26 @@ use Rattle.fat_monitor.specs.declared.actions.Done.{Done}
 use Rattle.fat_monitor.specs.declared.actions.ActFault.{ActFault}
 use Rattle.fat_monitor.specs.FatState.{FatState, bound_with, post_at}
 use Rattle.fat_monitor.specs.Acting.{acted}
-use Rattle.fast_path.specs.declared.Call.{Call}
-use Rattle.fast_path.specs.declared.Call.TheVariants as call
+use Rattle.fast_path.specs.declared.calls.Call.{Call}
+use Rattle.fast_path.specs.declared.calls.Call.TheVariants as call
+use Rattle.fast_path.specs.declared.calls.Operation.{Operation}
+use Rattle.fast_path.specs.declared.calls.Operation.TheVariants as op
+use Rattle.fast_path.specs.declared.calls.MonitorCall.{MonitorCall}
+use Rattle.fast_path.specs.declared.calls.InterruptCall.{InterruptCall}
+use Rattle.fast_path.specs.declared.calls.InterruptCall.TheVariants as about
 use Rattle.fast_path.specs.declared.Next.{Next}
 use Rattle.fast_path.specs.declared.Next.TheVariants as next
-use Rattle.fast_path.specs.Table.{target, next_of}
+use Rattle.fast_path.specs.Calls.{call_of, call_about}
+use Rattle.fast_path.specs.Table.{next_of}
 use Rattle.step_core.specs.declared.places.Place.{Place}
-use Rattle.step_core.specs.declared.places.Place.TheVariants.{Idle, Begun, Taking, Storing, Binding, Acting, Won, Bound, Inflated, Direct, Parked, Ending}
-use Rattle.step_core.specs.declared.moves.Move.{Move}
-use Rattle.step_core.specs.declared.moves.Move.TheVariants as move
-use Rattle.step_core.specs.declared.events.Atomic.{Atomic}
-use Rattle.step_core.specs.declared.events.Atomic.TheVariants as atomic
-use Rattle.step_core.specs.declared.events.Did.{Did}
+use Rattle.step_core.specs.declared.places.Place.TheVariants.{Idle, InCall, Ending, AtPost}
+use Rattle.step_core.specs.declared.places.Stage.{Stage}
+use Rattle.step_core.specs.declared.places.Stage.TheVariants.{Begun, Taking, Storing, Binding, Acting, Won, Bound, Inflated, Direct}
+use Rattle.step_core.specs.declared.machine.Move.{Move}
+use Rattle.step_core.specs.declared.machine.Move.TheVariants as move
+use Rattle.step_core.specs.declared.steps.Atomic.{Atomic}
+use Rattle.step_core.specs.declared.steps.Atomic.TheVariants as atomic
+use Rattle.step_core.specs.declared.steps.Did.{Did}
 use Rattle.step_core.specs.WorldState.{WorldState, word_at, lock_at, is_own}
 
 -- What a Go leaves: the words, the fat state and the place of its thread; and what it did.
@@ -45,6 +53,15 @@ pub record After : Type 0 where
 abbrev pub gone : WorldState → ℕ → After → WorldState
 gone w k a = record w { words = a.words; fats = a.fats; places = slice_set w.places k a.place }
 
+-- the call wakes all that wait, and the caller tests and clears its own flag
+abbrev pub wakes_all : Call → Bool
+wakes_all (call.NotifyAll o) = true
+wakes_all c = false
+
+abbrev pub tests_own : Call → Bool
+tests_own call.Interrupted = true
+tests_own c = false
+
 -- the move by which a call gets this reply; a Notify tells whom it chose
 abbrev pub move_for : Call → Reply → Option ThreadId → ThreadId → Move
 move_for c reply.Entered u t = move.Lock t
@@ -52,12 +69,9 @@ move_for c reply.Exited u t = move.Unlock t
 move_for c reply.WaitOver u t = move.Relock t
 move_for c reply.Interrupted u t = move.Early t
 move_for c reply.Done u t = move.Interrupt t
-move_for call.Interrupted reply.Yes u t = move.TestClear t
-move_for call.Interrupted reply.No u t = move.TestClear t
-move_for (call.NotifyAll o) reply.Notified u t = move.NotifyAll t
-move_for c reply.Notified u t = move.Notify t u
-move_for c reply.Yes u t = move.Ask t
-move_for c reply.No u t = move.Ask t
+move_for c reply.Notified u t = if wakes_all c then move.NotifyAll t else move.Notify t u
+move_for c reply.Yes u t = if tests_own c then move.TestClear t else move.Ask t
+move_for c reply.No u t = if tests_own c then move.TestClear t else move.Ask t
 move_for c reply.Ended u t = move.End t
 move_for c reply.IllegalMonitorState u t = move.Illegal t
 move_for c reply.IllegalArgument u t = move.BadArgument t
@@ -111,68 +125,72 @@ abbrev pub stored_at : WorldState → ObjectId → Lock → Atomic
 stored_at w o l = atomic.Stored o (word_at w o.0) (new_word w o l)
 
 -- a load of a word that calls for this
-abbrev pub after_load : WorldState → ThreadId → Call → Bool → Next → After
-after_load w t c contended (next.Reply r) = stays w Idle (replied (load_of w (target c)) (move_for c r None t) t r)
-after_load w t c contended (next.Cas l) = stays w (Taking (target c) contended) (silent (load_of w (target c)))
-after_load w t c contended (next.Store l) = stays w (Storing c l) (silent (load_of w (target c)))
-after_load w t c contended next.Bind = stays w (Binding c (count_of (lock_at w (target c).0))) (silent (load_of w (target c)))
-after_load w t c contended (next.Fat m) = stays w (Acting c m) (silent (load_of w (target c)))
-after_load w t c contended next.Spin = stays w (Begun c true) (silent (load_of w (target c)))
+abbrev pub after_load : WorldState → ThreadId → MonitorCall → Bool → Next → After
+after_load w t c contended (next.Reply r) =
+    stays w Idle (replied (load_of w c.object) (move_for (call_of c) r None t) t r)
+after_load w t c contended (next.Cas l) = stays w (InCall (Taking c.object contended)) (silent (load_of w c.object))
+after_load w t c contended (next.Store l) = stays w (InCall (Storing c l)) (silent (load_of w c.object))
+after_load w t c contended next.Bind =
+    stays w (InCall (Binding c (count_of (lock_at w c.object.0)))) (silent (load_of w c.object))
+after_load w t c contended (next.Fat m) = stays w (InCall (Acting c m)) (silent (load_of w c.object))
+after_load w t c contended next.Spin = stays w (InCall (Begun c true)) (silent (load_of w c.object))
+
+-- the call that enters o
+abbrev pub entering : ObjectId → MonitorCall
+entering o = record { object = o; operation = op.Enter }
 
 -- an exchange that finds this lock: only the free one is taken
 abbrev pub after_take : WorldState → ℕ → ThreadId → ObjectId → Bool → Lock → After
 after_take w k t o true Free =
-    writes w o (new_word w o (Thin (k + 1) 0)) (Won o) (moved (won_at w o (Thin (k + 1) 0)) (move.Lock t))
+    writes w o (new_word w o (Thin (k + 1) 0)) (InCall (Won o)) (moved (won_at w o (Thin (k + 1) 0)) (move.Lock t))
 after_take w k t o false Free =
-    writes w o (new_word w o (Thin (k + 1) 0)) Idle (replied (won_at w o (Thin (k + 1) 0)) (move.Lock t) t reply.Entered)
-after_take w k t o contended (Thin i c) = stays w (Begun (call.Enter o) true) (silent (lost_at w o))
-after_take w k t o contended (Fat m) = stays w (Begun (call.Enter o) true) (silent (lost_at w o))
+    writes w o (new_word w o (Thin (k + 1) 0)) Idle
+    (replied (won_at w o (Thin (k + 1) 0)) (move.Lock t) t reply.Entered)
+after_take w k t o contended (Thin i c) = stays w (InCall (Begun (entering o) true)) (silent (lost_at w o))
+after_take w k t o contended (Fat m) = stays w (InCall (Begun (entering o) true)) (silent (lost_at w o))
 
 -- what a call replies when its thin or free word is stored: only an enter and an exit store one
-abbrev pub stored_reply : Call → Reply
-stored_reply (call.Exit o) = reply.Exited
-stored_reply (call.Enter o) = reply.Entered
-stored_reply (call.Wait o millis nanos) = reply.Entered
-stored_reply (call.Notify o) = reply.Entered
-stored_reply (call.NotifyAll o) = reply.Entered
-stored_reply (call.Holds o) = reply.Entered
-stored_reply (call.Interrupt u) = reply.Entered
-stored_reply call.Interrupted = reply.Entered
-stored_reply (call.IsInterrupted u) = reply.Entered
-stored_reply call.End = reply.Entered
+abbrev pub stored_reply : Operation → Reply
+stored_reply op.Exit = reply.Exited
+stored_reply p = reply.Entered
 
 -- the store of a thin or free word
-abbrev pub after_store : WorldState → ThreadId → Call → Lock → After
+abbrev pub after_store : WorldState → ThreadId → MonitorCall → Lock → After
 after_store w t c l =
-    writes w (target c) (new_word w (target c) l) Idle (replied (stored_at w (target c) l) (move_for c (stored_reply c) None t) t (stored_reply c))
+    writes w c.object (new_word w c.object l) Idle
+    (replied (stored_at w c.object l) (move_for (call_of c) (stored_reply c.operation) None t) t (stored_reply c.operation))
 
 -- A bind of an object that is held n times; refused for a cause, or not. A contended enter that has won
 -- has its reply, and drops the inflation where it is refused.
-abbrev pub after_bind : WorldState → ThreadId → Call → Bool → ℕ → Option Cause → After
+abbrev pub after_bind : WorldState → ThreadId → MonitorCall → Bool → ℕ → Option Cause → After
 after_bind w t c won n None =
-    turns w (bound_with w.fats (target c) t n) (Bound c won (length w.fats.monitors)) (silent (atomic.Bound (target c) (length w.fats.monitors)))
-after_bind w t c true n (Some cause) = stays w Idle (returned (atomic.NotBound (target c) cause) t reply.Entered)
-after_bind w t c false n (Some cause) = stays w Idle (replied (atomic.NotBound (target c) cause) (move.Refuse t cause) t (reply.Refused cause))
+    turns w (bound_with w.fats c.object t n) (InCall (Bound c won (length w.fats.monitors)))
+    (silent (atomic.Bound c.object (length w.fats.monitors)))
+after_bind w t c true n (Some cause) = stays w Idle (returned (atomic.NotBound c.object cause) t reply.Entered)
+after_bind w t c false n (Some cause) =
+    stays w Idle (replied (atomic.NotBound c.object cause) (move.Refuse t cause) t (reply.Refused cause))
 
 -- the store of a fat word
-abbrev pub after_publish : WorldState → ThreadId → Call → Bool → ℕ → After
+abbrev pub after_publish : WorldState → ThreadId → MonitorCall → Bool → ℕ → After
 after_publish w t c true m =
-    writes w (target c) (new_word w (target c) (Fat m)) Idle (returned (stored_at w (target c) (Fat m)) t reply.Entered)
+    writes w c.object (new_word w c.object (Fat m)) Idle (returned (stored_at w c.object (Fat m)) t reply.Entered)
 after_publish w t c false m =
-    writes w (target c) (new_word w (target c) (Fat m)) (Inflated c m) (silent (stored_at w (target c) (Fat m)))
+    writes w c.object (new_word w c.object (Fat m)) (InCall (Inflated c m)) (silent (stored_at w c.object (Fat m)))
 
--- the fat action of a call's own name; m is the monitor of the object that the call names, if it names one
-abbrev pub action_of : Call → ℕ → Action
-action_of (call.Enter o) m = action.Enter m
-action_of (call.Exit o) m = action.Exit m
-action_of (call.Wait o millis nanos) m = action.Wait m millis nanos
-action_of (call.Notify o) m = action.Notify m
-action_of (call.NotifyAll o) m = action.NotifyAll m
-action_of (call.Holds o) m = action.Holds m
-action_of (call.Interrupt u) m = action.Interrupt u
-action_of call.Interrupted m = action.Interrupted
-action_of (call.IsInterrupted u) m = action.IsInterrupted u
-action_of call.End m = action.End
+-- the fat action of an operation's own name
+abbrev pub action_on : Operation → ℕ → Action
+action_on op.Enter m = action.Enter m
+action_on op.Exit m = action.Exit m
+action_on (op.Wait millis nanos) m = action.Wait m millis nanos
+action_on op.Notify m = action.Notify m
+action_on op.NotifyAll m = action.NotifyAll m
+action_on op.Holds m = action.Holds m
+
+-- the fat action of the own name of a call about interrupts
+abbrev pub action_about : InterruptCall → Action
+action_about (about.Interrupt u) = action.Interrupt u
+action_about about.Interrupted = action.Interrupted
+action_about (about.IsInterrupted u) = action.IsInterrupted u
 
 -- the move by which thread u became the owner: for an enter it locks, and back from a wait it relocks
 abbrev pub granting : ThreadId → Post → Move
@@ -188,11 +206,16 @@ abbrev pub granted_and_replied : Atomic → Move → Option Move → ThreadId �
 granted_and_replied a m None t r = replied a m t r
 granted_and_replied a m (Some g) t r = record { atomic = a; moves = Some m ∷ Some g ∷ Some (move.Return t r) ∷ []; reply = Some r }
 
+-- the call is a wait
+abbrev pub is_wait : Call → Bool
+is_wait (call.Wait o millis nanos) = true
+is_wait c = false
+
 -- the call parks: an enter makes no move then, and a wait joins the wait set, after which another thread
 -- may have become the owner
 abbrev pub parked_by : Call → Atomic → ThreadId → Option Move → Did
-parked_by (call.Wait o millis nanos) a t g = record { atomic = a; moves = Some (move.Wait t) ∷ g ∷ None ∷ []; reply = None }
-parked_by c a t g = silent a
+parked_by c a t g =
+    if is_wait c then record { atomic = a; moves = Some (move.Wait t) ∷ g ∷ None ∷ []; reply = None } else silent a
 
 -- what the fat action of a call told
 abbrev pub did_act : Call → Action → FatState → ThreadId → Done → Did
@@ -205,17 +228,15 @@ did_act c a f t d = elim d.answer [
 -- where the call stands then
 abbrev pub place_after : Answer → Place
 place_after (answer.Reply r) = Idle
-place_after answer.Parked = Parked
-place_after answer.Quiet = Parked
+place_after a = AtPost
 
 -- The fat action of a call, which is never refused: only an Expire and a Collect may be.
 abbrev pub after_told : WorldState → ThreadId → Call → Action → Result Done ActFault → FatState → After
 after_told w t c a (Ok d) f = turns w f (place_after d.answer) (did_act c a f t d)
 after_told w t c a (Err e) f = stays w Idle (silent atomic.Label)
 
-abbrev pub after_act : WorldState → ThreadId → Call → ℕ → After
-after_act w t c m =
-    after_told w t c (action_of c m) (acted w.fats t (action_of c m)).answer (acted w.fats t (action_of c m)).after
+abbrev pub after_act : WorldState → ThreadId → Call → Action → After
+after_act w t c a = after_told w t c a (acted w.fats t a).answer (acted w.fats t a).after
 
 -- why a bind is refused, if it is; room says whether the memory is granted
 abbrev pub bind_cause : Bool → FatState → Option Cause
@@ -227,18 +248,15 @@ after_look w t n true =
     stays w Idle (replied (load_of w (record { 0 = n })) (move.Refuse t cause.StillOwner) t (reply.Refused cause.StillOwner))
 after_look w t n false = stays w (Ending (n + 1)) (silent (load_of w (record { 0 = n })))
 
--- What a Go does at each place. At Idle no Go is made; a parked thread, and one that has loaded all words,
--- act otherwise.
-abbrev pub after_go : Bool → WorldState → ℕ → ThreadId → Place → After
-after_go room w k t Idle = stays w Idle (silent atomic.Label)
-after_go room w k t (Begun c contended) = after_load w t c contended (next_of c (lock_at w (target c).0) (k + 1))
-after_go room w k t (Taking o contended) = after_take w k t o contended (lock_at w o.0)
-after_go room w k t (Storing c l) = after_store w t c l
-after_go room w k t (Binding c n) = after_bind w t c false (n + 1) (bind_cause room w.fats)
-after_go room w k t (Acting c m) = after_act w t c m
-after_go room w k t (Won o) = after_bind w t (call.Enter o) true 1 (bind_cause room w.fats)
-after_go room w k t (Bound c won m) = after_publish w t c won m
-after_go room w k t (Inflated c m) = after_act w t c m
-after_go room w k t (Direct c) = after_act w t c 0
-after_go room w k t Parked = stays w Parked (silent atomic.Label)
-after_go room w k t (Ending n) = after_look w t n (is_own (lock_at w n) (k + 1))
+-- What a Go does at each stage of a call.
+abbrev pub after_stage : Bool → WorldState → ℕ → ThreadId → Stage → After
+after_stage room w k t (Begun c contended) =
+    after_load w t c contended (next_of c.operation (lock_at w c.object.0) (k + 1))
+after_stage room w k t (Taking o contended) = after_take w k t o contended (lock_at w o.0)
+after_stage room w k t (Storing c l) = after_store w t c l
+after_stage room w k t (Binding c n) = after_bind w t c false (n + 1) (bind_cause room w.fats)
+after_stage room w k t (Acting c m) = after_act w t (call_of c) (action_on c.operation m)
+after_stage room w k t (Won o) = after_bind w t (entering o) true 1 (bind_cause room w.fats)
+after_stage room w k t (Bound c won m) = after_publish w t c won m
+after_stage room w k t (Inflated c m) = after_act w t (call_of c) (action_on c.operation m)
+after_stage room w k t (Direct c) = after_act w t (call_about c) (action_about c)

@@ -1,36 +1,22 @@
 -- The labels of a run: what a user of the machine sees of it.
 use Rattle.step_core.specs.WorldState.{WorldState}
-use Rattle.step_core.specs.declared.events.Fault.{Fault}
+use Rattle.step_core.specs.declared.steps.Fault.{Fault}
 use Rattle.std.specs.Prelude.{◌≡◌, Bool, true, false, List, [], ◌∷◌, ◌++◌, filter, Option, Some, None, Result, Ok, Err}
 use Rattle.lock_word.specs.declared.ThreadId.{ThreadId}
 use Rattle.fat_monitor.specs.declared.actions.Reply.{Reply}
-use Rattle.step_core.specs.declared.moves.Move.{Move}
-use Rattle.step_core.specs.declared.moves.Move.TheVariants.{Attach, Call, Return, Lock, Unlock, Illegal, BadArgument, Early, Wait, Notify, NotifyAll, Interrupt, TestClear, Expire, Relock, Ask, Refuse, End, Time}
-use Rattle.step_core.specs.declared.events.Did.{Did}
-use Rattle.step_core.specs.declared.events.Step.{Step}
-use Rattle.step_core.specs.declared.events.Step.TheVariants as step
+use Rattle.step_core.specs.declared.machine.Move.{Move}
+use Rattle.step_core.specs.declared.machine.Move.TheVariants.{Attach, Call, Return, Time}
+use Rattle.step_core.specs.declared.steps.Did.{Did}
+use Rattle.step_core.specs.declared.steps.Step.{Step}
+use Rattle.step_core.specs.declared.steps.Step.TheVariants as step
 use Rattle.step_core.specs.Stepping.{given, step_of}
 
 abbrev pub is_label : Move → Bool
 is_label (Attach t) = true
 is_label (Call t c) = true
 is_label (Return t r) = true
-is_label (Lock t) = false
-is_label (Unlock t) = false
-is_label (Illegal t) = false
-is_label (BadArgument t) = false
-is_label (Early t) = false
-is_label (Wait t) = false
-is_label (Notify t u) = false
-is_label (NotifyAll t) = false
-is_label (Interrupt t) = false
-is_label (TestClear t) = false
-is_label (Expire t) = false
-is_label (Relock t) = false
-is_label (Ask t) = false
-is_label (Refuse t c) = false
-is_label (End t) = false
 is_label (Time now) = true
+is_label m = false
 
 abbrev pub labels_of : List Move → List Move
 labels_of ms = filter is_label ms

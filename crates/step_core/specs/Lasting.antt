@@ -7,10 +7,10 @@ use Rattle.fat_monitor.specs.declared.actions.Reply.{Reply}
 use Rattle.fat_monitor.specs.declared.actions.Reply.TheVariants.{WaitOver}
 use Rattle.fat_monitor.specs.declared.actions.Why.{Why}
 use Rattle.fat_monitor.specs.declared.actions.Why.TheVariants.{Notified}
-use Rattle.step_core.specs.declared.moves.Doing.TheVariants.{Back, Has}
-use Rattle.step_core.specs.declared.events.Did.{Did}
-use Rattle.step_core.specs.declared.events.Step.{Step}
-use Rattle.step_core.specs.declared.events.Step.TheVariants as step
+use Rattle.step_core.specs.declared.machine.Doing.TheVariants.{Back, Has}
+use Rattle.step_core.specs.declared.steps.Did.{Did}
+use Rattle.step_core.specs.declared.steps.Step.{Step}
+use Rattle.step_core.specs.declared.steps.Step.TheVariants as step
 use Rattle.step_core.specs.Machine.{State, Is, reply_of}
 use Rattle.step_core.specs.WorldState.{WorldState}
 use Rattle.step_core.specs.Stepping.{step_of}
@@ -29,11 +29,8 @@ HasReply s u r = (flag : Bool) × Is s u flag (Has r)
 
 -- the step is a Go of u that returns with this reply
 abbrev pub Returns : Step → Option Reply → ThreadId → Reply → Type 0
-Returns (step.Attach t) d u r = ⊥
-Returns (step.Begin t c) d u r = ⊥
 Returns (step.Go t) d u r = (t.0 ≡ u.0) × (d ≡ Some r)
-Returns (step.Expire t) d u r = ⊥
-Returns (step.Tick now) d u r = ⊥
+Returns s d u r = ⊥
 
 -- what a step with this reply leaves of threads that are back, for whatever reason, and of replies
 pub record Lasts (s : State) (did : Step) (d : Option Reply) (s' : State) : Type 0 where

@@ -1,6 +1,6 @@
 -- Lists of steps from an opening world.
 use Rattle.std.specs.Prelude.{ℕ, ◌<◌, ◌≤◌, Bool, List, length, slice_index}
-use Rattle.step_core.specs.declared.events.Step.{Step}
+use Rattle.step_core.specs.declared.steps.Step.{Step}
 use Rattle.step_core.specs.WorldState.{WorldState, opened}
 use Rattle.step_core.specs.Stepping.{world_after}
 

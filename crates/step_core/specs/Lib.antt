@@ -6,6 +6,7 @@ pub mod Shown
 pub mod Labels
 pub mod Refusals
 pub mod Patience
+pub mod Changes
 pub mod Kept
 pub mod Lasting
 pub mod Parts

@@ -1,6 +1,6 @@
 -- The abstract machine of object monitors (JLS SE 8, 17.1 and 17.2): its states, its moves and its runs. It knows
 -- no header word, thread index, inflation, place in a call or number of a monitor.
-use Rattle.std.specs.Prelude.{◌≡◌, ◌⊎◌, ◌↔◌, ℕ, ◌+◌, ◌*◌, ◌<◌, ◌≤◌, Bool, true, false, if◌then◌else◌, ◌==◌, List, [], ◌∷◌, ℤ, pos, ◌≤ℤ◌, nat_abs, Option, Some, None}
+use Rattle.std.specs.Prelude.{◌≡◌, ◌⊎◌, ◌↔◌, ℕ, ◌+◌, ◌*◌, ◌<◌, ◌≤◌, Bool, true, false, if◌then◌else◌, ◌==◌, List, [], ◌∷◌, ℤ, pos, ◌≤ℤ◌, nat_abs, Option, Some, None, MatchOption}
 use Rattle.std.specs.Option.{option_map}
 use Rattle.lock_word.specs.declared.ThreadId.{ThreadId}
 use Rattle.lock_word.specs.declared.ObjectId.{ObjectId}
@@ -10,12 +10,13 @@ use Rattle.fat_monitor.specs.declared.actions.Reply.{Reply}
 use Rattle.fat_monitor.specs.declared.actions.Reply.TheVariants as reply
 use Rattle.fat_monitor.specs.declared.actions.Why.{Why}
 use Rattle.fat_monitor.specs.declared.actions.Why.TheVariants as why
-use Rattle.fast_path.specs.declared.Call.{Call}
-use Rattle.fast_path.specs.declared.Call.TheVariants as call
-use Rattle.step_core.specs.declared.moves.Doing.{Doing}
-use Rattle.step_core.specs.declared.moves.Doing.TheVariants.{Idle, Wants, Waits, Back, Has}
-use Rattle.step_core.specs.declared.moves.Move.{Move}
-use Rattle.step_core.specs.declared.moves.Move.TheVariants as move
+use Rattle.fast_path.specs.declared.calls.Call.{Call}
+use Rattle.fast_path.specs.declared.calls.Call.TheVariants as call
+use Rattle.fast_path.specs.Calls.{object_of}
+use Rattle.step_core.specs.declared.machine.Doing.{Doing}
+use Rattle.step_core.specs.declared.machine.Doing.TheVariants.{Idle, Wants, Waits, Back, Has}
+use Rattle.step_core.specs.declared.machine.Move.{Move}
+use Rattle.step_core.specs.declared.machine.Move.TheVariants as move
 
 -- a live thread: whether it is interrupted (JLS 17.2.3), and what it is doing
 pub record Thread : Type 0 where
@@ -93,10 +94,7 @@ over_at moment millis nanos =
 -- whether a thread is in the wait set of o
 abbrev pub waits_on : Doing → ObjectId → Bool
 waits_on (Waits p n d) o = p.0 == o.0
-waits_on Idle o = false
-waits_on (Wants c) o = false
-waits_on (Back p n w) o = false
-waits_on (Has r) o = false
+waits_on d o = false
 
 abbrev pub is_waiting : Option Thread → ObjectId → Bool
 is_waiting None o = false
@@ -147,63 +145,29 @@ owner_only (call.Exit o) = Some o
 owner_only (call.Wait o millis nanos) = Some o
 owner_only (call.Notify o) = Some o
 owner_only (call.NotifyAll o) = Some o
-owner_only (call.Enter o) = None
-owner_only (call.Holds o) = None
-owner_only (call.Interrupt u) = None
-owner_only call.Interrupted = None
-owner_only (call.IsInterrupted u) = None
-owner_only call.End = None
+owner_only c = None
 
--- the object that a call names exists
+-- the object that a call names, if it names one, exists
 abbrev pub Exists : ℕ → Call → Type 0
-Exists n (call.Enter o) = o.0 < n
-Exists n (call.Exit o) = o.0 < n
-Exists n (call.Wait o millis nanos) = o.0 < n
-Exists n (call.Notify o) = o.0 < n
-Exists n (call.NotifyAll o) = o.0 < n
-Exists n (call.Holds o) = o.0 < n
-Exists n (call.Interrupt u) = Unit {0}
-Exists n call.Interrupted = Unit {0}
-Exists n (call.IsInterrupted u) = Unit {0}
-Exists n call.End = Unit {0}
+Exists n c = MatchOption (object_of c) (Unit {0}) (λ o. o.0 < n)
 
 -- t may be refused for this cause
 abbrev pub MayRefuse : State → ThreadId → Call → Cause → Type 0
 MayRefuse s t (call.Enter o) NoMonitor = OwnedBy s o t
 MayRefuse s t (call.Enter o) Memory = OwnedBy s o t
 MayRefuse s t (call.Enter o) TooDeep = OwnedBy s o t × ((s.monitor o).count ≡ 65535)
-MayRefuse s t (call.Enter o) StillOwner = ⊥
-MayRefuse s t (call.Enter o) NoThread = ⊥
 MayRefuse s t (call.Wait o millis nanos) NoMonitor = OwnedBy s o t × AreGood millis nanos
 MayRefuse s t (call.Wait o millis nanos) Memory = OwnedBy s o t × AreGood millis nanos
-MayRefuse s t (call.Wait o millis nanos) TooDeep = ⊥
-MayRefuse s t (call.Wait o millis nanos) StillOwner = ⊥
-MayRefuse s t (call.Wait o millis nanos) NoThread = ⊥
-MayRefuse s t (call.Exit o) cause = ⊥
-MayRefuse s t (call.Notify o) cause = ⊥
-MayRefuse s t (call.NotifyAll o) cause = ⊥
-MayRefuse s t (call.Holds o) cause = ⊥
-MayRefuse s t (call.Interrupt u) cause = (cause ≡ NoThread) × (s.thread u ≡ None)
-MayRefuse s t call.Interrupted cause = ⊥
-MayRefuse s t (call.IsInterrupted u) cause = (cause ≡ NoThread) × (s.thread u ≡ None)
-MayRefuse s t call.End NoMonitor = ⊥
-MayRefuse s t call.End Memory = ⊥
-MayRefuse s t call.End TooDeep = ⊥
+MayRefuse s t (call.Interrupt u) NoThread = s.thread u ≡ None
+MayRefuse s t (call.IsInterrupted u) NoThread = s.thread u ≡ None
 MayRefuse s t call.End StillOwner = (o : ObjectId) × OwnedBy s o t
-MayRefuse s t call.End NoThread = ⊥
+MayRefuse s t c cause = ⊥
 
 -- this is the answer to the question that t asks: does it own the object, or is that thread interrupted?
 abbrev pub IsAnswer : State → ThreadId → Call → Bool → Type 0
 IsAnswer s t (call.Holds o) answer = (answer ≡ true) ↔ OwnedBy s o t
 IsAnswer s t (call.IsInterrupted u) answer = (x : Thread) × (s.thread u ≡ Some x) × (answer ≡ x.flag)
-IsAnswer s t (call.Enter o) answer = ⊥
-IsAnswer s t (call.Exit o) answer = ⊥
-IsAnswer s t (call.Wait o millis nanos) answer = ⊥
-IsAnswer s t (call.Notify o) answer = ⊥
-IsAnswer s t (call.NotifyAll o) answer = ⊥
-IsAnswer s t (call.Interrupt u) answer = ⊥
-IsAnswer s t call.Interrupted answer = ⊥
-IsAnswer s t call.End answer = ⊥
+IsAnswer s t c answer = ⊥
 
 -- From s the machine may make this move, which leads to s'. Whatever a row does not name stays.
 abbrev pub Steps : State → Move → State → Type 0

@@ -1,7 +1,7 @@
 -- What is written for a fault, and its number.
 use Rattle.std.specs.Prelude.{ℕ, List, codes}
-use Rattle.step_core.specs.declared.events.Fault.{Fault}
-use Rattle.step_core.specs.declared.events.Fault.TheVariants.{NoIndex, Memory, Known, NoThread, NoObject, InCall, NotCalling, Parked, NotDue, Backwards}
+use Rattle.step_core.specs.declared.steps.Fault.{Fault}
+use Rattle.step_core.specs.declared.steps.Fault.TheVariants.{NoIndex, Memory, Known, NoThread, NoObject, InCall, NotCalling, Parked, NotDue, Backwards}
 
 abbrev pub fault_name : Fault → List ℕ
 fault_name NoIndex = codes "NoIndex"

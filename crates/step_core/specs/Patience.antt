@@ -6,34 +6,40 @@ use Rattle.lock_word.specs.declared.Lock.TheVariants.{Thin}
 use Rattle.lock_word.specs.Layout.{lock_of}
 use Rattle.thread_index.specs.Indices.{seat_of, index_of}
 use Rattle.fat_monitor.specs.declared.actions.Answer.TheVariants as answer
-use Rattle.fast_path.specs.declared.Call.TheVariants as call
-use Rattle.step_core.specs.declared.moves.Doing.TheVariants as doing
+use Rattle.fast_path.specs.declared.calls.Call.TheVariants as call
+use Rattle.step_core.specs.declared.machine.Doing.TheVariants as doing
 use Rattle.step_core.specs.declared.places.Place.{Place}
-use Rattle.step_core.specs.declared.places.Place.TheVariants.{Idle, Begun, Taking, Storing, Binding, Acting, Won, Bound, Inflated, Direct, Parked, Ending}
-use Rattle.step_core.specs.declared.events.Atomic.{Atomic}
-use Rattle.step_core.specs.declared.events.Atomic.TheVariants.{Label, Load, Won as WonWord, Lost, Stored, Bound as BoundMonitor, NotBound, Acted}
-use Rattle.step_core.specs.declared.events.Did.{Did}
-use Rattle.step_core.specs.declared.events.Step.{Step}
-use Rattle.step_core.specs.declared.events.Step.TheVariants as step
+use Rattle.step_core.specs.declared.places.Place.TheVariants.{Idle, InCall, Ending, AtPost}
+use Rattle.step_core.specs.declared.places.Stage.{Stage}
+use Rattle.step_core.specs.declared.places.Stage.TheVariants.{Begun, Taking, Storing, Binding, Acting, Won, Bound, Inflated, Direct}
+use Rattle.step_core.specs.declared.steps.Atomic.{Atomic}
+use Rattle.step_core.specs.declared.steps.Atomic.TheVariants.{Load, Lost, Acted}
+use Rattle.step_core.specs.declared.steps.Did.{Did}
+use Rattle.step_core.specs.declared.steps.Step.{Step}
+use Rattle.step_core.specs.declared.steps.Step.TheVariants as step
 use Rattle.step_core.specs.Machine.{Is}
 use Rattle.step_core.specs.WorldState.{WorldState, place_at}
 use Rattle.step_core.specs.Stepping.{step_of}
 use Rattle.step_core.specs.Shown.{shown}
 
--- the Go steps that a call has left at this place at most, where there are so many objects, if it meets nobody
+-- the Go steps that a call has left at this stage at most, if it meets nobody
+abbrev pub left_in : Stage → ℕ
+left_in (Begun c contended) = 4
+left_in (Taking o contended) = 3
+left_in (Storing c l) = 3
+left_in (Binding c n) = 3
+left_in (Acting c m) = 3
+left_in (Won o) = 2
+left_in (Bound c won m) = if won then 1 else 2
+left_in (Inflated c m) = 1
+left_in (Direct c) = 4
+
+-- and at this place, where there are so many objects
 abbrev pub left_at : ℕ → Place → ℕ
 left_at objects Idle = 0
-left_at objects (Begun c contended) = 4
-left_at objects (Taking o contended) = 3
-left_at objects (Storing c l) = 3
-left_at objects (Binding c n) = 3
-left_at objects (Acting c m) = 3
-left_at objects (Won o) = 2
-left_at objects (Bound c won m) = if won then 1 else 2
-left_at objects (Inflated c m) = 1
-left_at objects (Direct c) = 4
-left_at objects Parked = 1
+left_at objects (InCall s) = left_in s
 left_at objects (Ending n) = objects + 1 - n
+left_at objects AtPost = 1
 
 abbrev pub left_of_seat : WorldState → Option ℕ → ℕ
 left_of_seat w None = 0
@@ -45,29 +51,16 @@ left_of w t = left_of_seat w (seat_of w.seats t)
 
 -- t has met another thread: its enter loaded a thin word of another's, or it lost its exchange
 abbrev pub HasMet : WorldState → ThreadId → Atomic → Type 0
-HasMet w t Label = ⊥
 HasMet w t (Load o x) =
     ((p : ObjectId) × (flag : Bool) × Is (shown w) t flag (doing.Wants (call.Enter p)))
     × ((i n : ℕ) × (lock_of x.0 ≡ Thin i n) × (index_of w.seats t ≢ Some i))
-HasMet w t (WonWord o x y) = ⊥
 HasMet w t (Lost o x) = Unit {0}
-HasMet w t (Stored o x y) = ⊥
-HasMet w t (BoundMonitor o m) = ⊥
-HasMet w t (NotBound o cause) = ⊥
-HasMet w t (Acted a x) = ⊥
+HasMet w t a = ⊥
 
 -- t has parked in a line
 abbrev pub HasParked : Atomic → Type 0
-HasParked Label = ⊥
-HasParked (Load o x) = ⊥
-HasParked (WonWord o x y) = ⊥
-HasParked (Lost o x) = ⊥
-HasParked (Stored o x y) = ⊥
-HasParked (BoundMonitor o m) = ⊥
-HasParked (NotBound o cause) = ⊥
-HasParked (Acted a (answer.Reply r)) = ⊥
 HasParked (Acted a answer.Parked) = Unit {0}
-HasParked (Acted a answer.Quiet) = ⊥
+HasParked a = ⊥
 
 -- a Go of t that did this replies, parks, meets another thread, or lowers what is left, which stays at least 1
 abbrev pub Advances : WorldState → ThreadId → Did → WorldState → Type 0

@@ -6,12 +6,12 @@ use Rattle.fat_monitor.specs.declared.actions.Reply.{Reply}
 use Rattle.fat_monitor.specs.declared.actions.Reply.TheVariants.{Refused}
 use Rattle.thread_index.specs.Indices.{holder_at}
 use Rattle.wait_lines.specs.Lines.{Stands}
-use Rattle.fast_path.specs.Table.{object_of}
-use Rattle.step_core.specs.declared.moves.Doing.TheVariants.{Idle, Waits}
-use Rattle.step_core.specs.declared.events.Step.{Step}
-use Rattle.step_core.specs.declared.events.Step.TheVariants as step
-use Rattle.step_core.specs.declared.events.Fault.{Fault}
-use Rattle.step_core.specs.declared.events.Fault.TheVariants.{NoIndex, Memory, Known, NoThread, NoObject, InCall, NotCalling, Parked, NotDue, Backwards}
+use Rattle.fast_path.specs.Calls.{object_of}
+use Rattle.step_core.specs.declared.machine.Doing.TheVariants.{Idle, Waits}
+use Rattle.step_core.specs.declared.steps.Step.{Step}
+use Rattle.step_core.specs.declared.steps.Step.TheVariants as step
+use Rattle.step_core.specs.declared.steps.Fault.{Fault}
+use Rattle.step_core.specs.declared.steps.Fault.TheVariants.{NoIndex, Memory, Known, NoThread, NoObject, InCall, NotCalling, Parked, NotDue, Backwards}
 use Rattle.fat_monitor.specs.declared.actions.Cause.{Cause}
 use Rattle.std.specs.Option.{option_map}
 use Rattle.step_core.specs.Machine.{State, Thread, Is, Exists, is_waiting}
@@ -51,53 +51,16 @@ abbrev pub IsRefused : WorldState → Step → Fault → Type 0
 IsRefused w (step.Attach t) Known = IsLive w t
 IsRefused w (step.Attach t) NoIndex = IsNotLive w t × IsFull w
 IsRefused w (step.Attach t) Memory = IsNotLive w t × HasFreeIndex w
-IsRefused w (step.Attach t) NoThread = ⊥
-IsRefused w (step.Attach t) NoObject = ⊥
-IsRefused w (step.Attach t) InCall = ⊥
-IsRefused w (step.Attach t) NotCalling = ⊥
-IsRefused w (step.Attach t) Parked = ⊥
-IsRefused w (step.Attach t) NotDue = ⊥
-IsRefused w (step.Attach t) Backwards = ⊥
 IsRefused w (step.Begin t c) NoThread = IsNotLive w t
 IsRefused w (step.Begin t c) NoObject = IsLive w t × ((o : ObjectId) × (object_of c ≡ Some o) × ((shown w).objects ≤ o.0))
 IsRefused w (step.Begin t c) InCall = IsBusy w t × Exists (shown w).objects c
-IsRefused w (step.Begin t c) Known = ⊥
-IsRefused w (step.Begin t c) NoIndex = ⊥
-IsRefused w (step.Begin t c) Memory = ⊥
-IsRefused w (step.Begin t c) NotCalling = ⊥
-IsRefused w (step.Begin t c) Parked = ⊥
-IsRefused w (step.Begin t c) NotDue = ⊥
-IsRefused w (step.Begin t c) Backwards = ⊥
 IsRefused w (step.Go t) NoThread = IsNotLive w t
 IsRefused w (step.Go t) NotCalling = IsIdle w t
 IsRefused w (step.Go t) Parked = IsLive w t × IsParked w t
-IsRefused w (step.Go t) Known = ⊥
-IsRefused w (step.Go t) NoIndex = ⊥
-IsRefused w (step.Go t) Memory = ⊥
-IsRefused w (step.Go t) NoObject = ⊥
-IsRefused w (step.Go t) InCall = ⊥
-IsRefused w (step.Go t) NotDue = ⊥
-IsRefused w (step.Go t) Backwards = ⊥
 IsRefused w (step.Expire t) NoThread = IsNotLive w t
 IsRefused w (step.Expire t) NotDue = IsLive w t × (IsDue w t → ⊥)
-IsRefused w (step.Expire t) Known = ⊥
-IsRefused w (step.Expire t) NoIndex = ⊥
-IsRefused w (step.Expire t) Memory = ⊥
-IsRefused w (step.Expire t) NoObject = ⊥
-IsRefused w (step.Expire t) InCall = ⊥
-IsRefused w (step.Expire t) NotCalling = ⊥
-IsRefused w (step.Expire t) Parked = ⊥
-IsRefused w (step.Expire t) Backwards = ⊥
 IsRefused w (step.Tick now) Backwards = now < (shown w).moment
-IsRefused w (step.Tick now) Known = ⊥
-IsRefused w (step.Tick now) NoIndex = ⊥
-IsRefused w (step.Tick now) Memory = ⊥
-IsRefused w (step.Tick now) NoThread = ⊥
-IsRefused w (step.Tick now) NoObject = ⊥
-IsRefused w (step.Tick now) InCall = ⊥
-IsRefused w (step.Tick now) NotCalling = ⊥
-IsRefused w (step.Tick now) Parked = ⊥
-IsRefused w (step.Tick now) NotDue = ⊥
+IsRefused w s f = ⊥
 
 -- no fault of the step holds, want of memory apart
 abbrev pub IsAcceptable : WorldState → Step → Type 0

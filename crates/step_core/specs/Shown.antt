@@ -8,29 +8,35 @@ use Rattle.fat_monitor.specs.FatState.{FatState, monitor_at, post_at, flag_at}
 use Rattle.fat_monitor.specs.declared.actions.Post.{Post}
 use Rattle.fat_monitor.specs.declared.actions.Post.TheVariants.{Out, Entering, Waiting, Back, Granted}
 use Rattle.fat_monitor.specs.declared.actions.Reply.TheVariants.{Entered}
-use Rattle.fast_path.specs.declared.Call.TheVariants.{Enter, End}
-use Rattle.step_core.specs.declared.moves.Doing.{Doing}
-use Rattle.step_core.specs.declared.moves.Doing.TheVariants as doing
+use Rattle.fast_path.specs.declared.calls.Call.TheVariants.{Enter, End}
+use Rattle.fast_path.specs.Calls.{call_of, call_about}
+use Rattle.step_core.specs.declared.machine.Doing.{Doing}
+use Rattle.step_core.specs.declared.machine.Doing.TheVariants as doing
 use Rattle.step_core.specs.declared.places.Place.{Place}
-use Rattle.step_core.specs.declared.places.Place.TheVariants.{Idle, Begun, Taking, Storing, Binding, Acting, Won, Bound, Inflated, Direct, Parked, Ending}
+use Rattle.step_core.specs.declared.places.Place.TheVariants.{Idle, InCall, Ending, AtPost}
+use Rattle.step_core.specs.declared.places.Stage.{Stage}
+use Rattle.step_core.specs.declared.places.Stage.TheVariants.{Begun, Taking, Storing, Binding, Acting, Won, Bound, Inflated, Direct}
 use Rattle.step_core.specs.Machine.{State, Thread, Monitor, free}
 use Rattle.step_core.specs.WorldState.{WorldState, place_at, lock_at}
 
--- What a thread at this place is doing, where it is out of every fat action: a contended enter that has
--- won has its reply. A parked thread is not out.
+-- What a thread at this stage of a call is doing: a contended enter that has won has its reply.
+abbrev pub doing_in : Stage → Doing
+doing_in (Begun c contended) = doing.Wants (call_of c)
+doing_in (Taking o contended) = doing.Wants (Enter o)
+doing_in (Storing c l) = doing.Wants (call_of c)
+doing_in (Binding c n) = doing.Wants (call_of c)
+doing_in (Acting c m) = doing.Wants (call_of c)
+doing_in (Won o) = doing.Has Entered
+doing_in (Bound c won m) = if won then doing.Has Entered else doing.Wants (call_of c)
+doing_in (Inflated c m) = doing.Wants (call_of c)
+doing_in (Direct c) = doing.Wants (call_about c)
+
+-- and at this place, where it is out of every fat action; a thread at its post is not
 abbrev pub doing_of : Place → Doing
 doing_of Idle = doing.Idle
-doing_of (Begun c contended) = doing.Wants c
-doing_of (Taking o contended) = doing.Wants (Enter o)
-doing_of (Storing c l) = doing.Wants c
-doing_of (Binding c n) = doing.Wants c
-doing_of (Acting c m) = doing.Wants c
-doing_of (Won o) = doing.Has Entered
-doing_of (Bound c won m) = if won then doing.Has Entered else doing.Wants c
-doing_of (Inflated c m) = doing.Wants c
-doing_of (Direct c) = doing.Wants c
-doing_of Parked = doing.Idle
+doing_of (InCall s) = doing_in s
 doing_of (Ending n) = doing.Wants End
+doing_of AtPost = doing.Idle
 
 -- What a thread is doing with this post, and at this place in its call: in an entry line for an enter it
 -- still wants to enter, and once it is granted it has its reply.

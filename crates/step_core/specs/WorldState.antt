@@ -10,12 +10,13 @@ use Rattle.fat_monitor.specs.FatState.{FatState, monitor_at, IsAttached, post_of
 use Rattle.fat_monitor.specs.declared.actions.Post.{Post}
 use Rattle.fat_monitor.specs.declared.actions.Post.TheVariants.{Out}
 use Rattle.fat_monitor.specs.FatState as fat
-use Rattle.fast_path.specs.declared.Call.{Call}
-use Rattle.fast_path.specs.declared.Call.TheVariants as call
+use Rattle.fast_path.specs.declared.calls.MonitorCall.{MonitorCall}
 use Rattle.fast_path.specs.declared.Next.TheVariants as next
-use Rattle.fast_path.specs.Table.{object_of, target, next_of}
+use Rattle.fast_path.specs.Table.{next_of}
 use Rattle.step_core.specs.declared.places.Place.{Place}
-use Rattle.step_core.specs.declared.places.Place.TheVariants.{Idle, Begun, Taking, Storing, Binding, Acting, Won, Bound, Inflated, Direct, Parked, Ending}
+use Rattle.step_core.specs.declared.places.Place.TheVariants.{Idle, InCall, Ending, AtPost}
+use Rattle.step_core.specs.declared.places.Stage.{Stage}
+use Rattle.step_core.specs.declared.places.Stage.TheVariants.{Begun, Taking, Storing, Binding, Acting, Won, Bound, Inflated, Direct}
 
 -- the word of each object; who has each index, by seat, which is the index less one; the place of the
 -- thread at each seat; and the fat state
@@ -44,9 +45,9 @@ word_at w p = slice_index_or w.words p (low_word 0)
 abbrev pub lock_at : WorldState → ℕ → Lock
 lock_at w p = lock_of (word_at w p).0
 
--- the call names an object, which exists
-abbrev pub Reaches : WorldState → Call → Type 0
-Reaches w c = IsSome (object_of c) × ((target c).0 < length w.words)
+-- the object of the call exists
+abbrev pub Reaches : WorldState → MonitorCall → Type 0
+Reaches w c = c.object.0 < length w.words
 
 -- a lock that object p may show: a thin one is a live thread's, and a fat one is of a monitor that is bound to p
 abbrev pub Stands : WorldState → ℕ → Lock → Type 0
@@ -60,68 +61,45 @@ is_own Free me = false
 is_own (Thin i c) me = i == me
 is_own (Fat m) me = false
 
--- the call is about interrupts: it names no object, and is one action
-abbrev pub is_direct : Call → Bool
-is_direct (call.Interrupt u) = true
-is_direct call.Interrupted = true
-is_direct (call.IsInterrupted u) = true
-is_direct (call.Enter o) = false
-is_direct (call.Exit o) = false
-is_direct (call.Wait o millis nanos) = false
-is_direct (call.Notify o) = false
-is_direct (call.NotifyAll o) = false
-is_direct (call.Holds o) = false
-is_direct call.End = false
+-- The thread at seat k may stand at this stage of a call: what it found when it loaded still stands, since a
+-- thin word is its owner's, a fat word stays fat, and a monitor that is bound and not stored is nobody else's.
+abbrev pub FittingStage : WorldState → ℕ → Stage → Type 0
+FittingStage w k (Begun c contended) = Reaches w c
+FittingStage w k (Taking o contended) = o.0 < length w.words
+FittingStage w k (Storing c l) =
+    Reaches w c
+    × ((n : ℕ) × (lock_at w c.object.0 ≡ Thin (k + 1) n) × (next_of c.operation (Thin (k + 1) n) (k + 1) ≡ next.Store l))
+FittingStage w k (Binding c n) =
+    Reaches w c × (lock_at w c.object.0 ≡ Thin (k + 1) n) × (next_of c.operation (Thin (k + 1) n) (k + 1) ≡ next.Bind)
+FittingStage w k (Acting c m) = Reaches w c × (lock_at w c.object.0 ≡ Fat m)
+FittingStage w k (Won o) = (o.0 < length w.words) × (lock_at w o.0 ≡ Thin (k + 1) 0)
+FittingStage w k (Bound c won m) =
+    Reaches w c × (m < length w.fats.monitors)
+    × ((n : ℕ) × (lock_at w c.object.0 ≡ Thin (k + 1) n)
+    × (monitor_at w.fats m ≡ record { object = c.object; owner = holder_at w.seats k; holds = n + 1 }))
+FittingStage w k (Inflated c m) = Reaches w c × (lock_at w c.object.0 ≡ Fat m)
+FittingStage w k (Direct c) = Unit {0}
 
--- The thread at seat k may stand at this place: what it found when it loaded still stands, since a thin
--- word is its owner's, a fat word stays fat, and a monitor that is bound and not stored is nobody else's.
+-- The thread at seat k may stand at this place. One that is to end owns none of the objects that it has loaded.
 abbrev pub Fitting : WorldState → ℕ → Place → Type 0
 Fitting w k Idle = Unit {0}
-Fitting w k (Begun c contended) = Reaches w c
-Fitting w k (Taking o contended) = o.0 < length w.words
-Fitting w k (Storing c l) =
-    Reaches w c × ((n : ℕ) × (lock_at w (target c).0 ≡ Thin (k + 1) n) × (next_of c (Thin (k + 1) n) (k + 1) ≡ next.Store l))
-Fitting w k (Binding c n) = Reaches w c × (lock_at w (target c).0 ≡ Thin (k + 1) n) × (next_of c (Thin (k + 1) n) (k + 1) ≡ next.Bind)
-Fitting w k (Acting c m) = Reaches w c × (lock_at w (target c).0 ≡ Fat m)
-Fitting w k (Won o) = (o.0 < length w.words) × (lock_at w o.0 ≡ Thin (k + 1) 0)
-Fitting w k (Bound c won m) =
-    Reaches w c × (m < length w.fats.monitors)
-    × ((n : ℕ) × (lock_at w (target c).0 ≡ Thin (k + 1) n)
-    × (monitor_at w.fats m ≡ record { object = target c; owner = holder_at w.seats k; holds = n + 1 }))
-Fitting w k (Inflated c m) = Reaches w c × (lock_at w (target c).0 ≡ Fat m)
-Fitting w k (Direct c) = is_direct c ≡ true
-Fitting w k Parked = Unit {0}
+Fitting w k (InCall s) = FittingStage w k s
 Fitting w k (Ending n) = (n ≤ length w.words) × ((p : ℕ) → p < n → is_own (lock_at w p) (k + 1) ≡ false)
+Fitting w k AtPost = Unit {0}
 
--- the monitor that a thread at this place has bound and is to store
+-- the monitor that a thread at this stage has bound and is to store
+abbrev pub bound_in : Stage → Option ℕ
+bound_in (Bound c won m) = Some m
+bound_in s = None
+
 abbrev pub bound_by : Place → Option ℕ
-bound_by Idle = None
-bound_by (Begun c contended) = None
-bound_by (Taking o contended) = None
-bound_by (Storing c l) = None
-bound_by (Binding c n) = None
-bound_by (Acting c m) = None
-bound_by (Won o) = None
-bound_by (Bound c won m) = Some m
-bound_by (Inflated c m) = None
-bound_by (Direct c) = None
-bound_by Parked = None
-bound_by (Ending n) = None
+bound_by (InCall s) = bound_in s
+bound_by p = None
 
--- a thread at this place is out of every fat action, or is not
+-- a thread at its post is in a line or was granted, and at any other place it is out of every fat action
 abbrev pub Agrees : Place → Option Post → Type 0
-Agrees Idle p = p ≡ Some Out
-Agrees (Begun c contended) p = p ≡ Some Out
-Agrees (Taking o contended) p = p ≡ Some Out
-Agrees (Storing c l) p = p ≡ Some Out
-Agrees (Binding c n) p = p ≡ Some Out
-Agrees (Acting c m) p = p ≡ Some Out
-Agrees (Won o) p = p ≡ Some Out
-Agrees (Bound c won m) p = p ≡ Some Out
-Agrees (Inflated c m) p = p ≡ Some Out
-Agrees (Direct c) p = p ≡ Some Out
-Agrees Parked p = p ≢ Some Out
-Agrees (Ending n) p = p ≡ Some Out
+Agrees AtPost p = p ≢ Some Out
+Agrees q p = p ≡ Some Out
 
 -- a monitor that is bound is shown by its object, or somebody is to store it
 abbrev pub IsPublished : WorldState → ℕ → Type 0

@@ -7,22 +7,22 @@
 //! abstract machine of `docs/MACHINE.md` (JLS SE 8, 17.1 and 17.2) that it made.
 #![tactic(auto)]
 
-mod deeds;
-mod events;
+mod control;
+mod going;
 mod laws;
-mod moves;
+mod machine;
 mod places;
-mod stepping;
+mod stages;
+mod steps;
 #[cfg(test)]
 mod tests;
-mod turns;
 mod worlds;
 
-pub use events::{Atomic, Did, Fault, Step};
 pub use laws::{
     a_waiter_throws_or_keeps_its_interrupt, every_call_is_patient, every_list_of_steps_is_a_run,
     every_list_of_steps_keeps_the_world, no_notification_is_lost,
 };
-pub use moves::{Doing, Move};
-pub use places::Place;
+pub use machine::{Doing, Move};
+pub use places::{Place, Stage};
+pub use steps::{Atomic, Did, Fault, Step};
 pub use worlds::World;

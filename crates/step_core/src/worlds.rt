@@ -5,19 +5,20 @@ ghost use Rattle.std.specs.Option.{option_map};
 ghost use Rattle.fat_monitor.specs.FatState.{monitor_at, StandBehindOwners};
 ghost use Rattle.thread_index.specs.Indices.{seat_of, free_seat, index_of, holder_of};
 ghost use Rattle.step_core.specs.Machine.{Run, opening, Thread, is_waiting};
-ghost use Rattle.step_core.specs.WorldState.{IsSound, opened, word_at, lock_at};
+ghost use Rattle.step_core.specs.WorldState.{IsSound, opened, word_at};
 ghost use Rattle.step_core.specs.Stepping.{attached, begun, went, expired, ticked, step_of, moves_of};
-ghost use Rattle.step_core.specs.Shown.{shown, doing_of};
+ghost use Rattle.step_core.specs.Shown.{shown, doing_of, doing_in};
+ghost use Rattle.step_core.specs.Changes.{Changes};
 ghost use Rattle.step_core.specs.Labels.{HasLabels};
 ghost use Rattle.step_core.specs.Refusals.{IsRefused, IsAcceptable, Spares};
 ghost use Rattle.step_core.specs.Patience.{IsPatient};
 ghost use Rattle.step_core.specs.Kept.{Keeps};
 ghost use Rattle.step_core.specs.Lasting.{Lasts};
 
-use crate::{Did, Doing, Fault, Place, Step, stepping};
+use crate::{Did, Doing, Fault, Place, Stage, Step, control, going};
 use fast_path::Call;
 use fat_monitor::{Fats, Post, Reply};
-use lock_word::{Lock, Memory, ObjectId, ThreadId, Word, decode};
+use lock_word::{Lock, Memory, ObjectId, ThreadId, Word, lock_of};
 use std::alloc::Global;
 use std::marker::Model;
 use thread_index::Indices;
@@ -83,6 +84,9 @@ impl World {
         // The answer and the new world are those of the step relation; room is whether memory is granted.
         ensures exact { (room : Bool) × (record { answer = result; after = self.new } ≡ step_of room self.old step) }
 
+        // The atomic step names the one change of the words and the fat monitors.
+        ensures changes { IfOk result (λ d. Changes self.old step d.atomic self.new) }
+
         // The moves are a run of the machine, and have the labels of the step.
         ensures run { Run (shown self.old) (moves_of result) (shown self.new) }
         ensures labels { IfOk result (HasLabels step) }
@@ -123,27 +127,27 @@ impl World {
         }
     }
 
-    #[tactic(auto, using(crate::proofs::Steps::attach_kept))]
+    #[tactic(auto, using(crate::proofs::StepRuns::attach_kept))]
     fn attach(&mut self, thread: ThreadId) -> Result<Did, Fault>
         ensures was { IsSound self.old }
         ensures exact { (room : Bool) × (record { answer = result; after = self.new } ≡ attached room self.old thread (seat_of self.old.seats thread) (free_seat self.old.seats)) }
     {
-        stepping::attach(&mut self.indices, &mut self.places, &mut self.fats, thread)
+        control::attach(&mut self.indices, &mut self.places, &mut self.fats, thread)
     }
 
-    #[tactic(auto, using(crate::proofs::Steps::begin_kept))]
+    #[tactic(auto, using(crate::proofs::StepRuns::begin_kept))]
     fn begin(&mut self, thread: ThreadId, call: Call) -> Result<Did, Fault>
         ensures was { IsSound self.old }
         ensures exact { record { answer = result; after = self.new } ≡ begun self.old thread call (seat_of self.old.seats thread) }
     {
-        stepping::begin(&self.words, &self.indices, &mut self.places, thread, call)
+        control::begin(&self.words, &self.indices, &mut self.places, thread, call)
     }
 
     fn go(&mut self, thread: ThreadId) -> Result<Did, Fault>
         ensures was { IsSound self.old }
         ensures exact { (room : Bool) × (record { answer = result; after = self.new } ≡ went room self.old thread (seat_of self.old.seats thread)) }
     {
-        stepping::go(
+        going::go(
             &mut self.words,
             &mut self.indices,
             &mut self.places,
@@ -156,14 +160,14 @@ impl World {
         ensures was { IsSound self.old }
         ensures exact { record { answer = result; after = self.new } ≡ expired self.old thread (seat_of self.old.seats thread) }
     {
-        stepping::expire(&self.indices, &mut self.fats, thread)
+        control::expire(&self.indices, &mut self.fats, thread)
     }
 
     fn tick(&mut self, now: u64) -> Result<Did, Fault>
         ensures was { IsSound self.old }
         ensures exact { record { answer = result; after = self.new } ≡ ticked self.old now }
     {
-        stepping::tick(&mut self.fats, now)
+        control::tick(&mut self.fats, now)
     }
 
     /// The moment that was told last, in nanoseconds; 0 at first.
@@ -193,7 +197,7 @@ impl World {
         requires { object.0 < length self.now.words }
         ensures { result ≡ ((shown self.now).monitor object).owner }
     {
-        match self.lock(object) {
+        match lock_of(self.words[object.0 as usize]) {
             Lock::Free => None,
             Lock::Thin { index, .. } => self.indices.id_of(index),
             Lock::Fat { monitor } => self.fats.owner(monitor),
@@ -205,7 +209,7 @@ impl World {
         requires { object.0 < length self.now.words }
         ensures { result ≡ ((shown self.now).monitor object).count }
     {
-        match self.lock(object) {
+        match lock_of(self.words[object.0 as usize]) {
             Lock::Free => 0,
             Lock::Thin { count, .. } => u16::from(count) + 1,
             Lock::Fat { monitor } => self.fats.holds(monitor),
@@ -265,7 +269,7 @@ impl World {
                 Doing::Back { object, holds, why }
             }
             Some(Post::Granted(reply)) => Doing::Has(reply),
-            Some(Post::Out) | None => doing_at(self.places[index as usize - 1]),
+            Some(Post::Out) | None => doing_of(self.places[index as usize - 1]),
         };
         Some(doing)
     }
@@ -287,36 +291,34 @@ impl World {
     {
         self.fats.object(monitor).unwrap_or(ObjectId(0))
     }
-
-    /// The lock that an object's word shows.
-    fn lock(&self, object: ObjectId) -> Lock
-        requires { object.0 < length self.now.words }
-        ensures { result ≡ lock_at self.now object.0 }
-    {
-        match decode(self.words[object.0 as usize]) {
-            Some((lock, _)) => lock,
-            None => unreachable!(),
-        }
-    }
 }
 
 /// What a thread at this place is doing, where it is out of every fat action.
-fn doing_at(place: Place) -> Doing
+fn doing_of(place: Place) -> Doing
     ensures { result ≡ doing_of place }
 {
     match place {
-        Place::Idle | Place::Parked => Doing::Idle,
-        Place::Begun { call, .. } | Place::Storing { call, .. } | Place::Binding { call, .. } =>
-            Doing::Wants(call),
-        Place::Acting { call, .. } | Place::Inflated { call, .. } | Place::Direct { call } =>
-            Doing::Wants(call),
-        Place::Taking { object, .. } => Doing::Wants(Call::Enter(object)),
-        Place::Won { .. } | Place::Bound { won: true, .. } => Doing::Has(Reply::Entered),
-        Place::Bound {
+        Place::Idle | Place::AtPost => Doing::Idle,
+        Place::InCall(stage) => doing_in(stage),
+        Place::Ending { .. } => Doing::Wants(Call::End),
+    }
+}
+
+/// What a thread at this stage of a call is doing.
+fn doing_in(stage: Stage) -> Doing
+    ensures { result ≡ doing_in stage }
+{
+    match stage {
+        Stage::Begun { call, .. } | Stage::Storing { call, .. } | Stage::Binding { call, .. } =>
+            Doing::Wants(call.call()),
+        Stage::Acting { call, .. } | Stage::Inflated { call, .. } => Doing::Wants(call.call()),
+        Stage::Direct { call } => Doing::Wants(call.call()),
+        Stage::Taking { object, .. } => Doing::Wants(Call::Enter(object)),
+        Stage::Won { .. } | Stage::Bound { won: true, .. } => Doing::Has(Reply::Entered),
+        Stage::Bound {
             call,
             won: false,
             ..
-        } => Doing::Wants(call),
-        Place::Ending { .. } => Doing::Wants(Call::End),
+        } => Doing::Wants(call.call()),
     }
 }

@@ -11,3 +11,6 @@ invariant_of-self c =
       | in-Ok w ↦ rw (w.in-Ok.ensures.items) kept
       | in-Err w ↦ rw (w.in-Err.ensures.items) c.self.invariant
     ]
+
+pub returns-clause-sound : goal.returns-clause-sound
+returns-clause-sound c = invariant_of-self c

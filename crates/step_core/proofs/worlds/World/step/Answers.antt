@@ -4,6 +4,9 @@ use Rattle.step_core.proofs.worlds.World.step.Goals as goal
 pub returns-clause-run : goal.returns-clause-run
 returns-clause-run c = let e = c.advance.ensures.exact in (tells c.args.self.now c.advance.new.self c.args.step c.advance.result e.0 c.advance.ensures.was e.1).run
 
+pub returns-clause-changes : goal.returns-clause-changes
+returns-clause-changes c = let e = c.advance.ensures.exact in (tells c.args.self.now c.advance.new.self c.args.step c.advance.result e.0 c.advance.ensures.was e.1).changes
+
 pub returns-clause-labels : goal.returns-clause-labels
 returns-clause-labels c = let e = c.advance.ensures.exact in (tells c.args.self.now c.advance.new.self c.args.step c.advance.result e.0 c.advance.ensures.was e.1).labels
 

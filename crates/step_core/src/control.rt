@@ -1,0 +1,120 @@
+//! The steps that are no Go: a thread is attached or begins a call, a wait expires, the moment is told.
+
+ghost use Rattle.std.specs.Prelude.{◌≡◌, ◌≤◌, List, length, Bool, Option, IsSome, is_some, count_by};
+ghost use Rattle.lock_word.specs.declared.ThreadId.{ThreadId};
+ghost use Rattle.lock_word.specs.declared.Word.{Word};
+ghost use Rattle.thread_index.specs.Indices.{seat_of, free_seat};
+ghost use Rattle.fat_monitor.specs.FatState.{FatState, IsAttached, thread_count};
+ghost use Rattle.fast_path.specs.Calls.{subject_of};
+ghost use Rattle.step_core.specs.Stepping.{attached, begun, first_place, expired, ticked};
+ghost use Rattle.step_core.specs.Parts.{world_of};
+ghost use Rattle.step_core.specs.declared.places.Place.{Place};
+
+use crate::steps::grant_of;
+use crate::{Atomic, Did, Fault, Move, Place, Stage};
+use fast_path::{Call, Subject};
+use fat_monitor::{Action, AttachFault, Fats};
+use lock_word::{ThreadId, Word};
+use thread_index::{Indices, TakeFault};
+
+/// Attaches a thread, which takes the lowest free index.
+pub(crate) fn attach(
+    indices: &mut Indices,
+    places: &mut Vec<Place>,
+    fats: &mut Fats,
+    thread: ThreadId,
+) -> Result<Did, Fault>
+    requires seated { length places.old.items ≡ length indices.old }
+    requires live { IsAttached fats.old thread → IsSome (seat_of indices.old thread) }
+    requires counted { thread_count fats.old ≡ count_by is_some indices.old }
+    requires few { length indices.old ≤ 32767 }
+    ensures { (words : List Word) → (room : Bool) × (record { answer = result; after = world_of words indices.new places.new.items fats.new } ≡ attached room (world_of words indices.old places.old.items fats.old) thread (seat_of indices.old thread) (free_seat indices.old)) }
+{
+    let index = match indices.take(thread) {
+        Ok(index) => index,
+        Err(TakeFault::Known) => return Err(Fault::Known),
+        Err(TakeFault::NoIndex) => return Err(Fault::NoIndex),
+        Err(TakeFault::Memory) => return Err(Fault::Memory),
+    };
+    match fats.attach(thread) {
+        Ok(()) => {}
+        Err(AttachFault::Known) => unreachable!(),
+        Err(AttachFault::Memory) => {
+            let _ = indices.give(thread);
+            return Err(Fault::Memory);
+        }
+    }
+    places[index as usize - 1] = Place::Idle;
+    Ok(Did::moved(Atomic::Label, Move::Attach { thread }))
+}
+
+/// Begins a call of a thread that is in none.
+pub(crate) fn begin(
+    words: &[Word],
+    indices: &Indices,
+    places: &mut Vec<Place>,
+    thread: ThreadId,
+    call: Call,
+) -> Result<Did, Fault>
+    requires { length places.old.items ≡ length indices.now }
+    ensures { (fats : FatState) → record { answer = result; after = world_of words.now indices.now places.new.items fats } ≡ begun (world_of words.now indices.now places.old.items fats) thread call (seat_of indices.now thread) }
+{
+    let Some(index) = indices.index_of(thread) else {
+        return Err(Fault::NoThread);
+    };
+    match call.object() {
+        Some(object) if object.0 as usize >= words.len() => return Err(Fault::NoObject),
+        _ => {}
+    }
+    let seat = index as usize - 1;
+    let Place::Idle = places[seat] else {
+        return Err(Fault::InCall);
+    };
+    places[seat] = first_place(call.subject());
+    Ok(Did::moved(Atomic::Label, Move::Call { thread, call }))
+}
+
+/// Where a call begins.
+fn first_place(subject: Subject) -> Place
+    ensures { result ≡ first_place subject }
+{
+    match subject {
+        Subject::Monitor(call) => Place::InCall(Stage::Begun {
+            call,
+            contended: false,
+        }),
+        Subject::Interrupt(call) => Place::InCall(Stage::Direct { call }),
+        Subject::End => Place::Ending { loaded: 0 },
+    }
+}
+
+/// Ends the wait of a thread whose deadline has come.
+pub(crate) fn expire(indices: &Indices, fats: &mut Fats, thread: ThreadId) -> Result<Did, Fault>
+    requires { IsSome (seat_of indices.now thread) → IsAttached fats.old thread }
+    ensures { (words : List Word) → (places : List Place) → record { answer = result; after = world_of words indices.now places fats.new } ≡ expired (world_of words indices.now places fats.old) thread (seat_of indices.now thread) }
+{
+    if indices.index_of(thread).is_none() {
+        return Err(Fault::NoThread);
+    }
+    let action = Action::Expire;
+    let Ok(done) = fats.act(thread, action) else {
+        return Err(Fault::NotDue);
+    };
+    let granted = grant_of(fats, done.granted);
+    let answer = done.answer;
+    Ok(Did {
+        atomic: Atomic::Acted { action, answer },
+        moves: [Some(Move::Expire { thread }), granted, None],
+        reply: None,
+    })
+}
+
+/// Tells the moment.
+pub(crate) fn tick(fats: &mut Fats, now: u64) -> Result<Did, Fault>
+    ensures { (words : List Word) → (seats : List (Option ThreadId)) → (places : List Place) → record { answer = result; after = world_of words seats places fats.new } ≡ ticked (world_of words seats places fats.old) now }
+{
+    match fats.tick(now) {
+        Ok(()) => Ok(Did::moved(Atomic::Label, Move::Time { now })),
+        Err(_) => Err(Fault::Backwards),
+    }
+}

@@ -1,0 +1,119 @@
+//! A Go: the next atomic step of a thread's call, by the place where the thread stands.
+
+ghost use Rattle.std.specs.Prelude.{◌≡◌, ℕ, ◌-◌, ◌<◌, ◌≤◌, List, length, Bool, Option, Some, Ok};
+ghost use Rattle.lock_word.specs.declared.ThreadId.{ThreadId};
+ghost use Rattle.lock_word.specs.declared.Word.{Word};
+ghost use Rattle.thread_index.specs.Indices.{seat_of};
+ghost use Rattle.fat_monitor.specs.declared.actions.Action.TheVariants as action;
+ghost use Rattle.fat_monitor.specs.declared.actions.Post.TheVariants.{Out};
+ghost use Rattle.fat_monitor.specs.FatState.{FatState, IsAttached, post_of};
+ghost use Rattle.fat_monitor.specs.Acting.{acted};
+ghost use Rattle.step_core.specs.WorldState.{IsSound};
+ghost use Rattle.step_core.specs.Stepping.{went, ended, gathered};
+ghost use Rattle.step_core.specs.Parts.{world_of};
+
+use crate::stages::{go_from, look};
+use crate::steps::move_for;
+use crate::{Atomic, Did, Fault, Place};
+use fast_path::Call;
+use fat_monitor::{Action, Answer, Done, Fats, Reply};
+use lock_word::{ThreadId, Word};
+use thread_index::Indices;
+
+/// Does the next atomic step of a thread's call.
+pub(crate) fn go(
+    words: &mut [Word],
+    indices: &mut Indices,
+    places: &mut [Place],
+    fats: &mut Fats,
+    thread: ThreadId,
+) -> Result<Did, Fault>
+    requires { IsSound (world_of words.old indices.old places.old fats.old) }
+    ensures sound { IsSound (world_of words.new indices.new places.new fats.new) }
+    ensures exact {
+        (room : Bool)
+        × (record { answer = result; after = world_of words.new indices.new places.new fats.new }
+        ≡ went room (world_of words.old indices.old places.old fats.old) thread (seat_of indices.old thread))
+    }
+{
+    let Some(index) = indices.index_of(thread) else {
+        return Err(Fault::NoThread);
+    };
+    let seat = index as usize - 1;
+    match places[seat] {
+        Place::Idle => Err(Fault::NotCalling),
+        Place::InCall(stage) => {
+            let (next, did) = go_from(words, fats, index, thread, stage);
+            places[seat] = next;
+            Ok(did)
+        }
+        Place::Ending { loaded } if (loaded as usize) < words.len() => {
+            let (next, did) = look(words, index, thread, loaded);
+            places[seat] = next;
+            Ok(did)
+        }
+        Place::Ending { .. } => Ok(end(indices, places, fats, thread, seat)),
+        Place::AtPost => collect(places, fats, thread, seat),
+    }
+}
+
+/// Takes the reply that a thread at its post was granted, if it was granted one.
+fn collect(
+    places: &mut [Place],
+    fats: &mut Fats,
+    thread: ThreadId,
+    seat: usize,
+) -> Result<Did, Fault>
+    requires seated { seat < length places.old }
+    requires attached { IsAttached fats.old thread }
+    ensures {
+        (words : List Word) (seats : List (Option ThreadId))
+        → record { answer = result; after = world_of words seats places.new fats.new }
+        ≡ gathered (world_of words seats places.old fats.old) seat thread
+        (acted fats.old thread action.Collect).answer (acted fats.old thread action.Collect).after
+    }
+{
+    let action = Action::Collect;
+    let Ok(Done { answer, .. }) = fats.act(thread, action) else {
+        return Err(Fault::Parked);
+    };
+    let Answer::Reply(reply) = answer else {
+        unreachable!();
+    };
+    places[seat] = Place::Idle;
+    Ok(Did::returned(Atomic::Acted { action, answer }, thread, reply))
+}
+
+/// Ends a thread that owns no object thinly: unless it owns a fat monitor, it is live no longer, and its
+/// index is free.
+fn end(
+    indices: &mut Indices,
+    places: &mut [Place],
+    fats: &mut Fats,
+    thread: ThreadId,
+    seat: usize,
+) -> Did
+    requires seated { seat < length places.old }
+    requires here { seat_of indices.old thread ≡ Some seat }
+    requires out { post_of fats.old thread ≡ Some Out }
+    ensures {
+        (words : List Word)
+        → record { answer = Ok result; after = world_of words indices.new places.new fats.new }
+        ≡ ended (world_of words indices.old places.old fats.old) seat thread
+        (acted fats.old thread action.End).answer (acted fats.old thread action.End).after
+    }
+{
+    places[seat] = Place::Idle;
+    let action = Action::End;
+    let Ok(Done { answer, .. }) = fats.act(thread, action) else {
+        unreachable!();
+    };
+    let Answer::Reply(reply) = answer else {
+        unreachable!();
+    };
+    if let Reply::Ended = reply {
+        let _ = indices.give(thread);
+    }
+    let made = move_for(Call::End, reply, None, thread);
+    Did::replied(Atomic::Acted { action, answer }, made, thread, reply)
+}

@@ -1,0 +1,371 @@
+//! What a Go does at each stage of a call: one function for each kind of atomic step.
+
+ghost use Rattle.std.specs.Prelude.{◌≡◌, ◌+◌, ◌-◌, ◌<◌, ◌≤◌, List, length, Bool, Some};
+ghost use Rattle.lock_word.specs.declared.Word.{Word};
+ghost use Rattle.lock_word.specs.Layout.{Fits, count_of};
+ghost use Rattle.fat_monitor.specs.declared.actions.Post.TheVariants.{Out};
+ghost use Rattle.fat_monitor.specs.FatState.{FatState, IsAttached, post_of};
+ghost use Rattle.fat_monitor.specs.Acting.{NamesBound};
+ghost use Rattle.fat_monitor.specs.declared.actions.Action.TheVariants.{End};
+ghost use Rattle.fast_path.specs.Table.{next_of};
+ghost use Rattle.step_core.specs.WorldState.{lock_at, is_own};
+ghost use Rattle.step_core.specs.Going.{after_load, after_take, after_store, after_bind, after_publish, after_act, after_stage, action_on, action_about, bind_cause, entering, stored_reply};
+ghost use Rattle.step_core.specs.Stepping.{looked};
+ghost use Rattle.step_core.specs.Parts.{bare, AreFormed, IsReady, IsOwnAction};
+
+use crate::steps::{grant_of, move_for};
+use crate::{Atomic, Did, Move, Place, Stage};
+use fast_path::{Call, InterruptCall, MonitorCall, Next, Operation};
+use fat_monitor::{Action, Answer, Cause, Fats, Reply};
+use lock_word::{Lock, ObjectId, ThreadId, Word, lock_of, with_lock};
+
+/// One Go of the thread with index `me` from a stage of its call: where it stands then, and what it did.
+pub(crate) fn go_from(
+    words: &mut [Word],
+    fats: &mut Fats,
+    me: u16,
+    thread: ThreadId,
+    stage: Stage,
+) -> (Place, Did)
+    requires ready { IsReady words.old fats.old stage }
+    requires few { length words.old ≤ 65535 }
+    requires formed { AreFormed words.old }
+    requires out { post_of fats.old thread ≡ Some Out }
+    requires low { 1 ≤ me }
+    requires high { me ≤ 32767 }
+    ensures {
+        (room : Bool)
+        × (record { words = words.new; fats = fats.new; place = result.0; did = result.1 }
+        ≡ after_stage room (bare words.old fats.old) (me - 1) thread stage)
+    }
+{
+    match stage {
+        Stage::Begun { call, contended } => load(words, me, thread, call, contended),
+        Stage::Taking { object, contended } => take(words, me, thread, object, contended),
+        Stage::Storing { call, lock } => store(words, thread, call, lock),
+        Stage::Binding { call, count } => bind(fats, thread, call, false, u16::from(count) + 1),
+        Stage::Acting { call, monitor } => act(
+            fats,
+            thread,
+            call.call(),
+            action_on(call.operation, monitor),
+        ),
+        Stage::Won { object } => bind(fats, thread, entering(object), true, 1),
+        Stage::Bound { call, won, monitor } => publish(words, thread, call, won, monitor),
+        Stage::Inflated { call, monitor } => act(
+            fats,
+            thread,
+            call.call(),
+            action_on(call.operation, monitor),
+        ),
+        Stage::Direct { call } => act(fats, thread, call.call(), action_about(call)),
+    }
+}
+
+/// The call that enters an object.
+fn entering(object: ObjectId) -> MonitorCall
+    ensures { result ≡ entering object }
+{
+    MonitorCall {
+        object,
+        operation: Operation::Enter,
+    }
+}
+
+/// Loads the word of the call's object, and answers where the word says enough.
+fn load(
+    words: &[Word],
+    me: u16,
+    thread: ThreadId,
+    call: MonitorCall,
+    contended: bool,
+) -> (Place, Did)
+    requires within { call.object.0 < length words.now }
+    requires formed { AreFormed words.now }
+    ensures {
+        (f : FatState)
+        → record { words = words.now; fats = f; place = result.0; did = result.1 }
+        ≡ after_load (bare words.now f) thread call contended
+        (next_of call.operation (lock_at (bare words.now f) call.object.0) me)
+    }
+{
+    let object = call.object;
+    let word = words[object.0 as usize];
+    let lock = lock_of(word);
+    let atomic = Atomic::Load { object, word };
+    let stage = match call.operation.next(lock, me) {
+        Next::Reply(reply) => {
+            let made = move_for(call.call(), reply, None, thread);
+            return (Place::Idle, Did::replied(atomic, made, thread, reply));
+        }
+        Next::Cas(_) => Stage::Taking { object, contended },
+        Next::Store(lock) => Stage::Storing { call, lock },
+        Next::Bind => {
+            let count = count_of(lock);
+            Stage::Binding { call, count }
+        }
+        Next::Fat(monitor) => Stage::Acting { call, monitor },
+        Next::Spin => Stage::Begun {
+            call,
+            contended: true,
+        },
+    };
+    (Place::InCall(stage), Did::silent(atomic))
+}
+
+/// Exchanges the free word for the thread's own, if it is still free.
+fn take(
+    words: &mut [Word],
+    me: u16,
+    thread: ThreadId,
+    object: ObjectId,
+    contended: bool,
+) -> (Place, Did)
+    requires within { object.0 < length words.old }
+    requires formed { AreFormed words.old }
+    requires low { 1 ≤ me }
+    requires high { me ≤ 32767 }
+    ensures {
+        (f : FatState)
+        → record { words = words.new; fats = f; place = result.0; did = result.1 }
+        ≡ after_take (bare words.old f) (me - 1) thread object contended (lock_at (bare words.old f) object.0)
+    }
+{
+    let at = object.0 as usize;
+    let old = words[at];
+    let Lock::Free = lock_of(old) else {
+        let call = entering(object);
+        let contended = true;
+        let atomic = Atomic::Lost { object, word: old };
+        return (
+            Place::InCall(Stage::Begun { call, contended }),
+            Did::silent(atomic),
+        );
+    };
+    let mine = Lock::Thin {
+        index: me,
+        count: 0,
+    };
+    let new = with_lock(old, mine);
+    words[at] = new;
+    let atomic = Atomic::Won { object, old, new };
+    let made = Move::Lock { thread };
+    if contended {
+        return (
+            Place::InCall(Stage::Won { object }),
+            Did::moved(atomic, made),
+        );
+    }
+    (
+        Place::Idle,
+        Did::replied(atomic, made, thread, Reply::Entered),
+    )
+}
+
+/// Stores a free or thin word over the thread's own thin one.
+fn store(words: &mut [Word], thread: ThreadId, call: MonitorCall, lock: Lock) -> (Place, Did)
+    requires within { call.object.0 < length words.old }
+    requires fits { Fits lock }
+    ensures {
+        (f : FatState)
+        → record { words = words.new; fats = f; place = result.0; did = result.1 }
+        ≡ after_store (bare words.old f) thread call lock
+    }
+{
+    let object = call.object;
+    let at = object.0 as usize;
+    let old = words[at];
+    let new = with_lock(old, lock);
+    words[at] = new;
+    let reply = stored_reply(call.operation);
+    let made = move_for(call.call(), reply, None, thread);
+    let atomic = Atomic::Stored { object, old, new };
+    (Place::Idle, Did::replied(atomic, made, thread, reply))
+}
+
+/// What a call replies when its free or thin word is stored: only an enter and an exit store one.
+fn stored_reply(operation: Operation) -> Reply
+    ensures { result ≡ stored_reply operation }
+{
+    match operation {
+        Operation::Exit => Reply::Exited,
+        _ => Reply::Entered,
+    }
+}
+
+/// Binds a fat monitor to the call's object, which the thread holds this often. Where none can be had,
+/// an enter that has won already drops the inflation, and any other call is refused.
+fn bind(
+    fats: &mut Fats,
+    thread: ThreadId,
+    call: MonitorCall,
+    won: bool,
+    holds: u16,
+) -> (Place, Did)
+    requires attached { IsAttached fats.old thread }
+    requires low { 1 ≤ holds }
+    requires high { holds ≤ 256 }
+    ensures {
+        (ws : List Word)
+        → (room : Bool)
+        × (record { words = ws; fats = fats.new; place = result.0; did = result.1 }
+        ≡ after_bind (bare ws fats.old) thread call won holds (bind_cause room fats.old))
+    }
+{
+    let object = call.object;
+    let cause = match fats.bind(object, thread, holds) {
+        Ok(receipt) => {
+            let monitor = receipt.monitor();
+            let stage = Stage::Bound { call, won, monitor };
+            return (
+                Place::InCall(stage),
+                Did::silent(Atomic::Bound { object, monitor }),
+            );
+        }
+        Err(cause) => cause,
+    };
+    let atomic = Atomic::NotBound { object, cause };
+    if won {
+        return (Place::Idle, Did::returned(atomic, thread, Reply::Entered));
+    }
+    let made = Move::Refuse { thread, cause };
+    (
+        Place::Idle,
+        Did::replied(atomic, made, thread, Reply::Refused(cause)),
+    )
+}
+
+/// Stores the fat word over the thread's own thin one.
+fn publish(
+    words: &mut [Word],
+    thread: ThreadId,
+    call: MonitorCall,
+    won: bool,
+    monitor: u32,
+) -> (Place, Did)
+    requires within { call.object.0 < length words.old }
+    requires fits { monitor ≤ 8388607 }
+    ensures {
+        (f : FatState)
+        → record { words = words.new; fats = f; place = result.0; did = result.1 }
+        ≡ after_publish (bare words.old f) thread call won monitor
+    }
+{
+    let object = call.object;
+    let at = object.0 as usize;
+    let old = words[at];
+    let new = with_lock(old, Lock::Fat { monitor });
+    words[at] = new;
+    let atomic = Atomic::Stored { object, old, new };
+    if won {
+        return (Place::Idle, Did::returned(atomic, thread, Reply::Entered));
+    }
+    (
+        Place::InCall(Stage::Inflated { call, monitor }),
+        Did::silent(atomic),
+    )
+}
+
+/// Makes the call's own action on a fat monitor: the call has its reply then, or is parked.
+fn act(fats: &mut Fats, thread: ThreadId, call: Call, action: Action) -> (Place, Did)
+    requires out { post_of fats.old thread ≡ Some Out }
+    requires bound { NamesBound fats.old action }
+    requires own { IsOwnAction action }
+    ensures {
+        (ws : List Word)
+        → record { words = ws; fats = fats.new; place = result.0; did = result.1 }
+        ≡ after_act (bare ws fats.old) thread call action
+    }
+{
+    let Ok(done) = fats.act(thread, action) else {
+        unreachable!();
+    };
+    let granted = grant_of(fats, done.granted);
+    let answer = done.answer;
+    let atomic = Atomic::Acted { action, answer };
+    match answer {
+        Answer::Reply(reply) => {
+            let made = move_for(call, reply, done.chosen, thread);
+            let did = Did::granted_and_replied(atomic, made, granted, thread, reply);
+            (Place::Idle, did)
+        }
+        Answer::Parked => (Place::AtPost, Did::parked_by(call, atomic, thread, granted)),
+        Answer::Quiet => (Place::AtPost, Did::silent(atomic)),
+    }
+}
+
+/// The fat action of an operation's own name.
+fn action_on(operation: Operation, monitor: u32) -> Action
+    ensures { result ≡ action_on operation monitor }
+{
+    match operation {
+        Operation::Enter => Action::Enter { monitor },
+        Operation::Exit => Action::Exit { monitor },
+        Operation::Wait { millis, nanos } => Action::Wait {
+            monitor,
+            millis,
+            nanos,
+        },
+        Operation::Notify => Action::Notify { monitor },
+        Operation::NotifyAll => Action::NotifyAll { monitor },
+        Operation::Holds => Action::Holds { monitor },
+    }
+}
+
+/// The fat action of the own name of a call about interrupts.
+fn action_about(call: InterruptCall) -> Action
+    ensures { result ≡ action_about call }
+{
+    match call {
+        InterruptCall::Interrupt(target) => Action::Interrupt { target },
+        InterruptCall::Interrupted => Action::Interrupted,
+        InterruptCall::IsInterrupted(target) => Action::IsInterrupted { target },
+    }
+}
+
+/// Loads the word of one object after another: a thread that owns one may not end.
+pub(crate) fn look(words: &[Word], me: u16, thread: ThreadId, loaded: u32) -> (Place, Did)
+    requires within { loaded < length words.now }
+    requires formed { AreFormed words.now }
+    requires low { 1 ≤ me }
+    requires few { length words.now ≤ 65535 }
+    ensures {
+        (f : FatState)
+        → record { words = words.now; fats = f; place = result.0; did = result.1 }
+        ≡ looked (bare words.now f) (me - 1) thread loaded
+    }
+{
+    let object = ObjectId(loaded);
+    let word = words[loaded as usize];
+    let atomic = Atomic::Load { object, word };
+    if is_own(lock_of(word), me) {
+        let cause = Cause::StillOwner;
+        let made = Move::Refuse { thread, cause };
+        return (
+            Place::Idle,
+            Did::replied(atomic, made, thread, Reply::Refused(cause)),
+        );
+    }
+    let loaded = loaded + 1;
+    (Place::Ending { loaded }, Did::silent(atomic))
+}
+
+/// Whether a lock is a thin one of the thread with this index.
+fn is_own(lock: Lock, me: u16) -> bool
+    ensures { result ≡ is_own lock me }
+{
+    match lock {
+        Lock::Thin { index, .. } => index == me,
+        Lock::Free | Lock::Fat { .. } => false,
+    }
+}
+
+/// The count of a thin lock; 0 for another.
+fn count_of(lock: Lock) -> u8
+    ensures { result ≡ count_of lock }
+{
+    match lock {
+        Lock::Thin { count, .. } => count,
+        Lock::Free | Lock::Fat { .. } => 0,
+    }
+}
