@@ -97,7 +97,7 @@ fn threads_join_and_leave_in_no_order(rt: HostRuntime) -> Result<(), Fail> {
     let mut lines = Lines::new(rt.alloc());
     let mut plain = PlainLines::new(rt.alloc());
     let mut state = 1u32;
-    for round in 0..600 {
+    for round in 0..600u32 {
         state = state.wrapping_mul(1_664_525).wrapping_add(1_013_904_223);
         let thread = ThreadId((state >> 8) % 60);
         let place = (state >> 16) % 90;

@@ -1,5 +1,5 @@
 use Rattle.std.proofs.Common.{◌≡◌, ◌≤◌, ◌∙◌, sym, ap, Some, IsSome, arith, refl, subst}
-use Rattle.wait_lines.specs.Lines.{StandsIn, total_count, left}
+use Rattle.wait_lines.specs.Lines.{StandsIn, standing, total_count, left}
 use Rattle.wait_lines.specs.declared.Role.TheVariants.{Waiting as WaitSet}
 use Rattle.wait_lines.proofs.LineLemmas.{total_count-left}
 use Rattle.fat_monitor.specs.declared.actions.Post.TheVariants.{Waiting}
@@ -24,7 +24,7 @@ grant-requires-clause-comes c =
 
 pub join-requires-clause-room : goal.join-requires-clause-room
 join-requires-clause-room c =
-    let s = c.self.inside.lines in
+    let s = standing c.self.inside.lines in
     let m = c.in-Some-Waiting.monitor in
     let waits : post_of (fat_state_in c.self.inside) c.args.thread ≡ Some (Waiting m c.in-Some-Waiting.holds c.in-Some-Waiting.field-0-2) = rw (c.in-Some-Waiting.field-0-is) at (sym c.in-Some-Waiting.ensures) in
     let stands : StandsIn s.lines c.args.thread m WaitSet = c.self.invariant.posted c.args.thread _ m WaitSet waits refl in
