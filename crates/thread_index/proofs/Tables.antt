@@ -1,10 +1,10 @@
 -- The bits and the table of the seats, after each change.
-use Rattle.std.specs.Prelude.{◌≡◌, ◌≢◌, ℕ, ◌+◌, ◌-◌, ◌<◌, ◌≤◌, ◌==◌, ◌⊎◌, Bool, true, false, List, length, Option, Some, None, is_some, slice_set, if◌then◌else◌, nat_lt, nat_eq, cond}
-use Rattle.std.specs.HashMap.{HashMap, get, Updates, UpdatesBy}
+use Rattle.std.specs.Prelude.{◌≡◌, ◌≢◌, ℕ, ◌+◌, ◌<◌, ◌≤◌, ◌==◌, ◌⊎◌, false, List, length, Option, Some, None, slice_set, if◌then◌else◌, nat_lt, nat_eq}
+use Rattle.std.specs.HashMap.{HashMap, get, Updates}
 use Rattle.std.specs.Bool.{then_some}
 use Rattle.std.specs.List.{position_from}
 use Rattle.std.proofs.Common.{arith, refl, ap, sym, ◌∙◌, inl, inr, get_or-set_same, get_or-set_other, [], ◌∷◌, zero, suc, is_none, zero-add}
-use Rattle.std.proofs.lemmas.Bool.{cases_eq, cases_lt, eq-eqb, ne_eqb, ltb-true, ltb-false, lt-ltb, le-ltb}
+use Rattle.std.proofs.lemmas.Bool.{cases_eq, cases_lt, eq-eqb, ne_eqb, lt-ltb, le-ltb}
 use Rattle.lock_word.specs.declared.ThreadId.{ThreadId}
 use Rattle.thread_index.specs.BitRows.{bit_of}
 use Rattle.thread_index.specs.Indices.{seat_of, free_seat, holder_at, IsOneToOne}

@@ -1,15 +1,15 @@
 -- What holds of the rows and the table of the indices, after each change.
-use Rattle.std.specs.Prelude.{◌≡◌, ◌≢◌, ℕ, ◌+◌, ◌-◌, ◌*◌, ◌<◌, ◌≤◌, ◌==◌, ◌/◌, ◌%◌, List, [], length, slice_index, max, Option, Some, None, slice_set, if◌then◌else◌, nat_eq, nat_lt}
+use Rattle.std.specs.Prelude.{◌≡◌, ℕ, ◌+◌, ◌-◌, ◌*◌, ◌<◌, ◌≤◌, ◌==◌, ◌/◌, ◌%◌, List, [], length, slice_index, max, Option, Some, None, slice_set, if◌then◌else◌, nat_eq, nat_lt}
 use Rattle.std.specs.Bool.{then_some}
 use Rattle.std.specs.Int.{bit_at}
 use Rattle.std.specs.HashMap.{HashMap, get, Updates}
-use Rattle.std.proofs.Common.{arith, refl, ap, sym, ◌∙◌, subst}
+use Rattle.std.proofs.Common.{arith, ap, sym, ◌∙◌, subst}
 use Rattle.std.proofs.lemmas.List.{length-set, get_or_past}
 use Rattle.std.proofs.lemmas.Nat.Bits.{bit_at-zero}
 use Rattle.lock_word.specs.declared.ThreadId.{ThreadId}
 use Rattle.thread_index.specs.BitRows.{bit_of}
 use Rattle.thread_index.specs.Indices.{seat_of, free_seat, holder_at, given_back, IsOneToOne}
-use Rattle.thread_index.specs.Padding.{padded, taken_bit, IsKept, IsTold, IsWhole}
+use Rattle.thread_index.specs.Padding.{padded, taken_bit, IsTold, IsWhole}
 use Rattle.thread_index.proofs.Paddings.{length-padded, free_seat-written, padded-same, padded-slice_set, seat_of-written, IsKept-taken, IsKept-given}
 use Rattle.thread_index.proofs.Seats.{free_found, IsOneToOne-given, IsOneToOne-replicate, holder_at-replicate, seat_of-replicate}
 use Rattle.thread_index.proofs.Tables.{free_seat-bits, IsTold-same, IsTold-taken, IsTold-given}

@@ -92,8 +92,7 @@ impl Model for Indices {
 
     ghost view = { λ a. padded a.holders.items a.limit };
 
-    ghost invariant = {
-        λ a. IsWhole a.holders.items a.limit a.bits.taken.words.items a.seats };
+    ghost invariant = { λ a. IsWhole a.holders.items a.limit a.bits.taken.words.items a.seats };
 }
 
 impl Indices {
@@ -128,11 +127,9 @@ impl Indices {
 
         // The faults, in the order in which they are looked for.
         ensures known { (result ≡ Err TakeFault.Known) ↔ IsSome (seat_of self.old id) }
-        ensures no_index {
-            (result ≡ Err TakeFault.NoIndex)
+        ensures no_index { (result ≡ Err TakeFault.NoIndex)
             ↔ ((seat_of self.old id ≡ None) × (free_seat self.old ≡ None)) }
-        ensures memory {
-            result ≡ Err TakeFault.Memory
+        ensures memory { result ≡ Err TakeFault.Memory
             → (seat_of self.old id ≡ None) × IsSome (free_seat self.old) }
         ensures err { OnErr result (self.new ≡ self.old) }
 
@@ -206,8 +203,7 @@ impl Indices {
     fn put(&mut self, seat: usize, id: ThreadId) -> Result<(), TakeFault>
         requires unknown { seat_of self.old id ≡ None }
         requires free { free_seat self.old ≡ Some seat }
-        ensures value {
-            self.new ≡ (if is_ok result then slice_set self.old seat (Some id) else self.old) }
+        ensures value { self.new ≡ (if is_ok result then slice_set self.old seat (Some id) else self.old) }
         ensures memory { IfErr result (λ fault. fault ≡ TakeFault.Memory) }
     {
         self.bits.make_room(seat)?;

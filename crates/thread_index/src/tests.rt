@@ -60,11 +60,23 @@ fn takes_and_gives_in_no_order(rt: HostRuntime) -> Result<(), Fail> {
         state = state.wrapping_mul(1_664_525).wrapping_add(1_013_904_223);
         let id = ThreadId((state >> 16) % 200);
         if (state >> 8) % 8 < 5 {
-            assert_eq!(rt; indices.take(id).map(usize::from), plain.take(id), "{round}");
+            assert_eq!(rt;
+                indices.take(id).map(usize::from),
+                plain.take(id),
+                "{round}"
+            );
         } else {
-            assert_eq!(rt; indices.give(id).map(usize::from), plain.give(id), "{round}");
+            assert_eq!(rt;
+                indices.give(id).map(usize::from),
+                plain.give(id),
+                "{round}"
+            );
         }
-        assert_eq!(rt; indices.index_of(id).map(usize::from), plain.index_of(id), "{round}");
+        assert_eq!(rt;
+            indices.index_of(id).map(usize::from),
+            plain.index_of(id),
+            "{round}"
+        );
     }
     Ok(())
 }

@@ -1,25 +1,28 @@
 -- The table has the record of each line, after each change.
 use Rattle.std.specs.Prelude.{◌≡◌, ◌≢◌, ◌⊎◌, ℕ, zero, suc, ◌+◌, ◌<◌, ◌≤◌, ◌==◌, not, Bool, true, false, cond, List, [], ◌∷◌, ◌++◌, length, slice_index_or, slice_set, Option, Some, None, IfSome, IfNone, if◌then◌else◌}
-use Rattle.std.proofs.Common.{refl, sym, ap, ◌∙◌, subst, inl, inr, arith, length-append, length-set}
+use Rattle.std.proofs.Common.{refl, sym, ap, ◌∙◌, subst, inl, inr, arith, length-append}
 use Rattle.std.proofs.Math.ListN.{get_or-map as get_or-map_both}
 use Rattle.std.proofs.lemmas.Bool.{cases_eq, cases_lt, eq-eqb, eqb-true}
-use Rattle.std.proofs.lemmas.List.{length-map, get_or-set_other, get_or-set_same, get_or_append_left, get_or-append_right, get_or_push, get_or_past}
-use Rattle.std.proofs.lemmas.Grind.{get_or-set_at}
+use Rattle.std.proofs.lemmas.List.{length-map, get_or-set_other, get_or-set_same, get_or_append_left, get_or_push, get_or_past}
 use Rattle.lock_word.specs.declared.ThreadId.{ThreadId}
 use Rattle.wait_lines.specs.declared.Role.{Role}
 use Rattle.wait_lines.specs.declared.Role.TheVariants.{Entry}
 use Rattle.wait_lines.specs.declared.links.Ends.{Ends}
 use Rattle.wait_lines.specs.declared.links.Stop.{Stop}
 use Rattle.wait_lines.specs.declared.links.Stop.TheVariants.{At, End, Free}
-use Rattle.wait_lines.specs.Lines.{Key, key, StandsAt, StandsNowhere, total_count}
+use Rattle.wait_lines.specs.Lines.{Key, key, StandsAt}
 use Rattle.wait_lines.specs.Links.{Chart, node, behind_of, before_of, ends_at, is_node, is_of, nothing, IsThere}
 use Rattle.wait_lines.specs.Rings.{Walk, without_number}
-use Rattle.wait_lines.specs.Rows.{rows_of, row_at, rows_with, moved, rows_without, times_number}
-use Rattle.wait_lines.specs.Arrivals.{keys_of, tail_of, arrivals_of, nodes_of, lines_of, IsKept}
+use Rattle.wait_lines.specs.Rows.{rows_of, row_at, rows_with, moved, times_number}
+use Rattle.wait_lines.specs.Arrivals.{keys_of, tail_of, arrivals_of, nodes_of, IsKept}
 use Rattle.wait_lines.specs.Tables.{TableState, with_move, with_record, released, IsReleased, row_for, home_of, bucket_of, IsInRow, AreFiled, IsIndexed, IsWhole}
 use Rattle.wait_lines.proofs.RowLemmas.{times-push}
 use Rattle.wait_lines.proofs.TableLemmas.{IsInRow-moved_other}
-use Rattle.wait_lines.proofs.KeptLemmas.{freed, stands-here, sizes_freed, keys_after, tail_after, IsKept-freed, walk-to_row, row-full, row-empty, after, keys_joined, tail_joined, sizes_joined, reserved, more_sizes, more_tail, more_keys, key_sizes, key-shown, is_of-parts, IsKept-nothing}
+use Rattle.wait_lines.proofs.LeavingLemmas.{freed, sizes_freed, keys_after, tail_after, IsKept-freed}
+use Rattle.wait_lines.proofs.RecordLemmas.{walk-to_row, row-full, row-empty}
+use Rattle.wait_lines.proofs.JoiningLemmas.{after, keys_joined, tail_joined, sizes_joined}
+use Rattle.wait_lines.proofs.GrowingLemmas.{reserved, more_sizes, more_tail, more_keys, IsKept-nothing}
+use Rattle.wait_lines.proofs.FindingLemmas.{key-shown, is_of-parts}
 
 -- ---- rows and homes
 

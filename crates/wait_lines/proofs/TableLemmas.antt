@@ -1,20 +1,19 @@
 -- Records that move from row to row of a table.
-use Rattle.std.specs.Prelude.{◌≡◌, ◌≢◌, ◌⊎◌, ℕ, zero, suc, ◌+◌, ◌*◌, ◌%◌, ◌<◌, ◌≤◌, ◌==◌, Bool, true, false, cond, List, [], ◌∷◌, ◌++◌, ◌-◌, length, sum_by, slice_index_or, map as list_map}
-use Rattle.std.proofs.Common.{refl, sym, ap, ◌∙◌, subst, inl, inr, arith, length-append, length-set}
+use Rattle.std.specs.Prelude.{◌≡◌, ◌≢◌, ◌⊎◌, ℕ, zero, suc, ◌+◌, ◌<◌, ◌≤◌, ◌==◌, Bool, true, false, cond, List, [], ◌∷◌, ◌++◌, ◌-◌, length, map as list_map}
+use Rattle.std.proofs.Common.{refl, sym, ap, ◌∙◌, subst, inl, inr, arith, length-append}
 use Rattle.std.proofs.Math.ListN.{get_or-map as get_or-map_both}
-use Rattle.std.proofs.lemmas.Bool.{cases_eq, cases_lt, eq-eqb, eqb-true, ne_eqb}
-use Rattle.std.proofs.lemmas.List.{length-map, get_or-set_other, get_or-map, get_or_append_left, get_or-append_right, get_or_past}
+use Rattle.std.proofs.lemmas.Bool.{cases_eq, cases_lt, eq-eqb, eqb-true}
+use Rattle.std.proofs.lemmas.List.{length-map, get_or-set_other, get_or-map, get_or_past}
 use Rattle.std.proofs.lemmas.Grind.{get_or-set_at}
 use Rattle.std.proofs.lemmas.List.Sums.{sum_by-cons}
 use Rattle.wait_lines.specs.declared.links.Node.{Node}
 use Rattle.wait_lines.specs.declared.links.Stop.{Stop}
 use Rattle.wait_lines.specs.declared.links.Stop.TheVariants.{At, End, Free}
 use Rattle.wait_lines.specs.declared.links.Ends.{Ends}
-use Rattle.wait_lines.specs.Lines.{Key}
-use Rattle.wait_lines.specs.Links.{Chart, node, unused, behind_of, before_of, unlinked, linked, grown, is_node, IsThere}
-use Rattle.wait_lines.specs.Rings.{AreRings, Walk, IsEnd, without_number}
+use Rattle.wait_lines.specs.Links.{Chart, node, unused, behind_of, unlinked, linked, grown, IsThere}
+use Rattle.wait_lines.specs.Rings.{Walk, IsEnd, without_number}
 use Rattle.wait_lines.specs.Rows.{nodes_from, rows_of, end_at, row_at, times_number, times_in_rows, rows_without, rows_with, moved, AreLinked, AreLinkedBut}
-use Rattle.wait_lines.specs.Tables.{TableState, table_of, with_move, with_record, row_for, bucket_of, IsInRow, IsTable}
+use Rattle.wait_lines.specs.Tables.{TableState, table_of, with_move, with_record, IsInRow, IsTable}
 use Rattle.wait_lines.proofs.LinkLemmas.{sizes-unlinked, sizes-linked}
 use Rattle.wait_lines.proofs.RowLemmas.{rows-shown, times-cons, times-push, times-without, times-row, AreLinked-unlinked, AreLinked-linked, AreLinkedBut-grown}
 

@@ -180,12 +180,10 @@ impl Lines {
     /// Takes the thread that stands at a node out of its line. No other thread moves.
     pub fn leave_at(&mut self, node: Node)
         requires stands { (t : ThreadId) × StandsAt self.old.nodes t node.0 }
-        ensures left {
-            (t : ThreadId) (m : ℕ) (r : Role)
+        ensures left { (t : ThreadId) (m : ℕ) (r : Role)
             → StandsAt self.old.nodes t node.0 → StandsIn self.old.lines t m r
             → self.new.lines ≡ left self.old.lines t m r }
-        ensures nodes {
-            (t : ThreadId) → StandsAt self.old.nodes t node.0
+        ensures nodes { (t : ThreadId) → StandsAt self.old.nodes t node.0
             → self.new.nodes ≡ map.remove self.old.nodes t.0 }
         ensures reservations { self.new.reservations ≡ self.old.reservations }
         ensures orderly { IsOrderly (standing self.new) }

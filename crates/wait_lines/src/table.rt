@@ -60,8 +60,7 @@ impl Table {
         requires sized { self.now.size ≡ length links.now.ends.items }
         ensures found { IfSome result (λ k. k < length links.now.ends.items) }
         ensures of { IfSome result (λ k. is_of place role (ends_at (chart links.now) k) ≡ true) }
-        ensures none {
-            IfNone result ((k : ℕ)
+        ensures none { IfNone result ((k : ℕ)
             → IsInRow self.now.rows k (suc (bucket_of self.now.buckets place role))
             → is_of place role (ends_at (chart links.now) k) ≡ false) }
     {
@@ -87,13 +86,11 @@ impl Table {
     pub(crate) fn line_for(&self, links: &Links, place: u32, role: Role) -> Option<u32>
         requires { IsWhole (chart links.now) self.now }
         ensures found { IfSome result (λ k. k < length links.now.ends.items) }
-        ensures fits {
-            IfSome result (λ k. (is_of place role (ends_at (chart links.now) k) ≡ true)
+        ensures fits { IfSome result (λ k. (is_of place role (ends_at (chart links.now) k) ≡ true)
             ⊎ ((is_node (ends_at (chart links.now) k).first ≡ false)
             × ((i : ℕ) → i < length links.now.ends.items
             → is_of place role (ends_at (chart links.now) i) ≡ false))) }
-        ensures none {
-            IfNone result ((k : ℕ) → k < length links.now.ends.items
+        ensures none { IfNone result ((k : ℕ) → k < length links.now.ends.items
             → is_node (ends_at (chart links.now) k).first ≡ true) }
     {
         match self.find(links, place, role) {
@@ -128,10 +125,8 @@ impl Table {
     /// Moves a record to the end of the row of its line's bucket.
     pub(crate) fn put(&mut self, line: u32, place: u32, role: Role)
         requires { line < self.old.size }
-        ensures moved {
-            self.new ≡ with_move self.old line (suc (bucket_of self.old.buckets place role)) }
-        ensures here {
-            IsInRow self.new.rows line (suc (bucket_of self.old.buckets place role)) }
+        ensures moved { self.new ≡ with_move self.old line (suc (bucket_of self.old.buckets place role)) }
+        ensures here { IsInRow self.new.rows line (suc (bucket_of self.old.buckets place role)) }
     {
         let bucket = self.bucket(place, role);
         self.rows.unlink(Node(line));
@@ -156,7 +151,9 @@ impl Table {
         ensures released { self.new ≡ released (chart links.now) stop self.old }
         ensures here { IsReleased (chart links.now) stop self.new }
     {
-        if let Stop::End(line) = stop && links.is_vacant(line) {
+        if let Stop::End(line) = stop
+            && links.is_vacant(line)
+        {
             self.free(line);
         }
     }

@@ -80,12 +80,18 @@ fn a_long_line_is_emptied_from_the_middle_outwards(rt: HostRuntime) -> Result<()
         plain.join(ThreadId(number), 3, Role::Waiting)?;
     }
     for turn in 0..1000 {
-        let thread = ThreadId(if turn % 2 == 0 { 500 + turn / 2 } else { 499 - turn / 2 });
+        let thread = ThreadId(if turn % 2 == 0 {
+            500 + turn / 2
+        } else {
+            499 - turn / 2
+        });
         let node = lines.node_of(thread).ok_or("nowhere")?;
         lines.leave_at(node);
         plain.leave(thread);
         assert_eq!(rt; lines.node_of(thread), None);
-        let all = lines.all(3, Role::Waiting).collect::<Vec<ThreadId>>(rt.alloc())?;
+        let all = lines
+            .all(3, Role::Waiting)
+            .collect::<Vec<ThreadId>>(rt.alloc())?;
         assert!(rt; all == plain.all(rt.alloc(), 3, Role::Waiting)?, "{turn}");
     }
     assert_eq!(rt; lines.first(3, Role::Waiting), None);
@@ -101,7 +107,11 @@ fn threads_join_and_leave_in_no_order(rt: HostRuntime) -> Result<(), Fail> {
         state = state.wrapping_mul(1_664_525).wrapping_add(1_013_904_223);
         let thread = ThreadId((state >> 8) % 60);
         let place = (state >> 16) % 90;
-        let role = if state >> 31 == 0 { Role::Entry } else { Role::Waiting };
+        let role = if state >> 31 == 0 {
+            Role::Entry
+        } else {
+            Role::Waiting
+        };
         plain.leave(thread);
         if (state >> 24) % 4 == 0 {
             let _stood = lines.leave(thread);

@@ -23,7 +23,12 @@ impl PlainLines {
         }
     }
 
-    pub(super) fn join(&mut self, thread: ThreadId, place: u32, role: Role) -> Result<(), AllocError> {
+    pub(super) fn join(
+        &mut self,
+        thread: ThreadId,
+        place: u32,
+        role: Role,
+    ) -> Result<(), AllocError> {
         self.arrivals.push(Arrival {
             thread,
             place,
@@ -36,7 +41,12 @@ impl PlainLines {
         self.arrivals.retain(|arrival| arrival.thread != thread);
     }
 
-    pub(super) fn all(&self, alloc: Global, place: u32, role: Role) -> Result<Vec<ThreadId>, AllocError> {
+    pub(super) fn all(
+        &self,
+        alloc: Global,
+        place: u32,
+        role: Role,
+    ) -> Result<Vec<ThreadId>, AllocError> {
         self.arrivals
             .iter()
             .filter(|arrival| arrival.place == place && arrival.role == role)

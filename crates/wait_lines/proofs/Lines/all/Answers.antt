@@ -3,7 +3,7 @@ use Rattle.wait_lines.specs.Links.{chart}
 use Rattle.wait_lines.specs.Lines.{LinesState, line}
 use Rattle.wait_lines.specs.Arrivals.{lines_of, arrivals_of}
 use Rattle.wait_lines.proofs.LineLemmas.{length-line-le}
-use Rattle.wait_lines.proofs.KeptLemmas.{line-walk}
+use Rattle.wait_lines.proofs.FindingLemmas.{line-walk}
 use Rattle.wait_lines.proofs.Lines.all.Goals as goal
 
 -- the threads are those of the line

@@ -8,7 +8,8 @@ use Rattle.wait_lines.specs.Arrivals.{lines_of, nodes_of, arrivals_of, IsKept}
 use Rattle.wait_lines.specs.Tables.{TableState, bucket_of, IsInRow, IsIndexed}
 use Rattle.wait_lines.proofs.IndexLemmas.{IsIndexed-joined}
 use Rattle.wait_lines.proofs.LinkLemmas.{there-before, there-behind}
-use Rattle.wait_lines.proofs.KeptLemmas.{some-free, some-vacant, free-here, but-unlinked, but-taken, after, sizes_joined, lines_joined, nodes_joined, IsKept-joined, line_for-fits, line_for-none, no-node, taken-is}
+use Rattle.wait_lines.proofs.JoiningLemmas.{some-free, some-vacant, free-here, but-unlinked, but-taken, after, sizes_joined, lines_joined, nodes_joined, IsKept-joined}
+use Rattle.wait_lines.proofs.FindingLemmas.{line_for-fits, line_for-none, no-node, taken-is}
 use Rattle.wait_lines.proofs.Lines.join.Goals as goal
 
 pub unreachable-requires : goal.unreachable-requires

@@ -10,7 +10,7 @@ use Rattle.wait_lines.specs.Tables.{TableState, released, IsReleased, IsWhole}
 use Rattle.wait_lines.proofs.IndexLemmas.{IsWhole-freed}
 use Rattle.wait_lines.proofs.LinkLemmas.{there-before, there-behind, there-sized}
 use Rattle.wait_lines.proofs.RowLemmas.{AreLinked-unlinked}
-use Rattle.wait_lines.proofs.KeptLemmas.{stands-here, freed, sizes_freed, lines_after, nodes_after, IsKept-freed}
+use Rattle.wait_lines.proofs.LeavingLemmas.{stands-here, freed, sizes_freed, lines_after, nodes_after, IsKept-freed}
 use Rattle.wait_lines.proofs.Lines.leave_at.Goals as goal
 
 pub unlink-requires-clause-here : goal.unlink-requires-clause-here
@@ -58,7 +58,7 @@ invariant_of-self c =
     let links = chart c.self.inside.links in
     let same : chart c.link.new.self ≡ freed links c.args.node.0 = (c.link.ensures ∙ ap (λ (d : Chart). linked d (node c.args.node.0) Free) c.unlink.ensures) in
     let table : c.release.new.self ≡ released (freed links c.args.node.0) c.before-before.result c.self.inside.table =
-            c.release.ensures.released ∙ ap (λ (d : Chart). released d c.before-before.result c.self.inside.table) same in
+    c.release.ensures.released ∙ ap (λ (d : Chart). released d c.before-before.result c.self.inside.table) same in
     subst (λ (d : Chart). IsWhole d c.release.new.self) (sym same)
     (subst (λ (t : TableState). IsWhole (freed links c.args.node.0) t) (sym table)
     (IsWhole-freed links c.self.inside.table c.args.node.0 c.requires.stands.0 c.self.invariant stands c.before-before.result (sym c.before-before.ensures)

@@ -1,7 +1,7 @@
 use Rattle.std.proofs.Common.{subst, IfSome, IfNone}
 use Rattle.wait_lines.specs.Links.{chart}
 use Rattle.wait_lines.specs.Lines.{LinesState, StandsAt, Stands, StandsNowhere}
-use Rattle.wait_lines.proofs.KeptLemmas.{found-found, found-somewhere, none-nowhere}
+use Rattle.wait_lines.proofs.FindingLemmas.{found-found, found-somewhere, none-nowhere}
 use Rattle.wait_lines.proofs.Lines.node_of.Goals as goal
 
 pub returns-clause-found : goal.returns-clause-found

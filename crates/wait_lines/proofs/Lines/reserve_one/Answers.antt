@@ -4,9 +4,9 @@ use Rattle.wait_lines.specs.Links.{Chart, chart, behind_of, before_of}
 use Rattle.wait_lines.specs.Rings.{AreRings}
 use Rattle.wait_lines.specs.Lines.{LinesState}
 use Rattle.wait_lines.specs.Arrivals.{lines_of, nodes_of, arrivals_of, IsKept}
-use Rattle.wait_lines.specs.Tables.{TableState, with_record, IsIndexed, IsWhole}
+use Rattle.wait_lines.specs.Tables.{TableState, IsIndexed}
 use Rattle.wait_lines.proofs.LinkLemmas.{there-before}
-use Rattle.wait_lines.proofs.KeptLemmas.{reserved, arrivals_reserved, IsKept-reserved}
+use Rattle.wait_lines.proofs.GrowingLemmas.{reserved, arrivals_reserved, IsKept-reserved}
 use Rattle.wait_lines.proofs.IndexLemmas.{IsIndexed-reserved}
 use Rattle.wait_lines.proofs.Lines.reserve_one.Goals as goal
 

@@ -1,7 +1,6 @@
 use Rattle.std.proofs.Common.{◌≡◌, ◌⊎◌, ◌≤◌, ◌-◌, ℕ, false, sym, ap, subst, ◌∙◌, ◌<◌, suc, length, inr, arith}
 use Rattle.std.proofs.lemmas.Bool.{eqb-false}
 use Rattle.std.proofs.lemmas.List.{get_or_read}
-use Rattle.wait_lines.specs.declared.links.Ends.{Ends}
 use Rattle.wait_lines.specs.declared.links.Stop.{Stop}
 use Rattle.wait_lines.specs.declared.links.Stop.TheVariants.{End}
 use Rattle.wait_lines.specs.Links.{chart, node, unused, behind_of, ends_at, is_of, IsThere}
@@ -44,9 +43,9 @@ loop-left-preserved c =
     let next : c.behind-next-in-loop-left.result ≡ behind_of d (node n) = c.behind-next-in-loop-left.ensures in
     let here : IsThere d (node n) = subst (λ (s : Stop). IsThere d s) c.in-At.is c.loop-left.invariant.there in
     let within : n < length c.args.links.now.ends.items =
-            let low : n < length d.spots = here in omega (arith, low, c.requires.sized, ap (λ (t : TableState). t.size) c.self.view_is) in
+    let low : n < length d.spots = here in omega (arith, low, c.requires.sized, ap (λ (t : TableState). t.size) c.self.view_is) in
     let fails : is_of c.args.place c.args.role (ends_at (chart c.args.links.now) n) ≡ false =
-            ap (is_of c.args.place c.args.role) (sym (get_or_read c.args.links.now.ends.items n c.index.result.now within c.index.ensures (unused (End n)))) ∙ sym c.if-is_of.ensures in
+    ap (is_of c.args.place c.args.role) (sym (get_or_read c.args.links.now.ends.items n c.index.result.now within c.index.ensures (unused (End n)))) ∙ sym c.if-is_of.ensures in
     record {
       there = subst (λ (s : Stop). IsThere d s) (sym next) (there-behind d (node n) c.self.invariant.linked.rings here);
       seen = subst (λ (s : Stop). (k : ℕ) → IsInRow (rows_of d) k (suc (bucket_of c.self.inside.buckets c.args.place c.args.role))

@@ -1,8 +1,8 @@
-use Rattle.std.proofs.Common.{sym, ap, subst, ◌∙◌, ◌<◌, ◌+◌, length, suc, arith}
-use Rattle.wait_lines.specs.declared.links.Stop.TheVariants.{End, Free}
+use Rattle.std.proofs.Common.{sym, ap, subst, ◌∙◌, ◌<◌, ◌+◌, length, arith}
+use Rattle.wait_lines.specs.declared.links.Stop.TheVariants.{Free}
 use Rattle.wait_lines.specs.Links.{Chart, chart, node, linked, behind_of, before_of}
 use Rattle.wait_lines.specs.Rings.{AreRings}
-use Rattle.wait_lines.specs.Tables.{TableState, table_of, with_move, bucket_of, IsInRow, IsTable}
+use Rattle.wait_lines.specs.Tables.{TableState, table_of, with_move, IsInRow, IsTable}
 use Rattle.wait_lines.specs.Rows.{rows_of}
 use Rattle.wait_lines.proofs.LinkLemmas.{there-before, there-behind}
 use Rattle.wait_lines.proofs.TableLemmas.{but-shifted, here-shifted, IsTable-shifted, table_of-shifted}

@@ -1,6 +1,6 @@
-use Rattle.std.proofs.Common.{sym, ap, subst, ◌∙◌, ◌<◌, length, arith}
+use Rattle.std.proofs.Common.{sym, ap, subst, ◌∙◌, arith}
 use Rattle.wait_lines.specs.declared.links.Stop.TheVariants.{Free}
-use Rattle.wait_lines.specs.Links.{Chart, chart, node, linked, grown, behind_of, before_of}
+use Rattle.wait_lines.specs.Links.{Chart, chart, behind_of, before_of}
 use Rattle.wait_lines.specs.Rings.{AreRings}
 use Rattle.wait_lines.specs.Tables.{TableState, table_of, with_record, IsTable}
 use Rattle.wait_lines.proofs.LinkLemmas.{there-before}

@@ -1,4 +1,4 @@
-use Rattle.std.proofs.Common.{◌≡◌, ◌<◌, ℕ, ap, subst, ◌∙◌, arith}
+use Rattle.std.proofs.Common.{◌≡◌, ◌<◌, ℕ, subst, arith}
 use Rattle.wait_lines.specs.declared.links.Stop.TheVariants.{Free}
 use Rattle.wait_lines.specs.Links.{chart, behind_of}
 use Rattle.wait_lines.specs.Rows.{rows_of, row_at}
