@@ -3,8 +3,9 @@ ghost use Rattle.std.specs.Prelude.{◌≡◌, ◌+◌, ◌<◌, [], length};
 ghost use Rattle.header_words.specs.Events.{depth};
 
 use crate::BenchFault;
+use crate::book::Book;
 use header_words::{Headers, Pass};
-use lock_word::ObjectId;
+use lock_word::{Memory, ObjectId};
 use std::alloc::Global;
 use std::sync::atomic::{AtomicU64, Ordering};
 use std::thread;
@@ -27,11 +28,11 @@ pub enum Work {
 /// What the threads share: the words of objects, and as many bare words.
 #[derive(Clone, Copy)]
 pub struct Shared<'a> {
-    pub headers: &'a Headers,
+    pub headers: &'a Headers<Book>,
     pub bare: &'a [AtomicU64],
 }
 
-fn lock(headers: &Headers, pass: &mut Pass, object: ObjectId, rounds: u32) -> u32
+fn lock(headers: &Headers<Book>, pass: &mut Pass<Book>, object: ObjectId, rounds: u32) -> u32
     requires belongs { pass.old.opening ≡ headers.now }
     requires object { object.0 < length headers.now.lows }
     requires free { depth object.0 pass.old.mine ≡ 0 }
@@ -46,7 +47,7 @@ fn lock(headers: &Headers, pass: &mut Pass, object: ObjectId, rounds: u32) -> u3
     won
 }
 
-fn nest(headers: &Headers, pass: &mut Pass, object: ObjectId, rounds: u32) -> u32
+fn nest(headers: &Headers<Book>, pass: &mut Pass<Book>, object: ObjectId, rounds: u32) -> u32
     requires belongs { pass.old.opening ≡ headers.now }
     requires object { object.0 < length headers.now.lows }
     requires free { depth object.0 pass.old.mine ≡ 0 }
@@ -85,7 +86,7 @@ fn bare_nest(word: &AtomicU64, rounds: u32) -> u32 {
 }
 
 /// Does `rounds` rounds of the work at an object, and returns how many of them succeeded.
-fn run(shared: &Shared<'_>, work: Work, rounds: u32, mut pass: Pass, object: ObjectId) -> u32
+fn run(shared: &Shared<'_>, work: Work, rounds: u32, mut pass: Pass<Book>, object: ObjectId) -> u32
     requires belongs { pass.opening ≡ shared.now.headers.now }
     requires object { object.0 < length shared.now.headers.now.lows }
     requires free { pass.mine ≡ [] }
@@ -106,7 +107,7 @@ fn run_two<R: Threads + Sync>(
     shared: &Shared<'_>,
     work: Work,
     rounds: u32,
-    passes: (Pass, Pass),
+    passes: (Pass<Book>, Pass<Book>),
     object: u32,
 ) -> u32
     requires left { (passes.0.opening ≡ shared.now.headers.now) × (passes.0.mine ≡ []) }
@@ -129,8 +130,8 @@ fn run_four<R: Threads + Sync>(
     shared: &Shared<'_>,
     work: Work,
     rounds: u32,
-    left: (Pass, Pass),
-    right: (Pass, Pass),
+    left: (Pass<Book>, Pass<Book>),
+    right: (Pass<Book>, Pass<Book>),
 ) -> u32
     requires objects { 192 < length shared.now.headers.now.lows }
     requires first { (left.0.opening ≡ shared.now.headers.now) × (left.0.mine ≡ []) }
@@ -141,10 +142,14 @@ fn run_four<R: Threads + Sync>(
     let (one, two) = thread::join(
         rt,
         ||
-            requires { (64 < length shared.now.headers.now.lows) × (left.0.opening ≡ shared.now.headers.now) × (left.0.mine ≡ []) × (left.1.opening ≡ shared.now.headers.now) × (left.1.mine ≡ []) }
+            requires { (64 < length shared.now.headers.now.lows)
+                × (left.0.opening ≡ shared.now.headers.now) × (left.0.mine ≡ [])
+                × (left.1.opening ≡ shared.now.headers.now) × (left.1.mine ≡ []) }
         { run_two(rt, shared, work, rounds, left, 0) },
         ||
-            requires { (192 < length shared.now.headers.now.lows) × (right.0.opening ≡ shared.now.headers.now) × (right.0.mine ≡ []) × (right.1.opening ≡ shared.now.headers.now) × (right.1.mine ≡ []) }
+            requires { (192 < length shared.now.headers.now.lows)
+                × (right.0.opening ≡ shared.now.headers.now) × (right.0.mine ≡ [])
+                × (right.1.opening ≡ shared.now.headers.now) × (right.1.mine ≡ []) }
         { run_two(rt, shared, work, rounds, right, 128) },
     );
     one.wrapping_add(two)
@@ -176,7 +181,10 @@ pub fn in_one<R: Clock + Threads + Sync>(
 ) -> Result<Measure, BenchFault>
     requires { length setup.now.lows.now ≡ 256 }
 {
-    let (headers, mut passes) = Headers::open(alloc, setup.lows, 1)?;
+    let book = Book::new(alloc)?;
+    let Ok((headers, mut passes)) = Headers::open(alloc, setup.lows, 1, book) else {
+        return Err(BenchFault::Memory(Memory));
+    };
     let Some(pass) = passes.pop() else {
         return Err(BenchFault::Passes);
     };
@@ -198,7 +206,10 @@ pub fn in_two<R: Clock + Threads + Sync>(
 ) -> Result<Measure, BenchFault>
     requires { length setup.now.lows.now ≡ 256 }
 {
-    let (headers, mut passes) = Headers::open(alloc, setup.lows, 2)?;
+    let book = Book::new(alloc)?;
+    let Ok((headers, mut passes)) = Headers::open(alloc, setup.lows, 2, book) else {
+        return Err(BenchFault::Memory(Memory));
+    };
     let (Some(second), Some(first)) = (passes.pop(), passes.pop()) else {
         return Err(BenchFault::Passes);
     };
@@ -220,7 +231,10 @@ pub fn in_four<R: Clock + Threads + Sync>(
 ) -> Result<Measure, BenchFault>
     requires { length setup.now.lows.now ≡ 256 }
 {
-    let (headers, mut passes) = Headers::open(alloc, setup.lows, 4)?;
+    let book = Book::new(alloc)?;
+    let Ok((headers, mut passes)) = Headers::open(alloc, setup.lows, 4, book) else {
+        return Err(BenchFault::Memory(Memory));
+    };
     let (Some(fourth), Some(third)) = (passes.pop(), passes.pop()) else {
         return Err(BenchFault::Passes);
     };

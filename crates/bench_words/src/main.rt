@@ -1,13 +1,18 @@
-//! Measures pairs of calls on header words against the bare atomic operations that they stand for.
+//! Measures pairs of calls on header words, and on the book behind the gate, against the bare
+//! atomic operations that they stand for.
 //!
-//! With no argument it does 1,000 rounds of each kind of work in one, two and four threads, and prints
-//! how many succeeded. With a number of rounds it prints the time of a round, in picoseconds of the best of seven runs.
+//! With no argument it does 1,000 rounds of each kind of work in some threads, and prints how many
+//! succeeded; of the takes and gives, how many the book has counted. With a number of rounds it
+//! prints the time of a round, in picoseconds of the best of seven runs.
 #![tactic(auto)]
 
 ghost use Rattle.std.specs.Prelude.{◌≡◌, length};
 
+mod book;
+mod gates;
 mod lanes;
 
+use gates::{bare_in_one, bare_in_two, take_in_one, take_in_two};
 use lanes::{Measure, Setup, Work, in_four, in_one, in_two};
 use lock_word::Memory;
 use std::alloc::{AllocError, Global};
@@ -24,10 +29,12 @@ use thiserror::Error;
 pub enum BenchFault {
     #[error("out of memory")]
     Memory(#[from] Memory),
-    #[error("out of memory for the bare words")]
-    BareWords(#[from] AllocError),
+    #[error("out of memory for the book or the bare words")]
+    NotAllocated(#[from] AllocError),
     #[error("there are not as many passes as threads")]
     Passes,
+    #[error("the object or the book is taken, though one pass is there")]
+    Taken,
     #[error("the argument is no number of rounds")]
     Rounds(#[from] ParseIntError),
     #[error("the system: {0}")]
@@ -38,35 +45,51 @@ const WORDS: usize = 256;
 
 const RUNS: usize = 7;
 
+// What a row of the report measures.
+#[derive(Clone, Copy)]
+enum Task {
+    // Work on words, each thread on its own.
+    Words(Work),
+    // Takes and gives of the book, by all threads.
+    Take,
+    // The bare operations of these, on one word.
+    BareTake,
+}
+
 fn measure<R: Clock + Threads + Sync>(
     setup: &Setup<'_, R>,
     alloc: Global,
     threads: u32,
-    work: Work,
+    task: Task,
 ) -> Result<Measure, BenchFault>
     requires { length setup.now.lows.now ≡ WORDS }
 {
-    match threads {
-        1 => in_one(setup, alloc, work),
-        2 => in_two(setup, alloc, work),
-        _ => in_four(setup, alloc, work),
+    match (task, threads) {
+        (Task::Words(work), 1) => in_one(setup, alloc, work),
+        (Task::Words(work), 2) => in_two(setup, alloc, work),
+        (Task::Words(work), _) => in_four(setup, alloc, work),
+        (Task::Take, 1) => take_in_one(setup, alloc),
+        (Task::Take, _) => take_in_two(setup, alloc),
+        (Task::BareTake, 1) => bare_in_one(setup),
+        (Task::BareTake, _) => bare_in_two(setup),
     }
 }
 
-// The shortest times of the work and of its bare operations, which take turns, in picoseconds a round.
+// The shortest times of the task and of its bare operations, which take turns, in picoseconds a
+// round.
 fn best<R: Clock + Threads + Sync>(
     setup: &Setup<'_, R>,
     alloc: Global,
     threads: u32,
-    work: Work,
-    base: Work,
+    task: Task,
+    base: Task,
 ) -> Result<(u128, u128), BenchFault>
     requires { length setup.now.lows.now ≡ WORDS }
 {
     let mut least = u128::MAX;
     let mut least_bare = u128::MAX;
     for _ in 0..RUNS {
-        let run = measure(setup, alloc, threads, work)?;
+        let run = measure(setup, alloc, threads, task)?;
         least = least.min(run.time);
         let bare = measure(setup, alloc, threads, base)?;
         least_bare = least_bare.min(bare.time);
@@ -93,12 +116,12 @@ fn report<R: Clock + Threads + Print + Sync>(
     alloc: Global,
     threads: u32,
     name: &str,
-    work: (Work, Work),
+    tasks: (Task, Task),
     timed: bool,
 ) -> Result<(), BenchFault>
     requires { length setup.now.lows.now ≡ WORDS }
 {
-    let (pair, base) = work;
+    let (pair, base) = tasks;
     if timed {
         let (ours, theirs) = best(setup, alloc, threads, pair, base)?;
         let percent = ours.saturating_mul(100) / theirs.max(1);
@@ -127,8 +150,15 @@ fn main(rt: HostRuntime) -> Result<(), BenchFault> {
         bare: bare.as_slice(),
         rounds: rounds.unwrap_or(1_000),
     };
-    let locks = ("acquire and release", (Work::Lock, Work::BareLock));
-    let nests = ("nest and unnest", (Work::Nest, Work::BareNest));
+    let locks = (
+        "acquire and release",
+        (Task::Words(Work::Lock), Task::Words(Work::BareLock)),
+    );
+    let nests = (
+        "nest and unnest",
+        (Task::Words(Work::Nest), Task::Words(Work::BareNest)),
+    );
+    let takes = ("take and give", (Task::Take, Task::BareTake));
     let rows = [
         (1, locks),
         (1, nests),
@@ -136,9 +166,11 @@ fn main(rt: HostRuntime) -> Result<(), BenchFault> {
         (2, nests),
         (4, locks),
         (4, nests),
+        (1, takes),
+        (2, takes),
     ];
-    for (threads, (name, work)) in rows {
-        report(&setup, alloc, threads, name, work, rounds.is_some())?;
+    for (threads, (name, tasks)) in rows {
+        report(&setup, alloc, threads, name, tasks, rounds.is_some())?;
     }
     Ok(())
 }

@@ -123,7 +123,7 @@ free_at (b ∷ lows) zero = refl
 free_at (b ∷ lows) (suc o) = free_at lows o
 
 -- there is a lock for each low byte
-length-free_locks : (lows : List ℕ) → length (free_locks lows) ≡ length lows
+pub length-free_locks : (lows : List ℕ) → length (free_locks lows) ≡ length lows
 length-free_locks [] = refl
 length-free_locks (b ∷ lows) = ap suc (length-free_locks lows)
 

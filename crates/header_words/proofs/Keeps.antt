@@ -1,5 +1,5 @@
 -- Each step of a word keeps the rule.
-use Rattle.std.proofs.Common.{◌≡◌, ◌≢◌, ◌⊎◌, ℕ, zero, suc, ◌+◌, ◌<◌, ◌≤◌, Bool, true, false, List, [], ◌∷◌, ◌++◌, length, get_or, set, refl, sym, ap, ◌∙◌, subst, arith, eqb, eq-eqb, ne_eqb, inl, inr, ⊎_elim, length-set, get_or-set_same, get_or-set_other, append_assoc}
+use Rattle.std.proofs.Common.{◌≡◌, ◌≢◌, ◌⊎◌, ℕ, zero, suc, ◌+◌, ◌<◌, ◌≤◌, Bool, true, false, Option, List, [], ◌∷◌, ◌++◌, length, get_or, set, refl, sym, ap, ◌∙◌, subst, arith, eqb, eq-eqb, ne_eqb, inl, inr, ⊎_elim, length-set, get_or-set_same, get_or-set_other, append_assoc}
 use Rattle.std.specs.Prelude.{slice_index}
 use mathlib.Core.Logic.{dite}
 use mathlib.Core.List.{IsPrefix}
@@ -11,15 +11,22 @@ use Rattle.atomic_table.specs.Table.{State, Me, Step, step, keeps, stepped, Allo
 use Rattle.atomic_table.proofs.Lists.{at_set}
 use Rattle.lock_word.specs.declared.Lock.{Lock}
 use Rattle.lock_word.specs.declared.Lock.TheVariants.{Free, Thin}
-use Rattle.lock_word.specs.Layout.{word_of, Fits}
+use Rattle.lock_word.specs.declared.ObjectId.{ObjectId}
+use Rattle.lock_word.specs.Layout.{word_of, lock_of, Fits}
+use Rattle.lock_word.proofs.Words.{lock_of-word_of}
 use Rattle.header_words.specs.declared.event.Deed.{Deed}
 use Rattle.header_words.specs.declared.event.Deed.TheVariants.{Load, Win, Lose}
 use Rattle.header_words.specs.declared.event.Event.{Event}
 use Rattle.header_words.specs.declared.rule.Part.{Part}
 use Rattle.header_words.specs.declared.rule.View.{View}
+use Rattle.header_words.specs.Bindings.{HasPublish, GateAllows}
+use Rattle.header_words.specs.Gate.{Gated}
 use Rattle.header_words.specs.Events.{event, Legal, effect, lock_at, locks_after, Replays, free_locks, own_events, depth}
 use Rattle.header_words.specs.Rule.{Each, part, IsMine, Knows, Ruled, stepped_view, index_of, mine_of, HasOneIndex}
 use Rattle.header_words.specs.Steps.{ShowsDepth, AddsEvent, Does, Loads, Stores, Exchanges}
+use Rattle.header_words.proofs.Bindings.{allowed_snoc}
+use Rattle.header_words.proofs.Gates.{gated_seat}
+use Rattle.header_words.proofs.Published.{fat_published}
 use Rattle.header_words.proofs.History.{replays_snoc, length-locks, own_snoc_mine, own_snoc_other, depth_is_holds, thin_of_holds, fits_all, shows_depth, free_word, free_low, small_word, lock_after_here, lock_after_else}
 
 -- what follows holds of each, too
@@ -70,11 +77,11 @@ words_kept lows words locks e n wide len at is was o lt = go (ℕ_discrete e.obj
         ∙ (was o lt ∙ sym (ap (λ (l : Lock). word_of l (slice_index lows o)) (lock_after_else e locks o (λ x. ne (sym x)))))
 
 -- one lemma for every event: a legal event, whose word is that of its effect
-pub steps : {S : Type 0} (lows : List ℕ) (count : ℕ) (s : State S View) (r : Ruled lows count s) (id : ℕ) (v : View) (i : ℕ) (m : List Event) (o : ℕ) (deed : Deed) (n : ℕ)
+pub steps : {B : Type 0} (bound : B → List ObjectId) (lows : List ℕ) (count : ℕ) (s : State (Option B) View) (r : Ruled bound lows count s) (id : ℕ) (v : View) (i : ℕ) (m : List Event) (o : ℕ) (deed : Deed) (n : ℕ)
     → get_elem? s.views id ≡ some v → v.parts ≡ part i m ∷ [] → o < length lows
-    → Legal i deed (lock_at r.locks o) (slice_index lows o) → n ≡ word_of (effect i deed (lock_at r.locks o)) (slice_index lows o)
-    → (c : List (ℕ × S)) → Ruled lows count (stepped s (o + 1) n id c (stepped_view v r.log i m (event i o deed)) keeps)
-steps lows count s r id v i m o deed n at one inside legal is c = record {
+    → Legal i deed (lock_at r.locks o) (slice_index lows o) → n ≡ word_of (effect i deed (lock_at r.locks o)) (slice_index lows o) → GateAllows v.has_gate deed
+    → (c : List (ℕ × Option B)) → Ruled bound lows count (stepped s (o + 1) n id c (stepped_view v r.log i m (event i o deed)) keeps)
+steps bound lows count s r id v i m o deed n at one inside legal is may c = record {
   log = r.log ++ e ∷ [];
   locks = locks_after e r.locks;
   seat_of = r.seat_of;
@@ -87,6 +94,8 @@ steps lows count s r id v i m o deed n at one inside legal is c = record {
       (λ (t : (k ≡ id) × (w ≡ u)). subst (λ (z : ℕ × View). Knows lows count (r.log ++ e ∷ []) r.seat_of z.0 z.1) (λ j. (sym t.0 j, t.1 j)) here)
       (λ (t : (k ≢ id) × (get_elem? s.views k ≡ some u)). knows_other lows count r.log r.seat_of k u e (λ (x : k ≡ r.seat_of i). t.0 (x ∙ mine.seat)) (r.views k u t.1))
       (at_set s.views id k w u found);
+  gated = subst (λ (gate : ℕ). Gated bound count (r.log ++ e ∷ []) r.seat_of gate s.homes (set s.views id w)) (sym (get_or-set_other s.words (o + 1) 0 n 0 (omega arith)))
+      (gated_seat bound count r.log (r.log ++ e ∷ []) r.seat_of (slice_index s.words 0) s.homes s.views id v w at (λ p q h. h) refl (allowed_snoc v.has_gate r.log e may) r.gated);
 }
   where
     e : Event
@@ -121,11 +130,11 @@ steps lows count s r id v i m o deed n at one inside legal is c = record {
     }
 
 -- what a step tells
-pub told : {S : Type 0} (lows : List ℕ) (count : ℕ) (s : State S View) (r : Ruled lows count s) (id : ℕ) (v : View) (o : ℕ) (deed : Deed) (n : ℕ)
+pub told : {B : Type 0} (bound : B → List ObjectId) (lows : List ℕ) (count : ℕ) (s : State (Option B) View) (r : Ruled bound lows count s) (id : ℕ) (v : View) (o : ℕ) (deed : Deed) (n : ℕ)
     → get_elem? s.views id ≡ some v → HasOneIndex v → o < length lows
     → Legal (index_of v.parts) deed (lock_at r.locks o) (slice_index lows o) → n ≡ word_of (effect (index_of v.parts) deed (lock_at r.locks o)) (slice_index lows o)
     → AddsEvent o deed n v (stepped_view v r.log (index_of v.parts) (mine_of v.parts) (event (index_of v.parts) o deed))
-told lows count s r id v o deed n at one inside legal is = record {
+told bound lows count s r id v o deed n at one inside legal is = record {
   rest = knows.seen.0;
   view = λ k. stepped_view v (sym knows.seen.1 k) i m e;
   saw = record {
@@ -135,6 +144,8 @@ told lows count s r id v o deed n at one inside legal is = record {
   };
   word = word' ∙ ap (λ (ls : List ℕ). word_of (lock_at (locks_after e r.locks) o) (slice_index ls o)) (sym mine.same);
   small = subst (λ (x : ℕ). x < 4294967296) (sym word') (small_word (lock_at (locks_after e r.locks) o) (slice_index lows o) fits (r.bytes o));
+  published = λ k fat. fat_published lows count o k (r.log ++ e ∷ []) (locks_after e r.locks) again (sym (ap lock_of word' ∙ lock_of-word_of (lock_at (locks_after e r.locks) o) (slice_index lows o) fits (r.bytes o)) ∙ fat);
+  publishes = λ has k q h. (r.gated.holders id v at has).2 k q (subst (HasPublish k q) knows.seen.1 h);
   shows = subst (λ (ls : List ℕ). ShowsDepth i (depth o (m ++ e ∷ [])) (slice_index ls o) n) (sym mine.same)
       (shows_depth i (depth o (m ++ e ∷ [])) (lock_at (locks_after e r.locks) o) (slice_index lows o) n fits (r.bytes o)
       (ap (depth o) (sym mine') ∙ depth_is_holds lows count i o (r.log ++ e ∷ []) (locks_after e r.locks) again) word');
@@ -168,40 +179,41 @@ told lows count s r id v o deed n at one inside legal is = record {
     fits = fits_all lows count (r.log ++ e ∷ []) (locks_after e r.locks) r.few again o
 
 -- what the step of an event tells
-does : {S : Type 0} (lows : List ℕ) (count : ℕ) (s : State S View) (r : Ruled lows count s) (id : ℕ) (me : Me S View) (o : ℕ) (deed : Deed) (n : ℕ) (st : Step S) → st.word ≡ o + 1
+does : {B : Type 0} (bound : B → List ObjectId) (lows : List ℕ) (count : ℕ) (s : State (Option B) View) (r : Ruled bound lows count s) (id : ℕ) (me : Me (Option B) View) (o : ℕ) (deed : Deed) (n : ℕ) (st : Step (Option B)) → st.word ≡ o + 1
     → get_elem? s.views id ≡ some me.0 → HasOneIndex me.0 → o < length lows
     → Legal (index_of me.0.parts) deed (lock_at r.locks o) (slice_index lows o) → n ≡ word_of (effect (index_of me.0.parts) deed (lock_at r.locks o)) (slice_index lows o)
     → Does deed n st me (stepped_view me.0 r.log (index_of me.0.parts) (mine_of me.0.parts) (event (index_of me.0.parts) o deed), me.1)
-does lows count s r id me o deed n st word at one inside legal is = (
+does bound lows count s r id me o deed n st word at one inside legal is = (
   (λ p w. let same : o ≡ p = omega arith in
       subst (λ (k : ℕ). AddsEvent k deed n me.0 (stepped_view me.0 r.log (index_of me.0.parts) (mine_of me.0.parts) (event (index_of me.0.parts) o deed))) same
-      (told lows count s r id me.0 o deed n at one inside legal is)),
+      (told bound lows count s r id me.0 o deed n at one inside legal is)),
   refl,
 )
 
 -- a load may be made
-pub loads : {S : Type 0} (lows : List ℕ) (count slots id : ℕ) (me : Me S View) (o : ℕ) → HasOneIndex me.0 → o < length lows
-    → Allows (Ruled lows count) slots id me (o + 1) (λ n. n) (Loads (step slots (o + 1) 0 0 none) me)
-loads lows count slots id me o one inside s r _ at _ = let n : ℕ = slice_index s.words (o + 1) in (
+pub loads : {B : Type 0} (bound : B → List ObjectId) (lows : List ℕ) (count slots id : ℕ) (me : Me (Option B) View) (o : ℕ) → HasOneIndex me.0 → o < length lows
+    → Allows (Ruled bound lows count) slots id me (o + 1) (λ n. n) (Loads (step slots (o + 1) 0 0 none) me)
+loads bound lows count slots id me o one inside s r _ at _ = let n : ℕ = slice_index s.words (o + 1) in (
   stepped_view me.0 r.log (index_of me.0.parts) (mine_of me.0.parts) (event (index_of me.0.parts) o (Load n)),
   keeps,
   tt,
-  steps lows count s r id me.0 (index_of me.0.parts) (mine_of me.0.parts) o (Load n) n at one inside (r.words o inside) (r.words o inside) me.1,
-  does lows count s r id me o (Load n) n (step slots (o + 1) 0 0 none) refl at one inside (r.words o inside) (r.words o inside),
+  steps bound lows count s r id me.0 (index_of me.0.parts) (mine_of me.0.parts) o (Load n) n at one inside (r.words o inside) (r.words o inside) (inr tt) me.1,
+  does bound lows count s r id me o (Load n) n (step slots (o + 1) 0 0 none) refl at one inside (r.words o inside) (r.words o inside),
 )
 
 -- an owner stores: nobody else changes the word, so it is what the owner's events made of it
-pub stores : {S : Type 0} (lows : List ℕ) (count slots id : ℕ) (me : Me S View) (o : ℕ) (kind : ℕ → Deed) (d new : ℕ) → HasOneIndex me.0 → o < length lows
+pub stores : {B : Type 0} (bound : B → List ObjectId) (lows : List ℕ) (count slots id : ℕ) (me : Me (Option B) View) (o : ℕ) (kind : ℕ → Deed) (d new : ℕ) → HasOneIndex me.0 → o < length lows
     → depth o (mine_of me.0.parts) ≡ suc d
     → Legal (index_of me.0.parts) (kind new) (Thin (index_of me.0.parts) d) (slice_index lows o)
     → new ≡ word_of (effect (index_of me.0.parts) (kind new) (Thin (index_of me.0.parts) d)) (slice_index lows o)
-    → Allows (Ruled lows count) slots id me (o + 1) (λ _. new) (λ _. Stores kind (step slots (o + 1) new 0 none) me new)
-stores lows count slots id me o kind d new one inside new_depth legal is s r _ at _ = (
+    → GateAllows me.0.has_gate (kind new)
+    → Allows (Ruled bound lows count) slots id me (o + 1) (λ _. new) (λ _. Stores kind (step slots (o + 1) new 0 none) me new)
+stores bound lows count slots id me o kind d new one inside new_depth legal is may s r _ at _ = (
   stepped_view me.0 r.log i m (event i o (kind new)),
   keeps,
   tt,
-  steps lows count s r id me.0 i m o (kind new) new at one inside legal' is' me.1,
-  does lows count s r id me o (kind new) new (step slots (o + 1) new 0 none) refl at one inside legal' is',
+  steps bound lows count s r id me.0 i m o (kind new) new at one inside legal' is' may me.1,
+  does bound lows count s r id me o (kind new) new (step slots (o + 1) new 0 none) refl at one inside legal' is',
 )
   where
     i : ℕ
@@ -226,25 +238,25 @@ stores lows count slots id me o kind d new one inside new_depth legal is s r _ a
     is' = is ∙ ap (λ (l : Lock). word_of (effect i (kind new) l) (slice_index lows o)) (sym thin)
 
 -- an exchange of the free word may be made: it is won where the word is free
-pub exchanges : {S : Type 0} (lows : List ℕ) (count slots id : ℕ) (me : Me S View) (o low new : ℕ) → HasOneIndex me.0 → o < length lows → low ≡ slice_index lows o → new ≡ word_of (Thin (index_of me.0.parts) 0) low
-    → Allows (Ruled lows count) slots id me (o + 1) (λ n. either (eqb n low) new n) (Exchanges (step slots (o + 1) low new none) me)
-exchanges lows count slots id me o low new one inside is_low is_new s r _ at _ = dite (ℕ_discrete n low)
+pub exchanges : {B : Type 0} (bound : B → List ObjectId) (lows : List ℕ) (count slots id : ℕ) (me : Me (Option B) View) (o low new : ℕ) → HasOneIndex me.0 → o < length lows → low ≡ slice_index lows o → new ≡ word_of (Thin (index_of me.0.parts) 0) low
+    → Allows (Ruled bound lows count) slots id me (o + 1) (λ n. either (eqb n low) new n) (Exchanges (step slots (o + 1) low new none) me)
+exchanges bound lows count slots id me o low new one inside is_low is_new s r _ at _ = dite (ℕ_discrete n low)
     (λ hit. let free : lock_at r.locks o ≡ Free = free_word (lock_at r.locks o) (slice_index lows o) (fits_all lows count r.log r.locks r.few r.replays o) (sym (r.words o inside) ∙ (hit ∙ is_low)) in
     let made : new ≡ word_of (Thin i 0) (slice_index lows o) = is_new ∙ ap (word_of (Thin i 0)) is_low in (
       stepped_view me.0 r.log i m (event i o Win),
       keeps,
       tt,
-      subst (λ b. Ruled lows count (stepped s (o + 1) (either b new n) id me.1 (stepped_view me.0 r.log i m (event i o Win)) keeps)) (sym (eq-eqb n low hit))
-          (steps lows count s r id me.0 i m o Win new at one inside free made me.1),
-      ((λ _. does lows count s r id me o Win new (step slots (o + 1) low new none) refl at one inside free made), λ not. absurd (not hit)),
+      subst (λ b. Ruled bound lows count (stepped s (o + 1) (either b new n) id me.1 (stepped_view me.0 r.log i m (event i o Win)) keeps)) (sym (eq-eqb n low hit))
+          (steps bound lows count s r id me.0 i m o Win new at one inside free made (inr tt) me.1),
+      ((λ _. does bound lows count s r id me o Win new (step slots (o + 1) low new none) refl at one inside free made), λ not. absurd (not hit)),
     ))
     (λ miss. let not_free : lock_at r.locks o ≢ Free = λ free. miss (r.words o inside ∙ (free_low (lock_at r.locks o) (slice_index lows o) free ∙ sym is_low)) in (
       stepped_view me.0 r.log i m (event i o Lose),
       keeps,
       tt,
-      subst (λ b. Ruled lows count (stepped s (o + 1) (either b new n) id me.1 (stepped_view me.0 r.log i m (event i o Lose)) keeps)) (sym (ne_eqb n low miss))
-          (steps lows count s r id me.0 i m o Lose n at one inside not_free (r.words o inside) me.1),
-      ((λ hit. absurd (miss hit)), λ _. does lows count s r id me o Lose n (step slots (o + 1) low new none) refl at one inside not_free (r.words o inside)),
+      subst (λ b. Ruled bound lows count (stepped s (o + 1) (either b new n) id me.1 (stepped_view me.0 r.log i m (event i o Lose)) keeps)) (sym (ne_eqb n low miss))
+          (steps bound lows count s r id me.0 i m o Lose n at one inside not_free (r.words o inside) (inr tt) me.1),
+      ((λ hit. absurd (miss hit)), λ _. does bound lows count s r id me o Lose n (step slots (o + 1) low new none) refl at one inside not_free (r.words o inside)),
     ))
   where
     i : ℕ

@@ -1,5 +1,7 @@
+pub mod Bindings
 pub mod Events
 pub mod Faults
+pub mod Gate
 pub mod Passes
 pub mod Rule
 pub mod Steps

@@ -1,14 +1,16 @@
 -- What each kind of step tells the seat that takes it.
-use Rattle.std.specs.Prelude.{◌≡◌, ◌≢◌, ◌↔◌, ℕ, suc, ◌+◌, ◌-◌, ◌/◌, ◌<◌, List, [], ◌++◌, slice_index}
+use Rattle.std.specs.Prelude.{◌≡◌, ◌≢◌, ◌↔◌, ℕ, suc, ◌+◌, ◌-◌, ◌/◌, ◌<◌, Bool, true, false, Option, Some, List, [], ◌∷◌, ◌++◌, slice_index}
 use mathlib.Core.List.{IsPrefix}
-use Rattle.atomic_table.specs.Table.{Me, Step}
+use Rattle.atomic_table.specs.Table.{Me, Step, rest}
 use Rattle.lock_word.specs.declared.Lock.{Lock}
-use Rattle.lock_word.specs.declared.Lock.TheVariants.{Thin}
+use Rattle.lock_word.specs.declared.ObjectId.{ObjectId}
+use Rattle.lock_word.specs.declared.Lock.TheVariants.{Thin, Fat}
 use Rattle.lock_word.specs.Layout.{word_of, lock_of, low_of, IsMalformed}
 use Rattle.header_words.specs.declared.event.Deed.{Deed}
 use Rattle.header_words.specs.declared.event.Deed.TheVariants.{Load, Win, Lose, Publish}
 use Rattle.header_words.specs.declared.event.Event.{Event}
 use Rattle.header_words.specs.declared.rule.View.{View}
+use Rattle.header_words.specs.Bindings.{Covers, HasPublish, HasPublishesOf, GateAllows}
 use Rattle.header_words.specs.Events.{event, Legal, effect, depth_after, lock_at, Replays, free_locks, own_events, depth}
 use Rattle.header_words.specs.Rule.{Each, AreApart, stepped_view, index_of, mine_of}
 
@@ -25,13 +27,16 @@ pub record Saw (lows : List ℕ) (count : ℕ) (seen : List Event) (i : ℕ) (mi
   pub replays : Replays lows count (free_locks lows) seen locks
   pub own : own_events i seen ≡ mine
 
--- the seat added this event of its own to the history, saw it all, and the object's word then is n
+-- the seat added this event of its own to the history, saw it all, and the object's word then is n, which is fat only by a publish
+-- publishes: while the seat has the gate, no other publishes
 pub record AddsEvent (o : ℕ) (deed : Deed) (n : ℕ) (v w : View) : Type 0 where
   pub rest : List Event
   pub view : w ≡ stepped_view v (v.seen ++ rest) (index_of v.parts) (mine_of v.parts) (event (index_of v.parts) o deed)
   pub saw : Saw w.lows w.count w.seen (index_of w.parts) (mine_of w.parts)
   pub word : n ≡ word_of (lock_at saw.locks o) (slice_index w.lows o)
   pub small : n < 4294967296
+  pub published : (m : ℕ) → lock_of n ≡ Fat m → HasPublish m o w.seen
+  pub publishes : v.has_gate ≡ true → HasPublishesOf (v.seen ++ rest) v.seen
   pub shows : ShowsDepth (index_of w.parts) (depth o (mine_of w.parts)) (slice_index w.lows o) n
 
 -- the step was this deed at the object of its word, and left the slots that the seat holds
@@ -54,13 +59,13 @@ publish_of n = Publish ((n - 2147483648) / 256)
 abbrev pub Exchanges : {S : Type 0} → Step S → Me S View → ℕ → Me S View → Type 0
 Exchanges st me n me' = (n ≡ st.first → Does Win st.second st me me') × (n ≢ st.first → Does Lose n st me me')
 
--- the pass i, which holds the object `deep` times, may store the word of this lock, and then holds it `left` times
-abbrev pub MayStore : ℕ → ℕ → Deed → ℕ → Lock → ℕ → Type 0
-MayStore i deep deed low lock left = (d : ℕ) × (deep ≡ suc d) × Legal i deed (Thin i d) low × (lock ≡ effect i deed (Thin i d)) × (left ≡ depth_after deed deep)
+-- the pass i, which holds the object `deep` times and has the gate or not, may store the word of this lock, and then holds it `left` times
+abbrev pub MayStore : ℕ → ℕ → Bool → Deed → ℕ → Lock → ℕ → Type 0
+MayStore i deep has_gate deed low lock left = GateAllows has_gate deed × (d : ℕ) × (deep ≡ suc d) × Legal i deed (Thin i d) low × (lock ≡ effect i deed (Thin i d)) × (left ≡ depth_after deed deep)
 
 -- the seat sees the whole history, which replays and begins with each list that was seen before
 pub record SeesAll (v w : View) : Type 0 where
-  pub view : w ≡ record { lows = v.lows; count = v.count; parts = v.parts; seen = w.seen; earlier = [] }
+  pub view : w ≡ record { lows = v.lows; count = v.count; parts = v.parts; seen = w.seen; earlier = []; has_gate = v.has_gate; steps = suc v.steps }
   pub seen : IsPrefix v.seen w.seen
   pub earlier : Each (λ old. IsPrefix old w.seen) v.earlier
   pub apart : AreApart v.parts
@@ -71,6 +76,24 @@ pub record SeesAll (v w : View) : Type 0 where
   pub locks : List Lock
   pub replays : Replays lows count (free_locks lows) w.seen locks
 
--- the load of the spare word
+-- the load of the gate word
 abbrev pub Syncs : {S : Type 0} → Step S → Me S View → ℕ → Me S View → Type 0
 Syncs st me n me' = SeesAll me.0 me'.0 × (me'.1 ≡ me.1)
+
+-- the seat sees the whole history, and has the gate
+pub record TakesGate (v w : View) : Type 0 where
+  pub view : w ≡ record { lows = v.lows; count = v.count; parts = v.parts; seen = w.seen; earlier = v.earlier; has_gate = true; steps = suc v.steps }
+  pub seen : IsPrefix v.seen w.seen
+  pub saw : Saw v.lows v.count w.seen (index_of v.parts) (mine_of v.parts)
+
+-- the exchange of the gate word: where the gate was open the seat has it, and the book's slot; else nothing changed
+abbrev pub Takes : {B : Type 0} → (B → List ObjectId) → Step (Option B) → Me (Option B) View → ℕ → Me (Option B) View → Type 0
+Takes {B} bound st me n me' = (n ≡ 0 → TakesGate me.0 me'.0 × (b : B) × (me'.1 ≡ (0, Some b) ∷ me.1) × Covers (bound b) me'.0.seen) × (n ≢ 0 → me' ≡ me)
+
+-- the view of a seat that gave the gate back
+abbrev pub without_gate : View → View
+without_gate v = record { lows = v.lows; count = v.count; parts = v.parts; seen = v.seen; earlier = v.earlier; has_gate = false; steps = suc v.steps }
+
+-- the store of the gate word: the seat has given the gate back, and the slot that it took last
+abbrev pub Gives : {S : Type 0} → Step S → Me S View → ℕ → Me S View → Type 0
+Gives st me n me' = (me'.0 ≡ without_gate me.0) × (me'.1 ≡ rest me.1)

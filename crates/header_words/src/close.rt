@@ -3,7 +3,8 @@ ghost use Rattle.std.specs.Prelude.{◌≡◌, ◌↔◌, ◌+◌, ◌<◌, leng
 ghost use Rattle.header_words.specs.Passes.{HasAll, LacksOne, indices_of};
 
 use crate::headers::Headers;
-use crate::pass::Pass;
+use crate::kept::Kept;
+use crate::pass::{Parts, Pass};
 use crate::rule::{Joined, Layout, View};
 use atomic_table::Seat;
 use lock_word::Word;
@@ -11,15 +12,22 @@ use std::alloc::Global;
 
 /// Why the words were not closed. Headers and passes come back as they were.
 #[derive(Drop)]
-pub enum CloseFault {
+pub enum CloseFault<B: Kept> {
     /// No pass has one of the indices 1 to the number of passes that were opened.
-    WrongPass { headers: Headers, passes: Vec<Pass> },
-    /// Each index is there, and the system refused room for the words.
-    Memory { headers: Headers, passes: Vec<Pass> },
+    WrongPass {
+        headers: Headers<B>,
+        passes: Vec<Pass<B>>,
+    },
+    /// Each index is there, and the system refused room for the words, of which there is one at
+    /// least.
+    Memory {
+        headers: Headers<B>,
+        passes: Vec<Pass<B>>,
+    },
 }
 
 // Each index from 1 to `count` is some pass's.
-fn has_all(passes: &[Pass], count: u16) -> bool
+fn has_all<B>(passes: &[Pass<B>], count: u16) -> bool
     ensures found { result ≡ true → HasAll count passes.now }
     ensures missing { result ≡ false → LacksOne count passes.now }
 {
@@ -31,7 +39,7 @@ fn has_all(passes: &[Pass], count: u16) -> bool
     true
 }
 
-fn has_index(passes: &[Pass], index: u16) -> bool
+fn has_index<B>(passes: &[Pass<B>], index: u16) -> bool
     ensures { IsTrue result ↔ Contains (indices_of passes.now) index }
 {
     for pass in passes {
@@ -42,16 +50,18 @@ fn has_index(passes: &[Pass], index: u16) -> bool
     false
 }
 
-impl Headers {
+impl<B: Kept> Headers<B> {
     ghost use Rattle.header_words.specs.Passes.{IsClosed, TookAll};
     ghost use Rattle.header_words.specs.Faults.{IsBack, TellsFault};
 
-    /// The words in the end, where each index has its pass.
+    /// The words in the end, where each index has its pass, and the book.
     ///
     /// A pass that is missing comes before want of memory.
-    pub fn close(self, alloc: Global, passes: Vec<Pass>) -> Result<Vec<Word>, CloseFault>
+    pub fn close(self, alloc: Global, passes: Vec<Pass<B>>) -> Result<(Vec<Word>, B), CloseFault<B>>
         requires belong { All (λ p. p.opening ≡ self) passes.items }
-        ensures words { IfOk result (λ words. IsClosed self passes.items (map (λ w. w.0) words.items)) }
+        requires without { All (λ p. p.has_gate ≡ false) passes.items }
+        ensures words { IfOk result (λ r.
+            IsClosed self passes.items (map (λ w. w.0) r.0.items) (B.bound r.1)) }
         ensures all { IfOk result (λ _. HasAll self.count passes.items) }
         ensures fault { IfErr result (TellsFault self.count passes.items) }
         ensures back { IfErr result (IsBack self passes.items) }
@@ -71,39 +81,44 @@ impl Headers {
         };
         let seat = self.join_all(passes);
         let Headers { table, layout } = self;
-        let closed = table.close_with(seat);
+        let mut closed = table.close_with(seat);
         for o in 0..objects {
             let Ok(()) = words.push(Word(closed.word(o + 1) as u32)) else {
                 unreachable!()
             };
         }
+        let kept = closed.take(0);
+        let Some(book) = kept else { unreachable!() };
         closed.free();
         let Layout { lows: _, count: _ } = layout;
-        Ok(words)
+        Ok((words, book))
     }
 
     // One seat that has the indices of all passes.
-    fn join_all(&self, mut passes: Vec<Pass>) -> Seat<(), View>
+    fn join_all(&self, mut passes: Vec<Pass<B>>) -> Seat<Option<B>, View>
         requires some { 0 < length passes.items }
         requires belong { All (λ p. p.opening ≡ self.now) passes.items }
+        requires without { All (λ p. p.has_gate ≡ false) passes.items }
         ensures { (result.table_id ≡ self.now.table) × TookAll passes.items result.me.0 }
     {
         let Some(last) = passes.pop() else {
             unreachable!()
         };
-        let Pass {
+        let Parts {
             index: _,
             depths: _,
             lows: _,
+            has_gate: _,
             mut seat,
-        } = last;
+        } = last.into_parts();
         while let Some(pass) = passes.pop() {
-            let Pass {
+            let Parts {
                 index: _,
                 depths: _,
                 lows: _,
+                has_gate: _,
                 seat: other,
-            } = pass;
+            } = pass.into_parts();
             self.table.shared.join_seat::<Joined>(&mut seat, other);
         }
         seat

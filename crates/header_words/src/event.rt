@@ -22,17 +22,19 @@ pub enum Deed {
     Publish(u32),
 }
 
-/// One deed, with the index of its pass and the number of its object. Contracts speak of events, and no
-/// value of it is made.
+/// One deed, with the index of its pass and the number of its object. Contracts speak of events,
+/// and no value of it is made.
 pub struct Event {
     pub pass: u64,
     pub object: u64,
     pub deed: Deed,
 }
 
-/// No deed changes bits 7 to 0 of a word: the word with the lock after a deed has the low byte of the word
-/// before it.
+/// No deed changes bits 7 to 0 of a word: the word with the lock after a deed has the low byte of
+/// the word before it.
 #[tactic(auto, using(crate::proofs::History::low_kept_by))]
 pub fn deeds_keep_low_bytes()
-    ensures { (i : ℕ) (deed : Deed) (word : ℕ) → 1 ≤ i → i ≤ 32767 → Fits (lock_of word) → Legal i deed (lock_of word) (low_of word) → low_of (with_lock word (effect i deed (lock_of word))) ≡ low_of word }
+    ensures { (i : ℕ) (deed : Deed) (word : ℕ) → 1 ≤ i → i ≤ 32767 →
+        Fits (lock_of word) → Legal i deed (lock_of word) (low_of word) →
+        low_of (with_lock word (effect i deed (lock_of word))) ≡ low_of word }
 {}

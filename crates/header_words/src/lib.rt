@@ -1,10 +1,14 @@
-//! The header words of objects, which threads share, and the atomic steps by which threads lock, nest,
-//! unlock and inflate the objects.
+//! The header words of objects, which threads share, and the atomic steps by which threads lock,
+//! nest, unlock and inflate the objects; and a book behind a gate, which has bound every monitor
+//! that a word shows.
 #![tactic(auto)]
 
 mod close;
 mod event;
+mod gate;
 mod headers;
+mod kept;
+mod open;
 mod pass;
 mod rule;
 #[cfg(test)]
@@ -13,4 +17,6 @@ mod tests;
 pub use close::CloseFault;
 pub use event::{Deed, Event, deeds_keep_low_bytes};
 pub use headers::Headers;
+pub use kept::Kept;
+pub use open::OpenFault;
 pub use pass::Pass;

@@ -1,5 +1,6 @@
-//! The rule that the words follow, and what each step tells the pass that takes it.
+//! The rule that the words and the book follow, and what each step tells the pass that takes it.
 use crate::event::Event;
+use crate::kept::Kept;
 use atomic_table::{Join, Play, Split, TableRule};
 use std::marker::PhantomData;
 
@@ -16,6 +17,10 @@ pub struct View {
     pub parts: [Part; 0],
     pub seen: [Event; 0],
     pub earlier: [[Event; 0]; 0],
+    /// It has the gate.
+    pub has_gate: bool,
+    /// How many steps of its own have changed what it knows.
+    pub steps: u64,
 }
 
 /// The low bytes of the words, and how many passes there are.
@@ -25,13 +30,13 @@ pub struct Layout {
     pub count: u16,
 }
 
-/// There is one history, which replays to the words.
+/// There is one history, which replays to the words, and the book binds all that it publishes.
 pub struct Law;
 
-impl<S> TableRule<S, View, Layout> for Law {
+impl<B: Kept> TableRule<Option<B>, View, Layout> for Law {
     ghost use Rattle.header_words.specs.Rule.{Ruled, opening_view};
 
-    ghost holds = { λ layout s. Ruled layout.lows.items layout.count s };
+    ghost holds = { λ layout s. Ruled B.bound layout.lows.items layout.count s };
 
     ghost first = { λ layout. opening_view layout.lows.items layout.count };
 }
@@ -131,11 +136,29 @@ impl Join<View> for Joined {
     ghost spent = { spent_view };
 }
 
-/// The load of the spare word, by which a seat sees the whole history.
+/// The load of the gate word, by which a seat sees the whole history.
 pub struct Sync;
 
 impl<S> Play<S, View> for Sync {
     ghost use Rattle.header_words.specs.Steps.{Syncs};
 
     ghost then = { Syncs };
+}
+
+/// The exchange of the open gate for the index of a pass.
+pub struct TakeGate;
+
+impl<B: Kept> Play<Option<B>, View> for TakeGate {
+    ghost use Rattle.header_words.specs.Steps.{Takes};
+
+    ghost then = { Takes B.bound };
+}
+
+/// The store of the open gate.
+pub struct GiveGate;
+
+impl<S> Play<S, View> for GiveGate {
+    ghost use Rattle.header_words.specs.Steps.{Gives};
+
+    ghost then = { Gives };
 }

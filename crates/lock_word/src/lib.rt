@@ -6,6 +6,7 @@
 
 ghost use Rattle.std.specs.Prelude.{◌≡◌, ◌<◌, ◌^◌, ◌↔◌, ℕ, IfSome, IsNone, Some};
 ghost use Rattle.lock_word.specs.declared.Lock.{Lock};
+ghost use Rattle.lock_word.specs.Names.{hex_digit};
 ghost use Rattle.lock_word.specs.Layout.{word_of, lock_of, low_of, with_lock, Fits, IsMalformed};
 
 #[cfg(test)]
@@ -13,7 +14,7 @@ mod tests;
 
 use std::alloc::{AllocError, AllocFailed};
 use std::error::Error;
-use std::fmt;
+use std::{fmt, str};
 
 /// A thread, by the number that the virtual machine gave it.
 #[derive(Clone, Copy, PartialEq, Eq, PartialOrd, Ord, Hash, Debug)]
@@ -28,8 +29,37 @@ pub struct ObjectId(pub u32);
 pub struct Word(pub u32);
 
 impl fmt::Display for Word {
+    ghost use Rattle.std.specs.Prelude.{Some};
+    ghost use Rattle.lock_word.specs.Names.{word_text};
+
+    ghost output = { λ word. Some (word_text word.0) };
+
     fn fmt<W: fmt::Write>(&self, f: &mut fmt::Formatter<W>) -> fmt::Result {
-        write!(f, "{:08X}", self.0)
+        let bits = self.0;
+        let digits = [
+            hex_digit(bits / 0x1000_0000),
+            hex_digit(bits / 0x100_0000 % 16),
+            hex_digit(bits / 0x10_0000 % 16),
+            hex_digit(bits / 0x1_0000 % 16),
+            hex_digit(bits / 0x1000 % 16),
+            hex_digit(bits / 0x100 % 16),
+            hex_digit(bits / 0x10 % 16),
+            hex_digit(bits % 16),
+        ];
+        f.write_str(str::from_utf8(&digits).map_err(|_| fmt::Error)?)
+    }
+}
+
+/// An upper-case hexadecimal digit, in ASCII.
+fn hex_digit(digit: u32) -> u8
+    requires { digit < 16 }
+    ensures { result ≡ hex_digit digit }
+{
+    let digit = digit as u8;
+    if digit < 10 {
+        b'0' + digit
+    } else {
+        b'A' + (digit - 10)
     }
 }
 
@@ -135,14 +165,10 @@ pub fn with_lock(word: Word, lock: Lock) -> Word
 /// is the one word of its lock and low byte; and another lock leaves the low byte as it is.
 #[tactic(auto, using(crate::proofs::Words::read_back, crate::proofs::Words::one_spelling, crate::proofs::Words::low_kept))]
 pub fn layout_is_one_to_one()
-    ensures read_back {
-        (l : Lock) (low : ℕ) → Fits l → low < 256
+    ensures read_back { (l : Lock) (low : ℕ) → Fits l → low < 256
         → (lock_of (word_of l low) ≡ l) × (low_of (word_of l low) ≡ low)
-        × (IsMalformed (word_of l low) → ⊥)
-    }
-    ensures one_spelling {
-        (w : ℕ) → w < 2 ^ 32 → (IsMalformed w → ⊥)
-        → Fits (lock_of w) × (word_of (lock_of w) (low_of w) ≡ w)
-    }
+        × (IsMalformed (word_of l low) → ⊥) }
+    ensures one_spelling { (w : ℕ) → w < 2 ^ 32 → (IsMalformed w → ⊥)
+        → Fits (lock_of w) × (word_of (lock_of w) (low_of w) ≡ w) }
     ensures low_kept { (w : ℕ) (l : Lock) → Fits l → low_of (with_lock w l) ≡ low_of w }
 {}

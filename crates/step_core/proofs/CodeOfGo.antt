@@ -17,14 +17,15 @@ use Rattle.step_core.specs.declared.places.Place.{Place}
 use Rattle.step_core.specs.declared.places.Place.TheVariants.{InCall, Ending, AtPost}
 use Rattle.step_core.specs.declared.places.Stage.{Stage}
 use Rattle.step_core.specs.declared.places.Stage.TheVariants.{Begun, Taking, Storing, Binding, Acting, Won, Bound, Inflated, Direct}
-use Rattle.step_core.specs.WorldState.{WorldState, IsSound, Fitting, FittingStage, place_at}
-use Rattle.step_core.specs.Going.{After, gone, after_stage}
-use Rattle.step_core.specs.Parts.{bare, IsReady}
-use Rattle.step_core.specs.Stepping.{Outcome, accepted, looked, ended, went, went_at}
-use Rattle.step_core.proofs.Frames.{stands_at, within, out_at}
-use Rattle.step_core.proofs.Runs.{storing}
-use Rattle.step_core.proofs.Keeps.{store_fits, number_fits}
-use Rattle.step_core.proofs.StepRuns.{step_sound}
+use Rattle.step_core.specs.World.{WorldState, place_at}
+use Rattle.step_core.specs.Sound.{IsSound, Fitting, FittingStage}
+use Rattle.step_core.specs.Ready.{bare, IsReady}
+use Rattle.step_core.specs.Go.{AfterGo, with_go, after_stage}
+use Rattle.step_core.specs.Step.{AfterStep, accept, after_look, after_end, after_go, after_go_at}
+use Rattle.step_core.proofs.Facts.OneThread.{stands_at, within, out_at}
+use Rattle.step_core.proofs.Runs.StageRuns.{storing}
+use Rattle.step_core.proofs.Sound.Stages.{store_fits, number_fits}
+use Rattle.step_core.proofs.Sound.AllSteps.{step_sound}
 
 -- the seat of a thread whose index is known
 pub seat_of_index : (seats : List (Option ThreadId)) (t : ThreadId) (i : ℕ) → Some i ≡ index_of seats t → seat_of seats t ≡ Some (i - 1)
@@ -65,24 +66,24 @@ module _ (w : WorldState) (sound : IsSound w) (k : ℕ) (t : ThreadId) (seat : s
   is_out p e free = out_at w sound k t seat p e free
 
   -- what the code of a Go answers and leaves is what a Go does at the thread's place
-  pub go_answer : (room : Bool) (p : Place) → place_at w k ≡ p → went_at room w k t p ≡ went room w t (seat_of w.seats t)
+  pub go_answer : (room : Bool) (p : Place) → place_at w k ≡ p → after_go_at room w k t p ≡ after_go room w t (seat_of w.seats t)
   go_answer room p e = sym (rw (seat, e) refl)
 
   -- so the world is sound then
-  pub go_sound : (room : Bool) (p : Place) → place_at w k ≡ p → (o : Outcome) → o ≡ went_at room w k t p → IsSound o.after
-  go_sound room p e o same = subst (λ (x : Outcome). IsSound x.after) (sym (same ∙ go_answer room p e)) (step_sound w sound room (step.Go t))
+  pub go_sound : (room : Bool) (p : Place) → place_at w k ≡ p → (o : AfterStep) → o ≡ after_go_at room w k t p → IsSound o.after
+  go_sound room p e o same = subst (λ (x : AfterStep). IsSound x.after) (sym (same ∙ go_answer room p e)) (step_sound w sound room (step.Go t))
 
 -- what the code of a stage, of a load and of an end gives is what a Go does there
-pub went_stage : (w : WorldState) (k : ℕ) (t : ThreadId) (room : Bool) (s : Stage) (a : After) → a ≡ after_stage room (bare w.words w.fats) k t s
-    → accepted (gone w k a) a.did ≡ went_at room w k t (InCall s)
-went_stage w k t room s a e = ap (λ (x : After). accepted (gone w k x) x.did) e
+pub went_stage : (w : WorldState) (k : ℕ) (t : ThreadId) (room : Bool) (s : Stage) (a : AfterGo) → a ≡ after_stage room (bare w.words w.fats) k t s
+    → accept (with_go w k a) a.did ≡ after_go_at room w k t (InCall s)
+went_stage w k t room s a e = ap (λ (x : AfterGo). accept (with_go w k x) x.did) e
 
-pub look_at : (room : Bool) (w : WorldState) (k : ℕ) (t : ThreadId) (n : ℕ) → n < length w.words → (a : After) → a ≡ looked (bare w.words w.fats) k t n
-    → accepted (gone w k a) a.did ≡ went_at room w k t (Ending n)
-look_at room w k t n more a e = ap (λ (x : After). accepted (gone w k x) x.did) e ∙ sym (rw (lt-ltb n (length w.words) more) refl)
+pub look_at : (room : Bool) (w : WorldState) (k : ℕ) (t : ThreadId) (n : ℕ) → n < length w.words → (a : AfterGo) → a ≡ after_look (bare w.words w.fats) k t n
+    → accept (with_go w k a) a.did ≡ after_go_at room w k t (Ending n)
+look_at room w k t n more a e = ap (λ (x : AfterGo). accept (with_go w k x) x.did) e ∙ sym (rw (lt-ltb n (length w.words) more) refl)
 
 pub end_at : (room : Bool) (w : WorldState) (k : ℕ) (t : ThreadId) (n : ℕ) → length w.words ≤ n
-    → ended w k t (acted w.fats t action.End).answer (acted w.fats t action.End).after ≡ went_at room w k t (Ending n)
+    → after_end w k t (acted w.fats t action.End).answer (acted w.fats t action.End).after ≡ after_go_at room w k t (Ending n)
 end_at room w k t n all = sym (rw (le-ltb n (length w.words) all) refl)
 
 -- where a seat is free, fewer threads are live than there are seats

@@ -16,7 +16,7 @@ use Rattle.step_core.specs.declared.steps.Atomic.{Atomic}
 use Rattle.step_core.specs.declared.steps.Atomic.TheVariants.{Label, Load, Won, Lost, Stored, Bound, NotBound, Acted}
 use Rattle.step_core.specs.declared.steps.Step.{Step}
 use Rattle.step_core.specs.declared.steps.Step.TheVariants as step
-use Rattle.step_core.specs.WorldState.{WorldState, word_at, lock_at}
+use Rattle.step_core.specs.World.{WorldState, word_at, lock_at}
 
 -- the words and the fat state stay
 abbrev pub Same : WorldState → WorldState → Type 0

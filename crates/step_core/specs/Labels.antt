@@ -1,5 +1,6 @@
 -- The labels of a run: what a user of the machine sees of it.
-use Rattle.step_core.specs.WorldState.{WorldState}
+use Rattle.step_core.specs.World.{WorldState}
+use Rattle.step_core.specs.Step.{moves_made, step_of}
 use Rattle.step_core.specs.declared.steps.Fault.{Fault}
 use Rattle.std.specs.Prelude.{◌≡◌, Bool, true, false, List, [], ◌∷◌, ◌++◌, filter, Option, Some, None, Result, Ok, Err}
 use Rattle.lock_word.specs.declared.ThreadId.{ThreadId}
@@ -9,7 +10,6 @@ use Rattle.step_core.specs.declared.machine.Move.TheVariants.{Attach, Call, Retu
 use Rattle.step_core.specs.declared.steps.Did.{Did}
 use Rattle.step_core.specs.declared.steps.Step.{Step}
 use Rattle.step_core.specs.declared.steps.Step.TheVariants as step
-use Rattle.step_core.specs.Stepping.{given, step_of}
 
 abbrev pub is_label : Move → Bool
 is_label (Attach t) = true
@@ -28,11 +28,11 @@ EndsWith t ms (Some r) = (inner : List Move) × (ms ≡ inner ++ Return t r ∷ 
 
 -- What an accepted step did has just the labels of that step.
 abbrev pub HasLabels : Step → Did → Type 0
-HasLabels (step.Attach t) d = (given d.moves ≡ Attach t ∷ []) × (d.reply ≡ None)
-HasLabels (step.Begin t c) d = (given d.moves ≡ Call t c ∷ []) × (d.reply ≡ None)
-HasLabels (step.Go t) d = EndsWith t (given d.moves) d.reply
-HasLabels (step.Expire t) d = EndsWith t (given d.moves) None × (d.reply ≡ None)
-HasLabels (step.Tick now) d = (given d.moves ≡ Time now ∷ []) × (d.reply ≡ None)
+HasLabels (step.Attach t) d = (moves_made d.moves ≡ Attach t ∷ []) × (d.reply ≡ None)
+HasLabels (step.Begin t c) d = (moves_made d.moves ≡ Call t c ∷ []) × (d.reply ≡ None)
+HasLabels (step.Go t) d = EndsWith t (moves_made d.moves) d.reply
+HasLabels (step.Expire t) d = EndsWith t (moves_made d.moves) None × (d.reply ≡ None)
+HasLabels (step.Tick now) d = (moves_made d.moves ≡ Time now ∷ []) × (d.reply ≡ None)
 
 -- the return with a reply, if there is one
 abbrev pub returned_with : ThreadId → Option Reply → List Move

@@ -12,8 +12,8 @@ use Rattle.step_core.specs.declared.steps.Did.{Did}
 use Rattle.step_core.specs.declared.steps.Step.{Step}
 use Rattle.step_core.specs.declared.steps.Step.TheVariants as step
 use Rattle.step_core.specs.Machine.{State, Is, reply_of}
-use Rattle.step_core.specs.WorldState.{WorldState}
-use Rattle.step_core.specs.Stepping.{step_of}
+use Rattle.step_core.specs.World.{WorldState}
+use Rattle.step_core.specs.Step.{step_of}
 
 -- u is back from the wait set of o, with n holds, for this reason
 abbrev pub IsBack : State → ThreadId → ObjectId → ℕ → Why → Type 0

@@ -18,7 +18,7 @@ use Rattle.step_core.specs.declared.machine.Doing.TheVariants.{Idle, Wants, Wait
 use Rattle.step_core.specs.declared.machine.Move.{Move}
 use Rattle.step_core.specs.declared.machine.Move.TheVariants as move
 
--- a live thread: whether it is interrupted (JLS 17.2.3), and what it is doing
+-- a live thread: whether it is with_interrupt (JLS 17.2.3), and what it is doing
 pub record Thread : Type 0 where
   pub flag : Bool
   pub act : Doing
@@ -75,8 +75,8 @@ abbrev pub Calls : State → ThreadId → Bool → Call → Type 0
 Calls s t flag c = Is s t flag (Wants c)
 
 -- the same state, but t has this reply
-abbrev pub answered : State → ThreadId → Bool → Reply → State
-answered s t flag r = now_is s t flag (Has r)
+abbrev pub with_reply : State → ThreadId → Bool → Reply → State
+with_reply s t flag r = now_is s t flag (Has r)
 
 abbrev pub yes_or_no : Bool → Reply
 yes_or_no true = reply.Yes
@@ -105,28 +105,28 @@ abbrev pub NobodyWaits : State → ObjectId → Type 0
 NobodyWaits s o = (u : ThreadId) (flag : Bool) (n : ℕ) (d : Option ℕ) → Is s u flag (Waits o n d) → ⊥
 
 -- what a thread does once all have been taken out of the wait set of o: it comes back, if it was there
-abbrev pub woken : ObjectId → Doing → Doing
-woken o (Waits p n d) = if p.0 == o.0 then Back p n why.Notified else Waits p n d
-woken o Idle = Idle
-woken o (Wants c) = Wants c
-woken o (Back p n w) = Back p n w
-woken o (Has r) = Has r
+abbrev pub after_notify_all : ObjectId → Doing → Doing
+after_notify_all o (Waits p n d) = if p.0 == o.0 then Back p n why.Notified else Waits p n d
+after_notify_all o Idle = Idle
+after_notify_all o (Wants c) = Wants c
+after_notify_all o (Back p n w) = Back p n w
+after_notify_all o (Has r) = Has r
 
 -- every member of the wait set of o leaves it
-abbrev pub all_woken : State → ObjectId → State
-all_woken s o = record s { thread = λ u. option_map (λ x. record { flag = x.flag; act = woken o x.act }) (s.thread u) }
+abbrev pub all_notified : State → ObjectId → State
+all_notified s o = record s { thread = λ u. option_map (λ x. record { flag = x.flag; act = after_notify_all o x.act }) (s.thread u) }
 
--- what a thread does once it has been interrupted: it comes back, if it waited
-abbrev pub stirred : Doing → Doing
-stirred (Waits o n d) = Back o n why.Interrupted
-stirred Idle = Idle
-stirred (Wants c) = Wants c
-stirred (Back o n w) = Back o n w
-stirred (Has r) = Has r
+-- what a thread does once it has been with_interrupt: it comes back, if it waited
+abbrev pub after_interrupt : Doing → Doing
+after_interrupt (Waits o n d) = Back o n why.Interrupted
+after_interrupt Idle = Idle
+after_interrupt (Wants c) = Wants c
+after_interrupt (Back o n w) = Back o n w
+after_interrupt (Has r) = Has r
 
--- the same thread, interrupted
-abbrev pub interrupted : Thread → Thread
-interrupted x = record { flag = true; act = stirred x.act }
+-- the same thread, with_interrupt
+abbrev pub with_interrupt : Thread → Thread
+with_interrupt x = record { flag = true; act = after_interrupt x.act }
 
 -- what a thread that comes back replies, and its flag then: an interrupt that ended its wait is forgotten
 abbrev pub reply_of : Why → Reply
@@ -151,6 +151,13 @@ owner_only c = None
 abbrev pub Exists : ℕ → Call → Type 0
 Exists n c = MatchOption (object_of c) (Unit {0}) (λ o. o.0 < n)
 
+-- the object that an act names, if it names one, exists
+abbrev pub ActExists : ℕ → Doing → Type 0
+ActExists n (Wants c) = Exists n c
+ActExists n (Waits o holds d) = o.0 < n
+ActExists n (Back o holds w) = o.0 < n
+ActExists n d = Unit {0}
+
 -- t may be refused for this cause
 abbrev pub MayRefuse : State → ThreadId → Call → Cause → Type 0
 MayRefuse s t (call.Enter o) NoMonitor = OwnedBy s o t
@@ -163,7 +170,7 @@ MayRefuse s t (call.IsInterrupted u) NoThread = s.thread u ≡ None
 MayRefuse s t call.End StillOwner = (o : ObjectId) × OwnedBy s o t
 MayRefuse s t c cause = ⊥
 
--- this is the answer to the question that t asks: does it own the object, or is that thread interrupted?
+-- this is the answer to the question that t asks: does it own the object, or is that thread with_interrupt?
 abbrev pub IsAnswer : State → ThreadId → Call → Bool → Type 0
 IsAnswer s t (call.Holds o) answer = (answer ≡ true) ↔ OwnedBy s o t
 IsAnswer s t (call.IsInterrupted u) answer = (x : Thread) × (s.thread u ≡ Some x) × (answer ≡ x.flag)
@@ -178,48 +185,48 @@ Steps s (move.Return t r) s' = (flag : Bool) × Is s t flag (Has r) × (s' ≡ n
 Steps s (move.Lock t) s' =
     (flag : Bool) × (o : ObjectId) × Calls s t flag (call.Enter o)
     × (Unowned s o ⊎ OwnedBy s o t) × ((s.monitor o).count < 65535)
-    × (s' ≡ with_monitor (answered s t flag reply.Entered) o (held t ((s.monitor o).count + 1)))
+    × (s' ≡ with_monitor (with_reply s t flag reply.Entered) o (held t ((s.monitor o).count + 1)))
 Steps s (move.Unlock t) s' =
     (flag : Bool) × (o : ObjectId) × (n : ℕ) × Calls s t flag (call.Exit o) × (s.monitor o ≡ held t (n + 1))
-    × (s' ≡ with_monitor (answered s t flag reply.Exited) o (if n == 0 then free else held t n))
+    × (s' ≡ with_monitor (with_reply s t flag reply.Exited) o (if n == 0 then free else held t n))
 Steps s (move.Illegal t) s' =
     (flag : Bool) × (c : Call) × (o : ObjectId) × Calls s t flag c × (owner_only c ≡ Some o) × (OwnedBy s o t → ⊥)
-    × (s' ≡ answered s t flag reply.IllegalMonitorState)
+    × (s' ≡ with_reply s t flag reply.IllegalMonitorState)
 Steps s (move.BadArgument t) s' =
     (flag : Bool) × (o : ObjectId) × (millis nanos : ℤ) × Calls s t flag (call.Wait o millis nanos) × OwnedBy s o t × (AreGood millis nanos → ⊥)
-    × (s' ≡ answered s t flag reply.IllegalArgument)
+    × (s' ≡ with_reply s t flag reply.IllegalArgument)
 Steps s (move.Early t) s' =
     (o : ObjectId) × (millis nanos : ℤ) × Calls s t true (call.Wait o millis nanos) × OwnedBy s o t × AreGood millis nanos
-    × (s' ≡ answered s t false reply.Interrupted)
+    × (s' ≡ with_reply s t false reply.Interrupted)
 Steps s (move.Wait t) s' =
     (o : ObjectId) × (millis nanos : ℤ) × Calls s t false (call.Wait o millis nanos) × OwnedBy s o t × AreGood millis nanos
     × (s' ≡ with_monitor (now_is s t false (Waits o (s.monitor o).count (over_at s.moment millis nanos))) o free)
 Steps s (move.Notify t (Some u)) s' =
     (flag : Bool) × (o : ObjectId) × Calls s t flag (call.Notify o) × OwnedBy s o t
     × (other : Bool) × (n : ℕ) × (d : Option ℕ) × Is s u other (Waits o n d)
-    × (s' ≡ now_is (answered s t flag reply.Notified) u other (Back o n why.Notified))
+    × (s' ≡ now_is (with_reply s t flag reply.Notified) u other (Back o n why.Notified))
 Steps s (move.Notify t None) s' =
     (flag : Bool) × (o : ObjectId) × Calls s t flag (call.Notify o) × OwnedBy s o t × NobodyWaits s o
-    × (s' ≡ answered s t flag reply.Notified)
+    × (s' ≡ with_reply s t flag reply.Notified)
 Steps s (move.NotifyAll t) s' =
     (flag : Bool) × (o : ObjectId) × Calls s t flag (call.NotifyAll o) × OwnedBy s o t
-    × (s' ≡ answered (all_woken s o) t flag reply.Notified)
+    × (s' ≡ with_reply (all_notified s o) t flag reply.Notified)
 Steps s (move.Interrupt t) s' =
     (flag : Bool) × (u : ThreadId) × (x : Thread) × Calls s t flag (call.Interrupt u) × (s.thread u ≡ Some x)
-    × (s' ≡ answered (with_thread s u (Some (interrupted x))) t (if t.0 == u.0 then true else flag) reply.Done)
-Steps s (move.TestClear t) s' = (flag : Bool) × Calls s t flag call.Interrupted × (s' ≡ answered s t false (yes_or_no flag))
+    × (s' ≡ with_reply (with_thread s u (Some (with_interrupt x))) t (if t.0 == u.0 then true else flag) reply.Done)
+Steps s (move.TestClear t) s' = (flag : Bool) × Calls s t flag call.Interrupted × (s' ≡ with_reply s t false (yes_or_no flag))
 Steps s (move.Expire t) s' =
     (flag : Bool) × (o : ObjectId) × (n d : ℕ) × Is s t flag (Waits o n (Some d)) × (d ≤ s.moment)
     × (s' ≡ now_is s t flag (Back o n why.Elapsed))
 Steps s (move.Relock t) s' =
     (flag : Bool) × (o : ObjectId) × (n : ℕ) × (w : Why) × Is s t flag (Back o n w) × Unowned s o
-    × (s' ≡ with_monitor (answered s t (flag_back w flag) (reply_of w)) o (held t n))
+    × (s' ≡ with_monitor (with_reply s t (flag_back w flag) (reply_of w)) o (held t n))
 Steps s (move.Ask t) s' =
-    (flag answer : Bool) × (c : Call) × Calls s t flag c × IsAnswer s t c answer × (s' ≡ answered s t flag (yes_or_no answer))
+    (flag answer : Bool) × (c : Call) × Calls s t flag c × IsAnswer s t c answer × (s' ≡ with_reply s t flag (yes_or_no answer))
 Steps s (move.Refuse t cause) s' =
-    (flag : Bool) × (c : Call) × Calls s t flag c × MayRefuse s t c cause × (s' ≡ answered s t flag (reply.Refused cause))
+    (flag : Bool) × (c : Call) × Calls s t flag c × MayRefuse s t c cause × (s' ≡ with_reply s t flag (reply.Refused cause))
 Steps s (move.Time now) s' = (s.moment ≤ now) × (s' ≡ record s { moment = now })
-Steps s (move.End t) s' = (flag : Bool) × Calls s t flag call.End × ((o : ObjectId) → OwnedBy s o t → ⊥) × (s' ≡ answered s t flag reply.Ended)
+Steps s (move.End t) s' = (flag : Bool) × Calls s t flag call.End × ((o : ObjectId) → OwnedBy s o t → ⊥) × (s' ≡ with_reply s t flag reply.Ended)
 
 -- one move after another
 abbrev pub Run : State → List Move → State → Type 0

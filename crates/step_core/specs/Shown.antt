@@ -17,7 +17,7 @@ use Rattle.step_core.specs.declared.places.Place.TheVariants.{Idle, InCall, Endi
 use Rattle.step_core.specs.declared.places.Stage.{Stage}
 use Rattle.step_core.specs.declared.places.Stage.TheVariants.{Begun, Taking, Storing, Binding, Acting, Won, Bound, Inflated, Direct}
 use Rattle.step_core.specs.Machine.{State, Thread, Monitor, free}
-use Rattle.step_core.specs.WorldState.{WorldState, place_at, lock_at}
+use Rattle.step_core.specs.World.{WorldState, place_at, lock_at}
 
 -- What a thread at this stage of a call is doing: a contended enter that has won has its reply.
 abbrev pub doing_in : Stage → Doing

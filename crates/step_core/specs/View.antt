@@ -1,6 +1,6 @@
 -- A world as contracts see it.
 use Rattle.step_core.specs.declared.worlds.World.TheInside.{Inside}
-use Rattle.step_core.specs.WorldState.{WorldState}
+use Rattle.step_core.specs.World.{WorldState}
 
 abbrev pub world_in : Inside → WorldState
 world_in a = record { words = a.words.items; seats = a.indices; places = a.places.items; fats = a.fats }

@@ -1,13 +1,14 @@
 //! The steps that are no Go: a thread is attached or begins a call, a wait expires, the moment is told.
 
-ghost use Rattle.std.specs.Prelude.{◌≡◌, ◌≤◌, List, length, Bool, Option, IsSome, is_some, count_by};
+ghost use Rattle.std.specs.Prelude.{◌≡◌, ◌≤◌, List, length, Bool, true, Option, IsSome, is_some, count_by};
 ghost use Rattle.lock_word.specs.declared.ThreadId.{ThreadId};
 ghost use Rattle.lock_word.specs.declared.Word.{Word};
-ghost use Rattle.thread_index.specs.Indices.{seat_of, free_seat};
+ghost use Rattle.thread_index.specs.Indices.{seat_of};
 ghost use Rattle.fat_monitor.specs.FatState.{FatState, IsAttached, thread_count};
 ghost use Rattle.fast_path.specs.Calls.{subject_of};
-ghost use Rattle.step_core.specs.Stepping.{attached, begun, first_place, expired, ticked};
-ghost use Rattle.step_core.specs.Parts.{world_of};
+ghost use Rattle.step_core.specs.Ready.{world_of};
+ghost use Rattle.step_core.specs.Step.{first_place, step_of};
+ghost use Rattle.step_core.specs.declared.steps.Step.TheVariants as step;
 ghost use Rattle.step_core.specs.declared.places.Place.{Place};
 
 use crate::steps::grant_of;
@@ -28,7 +29,10 @@ pub(crate) fn attach(
     requires live { IsAttached fats.old thread → IsSome (seat_of indices.old thread) }
     requires counted { thread_count fats.old ≡ count_by is_some indices.old }
     requires few { length indices.old ≤ 32767 }
-    ensures { (words : List Word) → (room : Bool) × (record { answer = result; after = world_of words indices.new places.new.items fats.new } ≡ attached room (world_of words indices.old places.old.items fats.old) thread (seat_of indices.old thread) (free_seat indices.old)) }
+    ensures { (words : List Word) → (room : Bool)
+        × (record { answer = result; after = world_of words indices.new places.new.items fats.new }
+        ≡ step_of room (world_of words indices.old places.old.items fats.old)
+        (step.Attach thread)) }
 {
     let index = match indices.take(thread) {
         Ok(index) => index,
@@ -45,7 +49,7 @@ pub(crate) fn attach(
         }
     }
     places[index as usize - 1] = Place::Idle;
-    Ok(Did::moved(Atomic::Label, Move::Attach { thread }))
+    Ok(Did::one_move(Atomic::Label, Move::Attach { thread }))
 }
 
 /// Begins a call of a thread that is in none.
@@ -57,7 +61,10 @@ pub(crate) fn begin(
     call: Call,
 ) -> Result<Did, Fault>
     requires { length places.old.items ≡ length indices.now }
-    ensures { (fats : FatState) → record { answer = result; after = world_of words.now indices.now places.new.items fats } ≡ begun (world_of words.now indices.now places.old.items fats) thread call (seat_of indices.now thread) }
+    ensures { (fats : FatState)
+        → record { answer = result; after = world_of words.now indices.now places.new.items fats }
+        ≡ step_of true (world_of words.now indices.now places.old.items fats)
+        (step.Begin thread call) }
 {
     let Some(index) = indices.index_of(thread) else {
         return Err(Fault::NoThread);
@@ -71,7 +78,7 @@ pub(crate) fn begin(
         return Err(Fault::InCall);
     };
     places[seat] = first_place(call.subject());
-    Ok(Did::moved(Atomic::Label, Move::Call { thread, call }))
+    Ok(Did::one_move(Atomic::Label, Move::Call { thread, call }))
 }
 
 /// Where a call begins.
@@ -91,7 +98,9 @@ fn first_place(subject: Subject) -> Place
 /// Ends the wait of a thread whose deadline has come.
 pub(crate) fn expire(indices: &Indices, fats: &mut Fats, thread: ThreadId) -> Result<Did, Fault>
     requires { IsSome (seat_of indices.now thread) → IsAttached fats.old thread }
-    ensures { (words : List Word) → (places : List Place) → record { answer = result; after = world_of words indices.now places fats.new } ≡ expired (world_of words indices.now places fats.old) thread (seat_of indices.now thread) }
+    ensures { (words : List Word) → (places : List Place)
+        → record { answer = result; after = world_of words indices.now places fats.new }
+        ≡ step_of true (world_of words indices.now places fats.old) (step.Expire thread) }
 {
     if indices.index_of(thread).is_none() {
         return Err(Fault::NoThread);
@@ -111,10 +120,12 @@ pub(crate) fn expire(indices: &Indices, fats: &mut Fats, thread: ThreadId) -> Re
 
 /// Tells the moment.
 pub(crate) fn tick(fats: &mut Fats, now: u64) -> Result<Did, Fault>
-    ensures { (words : List Word) → (seats : List (Option ThreadId)) → (places : List Place) → record { answer = result; after = world_of words seats places fats.new } ≡ ticked (world_of words seats places fats.old) now }
+    ensures { (words : List Word) → (seats : List (Option ThreadId)) → (places : List Place)
+        → record { answer = result; after = world_of words seats places fats.new }
+        ≡ step_of true (world_of words seats places fats.old) (step.Tick now) }
 {
     match fats.tick(now) {
-        Ok(()) => Ok(Did::moved(Atomic::Label, Move::Time { now })),
+        Ok(()) => Ok(Did::one_move(Atomic::Label, Move::Time { now })),
         Err(_) => Err(Fault::Backwards),
     }
 }

@@ -8,9 +8,10 @@ ghost use Rattle.fat_monitor.specs.declared.actions.Action.TheVariants as action
 ghost use Rattle.fat_monitor.specs.declared.actions.Post.TheVariants.{Out};
 ghost use Rattle.fat_monitor.specs.FatState.{FatState, IsAttached, post_of};
 ghost use Rattle.fat_monitor.specs.Acting.{acted};
-ghost use Rattle.step_core.specs.WorldState.{IsSound};
-ghost use Rattle.step_core.specs.Stepping.{went, ended, gathered};
-ghost use Rattle.step_core.specs.Parts.{world_of};
+ghost use Rattle.step_core.specs.Sound.{IsSound};
+ghost use Rattle.step_core.specs.Ready.{world_of};
+ghost use Rattle.step_core.specs.declared.steps.Step.TheVariants as step;
+ghost use Rattle.step_core.specs.Step.{step_of, after_end, after_collect};
 
 use crate::stages::{go_from, look};
 use crate::steps::move_for;
@@ -30,11 +31,9 @@ pub(crate) fn go(
 ) -> Result<Did, Fault>
     requires { IsSound (world_of words.old indices.old places.old fats.old) }
     ensures sound { IsSound (world_of words.new indices.new places.new fats.new) }
-    ensures exact {
-        (room : Bool)
+    ensures exact { (room : Bool)
         × (record { answer = result; after = world_of words.new indices.new places.new fats.new }
-        ≡ went room (world_of words.old indices.old places.old fats.old) thread (seat_of indices.old thread))
-    }
+        ≡ step_of room (world_of words.old indices.old places.old fats.old) (step.Go thread)) }
 {
     let Some(index) = indices.index_of(thread) else {
         return Err(Fault::NoThread);
@@ -66,12 +65,10 @@ fn collect(
 ) -> Result<Did, Fault>
     requires seated { seat < length places.old }
     requires attached { IsAttached fats.old thread }
-    ensures {
-        (words : List Word) (seats : List (Option ThreadId))
+    ensures { (words : List Word) (seats : List (Option ThreadId))
         → record { answer = result; after = world_of words seats places.new fats.new }
-        ≡ gathered (world_of words seats places.old fats.old) seat thread
-        (acted fats.old thread action.Collect).answer (acted fats.old thread action.Collect).after
-    }
+        ≡ after_collect (world_of words seats places.old fats.old) seat thread
+        (acted fats.old thread action.Collect).answer (acted fats.old thread action.Collect).after }
 {
     let action = Action::Collect;
     let Ok(Done { answer, .. }) = fats.act(thread, action) else {
@@ -81,7 +78,7 @@ fn collect(
         unreachable!();
     };
     places[seat] = Place::Idle;
-    Ok(Did::returned(Atomic::Acted { action, answer }, thread, reply))
+    Ok(Did::return_alone(Atomic::Acted { action, answer }, thread, reply))
 }
 
 /// Ends a thread that owns no object thinly: unless it owns a fat monitor, it is live no longer, and its
@@ -96,12 +93,10 @@ fn end(
     requires seated { seat < length places.old }
     requires here { seat_of indices.old thread ≡ Some seat }
     requires out { post_of fats.old thread ≡ Some Out }
-    ensures {
-        (words : List Word)
+    ensures { (words : List Word)
         → record { answer = Ok result; after = world_of words indices.new places.new fats.new }
-        ≡ ended (world_of words indices.old places.old fats.old) seat thread
-        (acted fats.old thread action.End).answer (acted fats.old thread action.End).after
-    }
+        ≡ after_end (world_of words indices.old places.old fats.old) seat thread
+        (acted fats.old thread action.End).answer (acted fats.old thread action.End).after }
 {
     places[seat] = Place::Idle;
     let action = Action::End;
@@ -115,5 +110,5 @@ fn end(
         let _ = indices.give(thread);
     }
     let made = move_for(Call::End, reply, None, thread);
-    Did::replied(Atomic::Acted { action, answer }, made, thread, reply)
+    Did::move_and_return(Atomic::Acted { action, answer }, made, thread, reply)
 }

@@ -16,49 +16,69 @@ ghost use Rattle.step_core.specs.declared.machine.Doing.TheVariants as doing;
 ghost use Rattle.step_core.specs.declared.machine.Move.{Move};
 ghost use Rattle.step_core.specs.declared.machine.Move.TheVariants as move;
 ghost use Rattle.step_core.specs.Machine.{State, Run, Steps, Calls, opening, Is};
-ghost use Rattle.step_core.specs.WorldState.{opened};
-ghost use Rattle.step_core.specs.Stepping.{moves_after, world_after};
 ghost use Rattle.step_core.specs.Shown.{shown};
+ghost use Rattle.step_core.specs.Step.{moves_after, world_after};
 ghost use Rattle.step_core.specs.Labels.{labels_of, labels_after};
-ghost use Rattle.step_core.specs.Laws.{AreWithinLimits, reached};
-ghost use Rattle.step_core.specs.Patience.{goes_of, AllLinger};
-ghost use Rattle.step_core.specs.Kept.{Keeps};
+ghost use Rattle.step_core.specs.Patient.{goes_of, AllLinger};
 ghost use Rattle.step_core.specs.Lasting.{IsBack, IsNotified, HasReply, NeverReturns};
+ghost use Rattle.step_core.specs.Kept.{Keeps};
+ghost use Rattle.step_core.specs.Laws.{OfEveryList};
 
 /// The moves that the steps hand out are a run of the abstract machine, from its opening state to the
 /// state that the world shows then; and the labels of the run are exactly those of the accepted steps.
-#[tactic(auto, using(crate::proofs::Reaching::reached_run, crate::proofs::Reaching::reached_labels))]
+#[tactic(auto, using(crate::proofs::Lists::Reached::reached_run, crate::proofs::Lists::Reached::reached_labels))]
 pub fn every_list_of_steps_is_a_run()
-    ensures run { (lows : List ℕ) (monitors indices : ℕ) (steps : List (Step × Bool)) → AreWithinLimits lows monitors indices → Run (opening (length lows)) (moves_after (opened lows monitors indices) steps) (shown (reached lows monitors indices steps)) }
-    ensures labels { (lows : List ℕ) (monitors indices : ℕ) (steps : List (Step × Bool)) → AreWithinLimits lows monitors indices → labels_of (moves_after (opened lows monitors indices) steps) ≡ labels_after (opened lows monitors indices) steps }
+    ensures run { OfEveryList (λ lows w steps v. Run (opening (length lows)) (moves_after w steps) (shown v)) }
+    ensures labels { OfEveryList (λ lows w steps v. labels_of (moves_after w steps) ≡ labels_after w steps) }
 {}
 
 /// Live threads have distinct indices; the objects, and bits 7 to 0 of each word, are those of the opening.
-#[tactic(auto, using(crate::proofs::Reaching::reached_distinct))]
+#[tactic(auto, using(crate::proofs::Lists::Reached::reached_distinct))]
 pub fn every_list_of_steps_keeps_the_world()
-    ensures distinct { (lows : List ℕ) (monitors indices : ℕ) (steps : List (Step × Bool)) → AreWithinLimits lows monitors indices → IsOneToOne (reached lows monitors indices steps).seats }
-    ensures kept { (lows : List ℕ) (monitors indices : ℕ) (steps : List (Step × Bool)) → AreWithinLimits lows monitors indices → Keeps (opened lows monitors indices) (reached lows monitors indices steps) }
+    ensures distinct { OfEveryList (λ lows w steps v. IsOneToOne v.seats) }
+    ensures kept { OfEveryList (λ lows w steps v. Keeps w v) }
 {}
 
 /// A call replies, parks or meets another thread within four Go steps of its thread: where it does none of
 /// that over more steps, its thread makes fewer than four accepted Go steps of them. An end takes one for
 /// each object, and one more.
-#[tactic(auto, using(crate::proofs::Reaching::reached_four, crate::proofs::Reaching::reached_all))]
+#[tactic(auto, using(crate::proofs::Lists::Reached::reached_four, crate::proofs::Lists::Reached::reached_all))]
 pub fn every_call_is_patient()
-    ensures within_four { (lows : List ℕ) (monitors indices : ℕ) (steps : List (Step × Bool)) → AreWithinLimits lows monitors indices → (t : ThreadId) (flag : Bool) (act : Doing) (more : List (Step × Bool)) → Is (shown (reached lows monitors indices steps)) t flag act → (act ≡ doing.Idle → ⊥) → (act ≡ doing.Wants call.End → ⊥) → AllLinger (reached lows monitors indices steps) t more → goes_of t more < 4 }
-    ensures within_all { (lows : List ℕ) (monitors indices : ℕ) (steps : List (Step × Bool)) → AreWithinLimits lows monitors indices → (t : ThreadId) (flag : Bool) (more : List (Step × Bool)) → Is (shown (reached lows monitors indices steps)) t flag (doing.Wants call.End) → AllLinger (reached lows monitors indices steps) t more → goes_of t more < length lows + 1 }
+    ensures within_four { OfEveryList (λ lows w steps v.
+        (t : ThreadId) (flag : Bool) (act : Doing) (more : List (Step × Bool))
+        → Is (shown v) t flag act → (act ≡ doing.Idle → ⊥) → (act ≡ doing.Wants call.End → ⊥)
+        → AllLinger v t more → goes_of t more < 4) }
+    ensures within_all { OfEveryList (λ lows w steps v.
+        (t : ThreadId) (flag : Bool) (more : List (Step × Bool))
+        → Is (shown v) t flag (doing.Wants call.End)
+        → AllLinger v t more → goes_of t more < length lows + 1) }
 {}
 
 /// A thread that was notified stays so, whatever steps come, until its call has the reply that its wait is
 /// over, and so does one whose time was over; one that an interrupt took out of the wait set stays so until its
 /// call has the reply Interrupted; and a reply, however it was given, is kept until the thread's own Go returns
 /// with it.
-#[tactic(auto, using(crate::proofs::Reaching::reached_notified, crate::proofs::Reaching::reached_interrupted, crate::proofs::Reaching::reached_elapsed, crate::proofs::Reaching::reached_kept))]
+#[tactic(auto, using(crate::proofs::Lists::Reached::reached_notified, crate::proofs::Lists::Reached::reached_interrupted, crate::proofs::Lists::Reached::reached_elapsed, crate::proofs::Lists::Reached::reached_kept))]
 pub fn no_notification_is_lost()
-    ensures notified { (lows : List ℕ) (monitors indices : ℕ) (steps : List (Step × Bool)) → AreWithinLimits lows monitors indices → (u : ThreadId) (o : ObjectId) (n : ℕ) (more : List (Step × Bool)) → IsNotified (shown (reached lows monitors indices steps)) u o n → NeverReturns (reached lows monitors indices steps) u WaitOver more → IsNotified (shown (world_after (reached lows monitors indices steps) more)) u o n ⊎ HasReply (shown (world_after (reached lows monitors indices steps) more)) u WaitOver }
-    ensures interrupted { (lows : List ℕ) (monitors indices : ℕ) (steps : List (Step × Bool)) → AreWithinLimits lows monitors indices → (u : ThreadId) (o : ObjectId) (n : ℕ) (more : List (Step × Bool)) → IsBack (shown (reached lows monitors indices steps)) u o n Interrupted → NeverReturns (reached lows monitors indices steps) u Throws more → IsBack (shown (world_after (reached lows monitors indices steps) more)) u o n Interrupted ⊎ HasReply (shown (world_after (reached lows monitors indices steps) more)) u Throws }
-    ensures elapsed { (lows : List ℕ) (monitors indices : ℕ) (steps : List (Step × Bool)) → AreWithinLimits lows monitors indices → (u : ThreadId) (o : ObjectId) (n : ℕ) (more : List (Step × Bool)) → IsBack (shown (reached lows monitors indices steps)) u o n Elapsed → NeverReturns (reached lows monitors indices steps) u WaitOver more → IsBack (shown (world_after (reached lows monitors indices steps) more)) u o n Elapsed ⊎ HasReply (shown (world_after (reached lows monitors indices steps) more)) u WaitOver }
-    ensures kept { (lows : List ℕ) (monitors indices : ℕ) (steps : List (Step × Bool)) → AreWithinLimits lows monitors indices → (u : ThreadId) (r : Reply) (more : List (Step × Bool)) → HasReply (shown (reached lows monitors indices steps)) u r → NeverReturns (reached lows monitors indices steps) u r more → HasReply (shown (world_after (reached lows monitors indices steps) more)) u r }
+    ensures notified { OfEveryList (λ lows w steps v.
+        (u : ThreadId) (o : ObjectId) (n : ℕ) (more : List (Step × Bool))
+        → IsNotified (shown v) u o n → NeverReturns v u WaitOver more
+        → IsNotified (shown (world_after v more)) u o n
+        ⊎ HasReply (shown (world_after v more)) u WaitOver) }
+    ensures interrupted { OfEveryList (λ lows w steps v.
+        (u : ThreadId) (o : ObjectId) (n : ℕ) (more : List (Step × Bool))
+        → IsBack (shown v) u o n Interrupted → NeverReturns v u Throws more
+        → IsBack (shown (world_after v more)) u o n Interrupted
+        ⊎ HasReply (shown (world_after v more)) u Throws) }
+    ensures elapsed { OfEveryList (λ lows w steps v.
+        (u : ThreadId) (o : ObjectId) (n : ℕ) (more : List (Step × Bool))
+        → IsBack (shown v) u o n Elapsed → NeverReturns v u WaitOver more
+        → IsBack (shown (world_after v more)) u o n Elapsed
+        ⊎ HasReply (shown (world_after v more)) u WaitOver) }
+    ensures kept { OfEveryList (λ lows w steps v.
+        (u : ThreadId) (r : Reply) (more : List (Step × Bool))
+        → HasReply (shown v) u r → NeverReturns v u r more
+        → HasReply (shown (world_after v more)) u r) }
 {}
 
 /// A waiter that is both notified and interrupted (JLS SE 8, 17.2.4), move by move of the abstract machine.
@@ -66,14 +86,30 @@ pub fn no_notification_is_lost()
 /// the set, if there is one, and the wait throws, when the interrupt is forgotten. Where the notification
 /// comes first, the wait returns normally, with the interrupt pending. It never returns normally with its
 /// interrupt forgotten.
-#[tactic(auto, using(crate::proofs::Waiters::first_interrupted, crate::proofs::Waiters::not_chosen, crate::proofs::Waiters::another, crate::proofs::Waiters::thrown, crate::proofs::Waiters::first_notified, crate::proofs::Waiters::pending, crate::proofs::Waiters::returned, crate::proofs::Waiters::never_lost))]
+#[tactic(auto, using(crate::proofs::Lists::Waiters::first_interrupted, crate::proofs::Lists::Waiters::not_chosen, crate::proofs::Lists::Waiters::another, crate::proofs::Lists::Waiters::thrown, crate::proofs::Lists::Waiters::first_notified, crate::proofs::Lists::Waiters::pending, crate::proofs::Lists::Waiters::returned, crate::proofs::Lists::Waiters::never_lost))]
 pub fn a_waiter_throws_or_keeps_its_interrupt()
-    ensures first_interrupted { (s s' : State) (t u : ThreadId) (mine theirs : Bool) (o : ObjectId) (n : ℕ) (d : Option ℕ) → Calls s t mine (call.Interrupt u) → Is s u theirs (doing.Waits o n d) → Steps s (move.Interrupt t) s' → Is s' u true (doing.Back o n Interrupted) }
-    ensures not_chosen { (s s' : State) (t u v : ThreadId) (flag : Bool) (o : ObjectId) (n : ℕ) (w : Why) → Is s u flag (doing.Back o n w) → Steps s (move.Notify t (Some v)) s' → v.0 ≡ u.0 → ⊥ }
-    ensures another { (s s' : State) (t v : ThreadId) (f g : Bool) (o : ObjectId) (n : ℕ) (d : Option ℕ) → Calls s t f (call.Notify o) → Is s v g (doing.Waits o n d) → Steps s (move.Notify t None) s' → ⊥ }
-    ensures thrown { (s s' : State) (m : Move) (u : ThreadId) (flag : Bool) (o : ObjectId) (n : ℕ) → Steps s m s' → Is s u flag (doing.Back o n Interrupted) → IsBack s' u o n Interrupted ⊎ Is s' u false (doing.Has Throws) }
-    ensures first_notified { (s s' : State) (t u : ThreadId) (mine theirs : Bool) (o : ObjectId) (n : ℕ) → Calls s t mine (call.Interrupt u) → Is s u theirs (doing.Back o n Notified) → Steps s (move.Interrupt t) s' → Is s' u true (doing.Back o n Notified) }
-    ensures pending { (s s' : State) (m : Move) (u : ThreadId) (o : ObjectId) (n : ℕ) → Steps s m s' → Is s u true (doing.Back o n Notified) → Is s' u true (doing.Back o n Notified) ⊎ Is s' u true (doing.Has WaitOver) }
-    ensures returned { (s s' : State) (m : Move) (u : ThreadId) → Steps s m s' → Is s u true (doing.Has WaitOver) → Is s' u true (doing.Has WaitOver) ⊎ Is s' u true doing.Idle }
-    ensures never { (s s' : State) (m : Move) (u : ThreadId) (o : ObjectId) (n : ℕ) (w : Why) → Steps s m s' → Is s u true (doing.Back o n w) → Is s' u false (doing.Has WaitOver) → ⊥ }
+    ensures first_interrupted { (s s' : State) (t u : ThreadId) (mine theirs : Bool) (o : ObjectId) (n : ℕ) (d : Option ℕ)
+        → Calls s t mine (call.Interrupt u) → Is s u theirs (doing.Waits o n d)
+        → Steps s (move.Interrupt t) s' → Is s' u true (doing.Back o n Interrupted) }
+    ensures not_chosen { (s s' : State) (t u v : ThreadId) (flag : Bool) (o : ObjectId) (n : ℕ) (w : Why)
+        → Is s u flag (doing.Back o n w) → Steps s (move.Notify t (Some v)) s' → v.0 ≡ u.0
+        → ⊥ }
+    ensures another { (s s' : State) (t v : ThreadId) (f g : Bool) (o : ObjectId) (n : ℕ) (d : Option ℕ)
+        → Calls s t f (call.Notify o) → Is s v g (doing.Waits o n d)
+        → Steps s (move.Notify t None) s' → ⊥ }
+    ensures thrown { (s s' : State) (m : Move) (u : ThreadId) (flag : Bool) (o : ObjectId) (n : ℕ)
+        → Steps s m s' → Is s u flag (doing.Back o n Interrupted)
+        → IsBack s' u o n Interrupted ⊎ Is s' u false (doing.Has Throws) }
+    ensures first_notified { (s s' : State) (t u : ThreadId) (mine theirs : Bool) (o : ObjectId) (n : ℕ)
+        → Calls s t mine (call.Interrupt u) → Is s u theirs (doing.Back o n Notified)
+        → Steps s (move.Interrupt t) s' → Is s' u true (doing.Back o n Notified) }
+    ensures pending { (s s' : State) (m : Move) (u : ThreadId) (o : ObjectId) (n : ℕ) → Steps s m s'
+        → Is s u true (doing.Back o n Notified)
+        → Is s' u true (doing.Back o n Notified) ⊎ Is s' u true (doing.Has WaitOver) }
+    ensures returned { (s s' : State) (m : Move) (u : ThreadId) → Steps s m s'
+        → Is s u true (doing.Has WaitOver)
+        → Is s' u true (doing.Has WaitOver) ⊎ Is s' u true doing.Idle }
+    ensures never { (s s' : State) (m : Move) (u : ThreadId) (o : ObjectId) (n : ℕ) (w : Why)
+        → Steps s m s' → Is s u true (doing.Back o n w)
+        → Is s' u false (doing.Has WaitOver) → ⊥ }
 {}

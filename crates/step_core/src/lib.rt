@@ -5,6 +5,32 @@
 //! or store of one header word, or one action on the fat monitors; to attach a thread, to begin a call,
 //! to let a timed wait expire and to tell the moment are steps too. Each step hands out the moves of the
 //! abstract machine of `docs/MACHINE.md` (JLS SE 8, 17.1 and 17.2) that it made.
+//!
+//! A caller attaches a thread once, begins its calls one after another, and does the Go steps of each:
+//!
+//! ```text
+//! use step_core::{Answer, Atomic, Call, Fault, Reply, Step, ThreadId, World};
+//!
+//! /// Begins a call, and lets the thread go. None: it is parked, or another thread owns the object.
+//! fn turn(world: &mut World, thread: ThreadId, call: Call) -> Result<Option<Reply>, Fault> {
+//!     world.step(Step::Begin { thread, call })?;
+//!     // A call replies, parks or meets another thread within four Go steps; an End may take more.
+//!     for _ in 0..4 {
+//!         let did = world.step(Step::Go { thread })?;
+//!         if did.reply.is_some() {
+//!             return Ok(did.reply);
+//!         }
+//!         if let Atomic::Acted { answer: Answer::Parked, .. } = did.atomic {
+//!             // No Go until a move Lock or Relock of this thread, made by another's step.
+//!             return Ok(None);
+//!         }
+//!     }
+//!     Ok(None)
+//! }
+//! ```
+//!
+//! The crate `embedding` is a whole program, and `docs/EMBEDDING.md` has the loop of a runtime, the
+//! faults and causes, costs and limits.
 #![tactic(auto)]
 
 mod control;
@@ -18,10 +44,14 @@ mod steps;
 mod tests;
 mod worlds;
 
+// What a caller of a world names beside it, so that it needs no other crate of the service.
+pub use fast_path::{Call, InterruptCall, MonitorCall, Operation};
+pub use fat_monitor::{Action, Answer, Cause, Reply, Why};
 pub use laws::{
     a_waiter_throws_or_keeps_its_interrupt, every_call_is_patient, every_list_of_steps_is_a_run,
     every_list_of_steps_keeps_the_world, no_notification_is_lost,
 };
+pub use lock_word::{Lock, Memory, ObjectId, ThreadId, Word, decode};
 pub use machine::{Doing, Move};
 pub use places::{Place, Stage};
 pub use steps::{Atomic, Did, Fault, Step};

@@ -23,17 +23,34 @@ pub enum Place {
 pub enum Stage {
     /// At the load of its object's word. A contended call has met another thread, by a thin word of
     /// that thread's or by an exchange that it lost.
-    Begun { call: MonitorCall, contended: bool },
+    Begun {
+        call: MonitorCall,
+        contended: bool,
+    },
     /// An enter loaded the free word, which it is to exchange for its own.
-    Taking { object: ObjectId, contended: bool },
+    Taking {
+        object: ObjectId,
+        contended: bool,
+    },
     /// It loaded a thin word of its own, which it is to store with this lock.
-    Storing { call: MonitorCall, lock: Lock },
+    Storing {
+        call: MonitorCall,
+        lock: Lock,
+    },
     /// It loaded a thin word of its own with this count, and is to bind a fat monitor.
-    Binding { call: MonitorCall, count: u8 },
+    Binding {
+        call: MonitorCall,
+        count: u8,
+    },
     /// It loaded a fat word, and is to act on its monitor.
-    Acting { call: MonitorCall, monitor: u32 },
+    Acting {
+        call: MonitorCall,
+        monitor: u32,
+    },
     /// A contended enter won the word, and is to bind a fat monitor.
-    Won { object: ObjectId },
+    Won {
+        object: ObjectId,
+    },
     /// It bound the monitor, and is to store the fat word; `won` says of an enter that it has won the
     /// word after contention.
     Bound {
@@ -42,7 +59,12 @@ pub enum Stage {
         monitor: u32,
     },
     /// It stored the fat word, and is to act on the monitor.
-    Inflated { call: MonitorCall, monitor: u32 },
+    Inflated {
+        call: MonitorCall,
+        monitor: u32,
+    },
     /// Its call is about interrupts, and is to act.
-    Direct { call: InterruptCall },
+    Direct {
+        call: InterruptCall,
+    },
 }

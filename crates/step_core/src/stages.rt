@@ -8,10 +8,10 @@ ghost use Rattle.fat_monitor.specs.FatState.{FatState, IsAttached, post_of};
 ghost use Rattle.fat_monitor.specs.Acting.{NamesBound};
 ghost use Rattle.fat_monitor.specs.declared.actions.Action.TheVariants.{End};
 ghost use Rattle.fast_path.specs.Table.{next_of};
-ghost use Rattle.step_core.specs.WorldState.{lock_at, is_own};
-ghost use Rattle.step_core.specs.Going.{after_load, after_take, after_store, after_bind, after_publish, after_act, after_stage, action_on, action_about, bind_cause, entering, stored_reply};
-ghost use Rattle.step_core.specs.Stepping.{looked};
-ghost use Rattle.step_core.specs.Parts.{bare, AreFormed, IsReady, IsOwnAction};
+ghost use Rattle.step_core.specs.World.{lock_at, is_own};
+ghost use Rattle.step_core.specs.Ready.{bare, AreFormed, IsReady, IsOwnAction};
+ghost use Rattle.step_core.specs.Go.{after_load, after_take, after_store, after_bind, after_publish, after_act, after_stage, action_on, action_about, bind_cause, entering, stored_reply};
+ghost use Rattle.step_core.specs.Step.{after_look};
 
 use crate::steps::{grant_of, move_for};
 use crate::{Atomic, Did, Move, Place, Stage};
@@ -33,11 +33,9 @@ pub(crate) fn go_from(
     requires out { post_of fats.old thread ≡ Some Out }
     requires low { 1 ≤ me }
     requires high { me ≤ 32767 }
-    ensures {
-        (room : Bool)
+    ensures { (room : Bool)
         × (record { words = words.new; fats = fats.new; place = result.0; did = result.1 }
-        ≡ after_stage room (bare words.old fats.old) (me - 1) thread stage)
-    }
+        ≡ after_stage room (bare words.old fats.old) (me - 1) thread stage) }
 {
     match stage {
         Stage::Begun { call, contended } => load(words, me, thread, call, contended),
@@ -82,12 +80,10 @@ fn load(
 ) -> (Place, Did)
     requires within { call.object.0 < length words.now }
     requires formed { AreFormed words.now }
-    ensures {
-        (f : FatState)
+    ensures { (f : FatState)
         → record { words = words.now; fats = f; place = result.0; did = result.1 }
         ≡ after_load (bare words.now f) thread call contended
-        (next_of call.operation (lock_at (bare words.now f) call.object.0) me)
-    }
+        (next_of call.operation (lock_at (bare words.now f) call.object.0) me) }
 {
     let object = call.object;
     let word = words[object.0 as usize];
@@ -96,7 +92,10 @@ fn load(
     let stage = match call.operation.next(lock, me) {
         Next::Reply(reply) => {
             let made = move_for(call.call(), reply, None, thread);
-            return (Place::Idle, Did::replied(atomic, made, thread, reply));
+            return (
+                Place::Idle,
+                Did::move_and_return(atomic, made, thread, reply),
+            );
         }
         Next::Cas(_) => Stage::Taking { object, contended },
         Next::Store(lock) => Stage::Storing { call, lock },
@@ -110,7 +109,7 @@ fn load(
             contended: true,
         },
     };
-    (Place::InCall(stage), Did::silent(atomic))
+    (Place::InCall(stage), Did::no_move(atomic))
 }
 
 /// Exchanges the free word for the thread's own, if it is still free.
@@ -125,11 +124,10 @@ fn take(
     requires formed { AreFormed words.old }
     requires low { 1 ≤ me }
     requires high { me ≤ 32767 }
-    ensures {
-        (f : FatState)
+    ensures { (f : FatState)
         → record { words = words.new; fats = f; place = result.0; did = result.1 }
-        ≡ after_take (bare words.old f) (me - 1) thread object contended (lock_at (bare words.old f) object.0)
-    }
+        ≡ after_take (bare words.old f) (me - 1) thread object contended
+        (lock_at (bare words.old f) object.0) }
 {
     let at = object.0 as usize;
     let old = words[at];
@@ -139,7 +137,7 @@ fn take(
         let atomic = Atomic::Lost { object, word: old };
         return (
             Place::InCall(Stage::Begun { call, contended }),
-            Did::silent(atomic),
+            Did::no_move(atomic),
         );
     };
     let mine = Lock::Thin {
@@ -153,12 +151,12 @@ fn take(
     if contended {
         return (
             Place::InCall(Stage::Won { object }),
-            Did::moved(atomic, made),
+            Did::one_move(atomic, made),
         );
     }
     (
         Place::Idle,
-        Did::replied(atomic, made, thread, Reply::Entered),
+        Did::move_and_return(atomic, made, thread, Reply::Entered),
     )
 }
 
@@ -166,11 +164,9 @@ fn take(
 fn store(words: &mut [Word], thread: ThreadId, call: MonitorCall, lock: Lock) -> (Place, Did)
     requires within { call.object.0 < length words.old }
     requires fits { Fits lock }
-    ensures {
-        (f : FatState)
+    ensures { (f : FatState)
         → record { words = words.new; fats = f; place = result.0; did = result.1 }
-        ≡ after_store (bare words.old f) thread call lock
-    }
+        ≡ after_store (bare words.old f) thread call lock }
 {
     let object = call.object;
     let at = object.0 as usize;
@@ -180,7 +176,10 @@ fn store(words: &mut [Word], thread: ThreadId, call: MonitorCall, lock: Lock) ->
     let reply = stored_reply(call.operation);
     let made = move_for(call.call(), reply, None, thread);
     let atomic = Atomic::Stored { object, old, new };
-    (Place::Idle, Did::replied(atomic, made, thread, reply))
+    (
+        Place::Idle,
+        Did::move_and_return(atomic, made, thread, reply),
+    )
 }
 
 /// What a call replies when its free or thin word is stored: only an enter and an exit store one.
@@ -195,22 +194,14 @@ fn stored_reply(operation: Operation) -> Reply
 
 /// Binds a fat monitor to the call's object, which the thread holds this often. Where none can be had,
 /// an enter that has won already drops the inflation, and any other call is refused.
-fn bind(
-    fats: &mut Fats,
-    thread: ThreadId,
-    call: MonitorCall,
-    won: bool,
-    holds: u16,
-) -> (Place, Did)
+fn bind(fats: &mut Fats, thread: ThreadId, call: MonitorCall, won: bool, holds: u16) -> (Place, Did)
     requires attached { IsAttached fats.old thread }
     requires low { 1 ≤ holds }
     requires high { holds ≤ 256 }
-    ensures {
-        (ws : List Word)
+    ensures { (ws : List Word)
         → (room : Bool)
         × (record { words = ws; fats = fats.new; place = result.0; did = result.1 }
-        ≡ after_bind (bare ws fats.old) thread call won holds (bind_cause room fats.old))
-    }
+        ≡ after_bind (bare ws fats.old) thread call won holds (bind_cause room fats.old)) }
 {
     let object = call.object;
     let cause = match fats.bind(object, thread, holds) {
@@ -219,19 +210,22 @@ fn bind(
             let stage = Stage::Bound { call, won, monitor };
             return (
                 Place::InCall(stage),
-                Did::silent(Atomic::Bound { object, monitor }),
+                Did::no_move(Atomic::Bound { object, monitor }),
             );
         }
         Err(cause) => cause,
     };
     let atomic = Atomic::NotBound { object, cause };
     if won {
-        return (Place::Idle, Did::returned(atomic, thread, Reply::Entered));
+        return (
+            Place::Idle,
+            Did::return_alone(atomic, thread, Reply::Entered),
+        );
     }
     let made = Move::Refuse { thread, cause };
     (
         Place::Idle,
-        Did::replied(atomic, made, thread, Reply::Refused(cause)),
+        Did::move_and_return(atomic, made, thread, Reply::Refused(cause)),
     )
 }
 
@@ -245,11 +239,9 @@ fn publish(
 ) -> (Place, Did)
     requires within { call.object.0 < length words.old }
     requires fits { monitor ≤ 8388607 }
-    ensures {
-        (f : FatState)
+    ensures { (f : FatState)
         → record { words = words.new; fats = f; place = result.0; did = result.1 }
-        ≡ after_publish (bare words.old f) thread call won monitor
-    }
+        ≡ after_publish (bare words.old f) thread call won monitor }
 {
     let object = call.object;
     let at = object.0 as usize;
@@ -258,11 +250,14 @@ fn publish(
     words[at] = new;
     let atomic = Atomic::Stored { object, old, new };
     if won {
-        return (Place::Idle, Did::returned(atomic, thread, Reply::Entered));
+        return (
+            Place::Idle,
+            Did::return_alone(atomic, thread, Reply::Entered),
+        );
     }
     (
         Place::InCall(Stage::Inflated { call, monitor }),
-        Did::silent(atomic),
+        Did::no_move(atomic),
     )
 }
 
@@ -271,11 +266,9 @@ fn act(fats: &mut Fats, thread: ThreadId, call: Call, action: Action) -> (Place,
     requires out { post_of fats.old thread ≡ Some Out }
     requires bound { NamesBound fats.old action }
     requires own { IsOwnAction action }
-    ensures {
-        (ws : List Word)
+    ensures { (ws : List Word)
         → record { words = ws; fats = fats.new; place = result.0; did = result.1 }
-        ≡ after_act (bare ws fats.old) thread call action
-    }
+        ≡ after_act (bare ws fats.old) thread call action }
 {
     let Ok(done) = fats.act(thread, action) else {
         unreachable!();
@@ -286,11 +279,11 @@ fn act(fats: &mut Fats, thread: ThreadId, call: Call, action: Action) -> (Place,
     match answer {
         Answer::Reply(reply) => {
             let made = move_for(call, reply, done.chosen, thread);
-            let did = Did::granted_and_replied(atomic, made, granted, thread, reply);
+            let did = Did::move_grant_and_return(atomic, made, granted, thread, reply);
             (Place::Idle, did)
         }
-        Answer::Parked => (Place::AtPost, Did::parked_by(call, atomic, thread, granted)),
-        Answer::Quiet => (Place::AtPost, Did::silent(atomic)),
+        Answer::Parked => (Place::AtPost, Did::parking(call, atomic, thread, granted)),
+        Answer::Quiet => (Place::AtPost, Did::no_move(atomic)),
     }
 }
 
@@ -329,11 +322,9 @@ pub(crate) fn look(words: &[Word], me: u16, thread: ThreadId, loaded: u32) -> (P
     requires formed { AreFormed words.now }
     requires low { 1 ≤ me }
     requires few { length words.now ≤ 65535 }
-    ensures {
-        (f : FatState)
+    ensures { (f : FatState)
         → record { words = words.now; fats = f; place = result.0; did = result.1 }
-        ≡ looked (bare words.now f) (me - 1) thread loaded
-    }
+        ≡ after_look (bare words.now f) (me - 1) thread loaded }
 {
     let object = ObjectId(loaded);
     let word = words[loaded as usize];
@@ -343,11 +334,11 @@ pub(crate) fn look(words: &[Word], me: u16, thread: ThreadId, loaded: u32) -> (P
         let made = Move::Refuse { thread, cause };
         return (
             Place::Idle,
-            Did::replied(atomic, made, thread, Reply::Refused(cause)),
+            Did::move_and_return(atomic, made, thread, Reply::Refused(cause)),
         );
     }
     let loaded = loaded + 1;
-    (Place::Ending { loaded }, Did::silent(atomic))
+    (Place::Ending { loaded }, Did::no_move(atomic))
 }
 
 /// Whether a lock is a thin one of the thread with this index.

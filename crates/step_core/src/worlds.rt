@@ -1,19 +1,22 @@
 //! The world, and its steps.
 
-ghost use Rattle.std.specs.Prelude.{◌≡◌, ◌+◌, ◌<◌, ◌≤◌, length, Bool, Option, IfOk, IfErr, OnOk, OnErr, Some, None};
+ghost use Rattle.std.specs.Prelude.{◌≡◌, ◌+◌, ◌<◌, ◌≤◌, length, Bool, true, Option, IfOk, IfErr, IfSome, OnOk, OnErr, Some, None};
 ghost use Rattle.std.specs.Option.{option_map};
 ghost use Rattle.fat_monitor.specs.FatState.{monitor_at, StandBehindOwners};
-ghost use Rattle.thread_index.specs.Indices.{seat_of, free_seat, index_of, holder_of};
-ghost use Rattle.step_core.specs.Machine.{Run, opening, Thread, is_waiting};
-ghost use Rattle.step_core.specs.WorldState.{IsSound, opened, word_at};
-ghost use Rattle.step_core.specs.Stepping.{attached, begun, went, expired, ticked, step_of, moves_of};
+ghost use Rattle.thread_index.specs.Indices.{index_of, holder_of};
+ghost use Rattle.step_core.specs.Machine.{Run, opening, Thread, ActExists, is_waiting};
+ghost use Rattle.step_core.specs.World.{opening_world, word_at};
 ghost use Rattle.step_core.specs.Shown.{shown, doing_of, doing_in};
+ghost use Rattle.step_core.specs.Sound.{IsSound};
+ghost use Rattle.step_core.specs.declared.steps.Step.TheVariants as step;
+ghost use Rattle.step_core.specs.Step.{step_of, moves_of};
 ghost use Rattle.step_core.specs.Changes.{Changes};
 ghost use Rattle.step_core.specs.Labels.{HasLabels};
-ghost use Rattle.step_core.specs.Refusals.{IsRefused, IsAcceptable, Spares};
-ghost use Rattle.step_core.specs.Patience.{IsPatient};
-ghost use Rattle.step_core.specs.Kept.{Keeps};
+ghost use Rattle.step_core.specs.Refused.{IsRefused, IsAcceptable};
+ghost use Rattle.step_core.specs.Spared.{Spares};
+ghost use Rattle.step_core.specs.Patient.{IsPatient};
 ghost use Rattle.step_core.specs.Lasting.{Lasts};
+ghost use Rattle.step_core.specs.Kept.{Keeps};
 
 use crate::{Did, Doing, Fault, Place, Stage, Step, control, going};
 use fast_path::Call;
@@ -37,13 +40,13 @@ pub struct World {
 impl Model for World {
     ghost use Rattle.std.specs.Coded.{codes};
     ghost use Rattle.std.specs.FinMap as map;
-    ghost use Rattle.step_core.specs.WorldState.{WorldState, IsSound};
+    ghost use Rattle.step_core.specs.World.{WorldState};
+    ghost use Rattle.step_core.specs.View.{world_in};
+    ghost use Rattle.step_core.specs.Sound.{IsSound};
 
     ghost Value = { WorldState };
 
     ghost coded = { Prim.hlevel (codes, map.code) };
-
-    ghost use Rattle.step_core.specs.View.{world_in};
 
     ghost view = { world_in };
 
@@ -59,7 +62,7 @@ impl World {
         requires monitors { monitors ≤ 8388608 }
         requires low { 1 ≤ indices }
         requires high { indices ≤ 32767 }
-        ensures world { IfOk result (λ w. w ≡ opened lows.now monitors indices) }
+        ensures world { IfOk result (λ w. w ≡ opening_world lows.now monitors indices) }
         ensures shows { IfOk result (λ w. shown w ≡ opening (length lows.now)) }
     {
         let mut words = Vec::with_capacity(alloc, lows.len())?;
@@ -82,7 +85,8 @@ impl World {
     /// memory for a fat monitor is accepted, and says so in its atomic step.
     pub fn step(&mut self, step: Step) -> Result<Did, Fault>
         // The answer and the new world are those of the step relation; room is whether memory is granted.
-        ensures exact { (room : Bool) × (record { answer = result; after = self.new } ≡ step_of room self.old step) }
+        ensures exact { (room : Bool) × (record { answer = result; after = self.new }
+            ≡ step_of room self.old step) }
 
         // The atomic step names the one change of the words and the fat monitors.
         ensures changes { IfOk result (λ d. Changes self.old step d.atomic self.new) }
@@ -116,7 +120,8 @@ impl World {
 
     fn advance(&mut self, step: Step) -> Result<Did, Fault>
         ensures was { IsSound self.old }
-        ensures exact { (room : Bool) × (record { answer = result; after = self.new } ≡ step_of room self.old step) }
+        ensures exact { (room : Bool) × (record { answer = result; after = self.new }
+            ≡ step_of room self.old step) }
     {
         match step {
             Step::Attach { thread } => self.attach(thread),
@@ -127,25 +132,28 @@ impl World {
         }
     }
 
-    #[tactic(auto, using(crate::proofs::StepRuns::attach_kept))]
+    #[tactic(auto, using(crate::proofs::Sound::AllSteps::attach_kept))]
     fn attach(&mut self, thread: ThreadId) -> Result<Did, Fault>
         ensures was { IsSound self.old }
-        ensures exact { (room : Bool) × (record { answer = result; after = self.new } ≡ attached room self.old thread (seat_of self.old.seats thread) (free_seat self.old.seats)) }
+        ensures exact { (room : Bool) × (record { answer = result; after = self.new }
+            ≡ step_of room self.old (step.Attach thread)) }
     {
         control::attach(&mut self.indices, &mut self.places, &mut self.fats, thread)
     }
 
-    #[tactic(auto, using(crate::proofs::StepRuns::begin_kept))]
+    #[tactic(auto, using(crate::proofs::Sound::AllSteps::begin_kept))]
     fn begin(&mut self, thread: ThreadId, call: Call) -> Result<Did, Fault>
         ensures was { IsSound self.old }
-        ensures exact { record { answer = result; after = self.new } ≡ begun self.old thread call (seat_of self.old.seats thread) }
+        ensures exact { record { answer = result; after = self.new }
+            ≡ step_of true self.old (step.Begin thread call) }
     {
         control::begin(&self.words, &self.indices, &mut self.places, thread, call)
     }
 
     fn go(&mut self, thread: ThreadId) -> Result<Did, Fault>
         ensures was { IsSound self.old }
-        ensures exact { (room : Bool) × (record { answer = result; after = self.new } ≡ went room self.old thread (seat_of self.old.seats thread)) }
+        ensures exact { (room : Bool) × (record { answer = result; after = self.new }
+            ≡ step_of room self.old (step.Go thread)) }
     {
         going::go(
             &mut self.words,
@@ -158,14 +166,15 @@ impl World {
 
     fn expire(&mut self, thread: ThreadId) -> Result<Did, Fault>
         ensures was { IsSound self.old }
-        ensures exact { record { answer = result; after = self.new } ≡ expired self.old thread (seat_of self.old.seats thread) }
+        ensures exact { record { answer = result; after = self.new }
+            ≡ step_of true self.old (step.Expire thread) }
     {
         control::expire(&self.indices, &mut self.fats, thread)
     }
 
     fn tick(&mut self, now: u64) -> Result<Did, Fault>
         ensures was { IsSound self.old }
-        ensures exact { record { answer = result; after = self.new } ≡ ticked self.old now }
+        ensures exact { record { answer = result; after = self.new } ≡ step_of true self.old (step.Tick now) }
     {
         control::tick(&mut self.fats, now)
     }
@@ -239,7 +248,15 @@ impl World {
 
     /// What a live thread is doing; None where it is not live.
     pub fn doing(&self, thread: ThreadId) -> Option<Doing>
-        ensures { result ≡ option_map (λ (x : Thread). x.act) ((shown self.now).thread thread) }
+        ensures shown { result ≡ option_map (λ (x : Thread). x.act) ((shown self.now).thread thread) }
+        ensures exists { IfSome result (ActExists (length self.now.words)) }
+    {
+        self.act(thread)
+    }
+
+    fn act(&self, thread: ThreadId) -> Option<Doing>
+        ensures was { IsSound self.now }
+        ensures shown { result ≡ option_map (λ (x : Thread). x.act) ((shown self.now).thread thread) }
     {
         let index = self.indices.index_of(thread)?;
         let doing = match self.fats.post(thread) {

@@ -1,7 +1,7 @@
 //! What a step did, built: its atomic step, and the moves that it hands out.
 
 ghost use Rattle.std.specs.Prelude.{◌≡◌};
-ghost use Rattle.step_core.specs.Going.{move_for, silent, moved, replied, returned, grant_of, granted_and_replied, parked_by};
+ghost use Rattle.step_core.specs.Did.{move_for, no_move, one_move, move_and_return, return_alone, grant_of, move_grant_and_return, parking};
 
 use crate::{Atomic, Did, Move};
 use fast_path::Call;
@@ -46,8 +46,8 @@ pub(crate) fn grant_of(fats: &Fats, granted: Option<ThreadId>) -> Option<Move>
 
 impl Did {
     /// No move is made.
-    pub(crate) fn silent(atomic: Atomic) -> Did
-        ensures { result ≡ silent atomic }
+    pub(crate) fn no_move(atomic: Atomic) -> Did
+        ensures { result ≡ no_move atomic }
     {
         Did {
             atomic,
@@ -57,8 +57,8 @@ impl Did {
     }
 
     /// One move is made, and the call goes on.
-    pub(crate) fn moved(atomic: Atomic, made: Move) -> Did
-        ensures { result ≡ moved atomic made }
+    pub(crate) fn one_move(atomic: Atomic, made: Move) -> Did
+        ensures { result ≡ one_move atomic made }
     {
         Did {
             atomic,
@@ -68,8 +68,8 @@ impl Did {
     }
 
     /// The call gets its reply by this move, and returns with it.
-    pub(crate) fn replied(atomic: Atomic, made: Move, thread: ThreadId, reply: Reply) -> Did
-        ensures { result ≡ replied atomic made thread reply }
+    pub(crate) fn move_and_return(atomic: Atomic, made: Move, thread: ThreadId, reply: Reply) -> Did
+        ensures { result ≡ move_and_return atomic made thread reply }
     {
         Did {
             atomic,
@@ -79,8 +79,8 @@ impl Did {
     }
 
     /// The call returns with the reply that it has.
-    pub(crate) fn returned(atomic: Atomic, thread: ThreadId, reply: Reply) -> Did
-        ensures { result ≡ returned atomic thread reply }
+    pub(crate) fn return_alone(atomic: Atomic, thread: ThreadId, reply: Reply) -> Did
+        ensures { result ≡ return_alone atomic thread reply }
     {
         Did {
             atomic,
@@ -90,17 +90,17 @@ impl Did {
     }
 
     /// The call gets its reply, another thread may have become the owner, and the call returns.
-    pub(crate) fn granted_and_replied(
+    pub(crate) fn move_grant_and_return(
         atomic: Atomic,
         made: Move,
         granted: Option<Move>,
         thread: ThreadId,
         reply: Reply,
     ) -> Did
-        ensures { result ≡ granted_and_replied atomic made granted thread reply }
+        ensures { result ≡ move_grant_and_return atomic made granted thread reply }
     {
         let Some(grant) = granted else {
-            return Did::replied(atomic, made, thread, reply);
+            return Did::move_and_return(atomic, made, thread, reply);
         };
         Did {
             atomic,
@@ -114,8 +114,13 @@ impl Did {
     }
 
     /// The call parks: a wait joins the wait set, and another thread may have become the owner.
-    pub(crate) fn parked_by(call: Call, atomic: Atomic, thread: ThreadId, granted: Option<Move>) -> Did
-        ensures { result ≡ parked_by call atomic thread granted }
+    pub(crate) fn parking(
+        call: Call,
+        atomic: Atomic,
+        thread: ThreadId,
+        granted: Option<Move>,
+    ) -> Did
+        ensures { result ≡ parking call atomic thread granted }
     {
         match call {
             Call::Wait { .. } => Did {
@@ -123,7 +128,7 @@ impl Did {
                 moves: [Some(Move::Wait { thread }), granted, None],
                 reply: None,
             },
-            _ => Did::silent(atomic),
+            _ => Did::no_move(atomic),
         }
     }
 }

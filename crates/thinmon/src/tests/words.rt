@@ -1,12 +1,12 @@
-//! The words of the command line.
+//! The words of the command line, behind the program's name.
 
-use crate::orders::{Order, read_words};
+use command_line::{Order, end_for, read_words};
 use std::alloc::{AllocError, Global};
 use std::test::Fail;
 
 fn words_of(alloc: Global, line: &str) -> Result<Vec<String>, AllocError> {
     let mut words = Vec::new(alloc);
-    for word in line.split(' ') {
+    for word in line.split_whitespace() {
         words.push(String::from_str(alloc, word)?)?;
     }
     Ok(words)
@@ -15,10 +15,11 @@ fn words_of(alloc: Global, line: &str) -> Result<Vec<String>, AllocError> {
 #[test]
 fn orders(rt: HostRuntime) -> Result<(), Fail> {
     let rows = [
-        ("thinmon run", None),
-        ("thinmon run x.script", Some("x.script")),
-        ("thinmon run -", Some("-")),
-        ("thinmon run -- --moves", Some("--moves")),
+        ("run", None),
+        ("run x.script", Some("x.script")),
+        ("run -", Some("-")),
+        ("run run", Some("run")),
+        ("run -- --moves", Some("--moves")),
     ];
     for (line, file) in rows {
         let words = words_of(rt.alloc(), line)?;
@@ -33,23 +34,42 @@ fn orders(rt: HostRuntime) -> Result<(), Fail> {
 #[test]
 fn no_orders(rt: HostRuntime) -> Result<(), Fail> {
     let rows = [
-        ("thinmon", 2),
-        ("thinmon walk", 2),
-        ("thinmon run a b", 2),
-        ("thinmon run --moves", 2),
-        ("thinmon --moves run", 2),
-        ("thinmon help", 0),
-        ("thinmon help run", 0),
-        ("thinmon -h", 0),
-        ("thinmon --help", 0),
-        ("thinmon run --help", 0),
-        ("thinmon help walk", 2),
+        ("", 2),
+        ("walk", 2),
+        ("thinmon run", 2),
+        ("run a b", 2),
+        ("run --moves", 2),
+        ("run --version", 2),
+        ("--moves run", 2),
+        ("help walk", 2),
+        ("help", 0),
+        ("help run", 0),
+        ("-h", 0),
+        ("--help", 0),
+        ("run --help", 0),
+        ("--version", 0),
+        ("-V", 0),
     ];
     for (line, status) in rows {
         let words = words_of(rt.alloc(), line)?;
         match read_words(rt.alloc(), &words) {
             Ok(_) => assert!(rt; false, "{line}"),
-            Err(error) => assert_eq!(rt; error.exit_code(), status, "{line}"),
+            Err(error) => assert_eq!(rt; end_for(&error).status(), status, "{line}"),
+        }
+    }
+    Ok(())
+}
+
+#[test]
+fn the_version(rt: HostRuntime) -> Result<(), Fail> {
+    let words = words_of(rt.alloc(), "--version")?;
+    match read_words(rt.alloc(), &words) {
+        Ok(_) => assert!(rt; false),
+        Err(error) => {
+            assert_eq!(rt;
+                format!(in rt.alloc(); "{error}")?.as_str(),
+                "thinmon 0.1.0\n"
+            );
         }
     }
     Ok(())

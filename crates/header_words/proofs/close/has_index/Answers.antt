@@ -20,4 +20,4 @@ missed ps i n p inside is not before k d lt e = go (ℕ_discrete k n)
     go (no ne) = before k d (omega arith) e
 
 pub loop-pass-preserved : goal.loop-pass-preserved
-loop-pass-preserved c = missed c.args.passes.now c.args.index c.loop-pass.pass-index c.pass-item.result c.loop-pass-test.true c.pass-item.is (λ e. c.if-index.false (c.index.ensures.value ∙ e)) c.loop-pass.invariant
+loop-pass-preserved g c = missed c.args.passes.now c.args.index c.loop-pass.pass-index c.pass-item.result c.loop-pass-test.true c.pass-item.is (λ e. c.if-index.false (c.index.ensures.value ∙ e)) c.loop-pass.invariant

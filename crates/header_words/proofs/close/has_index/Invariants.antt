@@ -3,4 +3,4 @@ use Rattle.header_words.specs.Passes.{PassValue}
 use Rattle.header_words.proofs.close.has_index.Given as goal
 
 abbrev pub invariant-loop-pass : goal.invariant-loop-pass
-invariant-loop-pass l = (k : ℕ) (d : ℕ) → k < l.pass-index → get_or (map (λ (p : PassValue). p.index) l.passes) k d ≢ l.index
+invariant-loop-pass g l = (k : ℕ) (d : ℕ) → k < l.pass-index → get_or (map (λ (p : PassValue). p.index) l.passes) k d ≢ l.index

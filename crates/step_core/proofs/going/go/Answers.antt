@@ -1,8 +1,8 @@
 use Rattle.std.proofs.Common.{arith, ◌≡◌, ◌-◌, ◌<◌, ◌≤◌, ◌∙◌, refl, sym, true, Some, Ok, length}
 use Rattle.thread_index.specs.Indices.{seat_of}
 use Rattle.step_core.specs.declared.places.Place.TheVariants.{InCall, Ending, AtPost}
-use Rattle.step_core.specs.WorldState.{WorldState}
-use Rattle.step_core.specs.Parts.{world_of}
+use Rattle.step_core.specs.World.{WorldState}
+use Rattle.step_core.specs.Ready.{world_of}
 use Rattle.step_core.proofs.CodeOfGo.{seat_of_index, is_out, go_answer, go_sound, went_stage, look_at, end_at}
 use Rattle.step_core.proofs.going.go.Goals as goal
 

@@ -1,4 +1,4 @@
-use Rattle.step_core.proofs.Reaching.{reached_notified, reached_interrupted, reached_elapsed}
+use Rattle.step_core.proofs.Lists.Reached.{reached_notified, reached_interrupted, reached_elapsed}
 use Rattle.step_core.proofs.laws.no_notification_is_lost.Goals as goal
 
 pub returns-clause-notified : goal.returns-clause-notified

@@ -3,10 +3,10 @@ use Rattle.header_words.proofs.Closes.{Joining}
 use Rattle.header_words.proofs.headers.Headers.join_all.Given as goal
 
 abbrev pub invariant-loop-pass : goal.invariant-loop-pass
-invariant-loop-pass l = record {
+invariant-loop-pass g l = record {
   place : l.seat.table_id ≡ l.self.table;
   joining : Joining l.fn.passes.items l.passes.items l.seat.me.0;
 }
 
 abbrev pub decreases-loop-pass : goal.decreases-loop-pass
-decreases-loop-pass l = goal.left-loop-pass l
+decreases-loop-pass g l = goal.left-loop-pass g l

@@ -1,36 +1,50 @@
-use Rattle.std.proofs.Common.{rules, length, suc, replicate, ◌≡◌, ℕ, ◌<◌, ◌∷◌, sym, ap, ◌∙◌, subst, refl, arith}
+use Rattle.std.proofs.Common.{rules, length, suc, ◌≡◌, ℕ, List, ◌<◌, ◌∷◌, All, sym, ap, ◌∙◌, subst, refl, arith, add-one}
 use Rattle.std.specs.Prelude.{slice_index}
-use Rattle.std.proofs.Common.{List}
-use Rattle.header_words.specs.Passes.{pass_value, opening_of}
-use Rattle.header_words.proofs.Opens.{opens, cuts, cut_pass, cut_value, left_after, passes_after}
+use Rattle.header_words.specs.Passes.{pass_value, opening_of, IsNewRow}
+use Rattle.header_words.proofs.Opens.{cuts, cut_pass, cut_value, left_after, passes_after, all_last, all_front}
 use Rattle.header_words.proofs.headers.Headers.open.Goals as goal
 
-pub of_words-requires : goal.of_words-requires
-of_words-requires c =
-    let same : c.in_ok-to_vec.field-0.items ≡ c.args.lows.now = c.in_ok-to_vec.ensures.items_if_clones_equal (λ x y e. e) in
-    opens c.in_ok-to_vec.field-0.items c.args.count c.as_slice.result.now (c.as_slice.ensures.value ∙ (c.in_ok-words.ensures ∙ ap (λ (xs : List ℕ). 0 ∷ xs) (sym same)))
-    (subst (λ (xs : List ℕ). (o : ℕ) → slice_index xs o < 256) (sym same) (λ o. let h = c.type_inv.lows o in search rules)) (let few = c.requires.few in omega arith)
+pub new_table-requires-clause-bytes : goal.new_table-requires-clause-bytes
+new_table-requires-clause-bytes g c = subst (λ (xs : List ℕ). (o : ℕ) → slice_index xs o < 256) (sym c.in-Ok.ensures.layout.0) (λ o. let h = c.type_inv.lows o in search rules)
 
 pub split_seat-given-requires : goal.split_seat-given-requires
-split_seat-given-requires c = (
+split_seat-given-requires g c = (
   c.loop-done.invariant.place,
-  (let w = c.in_ok-table.ensures in let e : c.in_ok-table.table.shared.table_id.words ≡ length c.as_slice.result.now = w.0 in let f : length c.as_slice.result.now ≡ suc (length c.args.lows.now) = ap length (c.as_slice.ensures.value ∙ c.in_ok-words.ensures) in omega arith),
-  cuts c.in_ok-table.table.shared.key.lows.items c.in_ok-table.table.shared.key.count c.in_ok-to_vec.field-0.items c.args.count c.loop-done.seat.id c.loop-done.seat.me.0 c.loop-done.done (ap (λ z. z.0) c.loop-done.invariant.view) c.loop-done-test.true,
+  (let e : c.in_ok-table.table.shared.table_id.words ≡ length c.as_slice.result.now = c.in_ok-table.ensures.size.0 in let f : length c.as_slice.result.now ≡ suc (length c.args.lows.now) = ap length (c.as_slice.ensures.value ∙ c.in-Ok.ensures.words) in omega arith),
+  cuts g.B.Kept.bound c.in_ok-table.table.shared.key.lows.items c.in_ok-table.table.shared.key.count c.in-Ok.room.layout.lows.items c.args.count c.loop-done.seat.id c.loop-done.seat.me.0 c.loop-done.done (ap (λ z. z.0) c.loop-done.invariant.view) c.loop-done-test.true,
 )
 
-pub invariant_of-push : goal.invariant_of-push
-invariant_of-push c =
-    let same : c.in_ok-to_vec.field-0.items ≡ c.args.lows.now = c.in_ok-to_vec.ensures.items_if_clones_equal (λ x y e. e) in
-    let copy : c.in_ok-lows.lows.items ≡ c.args.lows.now = c.in_ok-lows.ensures.items_if_clones_equal (λ x y e. e) in
-    cut_pass c.in_ok-to_vec.field-0.items c.args.count c.loop-done.done c.loop-done-test.true c.loop-done.seat.me.0 (ap (λ z. z.0) c.loop-done.invariant.view) c.split_seat-given.result c.split_seat-given.ensures.4
-    c.in_ok-depths.depths.items c.in_ok-lows.lows.items (let few = c.requires.few in omega arith) (c.in_ok-depths.ensures ∙ ap (λ (xs : List ℕ). replicate (length xs) 0) (sym same)) (copy ∙ sym same)
+pub invariant_of-push_reserved : goal.invariant_of-push_reserved
+invariant_of-push_reserved g c =
+    let row = all_last (IsNewRow c.in-Ok.room.layout.lows.items) c.pop.new.self.items _ (subst (λ l. All (IsNewRow c.in-Ok.room.layout.lows.items) l) c.in-Some.ensures.items c.loop-done.invariant.rows) in
+    cut_pass c.in-Ok.room.layout.lows.items c.args.count c.loop-done.done c.loop-done-test.true c.loop-done.seat.me.0 (ap (λ z. z.0) c.loop-done.invariant.view) c.split_seat-given.result c.split_seat-given.ensures.4
+    _ _ (let few = c.requires.few in omega arith) row.0 row.1
 
 pub loop-done-preserved : goal.loop-done-preserved
-loop-done-preserved c = record {
+loop-done-preserved g c = record {
   place = c.split_seat-given.ensures.0 ∙ c.loop-done.invariant.place;
-  view = left_after c.in_ok-to_vec.field-0.items c.args.count c.loop-done.done c.loop-done.seat.me.0 c.split_seat-given.new.seat c.loop-done.seat.me.1 c.loop-done-test.true (ap (λ z. z.0) c.loop-done.invariant.view) (ap (λ z. z.1) c.loop-done.invariant.view) c.split_seat-given.ensures.2;
-  passes = passes_after (opening_of c.in_ok-table.table.shared.table_id (record { lows = c.in_ok-to_vec.field-0; count = c.args.count })) c.loop-done.done c.loop-done.passes.items c.push.new.self.items (pass_value c.split_seat-given.result) c.loop-done.invariant.passes
-      (cut_value c.in_ok-to_vec.field-0.items c.args.count c.loop-done.done c.loop-done-test.true c.loop-done.seat.me.0 (ap (λ z. z.0) c.loop-done.invariant.view) c.split_seat-given.result c.split_seat-given.ensures.4
-      (opening_of c.in_ok-table.table.shared.table_id (record { lows = c.in_ok-to_vec.field-0; count = c.args.count })) (c.split_seat-given.ensures.3 ∙ c.loop-done.invariant.place) refl refl)
-      c.in_ok-push.ensures.items;
+  view = left_after c.in-Ok.room.layout.lows.items c.args.count c.loop-done.done c.loop-done.seat.me.0 c.split_seat-given.new.seat c.loop-done.seat.me.1 c.loop-done-test.true (ap (λ z. z.0) c.loop-done.invariant.view) (ap (λ z. z.1) c.loop-done.invariant.view) c.split_seat-given.ensures.2;
+  passes = passes_after (opening_of c.in_ok-table.table.shared.table_id c.in-Ok.room.layout) c.loop-done.done c.loop-done.passes.items c.push_reserved.new.self.items (pass_value c.split_seat-given.result) c.loop-done.invariant.passes
+      (cut_value c.in-Ok.room.layout.lows.items c.args.count c.loop-done.done c.loop-done-test.true c.loop-done.seat.me.0 (ap (λ z. z.0) c.loop-done.invariant.view) c.split_seat-given.result c.split_seat-given.ensures.4
+      (opening_of c.in_ok-table.table.shared.table_id c.in-Ok.room.layout) (c.split_seat-given.ensures.3 ∙ c.loop-done.invariant.place) refl c.in-Ok.ensures.layout.1)
+      c.push_reserved.ensures.items;
+  rows = all_front (IsNewRow c.in-Ok.room.layout.lows.items) c.pop.new.self.items _ (subst (λ l. All (IsNewRow c.in-Ok.room.layout.lows.items) l) c.in-Some.ensures.items c.loop-done.invariant.rows);
+  left = search rules;
+  filled = search rules;
+  room = search rules;
 }
+
+pub invariant_of-result : goal.invariant_of-result
+invariant_of-result g c =
+    let layout = c.in-Ok.ensures.layout in
+    let some = c.requires.some in
+    let few = c.requires.few in
+    let long : length c.as_slice.result.now ≡ suc (length c.in-Ok.room.layout.lows.items) = ap length (c.as_slice.ensures.value ∙ (c.in-Ok.ensures.words ∙ ap (λ (xs : List ℕ). 0 ∷ xs) (sym layout.0))) in
+    record {
+      key = c.in_ok-table.ensures.key;
+      bytes = subst (λ (xs : List ℕ). (o : ℕ) → slice_index xs o < 256) (sym layout.0) (λ o. let h = c.type_inv.lows o in search rules);
+      some = let same : c.in-Ok.room.layout.count ≡ c.args.count = layout.1 in omega arith;
+      few = let same : c.in-Ok.room.layout.count ≡ c.args.count = layout.1 in omega arith;
+      slots = c.in_ok-table.ensures.size.1;
+      words = c.in_ok-table.ensures.size.0 ∙ (long ∙ sym (add-one (length c.in-Ok.room.layout.lows.items)));
+    }

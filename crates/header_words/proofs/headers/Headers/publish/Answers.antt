@@ -1,4 +1,4 @@
-use Rattle.std.proofs.Common.{◌≡◌, ℕ, ◌+◌, ◌-◌, ◌*◌, ◌/◌, ◌<◌, ◌≤◌, sym, ap, ◌∙◌, subst, refl, arith}
+use Rattle.std.proofs.Common.{◌≡◌, ℕ, ◌+◌, ◌-◌, ◌*◌, ◌/◌, ◌<◌, ◌≤◌, sym, ap, ◌∙◌, subst, refl, inl, arith}
 use Rattle.std.specs.Prelude.{slice_index}
 use Rattle.lock_word.specs.Layout.{word_of}
 use Rattle.lock_word.specs.declared.Lock.TheVariants.{Fat}
@@ -12,7 +12,7 @@ monitor_of : (m low : ℕ) → low < 256 → (2147483648 + m * 256 + low - 21474
 monitor_of m low h = omega arith
 
 pub note_then_store-requires-clause-legal : goal.note_then_store-requires-clause-legal
-note_then_store-requires-clause-legal c =
+note_then_store-requires-clause-legal g c =
     let o : ℕ = c.object.result.0 in
     let byte : slice_index c.args.self.now.lows o < 256 = subst (λ (z : Opening). slice_index z.lows o < 256) c.self.view_is (c.self.invariant.bytes o) in
     let n : ℕ = depth o c.args.pass.now.mine in
@@ -20,10 +20,10 @@ note_then_store-requires-clause-legal c =
     let low = c.holds.ensures.low in
     let is = monitor_of c.monitor-monitor.result (slice_index c.args.self.now.lows o) byte in
     let most = c.monitor-monitor.ensures.high in
-    (n - 1, omega arith, (refl, subst (λ (x : ℕ). x ≤ 8388607) (sym is) most), ap Fat (sym is), refl)
+    (inl c.requires.gate, n - 1, omega arith, (refl, subst (λ (x : ℕ). x ≤ 8388607) (sym is) most), ap Fat (sym is), refl)
 
 pub returns : goal.returns
-returns c =
+returns g c =
     let o : ℕ = c.object.result.0 in
     let byte : slice_index c.args.self.now.lows o < 256 = subst (λ (z : Opening). slice_index z.lows o < 256) c.self.view_is (c.self.invariant.bytes o) in
     let is = monitor_of c.monitor-monitor.result (slice_index c.args.self.now.lows o) byte in

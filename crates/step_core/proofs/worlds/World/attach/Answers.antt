@@ -1,5 +1,5 @@
 use Rattle.step_core.specs.View.{world_in}
-use Rattle.step_core.proofs.StepRuns.{attach_kept}
+use Rattle.step_core.proofs.Sound.AllSteps.{attach_kept}
 use Rattle.step_core.proofs.worlds.World.attach.Goals as goal
 
 pub invariant_of-self : goal.invariant_of-self

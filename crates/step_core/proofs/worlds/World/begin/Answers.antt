@@ -1,5 +1,5 @@
 use Rattle.step_core.specs.View.{world_in}
-use Rattle.step_core.proofs.StepRuns.{begin_kept}
+use Rattle.step_core.proofs.Sound.AllSteps.{begin_kept}
 use Rattle.step_core.proofs.worlds.World.begin.Goals as goal
 
 pub invariant_of-self : goal.invariant_of-self

@@ -1,5 +1,5 @@
 use Rattle.step_core.specs.View.{world_in}
-use Rattle.step_core.proofs.StepRuns.{expire_kept}
+use Rattle.step_core.proofs.Sound.AllSteps.{expire_kept}
 use Rattle.step_core.proofs.worlds.World.expire.Goals as goal
 
 pub invariant_of-self : goal.invariant_of-self

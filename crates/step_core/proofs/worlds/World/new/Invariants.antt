@@ -1,5 +1,5 @@
 use Rattle.std.proofs.Common.{◌≡◌, take, map}
-use Rattle.step_core.specs.WorldState.{low_word}
+use Rattle.step_core.specs.World.{low_word}
 use Rattle.step_core.proofs.worlds.World.new.Given as goal
 
 abbrev pub invariant-loop-low : goal.invariant-loop-low

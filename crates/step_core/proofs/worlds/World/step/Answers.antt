@@ -1,4 +1,4 @@
-use Rattle.step_core.proofs.Outcomes.{tells, if_refused, if_accepted}
+use Rattle.step_core.proofs.Clauses.All.{tells, if_refused, if_accepted}
 use Rattle.step_core.proofs.worlds.World.step.Goals as goal
 
 pub returns-clause-run : goal.returns-clause-run

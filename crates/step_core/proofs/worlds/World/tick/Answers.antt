@@ -1,5 +1,5 @@
 use Rattle.step_core.specs.View.{world_in}
-use Rattle.step_core.proofs.StepRuns.{tick_kept}
+use Rattle.step_core.proofs.Sound.AllSteps.{tick_kept}
 use Rattle.step_core.proofs.worlds.World.tick.Goals as goal
 
 pub invariant_of-self : goal.invariant_of-self

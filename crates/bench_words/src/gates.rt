@@ -1,0 +1,214 @@
+//! What the threads of the benchmark do with the book behind the gate.
+ghost use Rattle.std.specs.Prelude.{◌≡◌, ◌<◌, length, true, false, IsOk};
+ghost use Rattle.header_words.specs.Bindings.{Covers};
+ghost use Rattle.header_words.specs.Passes.{depth_at};
+
+use crate::BenchFault;
+use crate::book::Book;
+use crate::lanes::{Measure, Setup};
+use fat_monitor::Fats;
+use header_words::{Headers, Pass};
+use lock_word::{Memory, ObjectId, ThreadId};
+use std::alloc::Global;
+use std::hint::spin_loop;
+use std::sync::atomic::{AtomicU64, Ordering};
+use std::thread;
+use std::thread::Threads;
+use std::time::{Clock, Instant};
+
+// A taking is given up after so many tries.
+const TRIES: u32 = 1_000_000_000;
+
+const OBJECT: ObjectId = ObjectId(0);
+
+// Inflates the first object, while nobody else uses it or the book.
+fn inflate(headers: &Headers<Book>, pass: &mut Pass<Book>, alloc: Global) -> Result<(), BenchFault>
+    requires belongs { pass.old.opening ≡ headers.now }
+    requires object { 0 < length headers.now.lows }
+    requires free { depth_at pass.old 0 ≡ 0 }
+    requires without { pass.old.has_gate ≡ false }
+    ensures belongs { pass.new.opening ≡ headers.now }
+    ensures without { pass.new.has_gate ≡ false }
+{
+    let owner = ThreadId(u32::from(pass.index()));
+    let mut fats = Fats::new(alloc, 1);
+    let Ok(()) = fats.attach(owner) else {
+        return Err(BenchFault::Memory(Memory));
+    };
+    let Ok(receipt) = fats.bind(OBJECT, owner, 1) else {
+        return Err(BenchFault::Memory(Memory));
+    };
+    if !headers.acquire(pass, OBJECT) {
+        return Err(BenchFault::Taken);
+    }
+    let Some(mut book) = headers.take(pass) else {
+        return Err(BenchFault::Taken);
+    };
+    let next = book.len();
+    let bound = book.bind(OBJECT);
+    if !bound || next != receipt.monitor() as usize {
+        headers.give(pass, book);
+        return Err(BenchFault::Memory(Memory));
+    }
+    headers.publish(pass, &book, receipt);
+    headers.give(pass, book);
+    Ok(())
+}
+
+// Takes the book, counts that, and gives the book back. False: the gate was taken at each try.
+fn hold(headers: &Headers<Book>, pass: &mut Pass<Book>) -> bool
+    requires belongs { pass.old.opening ≡ headers.now }
+    requires without { pass.old.has_gate ≡ false }
+    ensures belongs { pass.new.opening ≡ headers.now }
+    ensures without { pass.new.has_gate ≡ false }
+{
+    for _ in 0..TRIES {
+        if let Some(mut book) = headers.take(pass) {
+            book.count_taking();
+            headers.give(pass, book);
+            return true;
+        }
+        spin_loop();
+    }
+    false
+}
+
+// Takes and gives the book so many times.
+fn hold_often(headers: &Headers<Book>, mut pass: Pass<Book>, rounds: u32) -> Pass<Book>
+    requires belongs { pass.opening ≡ headers.now }
+    requires without { pass.has_gate ≡ false }
+    ensures belongs { result.opening ≡ headers.entry.now }
+    ensures without { result.has_gate ≡ false }
+{
+    for _ in 0..rounds {
+        if !hold(headers, &mut pass) {
+            return pass;
+        }
+    }
+    pass
+}
+
+// Takes and gives the book so many times in each of two threads.
+fn hold_in_two<R: Threads + Sync>(
+    rt: &R,
+    headers: &Headers<Book>,
+    passes: (Pass<Book>, Pass<Book>),
+    rounds: u32,
+) -> (Pass<Book>, Pass<Book>)
+    requires left { (passes.0.opening ≡ headers.now) × (passes.0.has_gate ≡ false) }
+    requires right { (passes.1.opening ≡ headers.now) × (passes.1.has_gate ≡ false) }
+    ensures left { (result.0.opening ≡ headers.entry.now) × (result.0.has_gate ≡ false) }
+    ensures right { (result.1.opening ≡ headers.entry.now) × (result.1.has_gate ≡ false) }
+{
+    let (first, second) = passes;
+    thread::join(
+        rt,
+        || hold_often(headers, first, rounds),
+        || hold_often(headers, second, rounds),
+    )
+}
+
+// The two atomic operations of a take and a give, on a bare word, so many times.
+fn bare_hold(word: &AtomicU64, rounds: u32) -> u32 {
+    let mut done = 0u32;
+    for _ in 0..rounds {
+        for _ in 0..TRIES {
+            if word
+                .compare_exchange(0, 1, Ordering::SeqCst, Ordering::SeqCst)
+                .is_ok()
+            {
+                word.store(0, Ordering::SeqCst);
+                done = done.wrapping_add(1);
+                break;
+            }
+            spin_loop();
+        }
+    }
+    done
+}
+
+/// Times a take and a give by one pass.
+pub fn take_in_one<R: Clock + Threads + Sync>(
+    setup: &Setup<'_, R>,
+    alloc: Global,
+) -> Result<Measure, BenchFault>
+    requires { length setup.now.lows.now ≡ 256 }
+{
+    let book = Book::new(alloc)?;
+    let Ok((headers, mut passes)) = Headers::open(alloc, setup.lows, 1, book) else {
+        return Err(BenchFault::Memory(Memory));
+    };
+    let Some(mut pass) = passes.pop() else {
+        return Err(BenchFault::Passes);
+    };
+    inflate(&headers, &mut pass, alloc)?;
+    let start = Instant::now(setup.rt)?;
+    let pass = hold_often(&headers, pass, setup.rounds);
+    let time = start.elapsed(setup.rt)?.as_nanos();
+    let Ok(()) = passes.push(pass) else {
+        return Err(BenchFault::Memory(Memory));
+    };
+    let Ok((_, book)) = headers.close(alloc, passes) else {
+        return Err(BenchFault::Passes);
+    };
+    Ok(Measure {
+        done: book.takings(),
+        time,
+    })
+}
+
+/// Times takes and gives by two passes, each in a thread of its own, that fight for the gate.
+pub fn take_in_two<R: Clock + Threads + Sync>(
+    setup: &Setup<'_, R>,
+    alloc: Global,
+) -> Result<Measure, BenchFault>
+    requires { length setup.now.lows.now ≡ 256 }
+{
+    let book = Book::new(alloc)?;
+    let Ok((headers, mut passes)) = Headers::open(alloc, setup.lows, 2, book) else {
+        return Err(BenchFault::Memory(Memory));
+    };
+    let (Some(second), Some(mut first)) = (passes.pop(), passes.pop()) else {
+        return Err(BenchFault::Passes);
+    };
+    inflate(&headers, &mut first, alloc)?;
+    let start = Instant::now(setup.rt)?;
+    let (one, two) = hold_in_two(setup.rt, &headers, (first, second), setup.rounds);
+    let time = start.elapsed(setup.rt)?.as_nanos();
+    let (first, second) = headers.meet(one, two);
+    let (Ok(()), Ok(())) = (passes.push(first), passes.push(second)) else {
+        return Err(BenchFault::Memory(Memory));
+    };
+    let Ok((_, book)) = headers.close(alloc, passes) else {
+        return Err(BenchFault::Passes);
+    };
+    Ok(Measure {
+        done: book.takings(),
+        time,
+    })
+}
+
+/// Times the bare operations in one thread.
+pub fn bare_in_one<R: Clock + Threads + Sync>(setup: &Setup<'_, R>) -> Result<Measure, BenchFault> {
+    let word = AtomicU64::new(0);
+    let start = Instant::now(setup.rt)?;
+    let done = bare_hold(&word, setup.rounds);
+    let time = start.elapsed(setup.rt)?.as_nanos();
+    Ok(Measure { done, time })
+}
+
+/// Times the bare operations in two threads that fight for one word.
+pub fn bare_in_two<R: Clock + Threads + Sync>(setup: &Setup<'_, R>) -> Result<Measure, BenchFault> {
+    let word = AtomicU64::new(0);
+    let start = Instant::now(setup.rt)?;
+    let (one, two) = thread::join(
+        setup.rt,
+        || bare_hold(&word, setup.rounds),
+        || bare_hold(&word, setup.rounds),
+    );
+    let time = start.elapsed(setup.rt)?.as_nanos();
+    Ok(Measure {
+        done: one.wrapping_add(two),
+        time,
+    })
+}

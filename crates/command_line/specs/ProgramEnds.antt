@@ -1,0 +1,34 @@
+-- How the program ends.
+use Rattle.std.specs.Prelude.{ℕ}
+use Rattle.clap.specs.declared.error.kind.ErrorKind.{ErrorKind}
+use Rattle.clap.specs.declared.error.kind.ErrorKind.TheVariants.{InvalidValue, UnknownArgument, InvalidSubcommand, NoEquals, ValueValidation, TooManyValues, TooFewValues, WrongNumberOfValues, ArgumentConflict, MissingRequiredArgument, MissingSubcommand, DisplayHelp, DisplayHelpOnMissingArgumentOrSubcommand, DisplayVersion, Io, Format, OutOfMemory}
+use Rattle.history_text.specs.declared.faults.FileFault.TheVariants.{Memory}
+use Rattle.command_line.specs.declared.ends.ProgramEnd.{ProgramEnd}
+use Rattle.command_line.specs.declared.ends.ProgramEnd.TheVariants.{Done, Shown, Failed, Misused}
+
+-- the exit status
+abbrev pub status_of : ProgramEnd → ℕ
+status_of Done = 0
+status_of Shown = 0
+status_of (Failed fault) = 1
+status_of Misused = 2
+
+-- how the program ends where a parse of its words gives no order
+abbrev pub end_for : ErrorKind → ProgramEnd
+end_for OutOfMemory = Failed Memory
+end_for DisplayHelp = Shown
+end_for DisplayVersion = Shown
+end_for InvalidValue = Misused
+end_for UnknownArgument = Misused
+end_for InvalidSubcommand = Misused
+end_for NoEquals = Misused
+end_for ValueValidation = Misused
+end_for TooManyValues = Misused
+end_for TooFewValues = Misused
+end_for WrongNumberOfValues = Misused
+end_for ArgumentConflict = Misused
+end_for MissingRequiredArgument = Misused
+end_for MissingSubcommand = Misused
+end_for DisplayHelpOnMissingArgumentOrSubcommand = Misused
+end_for Io = Misused
+end_for Format = Misused

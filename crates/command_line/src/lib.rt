@@ -1,0 +1,12 @@
+//! The words behind `thinmon`: what they order, doing it, and how the program ends.
+//!
+//! The program `thinmon` is `serve`, and nothing else.
+#![tactic(auto)]
+
+mod ends;
+mod orders;
+mod serving;
+
+pub use ends::{ProgramEnd, end_for};
+pub use orders::{Order, read_words};
+pub use serving::{serve, serve_words};

@@ -1,0 +1,97 @@
+//! Does what the words of the command line order, over files and streams.
+
+ghost use Rattle.std.specs.Prelude.{◌≡◌};
+ghost use Rattle.clap.specs.Values.{kind_of};
+ghost use Rattle.command_line.specs.ProgramEnds.{end_for};
+
+use crate::ends::{ProgramEnd, end_for};
+use crate::orders::{Order, read_words};
+use history::{FileFault, ReaderSource, WriterSink, run};
+use std::process::ExitCode;
+use std::rt::{Env, Files};
+use std::{env, fs, io};
+
+/// Does what the words of the command line order, and answers the exit status.
+pub fn serve<R>(rt: &R) -> ExitCode
+where
+    R: Env + Files + Input + Print + Eprint + AllocGlobal,
+{
+    let end = match words_behind_name(rt) {
+        Ok(words) => serve_words(rt, &words),
+        Err(error) => refuse_words(rt, &error),
+    };
+    ExitCode::from(end.status())
+}
+
+/// The words of the command line behind the program's name.
+fn words_behind_name<R: Env + AllocGlobal>(rt: &R) -> io::Result<Vec<String>> {
+    let words = env::args(rt)?.skip(1).collect(rt.alloc())?;
+    Ok(words)
+}
+
+/// Does what the words behind the program's name order, and tells how that ended. A fault is told in
+/// one line on standard error.
+pub fn serve_words<R>(rt: &R, words: &[String]) -> ProgramEnd
+where
+    R: Files + Input + Print + Eprint + AllocGlobal,
+{
+    match read_words(rt.alloc(), words) {
+        Ok(Order::Run { file }) => match run_file(rt, file) {
+            Ok(()) => ProgramEnd::Done,
+            Err(fault) => tell_fault(rt, fault),
+        },
+        Err(error) => answer(rt, &error),
+    }
+}
+
+fn tell_fault(rt: &impl Eprint, fault: FileFault) -> ProgramEnd
+    ensures { result ≡ ProgramEnd.Failed fault }
+{
+    let _ = eprintln!(rt; "thinmon: {fault}");
+    ProgramEnd::Failed(fault)
+}
+
+/// Tells why the words of the command line could not be had.
+fn refuse_words(rt: &impl Eprint, error: &io::Error) -> ProgramEnd {
+    if error.kind() == io::ErrorKind::OutOfMemory {
+        return tell_fault(rt, FileFault::Memory);
+    }
+    let _ = rt.eprintln("thinmon: a word of the command line is not text");
+    ProgramEnd::Misused
+}
+
+/// Prints a help or the version, or what is wrong with the words of the command line.
+fn answer(rt: &(impl Print + Eprint), error: &clap::Error) -> ProgramEnd
+    ensures { result ≡ end_for (kind_of error.now) }
+{
+    let end = end_for(error);
+    if let ProgramEnd::Failed(fault) = end {
+        return tell_fault(rt, fault);
+    }
+    let _ = error.print(rt);
+    end
+}
+
+/// Runs the script in a file, or the one on standard input.
+fn run_file<R>(rt: &R, file: Option<&str>) -> Result<(), FileFault>
+where
+    R: Files + Input + Print + AllocGlobal,
+{
+    let mut sink = WriterSink::new(io::writer(rt));
+    match file {
+        Some(path) => {
+            let file = fs::open(rt, path).map_err(|error| fault_of_opening(&error))?;
+            run(rt.alloc(), &mut ReaderSource::new(file), &mut sink)
+        }
+        None => run(rt.alloc(), &mut ReaderSource::new(rt.reader()), &mut sink),
+    }
+}
+
+/// Why a file could not be opened.
+fn fault_of_opening(error: &io::Error) -> FileFault {
+    if error.kind() == io::ErrorKind::OutOfMemory {
+        FileFault::Memory
+    } else {
+        FileFault::Read
+    }
+}

@@ -1,0 +1,238 @@
+//! The book behind the gate, and the monitors that are published from it.
+ghost use Rattle.std.specs.Prelude.{◌≡◌, ◌<◌, ◌+◌, length, true, false, IfSome};
+ghost use Rattle.header_words.specs.Bindings.{Binds, Covers};
+ghost use Rattle.header_words.specs.Passes.{depth_at, new_passes};
+
+use super::books::{Ledger, Names};
+use crate::{Headers, Kept, OpenFault, Pass};
+use fat_monitor::{Fats, Receipt};
+use lock_word::{Lock, ObjectId, ThreadId, Word, decode};
+use std::alloc::Global;
+use std::test::Fail;
+use std::thread::{Threads, join};
+
+const OBJECT: ObjectId = ObjectId(0);
+
+// A pass that finds a fat word takes the book, which binds the monitor to the object.
+fn monitor_of<B: Kept>(
+    headers: &Headers<B>,
+    pass: &mut Pass<B>,
+    object: ObjectId,
+) -> Option<(u32, B)>
+    requires belongs { pass.old.opening ≡ headers.now }
+    requires object { object.0 < length headers.now.lows }
+    requires without { pass.old.has_gate ≡ false }
+    ensures belongs { pass.new.opening ≡ headers.now }
+    ensures bound { IfSome result (λ r. Binds (B.bound r.1) r.0 object.0) }
+    ensures covers { IfSome result (λ r. Covers (B.bound r.1) pass.new.seen) }
+    ensures gate { IfSome result (λ _. pass.new.has_gate ≡ true) }
+{
+    let word = headers.load(pass, object);
+    let Some((Lock::Fat { monitor }, _low)) = decode(word) else {
+        return None;
+    };
+    let book = headers.take(pass)?;
+    Some((monitor, book))
+}
+
+// Binds the monitor of the receipt in the book in hand, publishes it, and gives the book back.
+// False where the book would have another number for it, or there is no memory.
+fn inflate(
+    headers: &Headers<Names>,
+    pass: &mut Pass<Names>,
+    mut names: Names,
+    receipt: Receipt,
+) -> bool
+    requires belongs { pass.old.opening ≡ headers.now }
+    requires object { receipt.object.0 < length headers.now.lows }
+    requires owner { receipt.owner.0 ≡ pass.old.index }
+    requires holds { receipt.holds ≡ depth_at pass.old receipt.object.0 }
+    requires gate { pass.old.has_gate ≡ true }
+    requires covers { Covers names.objects.items pass.old.seen }
+    ensures belongs { pass.new.opening ≡ headers.now }
+    ensures gate { pass.new.has_gate ≡ false }
+{
+    let next = names.objects.len();
+    let bound = names.bind(receipt.object());
+    if !bound || next != receipt.monitor() as usize {
+        headers.give(pass, names);
+        return false;
+    }
+    headers.publish(pass, &names, receipt);
+    headers.give(pass, names);
+    true
+}
+
+// Binds the next monitor in the book in hand to the object, and gives the book back.
+fn add_and_give(
+    headers: &Headers<Names>,
+    pass: &mut Pass<Names>,
+    mut names: Names,
+    object: ObjectId,
+) -> bool
+    requires belongs { pass.old.opening ≡ headers.now }
+    requires gate { pass.old.has_gate ≡ true }
+    requires covers { Covers names.objects.items pass.old.seen }
+    ensures belongs { pass.new.opening ≡ headers.now }
+    ensures gate { pass.new.has_gate ≡ false }
+{
+    let added = names.bind(object);
+    headers.give(pass, names);
+    added
+}
+
+// Takes the book, adds the object and gives the book back, by at most `turns` tries.
+fn add_once(headers: &Headers<Names>, pass: &mut Pass<Names>, object: ObjectId, turns: u32) -> bool
+    requires belongs { pass.old.opening ≡ headers.now }
+    requires without { pass.old.has_gate ≡ false }
+    ensures belongs { pass.new.opening ≡ headers.now }
+    ensures without { pass.new.has_gate ≡ false }
+{
+    for _ in 0..turns {
+        if let Some(names) = headers.take(pass) {
+            return add_and_give(headers, pass, names, object);
+        }
+    }
+    false
+}
+
+// Adds the object so many times. Returns how many times it could.
+fn add_often(
+    headers: &Headers<Names>,
+    mut pass: Pass<Names>,
+    object: ObjectId,
+    rounds: u32,
+) -> (u32, Pass<Names>)
+    requires belongs { pass.opening ≡ headers.now }
+    requires without { pass.has_gate ≡ false }
+    ensures belongs { result.1.opening ≡ headers.entry.now }
+    ensures without { result.1.has_gate ≡ false }
+{
+    for done in 0..rounds {
+        if !add_once(headers, &mut pass, object, 10_000_000) {
+            return (done, pass);
+        }
+    }
+    (rounds, pass)
+}
+
+// Opens the words of one object for two passes. Where an allocation is refused, the book comes back,
+// and is opened again.
+fn open_for_two(alloc: Global, names: Names) -> Option<(Headers<Names>, Vec<Pass<Names>>)>
+    ensures { IfSome result (λ r. r.1.items ≡ new_passes r.0 1 2) }
+{
+    match Headers::open(alloc, &[0xa5], 2, names) {
+        Ok(opened) => Some(opened),
+        Err(OpenFault::Memory { book }) => Headers::open(alloc, &[0xa5], 2, book).ok(),
+    }
+}
+
+// A shared reference to the value may cross threads, and the value itself.
+fn crosses_threads<T: Send + Sync>(_value: &T) {}
+
+#[test]
+fn the_book_is_taken_by_one_pass_at_a_time(rt: HostRuntime) -> Result<(), Fail> {
+    let names = Names::new(rt.alloc());
+    let Some((headers, mut passes)) = open_for_two(rt.alloc(), names) else {
+        panic!(rt; "memory")
+    };
+    crosses_threads(&headers);
+    let mut second = passes.pop().ok_or("two passes")?;
+    let mut first = passes.pop().ok_or("two passes")?;
+    let Some(names) = headers.take(&mut first) else {
+        panic!(rt; "the gate was open")
+    };
+    assert!(rt; first.has_gate());
+    assert!(rt; headers.take(&mut second).is_none());
+    assert!(rt; !second.has_gate());
+    assert!(rt; add_and_give(&headers, &mut first, names, ObjectId(7)));
+    assert!(rt; !first.has_gate());
+    let Some(names) = headers.take(&mut second) else {
+        panic!(rt; "the gate is open again")
+    };
+    assert_eq!(rt; names.object(0), Some(ObjectId(7)));
+    assert_eq!(rt; names.object(1), None);
+    headers.give(&mut second, names);
+    Ok(())
+}
+
+#[test]
+fn a_receipt_is_published(rt: HostRuntime) -> Result<(), Fail> {
+    let mut fats = Fats::new(rt.alloc(), 1);
+    fats.attach(ThreadId(1)).ok().ok_or("attached")?;
+    let receipt = fats
+        .bind(OBJECT, ThreadId(1), 2)
+        .ok()
+        .ok_or("a monitor is left")?;
+    let names = Names::new(rt.alloc());
+    let Ok((headers, mut passes)) = Headers::open(rt.alloc(), &[0xa5], 2, names) else {
+        panic!(rt; "memory")
+    };
+    let mut second = passes.pop().ok_or("two passes")?;
+    let mut first = passes.pop().ok_or("two passes")?;
+    assert!(rt; headers.acquire(&mut first, OBJECT));
+    headers.nest(&mut first, OBJECT);
+    let Some(names) = headers.take(&mut first) else {
+        panic!(rt; "the gate was open")
+    };
+    assert!(rt; inflate(&headers, &mut first, names, receipt));
+    assert_eq!(rt; headers.load(&mut first, OBJECT), Word(0x8000_00a5));
+    assert_eq!(rt; first.depth(OBJECT), 0);
+    assert!(rt; !headers.acquire(&mut first, OBJECT));
+    let Some((monitor, names)) = monitor_of(&headers, &mut second, OBJECT) else {
+        panic!(rt; "the gate is open, and the word is fat")
+    };
+    assert_eq!(rt; monitor, 0);
+    assert_eq!(rt; names.object(0), Some(OBJECT));
+    headers.give(&mut second, names);
+    passes.push(first).ok().ok_or("memory")?;
+    passes.push(second).ok().ok_or("memory")?;
+    let (words, names) = headers.close(rt.alloc(), passes).ok().ok_or("closed")?;
+    assert_eq!(rt; words.as_slice(), [Word(0x8000_00a5)].as_slice());
+    assert_eq!(rt; names.object(0), Some(OBJECT));
+    Ok(())
+}
+
+#[test]
+fn a_type_with_a_model_is_kept(rt: HostRuntime) -> Result<(), Fail> {
+    let ledger = Ledger::new(rt.alloc());
+    let Ok((headers, mut passes)) = Headers::open(rt.alloc(), &[0xa5], 1, ledger) else {
+        panic!(rt; "memory")
+    };
+    crosses_threads(&headers);
+    let mut pass = passes.pop().ok_or("one pass")?;
+    let Some(ledger) = headers.take(&mut pass) else {
+        panic!(rt; "the gate was open")
+    };
+    assert_eq!(rt; ledger.len(), 0);
+    headers.give(&mut pass, ledger);
+    passes.push(pass).ok().ok_or("memory")?;
+    let (_, ledger) = headers.close(rt.alloc(), passes).ok().ok_or("closed")?;
+    assert_eq!(rt; ledger.object(0), None);
+    Ok(())
+}
+
+#[test]
+fn two_threads_add_to_the_book(rt: HostRuntime) -> Result<(), Fail> {
+    let names = Names::new(rt.alloc());
+    let Ok((headers, mut passes)) = Headers::open(rt.alloc(), &[0xa5], 2, names) else {
+        panic!(rt; "memory")
+    };
+    let second = passes.pop().ok_or("two passes")?;
+    let first = passes.pop().ok_or("two passes")?;
+    let (one, two) = join(
+        &rt,
+        || add_often(&headers, first, ObjectId(1), 1_000),
+        || add_often(&headers, second, ObjectId(2), 1_000),
+    );
+    assert_eq!(rt; (one.0, two.0), (1_000, 1_000));
+    let (first, second) = headers.meet(one.1, two.1);
+    passes.push(first).ok().ok_or("memory")?;
+    passes.push(second).ok().ok_or("memory")?;
+    let (_, names) = headers.close(rt.alloc(), passes).ok().ok_or("closed")?;
+    let objects = names.objects.as_slice();
+    assert_eq!(rt; objects.len(), 2_000);
+    let ones = objects.iter().filter(|object| object.0 == 1).count();
+    assert_eq!(rt; ones, 1_000);
+    Ok(())
+}

@@ -1,0 +1,125 @@
+//! Words that are locked, and never inflated.
+ghost use Rattle.std.specs.Prelude.{◌≡◌, ◌<◌, IfSome, length, false};
+ghost use Rattle.lock_word.specs.declared.Lock.TheVariants.{Thin};
+ghost use Rattle.header_words.specs.Passes.{depth_at, word_at};
+
+use super::books::Names;
+use crate::{CloseFault, Headers, Kept, Pass};
+use lock_word::{ObjectId, Word};
+use std::test::Fail;
+use std::thread::{Threads, join};
+
+const OBJECT: ObjectId = ObjectId(0);
+
+// Acquires the object, by at most `turns` tries, nests, unnests and releases it.
+fn lock_once(headers: &Headers<Names>, pass: &mut Pass<Names>, turns: u32) -> bool
+    requires belongs { pass.old.opening ≡ headers.now }
+    requires object { 0 < length headers.now.lows }
+    requires free { depth_at pass.old 0 ≡ 0 }
+    ensures belongs { pass.new.opening ≡ headers.now }
+    ensures free { depth_at pass.new 0 ≡ 0 }
+    ensures gate { pass.new.has_gate ≡ pass.old.has_gate }
+{
+    for _ in 0..turns {
+        if headers.acquire(pass, OBJECT) {
+            headers.nest(pass, OBJECT);
+            headers.unnest(pass, OBJECT);
+            headers.release(pass, OBJECT);
+            return true;
+        }
+    }
+    false
+}
+
+// Locks and unlocks the object so many times. Returns how many times it could.
+fn lock_often(headers: &Headers<Names>, mut pass: Pass<Names>, rounds: u32) -> (u32, Pass<Names>)
+    requires belongs { pass.opening ≡ headers.now }
+    requires object { 0 < length headers.now.lows }
+    requires free { depth_at pass 0 ≡ 0 }
+    requires without { pass.has_gate ≡ false }
+    ensures belongs { result.1.opening ≡ headers.entry.now }
+    ensures free { depth_at result.1 0 ≡ 0 }
+    ensures without { result.1.has_gate ≡ false }
+{
+    for done in 0..rounds {
+        if !lock_once(headers, &mut pass, 10_000_000) {
+            return (done, pass);
+        }
+    }
+    (rounds, pass)
+}
+
+// What a load after an acquire that won shows.
+fn own_word(headers: &Headers<Names>, pass: &mut Pass<Names>) -> Option<Word>
+    requires belongs { pass.old.opening ≡ headers.now }
+    requires object { 0 < length headers.now.lows }
+    requires free { depth_at pass.old 0 ≡ 0 }
+    ensures word { IfSome result (λ w. w.0 ≡ word_at headers.now 0 (Thin pass.old.index 0)) }
+    ensures belongs { pass.new.opening ≡ headers.now }
+    ensures one { IfSome result (λ _. depth_at pass.new 0 ≡ 1) }
+    ensures gate { pass.new.has_gate ≡ pass.old.has_gate }
+{
+    if headers.acquire(pass, OBJECT) {
+        return Some(headers.load(pass, OBJECT));
+    }
+    None
+}
+
+#[test]
+fn one_pass_locks_an_object(rt: HostRuntime) -> Result<(), Fail> {
+    let names = Names::new(rt.alloc());
+    let Ok((headers, mut passes)) = Headers::open(rt.alloc(), &[0xa5], 1, names) else {
+        panic!(rt; "memory")
+    };
+    let mut pass = passes.pop().ok_or("one pass")?;
+    assert_eq!(rt; pass.index(), 1);
+    assert_eq!(rt;
+        own_word(&headers, &mut pass).ok_or("free")?,
+        Word(0x0001_00a5)
+    );
+    headers.nest(&mut pass, OBJECT);
+    assert_eq!(rt; headers.load(&mut pass, OBJECT), Word(0x0001_01a5));
+    assert_eq!(rt; pass.depth(OBJECT), 2);
+    headers.unnest(&mut pass, OBJECT);
+    headers.release(&mut pass, OBJECT);
+    assert_eq!(rt; pass.depth(OBJECT), 0);
+    passes.push(pass).ok().ok_or("memory")?;
+    let (words, names) = headers.close(rt.alloc(), passes).ok().ok_or("closed")?;
+    assert_eq!(rt; names.object(0), None);
+    assert_eq!(rt; words.as_slice(), [Word(0x0000_00a5)].as_slice());
+    Ok(())
+}
+
+#[test]
+fn two_threads_take_turns(rt: HostRuntime) -> Result<(), Fail> {
+    let names = Names::new(rt.alloc());
+    let Ok((headers, mut passes)) = Headers::open(rt.alloc(), &[0xa5], 2, names) else {
+        panic!(rt; "memory")
+    };
+    let second = passes.pop().ok_or("two passes")?;
+    let first = passes.pop().ok_or("two passes")?;
+    let (one, two) = join(
+        &rt,
+        || lock_often(&headers, first, 1_000),
+        || lock_often(&headers, second, 1_000),
+    );
+    assert_eq!(rt; (one.0, two.0), (1_000, 1_000));
+    let (first, mut second) = headers.meet(one.1, two.1);
+    assert_eq!(rt; headers.load(&mut second, OBJECT), Word(0x0000_00a5));
+    passes.push(first).ok().ok_or("memory")?;
+    let Err(
+        CloseFault::WrongPass {
+            headers,
+            mut passes,
+        },
+    ) = headers.close(rt.alloc(), passes)
+    else {
+        panic!(rt; "one pass of two")
+    };
+    assert_eq!(rt; passes.len(), 1);
+    passes.push(second).ok().ok_or("memory")?;
+    let (words, names) = headers.close(rt.alloc(), passes).ok().ok_or("closed")?;
+    assert_eq!(rt; names.object(0), None);
+    assert_eq!(rt; words.as_slice(), [Word(0x0000_00a5)].as_slice());
+    Ok(())
+}

@@ -1,0 +1,52 @@
+-- Names in a set of texts.
+use Rattle.std.proofs.Common.{◌≡◌, ℕ, ◌+◌, ◌≤◌, List, [], ◌∷◌, ◌++◌, map, length, Bool, true, false, not, ◌||◌, cond, nat_lt, Some, None, refl, sym, ap, ◌∙◌, string_bytes, arith}
+use Rattle.std.specs.Prelude.{String}
+use Rattle.std.specs.declared.alloc.Global.{Global}
+use Rattle.std.specs.List.{list_any, position, position_or_len}
+use Rattle.std.specs.Str.{bytes_eq}
+use Rattle.std.proofs.lemmas.Bool.{ltb-false}
+use Rattle.std.proofs.lemmas.List.Sums.{prefix_len-le-length}
+use Rattle.std.proofs.lemmas.Option.{cond_some}
+use Rattle.history.specs.NameLists.{is_named, number_of, with_name}
+
+-- the test by which a set finds a name
+abbrev pub is_text : List ℕ → String Global → Bool
+is_text name text = bytes_eq name (string_bytes text)
+
+pub any_named : (name : List ℕ) (texts : List (String Global)) → list_any (is_text name) texts ≡ is_named (map string_bytes texts) name
+any_named name [] = refl
+any_named name (x ∷ xs) = ap (λ (b : Bool). bytes_eq name (string_bytes x) || b) (any_named name xs)
+
+pub place_named : (name : List ℕ) (texts : List (String Global)) → position_or_len (is_text name) texts ≡ number_of (map string_bytes texts) name
+place_named name [] = refl
+place_named name (x ∷ xs) = ap (λ (n : ℕ). cond (not (bytes_eq name (string_bytes x))) (1 + n) 0) (place_named name xs)
+
+-- where a set finds a name, that is its number
+pub found_number : (name : List ℕ) (texts : List (String Global)) (n : ℕ) → Some n ≡ position (is_text name) texts → n ≡ number_of (map string_bytes texts) name
+found_number name texts n e = sym (cond_some _ _ _ (sym e)).1 ∙ place_named name texts
+
+past_end : (b : Bool) (m n : ℕ) → nat_lt m n ≡ b → m ≤ n → None ≡ cond b (Some m) None → n ≡ m
+past_end true m n is fits e = absurd (cc)
+past_end false m n is fits e = let above : n ≤ m = ltb-false m n is in omega (arith, above, fits)
+
+-- where it finds none, the number is that of the next one
+pub absent_number : (name : List ℕ) (texts : List (String Global)) → None ≡ position (is_text name) texts → length texts ≡ number_of (map string_bytes texts) name
+absent_number name texts e = past_end (nat_lt (position_or_len (is_text name) texts) (length texts)) _ _ refl (prefix_len-le-length (λ text. not (is_text name text)) texts) e ∙ place_named name texts
+
+pub names_stay : (names : List (List ℕ)) (name : List ℕ) → is_named names name ≡ true → names ≡ with_name names name
+names_stay names name e = rw e refl
+
+map-append : (xs ys : List (String Global)) → map string_bytes (xs ++ ys) ≡ map string_bytes xs ++ map string_bytes ys
+map-append [] ys = refl
+map-append (x ∷ xs) ys = ap (λ (l : List (List ℕ)). string_bytes x ∷ l) (map-append xs ys)
+
+chosen_names : (b : Bool) (texts : List (String Global)) (text : String Global) → map string_bytes (cond b texts (texts ++ text ∷ [])) ≡ cond b (map string_bytes texts) (map string_bytes texts ++ string_bytes text ∷ [])
+chosen_names true texts text = refl
+chosen_names false texts text = map-append texts (text ∷ [])
+
+pub names_kept : (texts new : List (String Global)) (text : String Global) (name : List ℕ) → string_bytes text ≡ name
+    → new ≡ cond (list_any (is_text (string_bytes text)) texts) texts (texts ++ text ∷ []) → map string_bytes new ≡ with_name (map string_bytes texts) name
+names_kept texts new text name same e =
+    ap (map string_bytes) e ∙ chosen_names (list_any (is_text (string_bytes text)) texts) texts text
+    ∙ ap (λ (b : Bool). cond b (map string_bytes texts) (map string_bytes texts ++ string_bytes text ∷ [])) (any_named (string_bytes text) texts)
+    ∙ ap (with_name (map string_bytes texts)) same

@@ -1,0 +1,80 @@
+//! Running a script: from a reader's bytes to a writer's.
+
+ghost use Rattle.std.specs.Prelude.{◌≡◌, ◌+◌, ◌<◌, ◌≤◌, ◌⊎◌, ℕ, List, length, take, IsErrOf, IfSome, OnOk, OnErr, IfOk, IfErr, Err};
+ghost use Rattle.std.specs.Io.KnownBytes.{Keeps, Appends};
+ghost use Rattle.history_text.specs.declared.faults.FileFault.TheVariants.{BadLine, Read as ReadFault, Write as WriteFault, Memory};
+
+use crate::ends::{Sink, Source};
+use crate::reports::report_of;
+use crate::scripts::read_script;
+use history_text::{FileFault, MOST_BYTES};
+use std::alloc::Global;
+
+/// How many bytes are read at once.
+const CHUNK: usize = 4096;
+
+/// Reads a script to its end, plays it, and writes its report.
+///
+/// The whole script is read and played before the first byte of the report is written.
+pub fn run<S: Source, W: Sink>(alloc: Global, source: &mut S, sink: &mut W) -> Result<(), FileFault>
+    requires { S.given source.old ≡ 0 }
+    // At Ok, neither end has failed in the run, the whole of a report was written, and the script was
+    // within its limit.
+    ensures written { OnOk result ((report : List ℕ) × Appends (W.holds sink.old) (W.holds sink.new) report) }
+    ensures read_whole { OnOk result (S.has_failed source.new → S.has_failed source.old) }
+    ensures written_whole { OnOk result (W.has_failed sink.new → W.has_failed sink.old) }
+    ensures within { OnOk result (IfSome (S.left source.old) (λ input. length input ≤ MOST_BYTES)) }
+
+    // Else a fault tells its cause, and only where writing failed was something written: the front of a report.
+    ensures bad_line { (line : ℕ) → result ≡ Err (BadLine line) → (1 ≤ line) × IfSome (S.left source.old) (λ input. line ≤ length input + 1) }
+    ensures read { IsErrOf result ReadFault → S.has_failed source.new ⊎ MOST_BYTES < S.given source.new }
+    ensures write { IsErrOf result WriteFault → W.has_failed sink.new }
+    ensures cut { IsErrOf result WriteFault → (report : List ℕ) × (n : ℕ) × Appends (W.holds sink.old) (W.holds sink.new) (take n report) }
+    ensures unwritten { IfErr result (λ fault. (fault ≡ WriteFault) ⊎ Keeps (W.holds sink.old) (W.holds sink.new)) }
+{
+    let bytes = read_all(alloc, source)?;
+    let script = read_script(alloc, &bytes)?;
+    let report = report_of(alloc, &script)?;
+    write_out(sink, report.as_bytes())
+}
+
+/// Reads a source to its end, which must come within the bytes that a script may have.
+fn read_all<S: Source>(alloc: Global, source: &mut S) -> Result<Vec<u8>, FileFault>
+    requires { S.given source.old ≡ 0 }
+    ensures all { IfOk result (λ bytes. IfSome (S.left source.old) (λ input. bytes.items ≡ input)) }
+    ensures few { IfOk result (λ bytes. length bytes.items ≤ MOST_BYTES) }
+    ensures whole { OnOk result (S.has_failed source.new → S.has_failed source.old) }
+    ensures fault { IfErr result (λ e. (e ≡ Memory) ⊎ ((e ≡ ReadFault) × (S.has_failed source.new ⊎ MOST_BYTES < S.given source.new))) }
+{
+    let mut bytes = Vec::new(alloc);
+    let mut chunk = [0u8; CHUNK];
+    'reading: while bytes.len() <= MOST_BYTES {
+        let Some(count) = source.fill(&mut chunk) else {
+            return Err(FileFault::Read);
+        };
+        if count == 0 {
+            return Ok(bytes);
+        }
+        let (front, _) = chunk.split_at(count);
+        bytes.extend_from_slice(front)?;
+    }
+    Err(FileFault::Read)
+}
+
+/// Hands all the bytes to a sink, in as many pieces as it takes them.
+fn write_out<W: Sink>(sink: &mut W, bytes: &[u8]) -> Result<(), FileFault>
+    ensures ok { OnOk result (Appends (W.holds sink.old) (W.holds sink.new) bytes.now) }
+    ensures whole { OnOk result (W.has_failed sink.new → W.has_failed sink.old) }
+    ensures prefix { OnErr result ((n : ℕ) × Appends (W.holds sink.old) (W.holds sink.new) (take n bytes.now)) }
+    ensures fault { IfErr result (λ e. (e ≡ WriteFault) × W.has_failed sink.new) }
+{
+    let mut rest = bytes;
+    'writing: while !rest.is_empty() {
+        let Some(count) = sink.put(rest) else {
+            return Err(FileFault::Write);
+        };
+        let (_, after) = rest.split_at(count);
+        rest = after;
+    }
+    Ok(())
+}

@@ -1,0 +1,9 @@
+pub mod Choices
+pub mod Numerals
+pub mod Plain
+pub mod LineLaws
+pub mod ScriptLaws
+pub mod NameLaws
+pub mod NotedLaws
+pub mod Signed
+pub mod BadLaws

@@ -1,0 +1,45 @@
+//! The lines of a script, as they are written.
+
+use crate::names::Name;
+
+/// A call, as a `begin` line has it.
+#[derive(Debug, Drop)]
+pub enum Call<'a> {
+    Enter(Name<'a>),
+    Exit(Name<'a>),
+    /// The time is any number of 64 bits and any of 32: the call itself finds out whether they are in
+    /// their ranges.
+    Wait {
+        object: Name<'a>,
+        millis: i64,
+        nanos: i32,
+    },
+    Notify(Name<'a>),
+    NotifyAll(Name<'a>),
+    Holds(Name<'a>),
+    Interrupt(Name<'a>),
+    Interrupted,
+    IsInterrupted(Name<'a>),
+    End,
+}
+
+/// A line that is a step.
+#[derive(Debug, Drop)]
+pub enum StepLine<'a> {
+    Attach(Name<'a>),
+    Begin { thread: Name<'a>, call: Call<'a> },
+    Go(Name<'a>),
+    Expire(Name<'a>),
+    /// The moment, in nanoseconds.
+    Tick(u64),
+}
+
+/// A line of a script.
+#[derive(Debug, Drop)]
+pub enum Line<'a> {
+    /// The most fat monitors, 0 to 8,388,608, and the most live threads, 1 to 32,767.
+    World { monitors: u32, indices: u16 },
+    /// An object and the low byte of its word.
+    Object { name: Name<'a>, low: u8 },
+    Step(StepLine<'a>),
+}

@@ -1,0 +1,85 @@
+//! The names of threads and objects.
+
+ghost use Rattle.std.specs.Prelude.{◌≡◌, Some};
+ghost use Rattle.std.specs.Int.{is_in_range};
+ghost use Rattle.std.specs.List.{list_all};
+ghost use Rattle.history_text.specs.Words.{is_name_byte, is_name, name_from};
+
+use std::fmt;
+use std::marker::Model;
+
+/// The most bytes that a name has.
+const LONGEST_NAME: usize = 32;
+
+/// The name of a thread or an object: 1 to 32 of the bytes `a` to `z`, `0` to `9` and `_`, the first a
+/// letter.
+#[derive(Debug, Drop)]
+pub struct Name<'a> {
+    text: &'a str,
+}
+
+impl<'a> Model for Name<'a> {
+    ghost use Rattle.std.specs.Prelude.{◌≡◌, List, ℕ, true};
+    ghost use Rattle.history_text.specs.Words.{is_name};
+
+    ghost Value = { List ℕ };
+
+    ghost view = { λ n. n.text.now };
+
+    ghost invariant = { λ n. is_name n.text.now ≡ true };
+}
+
+fn may_stand_in_name(byte: u8) -> bool
+    ensures { result ≡ is_name_byte byte }
+{
+    matches!(byte, b'a'..=b'z' | b'0'..=b'9' | b'_')
+}
+
+fn is_letter(byte: u8) -> bool
+    ensures { result ≡ is_in_range 97 122 byte }
+{
+    matches!(byte, b'a'..=b'z')
+}
+
+fn are_right(bytes: &[u8]) -> bool
+    ensures { result ≡ list_all is_name_byte bytes.now }
+{
+    bytes.iter().all(|byte| may_stand_in_name(*byte))
+}
+
+fn is_right(text: &str) -> bool
+    ensures { result ≡ is_name text.now }
+{
+    match text.as_bytes() {
+        [] => false,
+        [first, rest @ ..] => { is_letter(*first) && rest.len() < LONGEST_NAME && are_right(rest) }
+    }
+}
+
+impl<'a> Name<'a> {
+    /// The name that a text is.
+    pub fn from_text(text: &'a str) -> Option<Name<'a>>
+        ensures { result ≡ name_from text.now }
+    {
+        if is_right(text) {
+            Some(Name { text })
+        } else {
+            None
+        }
+    }
+
+    /// The text of the name.
+    pub fn as_str(&self) -> &'a str
+        ensures { result.now ≡ self.now }
+    {
+        self.text
+    }
+}
+
+impl fmt::Display for Name<'_> {
+    ghost output = { λ name. Some name };
+
+    fn fmt<W: fmt::Write>(&self, f: &mut fmt::Formatter<W>) -> fmt::Result {
+        f.write_str(self.as_str())
+    }
+}

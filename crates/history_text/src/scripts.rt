@@ -1,0 +1,205 @@
+//! Scripts: lines that follow one another by the rules.
+
+ghost use Rattle.std.specs.Prelude.{◌≡◌, ◌<◌, ◌≤◌, ◌++◌, ◌∷◌, ◌==◌, ◌&&◌, ◌||◌, [], ℕ, List, true, length, map, position, string_bytes, IfErr, IfOk, IfSome, MatchOption, OnOk, Err, Ok};
+ghost use Rattle.std.specs.List.{list_any};
+ghost use Rattle.std.specs.Str.{bytes_eq};
+ghost use Rattle.history_text.specs.declared.lines.Line.{Line as LineData};
+ghost use Rattle.history_text.specs.Lines.{is_object, may_follow, next_from, lines_from, parts_of, script_text, IsScript, IsFirstBad};
+ghost use Rattle.history_text.specs.Noted.{IsNoted, may_follow_by, with_object};
+ghost use Rattle.history_text.specs.Scripts.{Gives, IsReasonFor};
+
+use crate::faults::FileFault;
+use crate::lines::Line;
+use crate::names::Name;
+use crate::numbering::number_of_name;
+use crate::printing::print_lines;
+use crate::reading::line_of;
+use indexmap::IndexSet;
+use std::alloc::{AllocError, Global};
+use std::marker::Model;
+
+/// The most bytes that a script has.
+pub const MOST_BYTES: usize = 16_777_216;
+
+/// The most objects that a script declares.
+const MOST_OBJECTS: usize = 65_535;
+
+/// A script: lines that keep the rules.
+#[derive(Debug, Drop)]
+pub struct Script<'a> {
+    lines: Vec<Line<'a>>,
+}
+
+impl<'a> Model for Script<'a> {
+    ghost use Rattle.std.specs.Prelude.{List};
+    ghost use Rattle.history_text.specs.declared.lines.Line.{Line as LineData};
+    ghost use Rattle.history_text.specs.Lines.{IsScript};
+
+    ghost Value = { List LineData };
+
+    ghost view = { λ s. s.lines.items };
+
+    ghost invariant = { λ s. IsScript s.lines.items };
+}
+
+fn is_object_line(line: &Line<'_>) -> bool
+    ensures { result ≡ is_object line.now }
+{
+    matches!(line, Line::Object { .. })
+}
+
+fn has_name(names: &IndexSet<String>, name: &Name<'_>) -> bool
+    ensures { result ≡ list_any (bytes_eq name.now) (map string_bytes names.now.keys) }
+{
+    names.contains(name.as_str())
+}
+
+/// Whether a line may follow those that the three values note.
+fn follows(first: bool, declaring: bool, objects: &IndexSet<String>, line: &Line<'_>) -> bool
+    ensures { result ≡ may_follow_by first declaring (map string_bytes objects.now.keys) line.now }
+{
+    match line {
+        Line::World { .. } => first,
+        Line::Object { name, .. } => {
+            !first && declaring && !has_name(objects, name) && objects.len() < MOST_OBJECTS
+        }
+        Line::Step(_) => !first,
+    }
+}
+
+/// Notes the name of an object line.
+fn note_object(
+    alloc: Global,
+    objects: &mut IndexSet<String>,
+    line: &Line<'_>,
+) -> Result<(), AllocError>
+    ensures { OnOk result (map string_bytes objects.new.keys ≡ with_object (map string_bytes objects.old.keys) line.now) }
+{
+    match line {
+        Line::Object { name, .. } => {
+            number_of_name(alloc, objects, name)?;
+            Ok(())
+        }
+        _ => Ok(()),
+    }
+}
+
+/// The line that a part of the bytes is, where it may follow those before it.
+#[tactic(auto, using(crate::proofs::NotedLaws::next_steps))]
+fn next_of<'a>(
+    alloc: Global,
+    lines: &[Line<'a>],
+    declaring: bool,
+    objects: &IndexSet<String>,
+    part: &'a [u8],
+) -> Result<Option<Line<'a>>, AllocError>
+    requires { IsNoted lines.now declaring (map string_bytes objects.now.keys) }
+    ensures { IfOk result (λ line. line ≡ next_from lines.now part.now) }
+{
+    let Some(line) = line_of(alloc, part)? else {
+        return Ok(None);
+    };
+    let may_stand = follows(lines.is_empty(), declaring, objects, &line);
+    if may_stand { Ok(Some(line)) } else { Ok(None) }
+}
+
+fn still_declaring(lines: &[Line<'_>], declaring: bool, line: &Line<'_>) -> bool
+    ensures { result ≡ (declaring && (length lines.now == 0 || is_object line.now)) }
+{
+    declaring && (lines.is_empty() || is_object_line(line))
+}
+
+/// Notes a line that follows others, and tells whether objects may follow.
+#[tactic(auto, using(crate::proofs::NotedLaws::noted_more))]
+fn note(
+    alloc: Global,
+    lines: &[Line<'_>],
+    declaring: bool,
+    objects: &mut IndexSet<String>,
+    line: &Line<'_>,
+) -> Result<bool, AllocError>
+    requires noted { IsNoted lines.now declaring (map string_bytes objects.old.keys) }
+    requires follows { may_follow lines.now line.now ≡ true }
+    ensures { IfOk result (λ d. IsNoted (lines.now ++ line.now ∷ []) d (map string_bytes objects.new.keys)) }
+{
+    note_object(alloc, objects, line)?;
+    Ok(still_declaring(lines, declaring, line))
+}
+
+fn line_end(bytes: &[u8]) -> Option<usize>
+    ensures { result ≡ position (λ b. b == 10) bytes.now }
+{
+    bytes.iter().position(|byte| *byte == b'\n')
+}
+
+/// The bytes before the first line feed, and those after it.
+fn cut_line(bytes: &[u8]) -> Option<(&[u8], &[u8])>
+    ensures parts { MatchOption result (parts_of bytes.now ≡ bytes.now ∷ []) (λ cut. parts_of bytes.now ≡ cut.0.now ∷ parts_of cut.1.now) }
+    ensures shorter { IfSome result (λ cut. length cut.1.now < length bytes.now) }
+{
+    match line_end(bytes) {
+        None => None,
+        Some(end) => {
+            let (line, _) = bytes.split_at(end);
+            let (_, rest) = bytes.split_at(end + 1);
+            Some((line, rest))
+        }
+    }
+}
+
+/// The lines that some bytes are, or the first that is bad.
+#[tactic(auto, using(crate::proofs::ScriptLaws::reading_steps))]
+fn lines_of<'a>(alloc: Global, bytes: &'a [u8]) -> Result<Vec<Line<'a>>, FileFault>
+    ensures { Gives (λ v. v.items) result (lines_from [] (parts_of bytes.now)) }
+{
+    let mut lines = Vec::new(alloc);
+    let mut objects = IndexSet::new(alloc);
+    let mut declaring = true;
+    let mut rest = bytes;
+    'lines: while let Some((part, after)) = cut_line(rest) {
+        let Some(line) = next_of(alloc, &lines, declaring, &objects, part)? else {
+            return Err(FileFault::BadLine(lines.len() as u64 + 1));
+        };
+        declaring = note(alloc, &lines, declaring, &mut objects, &line)?;
+        lines.push(line)?;
+        rest = after;
+    }
+    if !rest.is_empty() {
+        return Err(FileFault::BadLine(lines.len() as u64 + 1));
+    }
+    if lines.is_empty() {
+        return Err(FileFault::BadLine(1));
+    }
+    Ok(lines)
+}
+
+/// The script that some bytes are, or why they are none: the first line that is bad, or more bytes than
+/// a script has, whatever their lines are.
+pub fn read_script<'a>(alloc: Global, bytes: &'a [u8]) -> Result<Script<'a>, FileFault>
+    // What is read is written so.
+    ensures found { IfOk result (λ script. IsScript script × (bytes.now ≡ script_text script)) }
+    // What is written so is read, unless memory runs out.
+    ensures only { (ls : List LineData) → IsScript ls → bytes.now ≡ script_text ls
+        → length bytes.now ≤ MOST_BYTES → Gives (λ script. script) result (Ok ls) }
+    ensures too_long { MOST_BYTES < length bytes.now → result ≡ Err FileFault.Read }
+    ensures fault { IfErr result (IsReasonFor bytes.now) }
+{
+    if bytes.len() > MOST_BYTES {
+        return Err(FileFault::Read);
+    }
+    let lines = lines_of(alloc, bytes)?;
+    Ok(Script { lines })
+}
+
+/// The one text of the script.
+pub fn print_script(alloc: Global, script: &Script<'_>) -> Result<String, AllocError>
+    ensures { IfOk result (λ text. string_bytes text ≡ script_text script.now) }
+{
+    print_lines(alloc, &script.lines)
+}
+
+/// No bytes have two first bad lines, and none that have one are a script.
+pub fn one_fault()
+    ensures one { (bs : List ℕ) (m n : ℕ) → IsFirstBad bs m → IsFirstBad bs n → m ≡ n }
+    ensures none { (bs : List ℕ) (n : ℕ) (ls : List LineData) → IsFirstBad bs n → IsScript ls → bs ≡ script_text ls → ⊥ }
+{}

@@ -1,0 +1,124 @@
+//! Plays a script and compares how it comes out with what is wanted.
+
+ghost use Rattle.std.specs.Prelude.{◌≡◌, ◌↔◌, IsNone};
+
+use history::{FileFault, ReaderSource, WriterSink, run};
+use history_text::{print_script, read_script};
+use std::alloc::Global;
+use std::fmt::{Display, Formatter, Write};
+use std::{fmt, io, str};
+
+/// The first line in which two texts differ.
+#[derive(Clone, Copy)]
+pub struct Difference<'a> {
+    /// The number of the line, from 1.
+    line: u64,
+    /// What stands there.
+    written: &'a str,
+    /// What is wanted there.
+    wanted: &'a str,
+}
+
+impl Display for Difference<'_> {
+    fn fmt<W: Write>(&self, f: &mut Formatter<W>) -> fmt::Result {
+        let line = self.line;
+        let written = self.written;
+        let wanted = self.wanted;
+        write!(f, "line {line} is '{written}' and is to be '{wanted}'")
+    }
+}
+
+/// The first line in which a text differs from the wanted one. A line that one of them lacks counts
+/// as empty.
+pub fn first_difference<'a>(written: &'a str, wanted: &'a str) -> Option<Difference<'a>>
+    ensures { IsNone result ↔ (written.now ≡ wanted.now) }
+{
+    if written == wanted {
+        return None;
+    }
+    let mut line = 1u64;
+    let mut wanted_lines = wanted.split('\n');
+    for written in written.split('\n') {
+        let wanted = wanted_lines.next();
+        if wanted != Some(written) {
+            let wanted = wanted.unwrap_or("");
+            return Some(Difference {
+                line,
+                written,
+                wanted,
+            });
+        }
+        line = line.saturating_add(1);
+    }
+    Some(Difference {
+        line,
+        written: "",
+        wanted: wanted_lines.next().unwrap_or(""),
+    })
+}
+
+/// The report of a script, or why it has none.
+pub fn play(alloc: Global, script: &[u8]) -> Result<Vec<u8>, FileFault> {
+    let mut sink = WriterSink::new(Vec::new(alloc));
+    run(alloc, &mut ReaderSource::new(script), &mut sink)?;
+    Ok(sink.into_inner())
+}
+
+/// Whether a script is read, and its text is what was read.
+fn is_printed_again(alloc: Global, script: &[u8]) -> Result<bool, FileFault> {
+    let lines = read_script(alloc, script)?;
+    let text = print_script(alloc, &lines)?;
+    Ok(text.as_bytes() == script)
+}
+
+/// Plays a script, and prints whether its report is the wanted one.
+pub fn compare<R>(rt: &R, name: &str, script: &[u8], wanted: &str) -> io::Result<bool>
+where
+    R: Print + AllocGlobal,
+{
+    let report = match play(rt.alloc(), script) {
+        Ok(report) => report,
+        Err(fault) => {
+            println!(rt; "{name}: {fault}")?;
+            return Ok(false);
+        }
+    };
+    let Ok(report) = str::from_utf8(&report) else {
+        println!(rt; "{name}: its report is no text")?;
+        return Ok(false);
+    };
+    if !is_printed_again(rt.alloc(), script).unwrap_or(false) {
+        println!(rt; "{name}: its script is printed otherwise")?;
+        return Ok(false);
+    }
+    match first_difference(report, wanted) {
+        None => {
+            println!(rt; "{name}: as its report says")?;
+            Ok(true)
+        }
+        Some(difference) => {
+            println!(rt; "{name}: {difference}")?;
+            Ok(false)
+        }
+    }
+}
+
+/// Whether a script ends in a fault, when it is played and when its text is read.
+pub fn ends_in(alloc: Global, script: &[u8], fault: FileFault) -> bool {
+    play(alloc, script).is_err_and(|found| found == fault)
+        && read_script(alloc, script).is_err_and(|found| found == fault)
+}
+
+/// Plays a script, and prints whether it ends in the wanted fault.
+pub fn compare_fault<R>(rt: &R, name: &str, script: &[u8], wanted: FileFault) -> io::Result<bool>
+where
+    R: Print + AllocGlobal,
+{
+    let is_right = ends_in(rt.alloc(), script, wanted);
+    if is_right {
+        println!(rt; "{name}: {wanted}, as it should")?;
+    } else {
+        println!(rt; "{name}: not {wanted}")?;
+    }
+    Ok(is_right)
+}

@@ -1,0 +1,35 @@
+//! The examples of a folder: scripts `NAME.script`, each with its report `NAME.report`.
+
+use crate::comparing::compare;
+use std::rt::Files;
+use std::{fs, io};
+
+/// Plays the examples of a folder in the order of their names.
+pub fn play<R>(rt: &R, folder: &str) -> io::Result<bool>
+where
+    R: Files + Print + AllocGlobal + Clone + Drop,
+{
+    let mut all_right = true;
+    for name in &names_in(rt, folder)? {
+        let script = fs::read(rt, format!(in rt.alloc(); "{folder}/{name}.script")?)?;
+        let report = fs::read_to_string(rt, format!(in rt.alloc(); "{folder}/{name}.report")?)?;
+        all_right &= compare(rt, name, &script, &report)?;
+    }
+    Ok(all_right)
+}
+
+/// The names of the scripts in a folder, in order.
+fn names_in<R>(rt: &R, folder: &str) -> io::Result<Vec<String>>
+where
+    R: Files + AllocGlobal + Clone + Drop,
+{
+    let mut names = Vec::new(rt.alloc());
+    for entry in fs::read_dir(rt, folder)? {
+        let entry = entry?;
+        if let Some(name) = entry.file_name().strip_suffix(".script") {
+            names.push(String::from_str(rt.alloc(), name)?)?;
+        }
+    }
+    names.sort()?;
+    Ok(names)
+}

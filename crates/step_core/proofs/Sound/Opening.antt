@@ -1,0 +1,97 @@
+-- The opening world is sound, and shows the opening state.
+use Rattle.std.specs.Prelude.{◌≡◌, ℕ, ◌<◌, ◌≤◌, List, [], ◌∷◌, length, map, get_or, replicate, Option, None, IsSome, is_some, count_by, cond, true, Bool}
+use Rattle.std.proofs.Common.{arith, refl, sym, ap, ◌∙◌, zero, suc, subst}
+use Rattle.std.proofs.Math.Path.{fun_ext}
+use Rattle.std.proofs.lemmas.Bool.{lt-ltb}
+use Rattle.std.proofs.lemmas.List.{length-map}
+use Rattle.std.proofs.lemmas.List.Folds.{sum_by-replicate}
+use Rattle.std.specs.Ordering.{nat_cmp}
+use Rattle.std.specs.FinMap.{get-empty, len-empty}
+use Rattle.lock_word.specs.declared.ThreadId.{ThreadId}
+use Rattle.lock_word.specs.declared.Lock.TheVariants.{Free}
+use Rattle.lock_word.specs.Layout.{lock_of}
+use Rattle.thread_index.specs.Indices.{seat_of}
+use Rattle.thread_index.proofs.Seats.{seat_of-replicate, IsOneToOne-replicate}
+use Rattle.fat_monitor.specs.declared.actions.Post.{Post}
+use Rattle.fat_monitor.specs.FatState.{IsAttached}
+use Rattle.fat_monitor.proofs.Soundness.{IsSound-opened}
+use Rattle.step_core.specs.declared.places.Place.TheVariants.{Idle}
+use Rattle.step_core.specs.declared.steps.Step.{Step}
+use Rattle.step_core.specs.Machine.{State, Run, opening}
+use Rattle.step_core.specs.World.{WorldState, opening_world, low_word, lock_at}
+use Rattle.step_core.specs.Shown.{shown}
+use Rattle.step_core.specs.Sound.{IsSound}
+use Rattle.step_core.specs.Step.{moves_after, world_after}
+use Rattle.step_core.proofs.Sound.AllSteps.{steps_run}
+
+-- a word of a low byte alone
+low_words : (lows : List ℕ) → ((k : ℕ) → k < length lows → get_or lows k 0 < 256) → (p : ℕ) → (get_or (map low_word lows) p (low_word 0)).0 < 256
+low_words [] h p = omega arith
+low_words (x ∷ xs) h zero = h 0 (omega arith)
+low_words (x ∷ xs) h (suc p) = low_words xs (λ k l. h (suc k) (omega arith)) p
+
+-- shows no lock
+free_at : (word : ℕ) → word < 256 → lock_of word ≡ Free
+free_at word h = rw (lt-ltb word 2147483648 (omega arith), lt-ltb word 65536 (omega arith)) refl
+
+-- no seat is taken
+none_taken : (n : ℕ) → count_by {X = Option ThreadId} is_some (replicate n None) ≡ 0
+none_taken n = sum_by-replicate (λ (x : Option ThreadId). cond (is_some x) 1 0) n None ∙ omega arith
+
+-- every seat is idle
+idle_at : (n k : ℕ) → get_or (replicate n Idle) k Idle ≡ Idle
+idle_at zero k = refl
+idle_at (suc n) zero = refl
+idle_at (suc n) (suc k) = idle_at n k
+
+length-replicate : {A : Type 0} (n : ℕ) (x : A) → length (replicate n x) ≡ n
+length-replicate zero x = refl
+length-replicate (suc n) x = ap suc (length-replicate n x)
+
+module _ (lows : List ℕ) (monitors indices : ℕ) (bytes : (k : ℕ) → k < length lows → get_or lows k 0 < 256) where
+  abbrev world : WorldState
+  world = opening_world lows monitors indices
+
+  lock_free : (p : ℕ) → lock_at world p ≡ Free
+  lock_free p = free_at (get_or (map low_word lows) p (low_word 0)).0 (low_words lows bytes p)
+
+  -- nobody has an index, and nobody is attached
+  nobody : (t : ThreadId) → IsSome (seat_of world.seats t) → ⊥
+  nobody t h = let never : is_some {T = ℕ} None ≡ true = rw (seat_of-replicate indices t) at h in absurd (cc)
+
+  none_attached : (t : ThreadId) → IsAttached world.fats t → ⊥
+  none_attached t h = let never : is_some {T = Post} None ≡ true = rw (get-empty {X = Post} nat_cmp t.0) at h in absurd (cc)
+
+  pub opened_sound : length lows ≤ 65535 → indices ≤ 32767 → monitors ≤ 8388608 → IsSound world
+  opened_sound many few bounded = record {
+    many = rw (length-map lows low_word) many;
+    seated = length-replicate indices Idle ∙ sym size;
+    few = rw size few;
+    one_to_one = IsOneToOne-replicate indices;
+    formed = λ p bad. let h : (get_or (map low_word lows) p (low_word 0)).0 < 256 = low_words lows bytes p in omega arith;
+    words = λ p h. rw (lock_free p) tt;
+    fats = IsSound-opened monitors bounded;
+    published = λ m h. absurd (omega arith);
+    attached = λ t h. absurd (nobody t h);
+    live = λ t h. absurd (none_attached t h);
+    posted = λ t k h. absurd (nobody t (rw h refl));
+    counted = len-empty nat_cmp Post ∙ sym (none_taken indices);
+    places = λ k h. rw (idle_at indices k) tt;
+  } where
+    size : length world.seats ≡ indices
+    size = length-replicate indices None
+
+  pub opened_shows : shown world ≡ opening (length lows)
+  opened_shows =
+      let threads : (shown world).thread ≡ (opening (length lows)).thread = fun_ext (λ t. rw (seat_of-replicate indices t) refl) in
+      let monitors_free : (shown world).monitor ≡ (opening (length lows)).monitor = fun_ext (λ o. rw (lock_free o.0) refl) in
+      let size : length (map low_word lows) ≡ length lows = length-map lows low_word in
+      λ i. record { thread = threads i; objects = size i; monitor = monitors_free i; moment = 0 }
+
+-- Whatever steps come from the opening world, their moves are a run.
+pub opened_run : (lows : List ℕ) (monitors indices : ℕ) (ss : List (Step × Bool)) → ((k : ℕ) → k < length lows → get_or lows k 0 < 256)
+    → length lows ≤ 65535 → monitors ≤ 8388608 → indices ≤ 32767
+    → Run (opening (length lows)) (moves_after (opening_world lows monitors indices) ss) (shown (world_after (opening_world lows monitors indices) ss))
+opened_run lows monitors indices ss bytes many bounded few =
+    subst (λ (s : State). Run s (moves_after (opening_world lows monitors indices) ss) (shown (world_after (opening_world lows monitors indices) ss)))
+    (opened_shows lows monitors indices bytes) (steps_run (opening_world lows monitors indices) (opened_sound lows monitors indices bytes many few bounded) ss)

@@ -1,0 +1,99 @@
+-- How long a call may take: the Go steps that it has left.
+use Rattle.std.specs.Prelude.{◌≡◌, ◌≢◌, ◌⊎◌, ℕ, ◌+◌, ◌-◌, ◌<◌, ◌≤◌, Bool, if◌then◌else◌, ◌==◌, List, [], ◌∷◌, length, Option, Some, None, IsSome, Ok}
+use Rattle.lock_word.specs.declared.ThreadId.{ThreadId}
+use Rattle.lock_word.specs.declared.ObjectId.{ObjectId}
+use Rattle.lock_word.specs.declared.Lock.TheVariants.{Thin}
+use Rattle.lock_word.specs.Layout.{lock_of}
+use Rattle.thread_index.specs.Indices.{seat_of, index_of}
+use Rattle.fat_monitor.specs.declared.actions.Answer.TheVariants as answer
+use Rattle.fast_path.specs.declared.calls.Call.TheVariants as call
+use Rattle.step_core.specs.declared.machine.Doing.TheVariants as doing
+use Rattle.step_core.specs.declared.places.Place.{Place}
+use Rattle.step_core.specs.declared.places.Place.TheVariants.{Idle, InCall, Ending, AtPost}
+use Rattle.step_core.specs.declared.places.Stage.{Stage}
+use Rattle.step_core.specs.declared.places.Stage.TheVariants.{Begun, Taking, Storing, Binding, Acting, Won, Bound, Inflated, Direct}
+use Rattle.step_core.specs.declared.steps.Atomic.{Atomic}
+use Rattle.step_core.specs.declared.steps.Atomic.TheVariants.{Load, Lost, Acted}
+use Rattle.step_core.specs.declared.steps.Did.{Did}
+use Rattle.step_core.specs.declared.steps.Step.{Step}
+use Rattle.step_core.specs.declared.steps.Step.TheVariants as step
+use Rattle.step_core.specs.Machine.{Is}
+use Rattle.step_core.specs.World.{WorldState, place_at}
+use Rattle.step_core.specs.Shown.{shown}
+use Rattle.step_core.specs.Step.{step_of}
+
+-- the Go steps that a call has left at this stage at most, if it meets nobody
+abbrev pub left_in : Stage → ℕ
+left_in (Begun c contended) = 4
+left_in (Taking o contended) = 3
+left_in (Storing c l) = 3
+left_in (Binding c n) = 3
+left_in (Acting c m) = 3
+left_in (Won o) = 2
+left_in (Bound c won m) = if won then 1 else 2
+left_in (Inflated c m) = 1
+left_in (Direct c) = 4
+
+-- and at this place, where there are so many objects
+abbrev pub left_at : ℕ → Place → ℕ
+left_at objects Idle = 0
+left_at objects (InCall s) = left_in s
+left_at objects (Ending n) = objects + 1 - n
+left_at objects AtPost = 1
+
+abbrev pub left_of_seat : WorldState → Option ℕ → ℕ
+left_of_seat w None = 0
+left_of_seat w (Some k) = left_at (length w.words) (place_at w k)
+
+-- the Go steps that the call of t has left; 0 where t is in no call
+abbrev pub left_of : WorldState → ThreadId → ℕ
+left_of w t = left_of_seat w (seat_of w.seats t)
+
+-- t has met another thread: its enter loaded a thin word of another's, or it lost its exchange
+abbrev pub HasMet : WorldState → ThreadId → Atomic → Type 0
+HasMet w t (Load o x) =
+    ((p : ObjectId) × (flag : Bool) × Is (shown w) t flag (doing.Wants (call.Enter p)))
+    × ((i n : ℕ) × (lock_of x.0 ≡ Thin i n) × (index_of w.seats t ≢ Some i))
+HasMet w t (Lost o x) = Unit {0}
+HasMet w t a = ⊥
+
+-- t has parked in a line
+abbrev pub HasParked : Atomic → Type 0
+HasParked (Acted a answer.Parked) = Unit {0}
+HasParked a = ⊥
+
+-- a Go of t that did this replies, parks, meets another thread, or lowers what is left, which stays at least 1
+abbrev pub Advances : WorldState → ThreadId → Did → WorldState → Type 0
+Advances w t d w' =
+    IsSome d.reply ⊎ (HasParked d.atomic ⊎ (HasMet w t d.atomic ⊎ ((left_of w' t < left_of w t) × (1 ≤ left_of w' t))))
+
+-- what a step does to the patience of a thread: a Go of its own advances it, and no other thread's step touches it
+abbrev pub IsPatient : WorldState → Step → Did → WorldState → Type 0
+IsPatient w (step.Attach t) d w' = (u : ThreadId) → u.0 ≢ t.0 → left_of w' u ≡ left_of w u
+IsPatient w (step.Begin t c) d w' = (u : ThreadId) → u.0 ≢ t.0 → left_of w' u ≡ left_of w u
+IsPatient w (step.Expire t) d w' = (u : ThreadId) → left_of w' u ≡ left_of w u
+IsPatient w (step.Tick now) d w' = (u : ThreadId) → left_of w' u ≡ left_of w u
+IsPatient w (step.Go t) d w' = Advances w t d w' × ((u : ThreadId) → u.0 ≢ t.0 → left_of w' u ≡ left_of w u)
+
+-- how many of these steps are a Go of t
+abbrev pub goes_of : ThreadId → List (Step × Bool) → ℕ
+goes_of t [] = 0
+goes_of t ((step.Attach u, room) ∷ ss) = goes_of t ss
+goes_of t ((step.Begin u c, room) ∷ ss) = goes_of t ss
+goes_of t ((step.Go u, room) ∷ ss) = if u.0 == t.0 then goes_of t ss + 1 else goes_of t ss
+goes_of t ((step.Expire u, room) ∷ ss) = goes_of t ss
+goes_of t ((step.Tick now, room) ∷ ss) = goes_of t ss
+
+-- a step is no Go of t, or one that is accepted and neither replies nor parks nor meets another thread
+abbrev pub Lingers : WorldState → ThreadId → (Step × Bool) → Type 0
+Lingers w t (step.Attach u, room) = Unit {0}
+Lingers w t (step.Begin u c, room) = Unit {0}
+Lingers w t (step.Expire u, room) = Unit {0}
+Lingers w t (step.Tick now, room) = Unit {0}
+Lingers w t (step.Go u, room) =
+    u.0 ≡ t.0 → (d : Did) × ((step_of room w (step.Go u)).answer ≡ Ok d) × (IsSome d.reply → ⊥) × (HasParked d.atomic → ⊥) × (HasMet w u d.atomic → ⊥)
+
+-- and so is each of these
+abbrev pub AllLinger : WorldState → ThreadId → List (Step × Bool) → Type 0
+AllLinger w t [] = Unit {0}
+AllLinger w t (s ∷ ss) = Lingers w t s × AllLinger (step_of s.1 w s.0).after t ss

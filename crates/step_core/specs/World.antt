@@ -1,0 +1,52 @@
+-- A world as contracts see it: header words, the threads by index, the place of each in its call, and the fat state.
+use Rattle.std.specs.Prelude.{Some, ◌≢◌, is_some, count_by, ◌≡◌, ℕ, ◌+◌, ◌-◌, ◌<◌, ◌≤◌, List, length, slice_index_or, Option, None, IsSome, map, replicate, Bool, true, false, ◌==◌, ◌⊎◌}
+use Rattle.lock_word.specs.declared.ThreadId.{ThreadId}
+use Rattle.lock_word.specs.declared.Word.{Word}
+use Rattle.lock_word.specs.declared.Lock.{Lock}
+use Rattle.lock_word.specs.declared.Lock.TheVariants.{Free, Thin, Fat}
+use Rattle.lock_word.specs.Layout.{lock_of, IsMalformed}
+use Rattle.thread_index.specs.Indices.{seat_of, holder_at, IsOneToOne}
+use Rattle.fat_monitor.specs.FatState.{FatState, monitor_at, IsAttached, post_of, thread_count}
+use Rattle.fat_monitor.specs.declared.actions.Post.{Post}
+use Rattle.fat_monitor.specs.declared.actions.Post.TheVariants.{Out}
+use Rattle.fat_monitor.specs.FatState as fat
+use Rattle.fast_path.specs.declared.calls.MonitorCall.{MonitorCall}
+use Rattle.fast_path.specs.declared.Next.TheVariants as next
+use Rattle.fast_path.specs.Table.{next_of}
+use Rattle.step_core.specs.declared.places.Place.{Place}
+use Rattle.step_core.specs.declared.places.Place.TheVariants.{Idle, InCall, Ending, AtPost}
+use Rattle.step_core.specs.declared.places.Stage.{Stage}
+use Rattle.step_core.specs.declared.places.Stage.TheVariants.{Begun, Taking, Storing, Binding, Acting, Won, Bound, Inflated, Direct}
+
+-- the word of each object; who has each index, by seat, which is the index less one; the place of the
+-- thread at each seat; and the fat state
+pub record WorldState : Type 0 where
+  pub words : List Word
+  pub seats : List (Option ThreadId)
+  pub places : List Place
+  pub fats : FatState
+
+-- the free word of a low byte
+abbrev pub low_word : ℕ → Word
+low_word n = record { 0 = n }
+
+-- the world in which nothing has happened
+abbrev pub opening_world : List ℕ → ℕ → ℕ → WorldState
+opening_world lows monitors indices =
+    record { words = map low_word lows; seats = replicate indices None; places = replicate indices Idle; fats = fat.opened monitors }
+
+abbrev pub place_at : WorldState → ℕ → Place
+place_at w k = slice_index_or w.places k Idle
+
+-- past the last object stands the free word
+abbrev pub word_at : WorldState → ℕ → Word
+word_at w p = slice_index_or w.words p (low_word 0)
+
+abbrev pub lock_at : WorldState → ℕ → Lock
+lock_at w p = lock_of (word_at w p).0
+
+-- a thin lock of the thread with this index
+abbrev pub is_own : Lock → ℕ → Bool
+is_own Free me = false
+is_own (Thin i c) me = i == me
+is_own (Fat m) me = false
