@@ -22,7 +22,7 @@ use Rattle.fat_monitor.specs.declared.actions.Reply.TheVariants as reply
 use Rattle.fat_monitor.specs.declared.actions.Action.{Action}
 use Rattle.fat_monitor.specs.declared.actions.ActFault.{ActFault}
 use Rattle.fat_monitor.specs.declared.actions.Answer.{Answer}
-use Rattle.fat_monitor.specs.FatState.{FatState, IsSound, monitor_at, with_monitor, with_owner, with_flag, unbound, post_of, post_at, is_owned_by, room_for, thread_count, with_thread, place_of, StandBehindOwners}
+use Rattle.fat_monitor.specs.FatState.{FatState, IsSound, monitor_at, with_monitor, with_owner, with_flag, unbound, post_of, post_at, is_owned_by, room_for, thread_count, with_thread, place_of}
 use Rattle.fat_monitor.specs.Acting.{Outcome, acted, told, replied, interrupted, parked, granted, holds_granted, reply_granted, MayAct, NamesBound}
 use Rattle.fat_monitor.proofs.PostMaps.{get-insert_by}
 use Rattle.fat_monitor.specs.Slots.{Posted}

@@ -1,5 +1,5 @@
 -- The fat state that the fields of `Fats` show, and what always holds of them.
-use Rattle.std.specs.Prelude.{◌≡◌, ℕ, true, Some}
+use Rattle.std.specs.Prelude.{◌≡◌, true, Some}
 use Rattle.std.specs.Ordering.{nat_cmp}
 use Rattle.std.specs.FinMap as map
 use Rattle.lock_word.specs.declared.ThreadId.{ThreadId}

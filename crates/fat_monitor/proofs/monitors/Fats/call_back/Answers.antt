@@ -58,14 +58,14 @@ pub invariant_of-self : goal.invariant_of-self
 invariant_of-self c =
     record {
       sound =
-        rw (returns-clause-after c) (IsSound-removed c.args.self.now c.args.thread c.args.why (subst (λ (f : FatState). IsSound f) c.self.view_is c.self.invariant.sound));
-      seated = 
-        let m = c.in-Some-Waiting.monitor in
-        let waits : post_of (fat_state_in c.self.inside) c.args.thread ≡ Some (Waiting m c.in-Some-Waiting.holds c.in-Some-Waiting.field-0-2) = rw (c.in-Some-Waiting.field-0-is) at (sym c.in-Some-Waiting.ensures) in
-        let here = stands_at _ _ _ c.self.invariant.seated c.args.thread _ c.node.result.0 waits refl c.node.ensures in
-        subst (λ (m : NodeMap). AreSeated c.park.new.self.posts c.park.new.self.nodes m)
-        (sym (c.join-node.ensures.node ∙ ap (λ (m : NodeMap). map.insert m c.args.thread.0 c.join-node.result.0) (c.leave_at.ensures.nodes c.args.thread here)))
-        (subst (λ (p : Posted). AreSeated p.posts p.nodes (map.insert (map.remove c.self.inside.lines.nodes c.args.thread.0) c.args.thread.0 c.join-node.result.0)) (sym c.park.ensures) (AreSeated-moved _ _ _ c.self.invariant.seated c.args.thread _ c.join-node.result.0));
+          rw (returns-clause-after c) (IsSound-removed c.args.self.now c.args.thread c.args.why (subst (λ (f : FatState). IsSound f) c.self.view_is c.self.invariant.sound));
+      seated =
+          let m = c.in-Some-Waiting.monitor in
+          let waits : post_of (fat_state_in c.self.inside) c.args.thread ≡ Some (Waiting m c.in-Some-Waiting.holds c.in-Some-Waiting.field-0-2) = rw (c.in-Some-Waiting.field-0-is) at (sym c.in-Some-Waiting.ensures) in
+          let here = stands_at _ _ _ c.self.invariant.seated c.args.thread _ c.node.result.0 waits refl c.node.ensures in
+          subst (λ (m : NodeMap). AreSeated c.park.new.self.posts c.park.new.self.nodes m)
+          (sym (c.join-node.ensures.node ∙ ap (λ (m : NodeMap). map.insert m c.args.thread.0 c.join-node.result.0) (c.leave_at.ensures.nodes c.args.thread here)))
+          (subst (λ (p : Posted). AreSeated p.posts p.nodes (map.insert (map.remove c.self.inside.lines.nodes c.args.thread.0) c.args.thread.0 c.join-node.result.0)) (sym c.park.ensures) (AreSeated-moved _ _ _ c.self.invariant.seated c.args.thread _ c.join-node.result.0));
     }
 
 pub leave_at-requires : goal.leave_at-requires

@@ -19,7 +19,7 @@ pub invariant_of-self : goal.invariant_of-self
 invariant_of-self c =
     record {
       sound =
-        sound_after c.args.self.now _ c.args.thread Collect (Ok c.reply_with.result)
-        (subst (λ (f : FatState). IsSound f) c.self.view_is c.self.invariant.sound) c.requires tt (returns c);
+          sound_after c.args.self.now _ c.args.thread Collect (Ok c.reply_with.result)
+          (subst (λ (f : FatState). IsSound f) c.self.view_is c.self.invariant.sound) c.requires tt (returns c);
       seated = subst (λ (p : Posted). AreSeated p.posts p.nodes c.self.inside.lines.nodes) (sym c.set.ensures) (AreSeated-set _ _ _ c.self.invariant.seated c.args.thread Out refl);
     }

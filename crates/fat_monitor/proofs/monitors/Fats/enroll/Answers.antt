@@ -30,7 +30,7 @@ pub invariant_of-self-then-is_err : goal.invariant_of-self-then-is_err
 invariant_of-self-then-is_err c =
     record {
       sound =
-        rw (posts_back c, lines_back c) c.self.invariant.sound;
+          rw (posts_back c, lines_back c) c.self.invariant.sound;
       seated = rw (posts_back c, lines_back c) c.self.invariant.seated;
     }
 
@@ -44,11 +44,11 @@ pub invariant_of-self-else-is_err : goal.invariant_of-self-else-is_err
 invariant_of-self-else-is_err c =
     record {
       sound =
-        let f = fat_state_in c.self.inside in
-        let full : thread_count f ≡ f.standing.reservations = let n = c.len.ensures in let r = c.reservations.ensures.reservations in let e = c.from.ensures in let t = c.if-crowded.true in omega arith in
-        let more = of_ok c.reserve_one.result _ c.if-is_err.ensures.value c.reserve_one.ensures.ok in
-        let after = attached_as f c.args.thread c.add.new.self c.reserve_one.new.self c.in_ok-add.ensures.ok c.reserve_one.ensures.lines (more ∙ sym (room_crowded (thread_count f) f.standing.reservations full)) in
-        rw (after) (IsSound-with_thread f c.args.thread c.self.invariant.sound c.in_ok-add.ensures.fresh (rw (← c.self.view_is) at c.requires));
+          let f = fat_state_in c.self.inside in
+          let full : thread_count f ≡ f.standing.reservations = let n = c.len.ensures in let r = c.reservations.ensures.reservations in let e = c.from.ensures in let t = c.if-crowded.true in omega arith in
+          let more = of_ok c.reserve_one.result _ c.if-is_err.ensures.value c.reserve_one.ensures.ok in
+          let after = attached_as f c.args.thread c.add.new.self c.reserve_one.new.self c.in_ok-add.ensures.ok c.reserve_one.ensures.lines (more ∙ sym (room_crowded (thread_count f) f.standing.reservations full)) in
+          rw (after) (IsSound-with_thread f c.args.thread c.self.invariant.sound c.in_ok-add.ensures.fresh (rw (← c.self.view_is) at c.requires));
       seated = subst (λ (m : NodeMap). AreSeated c.add.new.self.posts c.add.new.self.nodes m) (sym c.reserve_one.ensures.nodes)
           (subst (λ (p : Posted). AreSeated p.posts p.nodes c.self.inside.lines.nodes) (sym c.in_ok-add.ensures.ok) (AreSeated-added _ _ _ c.self.invariant.seated c.args.thread 0));
     }
@@ -57,10 +57,10 @@ pub invariant_of-self-else-crowded : goal.invariant_of-self-else-crowded
 invariant_of-self-else-crowded c =
     record {
       sound =
-        let f = fat_state_in c.self.inside in
-        let left : thread_count f ≡ f.standing.reservations → ⊥ = λ e. c.if-crowded.false (let n = c.len.ensures in let r = c.reservations.ensures.reservations in let k = c.from.ensures in omega arith) in
-        let after = attached_as f c.args.thread c.add.new.self c.self.inside.lines c.in_ok-add.ensures.ok refl (sym (room_left (thread_count f) f.standing.reservations left)) in
-        rw (after) (IsSound-with_thread f c.args.thread c.self.invariant.sound c.in_ok-add.ensures.fresh (rw (← c.self.view_is) at c.requires));
+          let f = fat_state_in c.self.inside in
+          let left : thread_count f ≡ f.standing.reservations → ⊥ = λ e. c.if-crowded.false (let n = c.len.ensures in let r = c.reservations.ensures.reservations in let k = c.from.ensures in omega arith) in
+          let after = attached_as f c.args.thread c.add.new.self c.self.inside.lines c.in_ok-add.ensures.ok refl (sym (room_left (thread_count f) f.standing.reservations left)) in
+          rw (after) (IsSound-with_thread f c.args.thread c.self.invariant.sound c.in_ok-add.ensures.fresh (rw (← c.self.view_is) at c.requires));
       seated = subst (λ (p : Posted). AreSeated p.posts p.nodes c.self.inside.lines.nodes) (sym c.in_ok-add.ensures.ok) (AreSeated-added _ _ _ c.self.invariant.seated c.args.thread 0);
     }
 

@@ -24,8 +24,8 @@ pub invariant_of-self : goal.invariant_of-self
 invariant_of-self c =
     record {
       sound =
-        sound_after c.args.self.now _ c.args.thread (Enter c.args.monitor) (Ok c.reply_with.result)
-        (subst (λ (f : FatState). IsSound f) c.self.view_is c.self.invariant.sound) c.requires.out c.requires.bound (returns-in_default c);
+          sound_after c.args.self.now _ c.args.thread (Enter c.args.monitor) (Ok c.reply_with.result)
+          (subst (λ (f : FatState). IsSound f) c.self.view_is c.self.invariant.sound) c.requires.out c.requires.bound (returns-in_default c);
       seated = c.self.invariant.seated;
     }
 
@@ -39,11 +39,11 @@ pub invariant_of-self-then-owner-thread : goal.invariant_of-self-then-owner-thre
 invariant_of-self-then-owner-thread c =
     record {
       sound =
-        let after = parked_as (fat_state_in c.self.inside) c.args.thread (Entering c.args.monitor) c.args.monitor Entry c.park.new.self c.join-node.new.self c.park.ensures c.join-node.ensures.joined c.join-node.ensures.reservations in
-        sound_after c.args.self.now _ c.args.thread (Enter c.args.monitor) (Ok c.tell.result)
-        (subst (λ (f : FatState). IsSound f) c.self.view_is c.self.invariant.sound) c.requires.out c.requires.bound
-        (rw (← c.in-Some.ensures, ne_eqb c.in-Some.owner.0 c.args.thread.0 c.if-owner-thread.true, ← c.self.view_is)
-        (told_at c.tell.result _ _ _ _ _ c.tell.ensures after));
+          let after = parked_as (fat_state_in c.self.inside) c.args.thread (Entering c.args.monitor) c.args.monitor Entry c.park.new.self c.join-node.new.self c.park.ensures c.join-node.ensures.joined c.join-node.ensures.reservations in
+          sound_after c.args.self.now _ c.args.thread (Enter c.args.monitor) (Ok c.tell.result)
+          (subst (λ (f : FatState). IsSound f) c.self.view_is c.self.invariant.sound) c.requires.out c.requires.bound
+          (rw (← c.in-Some.ensures, ne_eqb c.in-Some.owner.0 c.args.thread.0 c.if-owner-thread.true, ← c.self.view_is)
+          (told_at c.tell.result _ _ _ _ _ c.tell.ensures after));
       seated = subst (λ (m : NodeMap). AreSeated c.park.new.self.posts c.park.new.self.nodes m) (sym c.join-node.ensures.node)
           (subst (λ (p : Posted). AreSeated p.posts p.nodes (map.insert c.self.inside.lines.nodes c.args.thread.0 c.join-node.result.0)) (sym c.park.ensures) (AreSeated-joined _ _ _ c.self.invariant.seated c.args.thread (Entering c.args.monitor) c.join-node.result.0));
     }
@@ -66,7 +66,7 @@ pub invariant_of-self-2 : goal.invariant_of-self-2
 invariant_of-self-2 c =
     record {
       sound =
-        sound_after c.args.self.now _ c.args.thread (Enter c.args.monitor) (Ok c.reply_with-2.result)
-        (subst (λ (f : FatState). IsSound f) c.self.view_is c.self.invariant.sound) c.requires.out c.requires.bound (returns c);
+          sound_after c.args.self.now _ c.args.thread (Enter c.args.monitor) (Ok c.reply_with-2.result)
+          (subst (λ (f : FatState). IsSound f) c.self.view_is c.self.invariant.sound) c.requires.out c.requires.bound (returns c);
       seated = c.self.invariant.seated;
     }

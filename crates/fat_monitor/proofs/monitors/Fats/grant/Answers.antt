@@ -47,22 +47,22 @@ pub invariant_of-self : goal.invariant_of-self
 invariant_of-self c =
     record {
       sound =
-        let f = c.args.self.now in
-        let post = placed f c.args.thread _ c.requires.stands.1 in
-        let kept = IsSound-granted f c.args.monitor c.args.thread c.args.post post.0 c.requires.stands.0 (subst (λ (f : FatState). IsSound f) c.self.view_is c.self.invariant.sound) post.1 post.2 c.requires.comes in
-        rw (returns c c.requires.stands.0 c.requires.stands.1) kept;
-      seated = 
-        let post = placed (fat_state_in c.self.inside) c.args.thread _ (rw (← c.self.view_is) at c.requires.stands.1) in
-        let at_node = stands_at _ _ _ c.self.invariant.seated c.args.thread post.0 c.node.result.0 post.1 (place_stands post.0 c.args.monitor c.requires.stands.0 post.2) c.node.ensures in
-        let set = rw (settled c) at c.set.ensures in
-        rw (settled c) (subst (λ (m : NodeMap). AreSeated c.set.new.self.posts c.set.new.self.nodes m) (sym (c.leave_at.ensures.nodes c.args.thread at_node))
-        (subst (λ (p : Posted). AreSeated p.posts p.nodes (map.remove c.self.inside.lines.nodes c.args.thread.0)) (sym set)
-        (AreSeated-left _ _ _ c.self.invariant.seated c.args.thread (Granted c.granted_to-holds.result.1) refl)));
+          let f = c.args.self.now in
+          let post = placed f c.args.thread _ c.requires.stands.1 in
+          let kept = IsSound-granted f c.args.monitor c.args.thread c.args.post post.0 c.requires.stands.0 (subst (λ (f : FatState). IsSound f) c.self.view_is c.self.invariant.sound) post.1 post.2 c.requires.comes in
+          rw (returns c c.requires.stands.0 c.requires.stands.1) kept;
+      seated =
+          let post = placed (fat_state_in c.self.inside) c.args.thread _ (rw (← c.self.view_is) at c.requires.stands.1) in
+          let at_node = stands_at _ _ _ c.self.invariant.seated c.args.thread post.0 c.node.result.0 post.1 (place_stands post.0 c.args.monitor c.requires.stands.0 post.2) c.node.ensures in
+          let set = rw (settled c) at c.set.ensures in
+          rw (settled c) (subst (λ (m : NodeMap). AreSeated c.set.new.self.posts c.set.new.self.nodes m) (sym (c.leave_at.ensures.nodes c.args.thread at_node))
+          (subst (λ (p : Posted). AreSeated p.posts p.nodes (map.remove c.self.inside.lines.nodes c.args.thread.0)) (sym set)
+          (AreSeated-left _ _ _ c.self.invariant.seated c.args.thread (Granted c.granted_to-holds.result.1) refl)));
     }
 
 pub leave_at-requires : goal.leave_at-requires
 leave_at-requires c =
     let post = placed (fat_state_in c.self.inside) c.args.thread _ (rw (← c.self.view_is) at c.requires.stands.1) in
     record {
-      stands = (c.args.thread, stands_at _ _ _ c.self.invariant.seated c.args.thread post.0 c.node.result.0 post.1 (place_stands post.0 c.args.monitor c.requires.stands.0 post.2) c.node.ensures)
+      stands = (c.args.thread, stands_at _ _ _ c.self.invariant.seated c.args.thread post.0 c.node.result.0 post.1 (place_stands post.0 c.args.monitor c.requires.stands.0 post.2) c.node.ensures);
     }

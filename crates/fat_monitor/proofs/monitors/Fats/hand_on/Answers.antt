@@ -13,10 +13,10 @@ pub invariant_of-self : goal.invariant_of-self
 invariant_of-self c =
     record {
       sound =
-        let bound = rw (← c.self.view_is) at c.requires in
-        let after = written (fat_state_in c.self.inside) c.args.monitor c.index_mut.result.now c.give.new.self None 0 bound c.index_mut.ensures.value c.give.ensures in
-        let kept = rw (← c.in_default.ensures.first) at (IsSound-handed_on (fat_state_in c.self.inside) c.args.monitor c.self.invariant.sound bound) in
-        rw (after) kept;
+          let bound = rw (← c.self.view_is) at c.requires in
+          let after = written (fat_state_in c.self.inside) c.args.monitor c.index_mut.result.now c.give.new.self None 0 bound c.index_mut.ensures.value c.give.ensures in
+          let kept = rw (← c.in_default.ensures.first) at (IsSound-handed_on (fat_state_in c.self.inside) c.args.monitor c.self.invariant.sound bound) in
+          rw (after) kept;
       seated = c.self.invariant.seated;
     }
 

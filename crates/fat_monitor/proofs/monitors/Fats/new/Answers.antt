@@ -11,7 +11,7 @@ pub invariant_of-result : goal.invariant_of-result
 invariant_of-result c =
     record {
       sound =
-        rw (c.new.ensures.items, c.new-2.ensures, c.new-3.ensures.empty) (IsSound-opened c.args.limit c.requires);
+          rw (c.new.ensures.items, c.new-2.ensures, c.new-3.ensures.empty) (IsSound-opened c.args.limit c.requires);
       seated = subst (λ (p : Posted). AreSeated p.posts p.nodes c.new-3.result.nodes) (sym c.new-2.ensures) (λ t p e h. absurd (let none = get-empty {X = Post} nat_cmp t.0 in cc));
     }
 

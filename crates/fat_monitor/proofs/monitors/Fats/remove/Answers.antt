@@ -10,7 +10,7 @@ pub invariant_of-self : goal.invariant_of-self
 invariant_of-self c =
     record {
       sound =
-        rw (c.remove.ensures) (IsSound-without_thread (fat_state_in c.self.inside) c.args.thread c.self.invariant.sound (rw (← c.self.view_is) at c.requires.out));
+          rw (c.remove.ensures) (IsSound-without_thread (fat_state_in c.self.inside) c.args.thread c.self.invariant.sound (rw (← c.self.view_is) at c.requires.out));
       seated = subst (λ (p : Posted). AreSeated p.posts p.nodes c.self.inside.lines.nodes) (sym c.remove.ensures) (AreSeated-removed _ _ _ c.self.invariant.seated c.args.thread);
     }
 

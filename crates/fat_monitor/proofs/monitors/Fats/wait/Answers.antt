@@ -33,8 +33,8 @@ pub invariant_of-self : goal.invariant_of-self
 invariant_of-self c =
     record {
       sound =
-        let f = fat_state_in c.self.inside in
-        rw (flagged_as f c.args.thread false c.set_flag.new.self c.set_flag.ensures) (IsSound-flags f _ c.self.invariant.sound);
+          let f = fat_state_in c.self.inside in
+          rw (flagged_as f c.args.thread false c.set_flag.new.self c.set_flag.ensures) (IsSound-flags f _ c.self.invariant.sound);
       seated = subst (λ (p : Posted). AreSeated p.posts p.nodes c.self.inside.lines.nodes) (sym c.set_flag.ensures) c.self.invariant.seated;
     }
 
@@ -95,8 +95,8 @@ pub invariant_of-self-2 : goal.invariant_of-self-2
 invariant_of-self-2 c =
     record {
       sound =
-        sound_after c.args.self.now _ c.args.thread (Wait c.args.monitor c.args.millis c.args.nanos) (Ok c.tell.result)
-        (subst (λ (f : FatState). IsSound f) c.self.view_is c.self.invariant.sound) c.requires.out c.requires.bound (returns c);
+          sound_after c.args.self.now _ c.args.thread (Wait c.args.monitor c.args.millis c.args.nanos) (Ok c.tell.result)
+          (subst (λ (f : FatState). IsSound f) c.self.view_is c.self.invariant.sound) c.requires.out c.requires.bound (returns c);
       seated = subst (λ (m : NodeMap). AreSeated c.park.new.self.posts c.park.new.self.nodes m) (sym c.join-node.ensures.node)
           (subst (λ (p : Posted). AreSeated p.posts p.nodes (map.insert c.self-2.inside.lines.nodes c.args.thread.0 c.join-node.result.0)) (sym c.park.ensures) (AreSeated-joined _ _ _ c.self-2.invariant.seated c.args.thread _ c.join-node.result.0));
     }
