@@ -11,3 +11,4 @@ pub mod Flags
 pub mod Effects
 pub mod Steps
 pub mod Removals
+pub mod Seats

@@ -14,6 +14,7 @@ use Rattle.std.specs.FinMap.{get-from_entries, get-insert, get-remove, len-empty
 use Rattle.std.specs.FinMap.Entries.{find}
 use Rattle.std.proofs.lemmas.Bool.{cases_eq, eq-eqb, ne_eqb}
 use Rattle.lock_word.specs.declared.ThreadId.{ThreadId}
+use Rattle.wait_lines.specs.declared.links.Node.{Node}
 use Rattle.slab.specs.Slab.{Slab, get, with_value, Updates}
 use Rattle.fat_monitor.specs.declared.actions.Post.{Post}
 use Rattle.fat_monitor.specs.declared.actions.Post.TheVariants.{Out}
@@ -131,8 +132,8 @@ module _ (s s' : Slab Record) (ks ks' : List (ℕ × ℕ)) (t key : ℕ) (new : 
   values_of-put read none =
       same_map nat_cmp_total nat_cmp-IsAntisymmetric (values_of read none s' ks') (map.insert (values_of read none s ks) t (read new)) (λ q. value_at read none q (cases_eq q t))
 
-  pub posted_in-put : posted_in s' ks' ≡ record { posts = map.insert (posted_in s ks).posts t new.post; flags = map.insert (posted_in s ks).flags t new.flag }
-  posted_in-put = rw (values_of-put (λ r. r.post) Out, values_of-put (λ r. r.flag) false) refl
+  pub posted_in-put : posted_in s' ks' ≡ record { posts = map.insert (posted_in s ks).posts t new.post; nodes = map.insert (posted_in s ks).nodes t new.node.0; flags = map.insert (posted_in s ks).flags t new.flag }
+  posted_in-put = rw (values_of-put (λ r. r.post) Out, values_of-put (λ r. r.node.0) 0, values_of-put (λ r. r.flag) false) refl
 
   leads_at : new.thread.0 ≡ t → (q k : ℕ) → (q ≡ t) ⊎ (q ≡ t → ⊥) → lookup (nat_eq q) ks' ≡ Some k → (r : Record) × (get s' k ≡ Some r) × (r.thread.0 ≡ q)
   leads_at of_t q k (inl same) e =
@@ -192,8 +193,8 @@ module _ (s s' : Slab Record) (ks ks' : List (ℕ × ℕ)) (t key : ℕ)
   values_of-drop read none =
       same_map nat_cmp_total nat_cmp-IsAntisymmetric (values_of read none s' ks') (map.remove (values_of read none s ks) t) (λ q. value_after read none q (cases_eq q t))
 
-  pub posted_in-drop : posted_in s' ks' ≡ record { posts = map.remove (posted_in s ks).posts t; flags = map.remove (posted_in s ks).flags t }
-  posted_in-drop = rw (values_of-drop (λ r. r.post) Out, values_of-drop (λ r. r.flag) false) refl
+  pub posted_in-drop : posted_in s' ks' ≡ record { posts = map.remove (posted_in s ks).posts t; nodes = map.remove (posted_in s ks).nodes t; flags = map.remove (posted_in s ks).flags t }
+  posted_in-drop = rw (values_of-drop (λ r. r.post) Out, values_of-drop (λ r. r.node.0) 0, values_of-drop (λ r. r.flag) false) refl
 
   leads_after : (q k : ℕ) → (q ≡ t) ⊎ (q ≡ t → ⊥) → lookup (nat_eq q) ks' ≡ Some k → (r : Record) × (get s' k ≡ Some r) × (r.thread.0 ≡ q)
   leads_after q k (inl same) e = let never : None ≡ Some k = rw (led q, eq-eqb t q (sym same)) at e in absurd (cc)
@@ -254,11 +255,15 @@ module _ (s s' : Slab Record) (ks : List (ℕ × ℕ)) (t key : ℕ) (old new : 
   values_of-kept read none same =
       values_of-write read none ∙ insert_same (values_of read none s ks) t (read new) (value-values_of read none s ks t key old found there ∙ ap (λ x. Some x) (sym same))
 
-  pub posted_in-set : new.flag ≡ old.flag → posted_in s' ks ≡ record (posted_in s ks) { posts = map.insert (posted_in s ks).posts t new.post }
-  posted_in-set same = rw (values_of-write (λ r. r.post) Out, values_of-kept (λ r. r.flag) false same) refl
+  pub posted_in-set : new.flag ≡ old.flag → new.node ≡ old.node → posted_in s' ks ≡ record (posted_in s ks) { posts = map.insert (posted_in s ks).posts t new.post }
+  posted_in-set same at = rw (values_of-write (λ r. r.post) Out, values_of-kept (λ r. r.node.0) 0 (ap (λ (n : Node). n.0) at), values_of-kept (λ r. r.flag) false same) refl
 
-  pub posted_in-set_flag : new.post ≡ old.post → posted_in s' ks ≡ record (posted_in s ks) { flags = map.insert (posted_in s ks).flags t new.flag }
-  posted_in-set_flag same = rw (values_of-kept (λ r. r.post) Out same, values_of-write (λ r. r.flag) false) refl
+  pub posted_in-park : new.flag ≡ old.flag
+      → posted_in s' ks ≡ record (posted_in s ks) { posts = map.insert (posted_in s ks).posts t new.post; nodes = map.insert (posted_in s ks).nodes t new.node.0 }
+  posted_in-park same = rw (values_of-write (λ r. r.post) Out, values_of-write (λ r. r.node.0) 0, values_of-kept (λ r. r.flag) false same) refl
+
+  pub posted_in-set_flag : new.post ≡ old.post → new.node ≡ old.node → posted_in s' ks ≡ record (posted_in s ks) { flags = map.insert (posted_in s ks).flags t new.flag }
+  posted_in-set_flag same at = rw (values_of-kept (λ r. r.post) Out same, values_of-kept (λ r. r.node.0) 0 (ap (λ (n : Node). n.0) at), values_of-write (λ r. r.flag) false) refl
 
   -- the record stays its thread's
   of_thread : new.thread ≡ old.thread → new.thread.0 ≡ t

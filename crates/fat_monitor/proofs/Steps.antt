@@ -1,13 +1,14 @@
 -- What the bodies of actions make of a fat state.
 use Rattle.std.specs.Prelude.{◌≡◌, ℕ, ◌+◌, ◌<◌, ◌==◌, Bool, true, false, length, Option, Some, None, IsSome, Result, Ok, Err, OnOk, OnErr, if◌then◌else◌, slice_index_or, slice_set}
 use Rattle.std.proofs.Common.{refl, sym, ap, ◌∙◌, subst}
+use Rattle.std.specs.Ordering.{nat_cmp}
 use Rattle.std.specs.FinMap as map
 use Rattle.std.proofs.lemmas.Bool.{ne_eqb, eq-eqb}
 use Rattle.std.proofs.lemmas.List.{get_or_default}
 use Rattle.std.specs.Result.{is_err}
 use Rattle.lock_word.specs.declared.ThreadId.{ThreadId}
 use Rattle.std.specs.Option.{unwrap_or}
-use Rattle.wait_lines.specs.Lines.{Key, Standing, LineMap, joined, left}
+use Rattle.wait_lines.specs.Lines.{Key, Standing, LinesState, standing, LineMap, joined, left}
 use Rattle.wait_lines.specs.declared.Role.{Role}
 use Rattle.wait_lines.specs.declared.Role.TheVariants.{Entry, Waiting as WaitSet}
 use Rattle.fat_monitor.specs.declared.monitors.Monitor.{Monitor}
@@ -21,7 +22,7 @@ use Rattle.fat_monitor.specs.declared.actions.Reply.TheVariants as reply
 use Rattle.fat_monitor.specs.declared.actions.Action.{Action}
 use Rattle.fat_monitor.specs.declared.actions.ActFault.{ActFault}
 use Rattle.fat_monitor.specs.declared.actions.Answer.{Answer}
-use Rattle.fat_monitor.specs.FatState.{FatState, IsSound, monitor_at, with_monitor, with_owner, with_flag, unbound, post_of, post_at, is_owned_by, room_for, thread_count, with_thread, place_of, StandBehindOwners}
+use Rattle.fat_monitor.specs.FatState.{FatState, IsSound, monitor_at, with_monitor, with_owner, with_flag, unbound, post_of, post_at, is_owned_by, room_for, thread_count, with_thread, place_of}
 use Rattle.fat_monitor.specs.Acting.{Outcome, acted, told, replied, interrupted, parked, granted, holds_granted, reply_granted, MayAct, NamesBound}
 use Rattle.fat_monitor.proofs.PostMaps.{get-insert_by}
 use Rattle.fat_monitor.specs.Slots.{Posted}
@@ -41,9 +42,9 @@ written f m old new o n bound read is =
     rw (is, at) refl
 
 -- a standing whose lines were changed, and its reservations were not
-pub same_standing : (s new : Standing) (lines : LineMap) → new.lines ≡ lines → new.reservations ≡ s.reservations → new ≡ record s { lines = lines }
+pub same_standing : (s : Standing) (new : LinesState) (lines : LineMap) → new.lines ≡ lines → new.reservations ≡ s.reservations → standing new ≡ record s { lines = lines }
 same_standing s new lines e r =
-    let first : new ≡ record new { lines = lines } = ap (λ (l : LineMap). record new { lines = l }) e in
+    let first : standing new ≡ record (standing new) { lines = lines } = ap (λ (l : LineMap). let x : Standing = record { lines = l; reservations = new.reservations } in x) e in
     first ∙ ap (λ (n : ℕ). record { lines = lines; reservations = n }) r
 
 -- what a call without an error says, and one with an error
@@ -62,12 +63,12 @@ room_crowded threads reservations e = rw (eq-eqb threads reservations e) refl
 pub room_left : (threads reservations : ℕ) → (threads ≡ reservations → ⊥) → room_for threads reservations ≡ reservations
 room_left threads reservations e = rw (ne_eqb threads reservations e) refl
 
-pub attached_as : (f : FatState) (t : ThreadId) (posts : Posted) (standing : Standing) → posts ≡ record { posts = map.insert f.threads t.0 Out; flags = map.insert f.flags t.0 false }
-    → standing.lines ≡ f.standing.lines → standing.reservations ≡ room_for (thread_count f) f.standing.reservations
-    → record f { threads = posts.posts; flags = posts.flags; standing = standing } ≡ with_thread f t
-attached_as f t posts standing e lines room =
-    let first : standing ≡ record standing { lines = f.standing.lines } = ap (λ (l : LineMap). record standing { lines = l }) lines in
-    let all : standing ≡ record f.standing { reservations = room_for (thread_count f) f.standing.reservations } = first ∙ ap (λ (n : ℕ). record { lines = f.standing.lines; reservations = n }) room in
+pub attached_as : {nodes : map.FinMap nat_cmp ℕ} (f : FatState) (t : ThreadId) (posts : Posted) (new_lines : LinesState) → posts ≡ record { posts = map.insert f.threads t.0 Out; nodes = nodes; flags = map.insert f.flags t.0 false }
+    → new_lines.lines ≡ f.standing.lines → new_lines.reservations ≡ room_for (thread_count f) f.standing.reservations
+    → record f { threads = posts.posts; flags = posts.flags; standing = standing new_lines } ≡ with_thread f t
+attached_as f t posts new_lines e lines room =
+    let first : standing new_lines ≡ record (standing new_lines) { lines = f.standing.lines } = ap (λ (l : LineMap). let x : Standing = record { lines = l; reservations = new_lines.reservations } in x) lines in
+    let all : standing new_lines ≡ record f.standing { reservations = room_for (thread_count f) f.standing.reservations } = first ∙ ap (λ (n : ℕ). let x : Standing = record { lines = f.standing.lines; reservations = n } in x) room in
     rw (e, all) refl
 
 pub attached_itself : (f : FatState) (t : ThreadId) → IsSome (map.get (map.insert f.threads t.0 Out) t.0)
@@ -81,26 +82,26 @@ pub attached_still : (f : FatState) (t u : ThreadId) → IsSome (map.get f.threa
 attached_still f t u h = rw (get-insert_by f.threads t.0 Out u.0) (still_some (u.0 == t.0) Out (map.get f.threads u.0) h)
 
 -- a thread joined a line
-pub parked_as : (f : FatState) (t : ThreadId) (p : Post) (m : ℕ) (r : Role) (posts : Posted) (standing : Standing) → posts ≡ record { posts = map.insert f.threads t.0 p; flags = f.flags }
-    → standing.lines ≡ joined f.standing.lines t m r → standing.reservations ≡ f.standing.reservations
-    → record f { threads = posts.posts; flags = posts.flags; standing = standing } ≡ parked f t p m r
-parked_as f t p m r posts standing e lines kept = rw (e, same_standing f.standing standing _ lines kept) refl
+pub parked_as : {nodes : map.FinMap nat_cmp ℕ} (f : FatState) (t : ThreadId) (p : Post) (m : ℕ) (r : Role) (posts : Posted) (new_lines : LinesState) → posts ≡ record { posts = map.insert f.threads t.0 p; nodes = nodes; flags = f.flags }
+    → new_lines.lines ≡ joined f.standing.lines t m r → new_lines.reservations ≡ f.standing.reservations
+    → record f { threads = posts.posts; flags = posts.flags; standing = standing new_lines } ≡ parked f t p m r
+parked_as f t p m r posts new_lines e lines kept = rw (e, same_standing f.standing new_lines _ lines kept) refl
 
 -- the flag of a thread was written
-pub flagged_as : (f : FatState) (t : ThreadId) (flag : Bool) (posts : Posted) → posts ≡ record { posts = f.threads; flags = map.insert f.flags t.0 flag }
+pub flagged_as : {nodes : map.FinMap nat_cmp ℕ} (f : FatState) (t : ThreadId) (flag : Bool) (posts : Posted) → posts ≡ record { posts = f.threads; nodes = nodes; flags = map.insert f.flags t.0 flag }
     → record f { threads = posts.posts; flags = posts.flags } ≡ with_flag f t flag
 flagged_as f t flag posts e = rw e refl
 
 -- a thread that stood in a line was granted its monitor
-pub granted_as : (f : FatState) (m : ℕ) (u : ThreadId) (p : Post) (r : Role) (old new : Monitor) (grant : ℕ × Reply) (between posts : Posted) (standing : Standing)
+pub granted_as : {nodes : map.FinMap nat_cmp ℕ} (f : FatState) (m : ℕ) (u : ThreadId) (p : Post) (r : Role) (old new : Monitor) (grant : ℕ × Reply) (between posts : Posted) (new_lines : LinesState)
     → m < length f.monitors → old ≡ slice_index_or f.monitors m old → new ≡ record old { owner = Some u; holds = grant.0 }
-    → grant ≡ (holds_granted p, reply_granted p) → between ≡ record { posts = f.threads; flags = granted_flags f u p }
+    → grant ≡ (holds_granted p, reply_granted p) → between ≡ record { posts = f.threads; nodes = nodes; flags = granted_flags f u p }
     → posts ≡ record between { posts = map.insert between.posts u.0 (Granted grant.1) }
-    → standing.lines ≡ left f.standing.lines u m r → standing.reservations ≡ f.standing.reservations
-    → record f { monitors = slice_set f.monitors m new; threads = posts.posts; flags = posts.flags; standing = standing } ≡ granted f m u p r
-granted_as f m u p r old new grant between posts standing bound read is g b e lines kept =
-    ap (λ (h : FatState). record h { threads = posts.posts; flags = posts.flags; standing = standing }) (written f m old new (Some u) grant.0 bound read is)
-    ∙ rw (e, b, same_standing f.standing standing _ lines kept, g) refl ∙ sym (granted-is f m u p r)
+    → new_lines.lines ≡ left f.standing.lines u m r → new_lines.reservations ≡ f.standing.reservations
+    → record f { monitors = slice_set f.monitors m new; threads = posts.posts; flags = posts.flags; standing = standing new_lines } ≡ granted f m u p r
+granted_as f m u p r old new grant between posts new_lines bound read is g b e lines kept =
+    ap (λ (h : FatState). record h { threads = posts.posts; flags = posts.flags; standing = standing new_lines }) (written f m old new (Some u) grant.0 bound read is)
+    ∙ rw (e, b, same_standing f.standing new_lines _ lines kept, g) refl ∙ sym (granted-is f m u p r)
 
 -- a grant clears the flag of a wait that an interrupt ended, and no other
 pub flags_cleared : (f : FatState) (u : ThreadId) (p : Post) → reply_granted p ≡ reply.Interrupted → granted_flags f u p ≡ map.insert f.flags u.0 false
@@ -122,13 +123,13 @@ flags_kept f u (Back m n why.Elapsed) e = refl
 flags_kept f u (Granted r) e = refl
 
 -- a thread of a wait set was sent to the entry line
-pub queued_as : (f : FatState) (u : ThreadId) (w : Why) (m n : ℕ) (d : Option ℕ) (posts : Posted) (between standing : Standing)
-    → posts ≡ record { posts = map.insert f.threads u.0 (Back m n w); flags = f.flags } → between.lines ≡ left f.standing.lines u m WaitSet → between.reservations ≡ f.standing.reservations
-    → standing.lines ≡ joined between.lines u m Entry → standing.reservations ≡ between.reservations
-    → record f { threads = posts.posts; flags = posts.flags; standing = standing } ≡ queued f u w (Waiting m n d)
-queued_as f u w m n d posts between standing e lines kept more kept_too =
-    let at : standing.lines ≡ joined (left f.standing.lines u m WaitSet) u m Entry = more ∙ ap (λ (l : LineMap). joined l u m Entry) lines in
-    rw (e, same_standing f.standing standing _ at (kept_too ∙ kept)) refl
+pub queued_as : {nodes : map.FinMap nat_cmp ℕ} (f : FatState) (u : ThreadId) (w : Why) (m n : ℕ) (d : Option ℕ) (posts : Posted) (between new_lines : LinesState)
+    → posts ≡ record { posts = map.insert f.threads u.0 (Back m n w); nodes = nodes; flags = f.flags } → between.lines ≡ left f.standing.lines u m WaitSet → between.reservations ≡ f.standing.reservations
+    → new_lines.lines ≡ joined between.lines u m Entry → new_lines.reservations ≡ between.reservations
+    → record f { threads = posts.posts; flags = posts.flags; standing = standing new_lines } ≡ queued f u w (Waiting m n d)
+queued_as f u w m n d posts between new_lines e lines kept more kept_too =
+    let at : new_lines.lines ≡ joined (left f.standing.lines u m WaitSet) u m Entry = more ∙ ap (λ (l : LineMap). joined l u m Entry) lines in
+    rw (e, same_standing f.standing new_lines _ at (kept_too ∙ kept)) refl
 
 -- what a reply says at a state it says at the same state
 pub replied_at : (d : Done) (r : Reply) (f g : FatState) → ((h : FatState) → record { answer = Ok d; after = h } ≡ replied h r) → f ≡ g

@@ -1,6 +1,20 @@
--- The fat state that the fields of `Fats` show.
+-- The fat state that the fields of `Fats` show, and what always holds of them.
+use Rattle.std.specs.Prelude.{◌≡◌, true, Some}
+use Rattle.std.specs.Ordering.{nat_cmp}
+use Rattle.std.specs.FinMap as map
+use Rattle.lock_word.specs.declared.ThreadId.{ThreadId}
+use Rattle.wait_lines.specs.Lines.{NodeMap, standing}
+use Rattle.fat_monitor.specs.declared.actions.Post.{Post}
 use Rattle.fat_monitor.specs.declared.monitors.Fats.TheInside.{Inside}
-use Rattle.fat_monitor.specs.FatState.{FatState}
+use Rattle.fat_monitor.specs.FatState.{FatState, IsSound, stands}
 
 abbrev pub fat_state_in : Inside → FatState
-fat_state_in f = record { monitors = f.monitors.items; threads = f.posts.posts; flags = f.posts.flags; standing = f.lines; moment = f.moment; limit = f.limit }
+fat_state_in f = record { monitors = f.monitors.items; threads = f.posts.posts; flags = f.posts.flags; standing = standing f.lines; moment = f.moment; limit = f.limit }
+
+-- the node that is kept of a thread that stands in a line is the one at which it stands
+abbrev pub AreSeated : map.FinMap nat_cmp Post → NodeMap → NodeMap → Type 0
+AreSeated posts kept nodes = (t : ThreadId) (p : Post) → map.get posts t.0 ≡ Some p → stands p ≡ true → map.get nodes t.0 ≡ map.get kept t.0
+
+pub record IsKept (f : Inside) : Type 0 where
+  pub sound : IsSound (fat_state_in f)
+  pub seated : AreSeated f.posts.posts f.posts.nodes f.lines.nodes

@@ -3,18 +3,35 @@ use Rattle.std.specs.Prelude.{◌≡◌, ℕ, Bool, false, List, Option, Some, N
 use Rattle.std.specs.Map.{lookup}
 use Rattle.std.specs.Ordering.{nat_cmp}
 use Rattle.std.specs.FinMap as map
+use Rattle.lock_word.specs.declared.ThreadId.{ThreadId}
 use Rattle.slab.specs.Slab.{Slab, get}
 use Rattle.fat_monitor.specs.declared.actions.Post.{Post}
 use Rattle.fat_monitor.specs.declared.actions.Post.TheVariants.{Out}
 use Rattle.fat_monitor.specs.declared.posts.Record.{Record}
 
--- the posts and the interrupt flags of the attached threads, by the thread's number
+-- the posts, the nodes and the interrupt flags of the attached threads, by the thread's number
 pub record Posted : Type 0 where
   pub posts : map.FinMap nat_cmp Post
+  pub nodes : map.FinMap nat_cmp ℕ
   pub flags : map.FinMap nat_cmp Bool
 
 abbrev pub nobody_posted : Posted
-nobody_posted = record { posts = map.empty; flags = map.empty }
+nobody_posted = record { posts = map.empty; nodes = map.empty; flags = map.empty }
+
+-- the same, with one thread more, which is out and not interrupted, and without a thread
+abbrev pub with_thread_posted : Posted → ThreadId → Posted
+with_thread_posted p t = record {
+  posts = map.insert p.posts t.0 Out;
+  nodes = map.insert p.nodes t.0 0;
+  flags = map.insert p.flags t.0 false;
+}
+
+abbrev pub without_thread_posted : Posted → ThreadId → Posted
+without_thread_posted p t = record { posts = map.remove p.posts t.0; nodes = map.remove p.nodes t.0; flags = map.remove p.flags t.0 }
+
+-- the same, with this post of a thread, which stands at this node
+abbrev pub with_parked : Posted → ThreadId → Post → ℕ → Posted
+with_parked p t post n = record p { posts = map.insert p.posts t.0 post; nodes = map.insert p.nodes t.0 n }
 
 -- what is read of the record in a slot, or this where there is none
 abbrev pub value_in : {X : Type 0} → (Record → X) → X → Option Record → X
@@ -28,6 +45,7 @@ values_of read none records keys = map.from_entries (list_map (λ e. (e.0, value
 abbrev pub posted_in : Slab Record → List (ℕ × ℕ) → Posted
 posted_in records keys = record {
   posts = values_of (λ r. r.post) Out records keys;
+  nodes = values_of (λ r. r.node.0) 0 records keys;
   flags = values_of (λ r. r.flag) false records keys;
 }
 

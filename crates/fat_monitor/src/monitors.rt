@@ -95,17 +95,17 @@ pub struct Fats {
 impl Model for Fats {
     ghost use Rattle.std.specs.Coded.{codes};
     ghost use Rattle.std.specs.FinMap as map;
-    ghost use Rattle.fat_monitor.specs.FatState.{FatState, IsSound};
+    ghost use Rattle.fat_monitor.specs.FatState.{FatState};
 
     ghost Value = { FatState };
 
     ghost coded = { Prim.hlevel (codes, map.code) };
 
-    ghost use Rattle.fat_monitor.specs.Fats.{fat_state_in};
+    ghost use Rattle.fat_monitor.specs.Fats.{fat_state_in, IsKept};
 
     ghost view = { fat_state_in };
 
-    ghost invariant = { λ f. IsSound (fat_state_in f) };
+    ghost invariant = { IsKept };
 }
 
 impl Fats {

@@ -1,10 +1,10 @@
 //! The attached threads: where each stands, and whether it is interrupted.
 
-ghost use Rattle.std.specs.Prelude.{◌≡◌, ◌↔◌, OnOk, OnErr, IsErrOf, IsSome, None, false};
+ghost use Rattle.std.specs.Prelude.{◌≡◌, ◌↔◌, OnOk, OnErr, IsErrOf, IsSome, Some, None, false};
 ghost use Rattle.std.specs.Option.{unwrap_or};
 ghost use Rattle.std.specs.FinMap as map;
 ghost use Rattle.fat_monitor.specs.declared.actions.Post.{Post};
-ghost use Rattle.fat_monitor.specs.Slots.{nobody_posted};
+ghost use Rattle.fat_monitor.specs.Slots.{nobody_posted, with_thread_posted, without_thread_posted, with_parked};
 
 use crate::{AttachFault, Post};
 use lock_word::ThreadId;
@@ -12,17 +12,20 @@ use slab::Slab;
 use std::alloc::Global;
 use std::collections::HashMap;
 use std::marker::Model;
+use wait_lines::Node;
 
 /// What is kept of an attached thread.
 #[derive(Clone, Copy, PartialEq, Eq, Debug)]
 struct Record {
     thread: ThreadId,
     post: Post,
+    // Where the thread stands, if it stands in a line.
+    node: Node,
     // The interrupt flag (JLS SE 8, 17.2.3).
     flag: bool,
 }
 
-/// The post and the interrupt flag of each attached thread.
+/// The post, the node and the interrupt flag of each attached thread.
 #[derive(Drop)]
 pub(crate) struct Posts {
     records: Slab<Record>,
@@ -86,8 +89,9 @@ impl Posts {
 
     /// Attaches a thread, which stands [`Out`](Post::Out) and is not interrupted.
     pub(crate) fn add(&mut self, thread: ThreadId) -> Result<(), AttachFault>
-        ensures ok { OnOk result (self.new ≡ record { posts = map.insert self.old.posts thread.0 Post.Out; flags = map.insert self.old.flags thread.0 false }) }
+        ensures ok { OnOk result (self.new ≡ with_thread_posted self.old thread) }
         ensures fresh { OnOk result (map.get self.old.posts thread.0 ≡ None) }
+        ensures nodeless { OnOk result (map.get self.old.nodes thread.0 ≡ None) }
         ensures flagless { OnOk result (map.get self.old.flags thread.0 ≡ None) }
         ensures known { IsErrOf result AttachFault.Known ↔ IsSome (map.get self.old.posts thread.0) }
         ensures err { OnErr result (self.new ≡ self.old) }
@@ -105,6 +109,7 @@ impl Posts {
         let record = Record {
             thread,
             post: Post::Out,
+            node: Node(0),
             flag: false,
         };
         let _ = self.records.insert_reserved(record);
@@ -125,6 +130,39 @@ impl Posts {
         record.post = post;
     }
 
+    /// The node of an attached thread, at which it stands if it stands in a line.
+    pub(crate) fn node(&self, thread: ThreadId) -> Node
+        requires { IsSome (map.get self.now.posts thread.0) }
+        ensures { map.get self.now.nodes thread.0 ≡ Some result.0 }
+    {
+        let Some(key) = self.keys.get(&thread.0) else {
+            unreachable!();
+        };
+        match self.records.get(*key) {
+            Some(record) => record.node,
+            None => unreachable!(),
+        }
+    }
+
+    /// Puts an attached thread that joined a line at this node at another post.
+    pub(crate) fn park(&mut self, thread: ThreadId, post: Post, node: Node)
+        requires { IsSome (map.get self.old.posts thread.0) }
+        ensures { self.new ≡ with_parked self.old thread post node.0 }
+    {
+        let Some(key) = self.keys.get(&thread.0) else {
+            unreachable!();
+        };
+        let Some(record) = self.records.get_mut(*key) else {
+            unreachable!();
+        };
+        *record = Record {
+            thread: record.thread,
+            post,
+            node,
+            flag: record.flag,
+        };
+    }
+
     /// Sets or clears the interrupt flag of an attached thread.
     pub(crate) fn set_flag(&mut self, thread: ThreadId, flag: bool)
         requires { IsSome (map.get self.old.posts thread.0) }
@@ -142,7 +180,7 @@ impl Posts {
     /// Drops an attached thread.
     pub(crate) fn remove(&mut self, thread: ThreadId)
         requires { IsSome (map.get self.old.posts thread.0) }
-        ensures { self.new ≡ record { posts = map.remove self.old.posts thread.0; flags = map.remove self.old.flags thread.0 } }
+        ensures { self.new ≡ without_thread_posted self.old thread }
     {
         let Some(key) = self.keys.remove(&thread.0) else {
             unreachable!();

@@ -3,14 +3,14 @@ use Rattle.std.specs.Prelude.{◌≡◌, ℕ, ◌+◌, ◌-◌, ◌<◌, ◌≤�
 use Rattle.std.specs.List.{position_from}
 use Rattle.std.specs.Bool.{then_some}
 use Rattle.std.specs.Option.{option_or}
-use Rattle.std.proofs.Common.{arith, refl, ap, sym, ◌∙◌, inl, inr, length-append, append_assoc, zero-add, subst}
+use Rattle.std.proofs.Common.{arith, refl, ap, sym, ◌∙◌, inl, inr, length-append, append_assoc, zero-add, subst, get_or}
 use Rattle.std.proofs.lemmas.Bool.{cases_lt, ltb-true, ltb-false}
 use Rattle.std.proofs.lemmas.Option.{same_Some}
-use Rattle.std.proofs.lemmas.List.{length-replicate, length-set, set-append_left, set_at, append-nil}
+use Rattle.std.proofs.lemmas.List.{length-replicate, length-set, set-append_left, set_at, append-nil, same_lists, get_or_default, get_or_append_left, get_or-append_right, get_or_past}
 use Rattle.lock_word.specs.declared.ThreadId.{ThreadId}
-use Rattle.thread_index.specs.Indices.{is_held_by, seat_of, free_seat, IsOneToOne}
+use Rattle.thread_index.specs.Indices.{is_held_by, seat_of, free_seat, holder_at, IsOneToOne}
 use Rattle.thread_index.specs.Padding.{padded, IsKept}
-use Rattle.thread_index.proofs.Seats.{seat_found, free_found, IsOneToOne-taken, IsOneToOne-given, seat_of-within, free_seat-within}
+use Rattle.thread_index.proofs.Seats.{seat_found, free_found, IsOneToOne-taken, IsOneToOne-given, seat_of-within, free_seat-within, holder_at-replicate}
 
 found_by_test : (test : Option ThreadId → Bool) (i k : ℕ) (x : Option ThreadId) (xs ys : List (Option ThreadId)) (b : Bool) → test x ≡ b
     → (position_from test (i + 1) xs ≡ Some k → position_from test (i + 1) ys ≡ Some k)
@@ -82,7 +82,7 @@ free_seat-padded holders limit = by_found (free_seat holders) refl
     by_found (Some k) some = sym (free_seat-padded_some holders limit k some)
 
 -- there are as many seats as the limit says
-length-padded : (holders : List (Option ThreadId)) (limit : ℕ) → length holders ≤ limit → length (padded holders limit) ≡ limit
+pub length-padded : (holders : List (Option ThreadId)) (limit : ℕ) → length holders ≤ limit → length (padded holders limit) ≡ limit
 length-padded holders limit within =
     simp (length-append, length-replicate) (omega arith)
 
@@ -92,7 +92,7 @@ at_next holders n m x e =
     rw e (append_assoc holders (x ∷ []) (replicate m None) ∙ sym (set_at holders None (replicate m None) x (length holders) refl))
 
 -- the lowest free seat is one of those that are written down, or the next
-free_seat-written : (holders : List (Option ThreadId)) (limit k : ℕ) → length holders ≤ limit → free_seat (padded holders limit) ≡ Some k
+pub free_seat-written : (holders : List (Option ThreadId)) (limit k : ℕ) → length holders ≤ limit → free_seat (padded holders limit) ≡ Some k
     → (k ≤ length holders) × (k < limit)
 free_seat-written holders limit k within e = by_found (free_seat holders) refl
   where
@@ -175,3 +175,26 @@ IsKept_push holders new seats limit k t longer shown was beyond unknown free =
 
 -- the seats that are shown, after each change
 pub ruleset changes = (IsKept-given, IsKept-taken, IsKept_push, padded-slice_set, padded_push, seat_of-written)
+
+-- who has a seat that is shown has it among those that are written down, if it is one of them
+pub holder_at-padded : (holders : List (Option ThreadId)) (limit k : ℕ) → holder_at (padded holders limit) k ≡ holder_at holders k
+holder_at-padded holders limit k = at (cases_lt k (length holders))
+  where
+    at : (k < length holders) ⊎ (length holders ≤ k) → holder_at (padded holders limit) k ≡ holder_at holders k
+    at (inl within) = get_or_append_left holders (replicate (limit - length holders) None) None k within
+    at (inr past) =
+        get_or-append_right holders (replicate (limit - length holders) None) (length holders) k None refl past
+        ∙ (holder_at-replicate (limit - length holders) (k - length holders) ∙ sym (get_or_past holders k None past))
+
+same_holders : (limit : ℕ) (old new : List (Option ThreadId)) → length old ≤ limit → length new ≤ limit → ((k : ℕ) → holder_at new k ≡ holder_at old k)
+    → (k : ℕ) (d : Option ThreadId) → k < length (padded new limit) → get_or (padded new limit) k d ≡ get_or (padded old limit) k d
+same_holders limit old new within fits same k d below =
+    get_or_default (padded new limit) k d None below
+    ∙ (holder_at-padded new limit k ∙ same k ∙ sym (holder_at-padded old limit k))
+    ∙ get_or_default (padded old limit) k None d (rw (length-padded old limit within) (rw (length-padded new limit fits) at below))
+
+-- seats are shown the same where more of them are written down
+pub padded-same : (old new : List (Option ThreadId)) (limit : ℕ) → length old ≤ limit → length new ≤ limit → ((k : ℕ) → holder_at new k ≡ holder_at old k)
+    → padded new limit ≡ padded old limit
+padded-same old new limit within fits same =
+    same_lists (padded new limit) (padded old limit) (length-padded new limit fits ∙ sym (length-padded old limit within)) (same_holders limit old new within fits same)

@@ -1,2 +1,4 @@
 pub mod Indices
 pub mod Padding
+pub mod BitRows
+pub mod Texts

@@ -2,17 +2,22 @@
 //!
 //! A thin lock shows its owner by an index of 15 bits: 1 to 32,767, and 0 for nobody. A thread
 //! takes the lowest index that is free, keeps it while it lives, and gives it back. A seat is an
-//! index less one.
+//! index less one. What a call costs does not grow with the number of live threads: a table has
+//! the seat of each thread, and bits tell which seats are taken.
 #![tactic(auto)]
 
-ghost use Rattle.std.specs.Prelude.{◌≡◌, ◌↔◌, ◌-◌, ◌<◌, ◌≤◌, length, replicate, slice_set, is_ok, if◌then◌else◌, IsOk, IsSome, IfOk, IfErr, IfSome, OnErr, Some, None};
-ghost use Rattle.thread_index.specs.Indices.{seat_of, free_seat, holder_of, index_of, given_back, IsOneToOne};
+ghost use Rattle.std.specs.Prelude.{◌≡◌, ◌↔◌, ◌-◌, ◌<◌, ◌≤◌, ◌+◌, ℕ, length, max, replicate, slice_set, is_ok, if◌then◌else◌, IsOk, IsSome, IfOk, IfErr, IfSome, OnOk, OnErr, Some, None};
+ghost use Rattle.thread_index.specs.Indices.{seat_of, free_seat, holder_at, holder_of, index_of, given_back, IsOneToOne};
 
+mod bit_row;
+mod seat_bits;
 #[cfg(test)]
 mod tests;
 
 use lock_word::{Memory, ThreadId};
-use std::alloc::{AllocFailed, Global};
+use seat_bits::SeatBits;
+use std::alloc::{AllocError, AllocFailed, Global};
+use std::collections::HashMap;
 use std::error::Error;
 use std::fmt;
 use std::marker::Model;
@@ -29,6 +34,11 @@ pub enum TakeFault {
 }
 
 impl fmt::Display for TakeFault {
+    ghost use Rattle.std.specs.Prelude.{Some};
+    ghost use Rattle.thread_index.specs.Texts.{take_fault_text};
+
+    ghost output = { λ x. Some (take_fault_text x) };
+
     fn fmt<W: fmt::Write>(&self, f: &mut fmt::Formatter<W>) -> fmt::Result {
         f.write_str(match self {
             TakeFault::Known => "the thread has an index",
@@ -50,11 +60,25 @@ impl<T: Drop> From<AllocFailed<T>> for TakeFault {
     }
 }
 
+impl From<AllocError> for TakeFault {
+    ghost use Rattle.thread_index.specs.declared.TakeFault.{TakeFault};
+
+    ghost from_gives = { λ _ fault. fault ≡ TakeFault.Memory };
+
+    fn from(_: AllocError) -> Self {
+        TakeFault::Memory
+    }
+}
+
 /// The indices of the live threads.
 #[derive(Debug, Drop)]
 pub struct Indices {
     /// Who has the seats up to the highest that was ever taken.
     holders: Vec<Option<ThreadId>>,
+    /// Which of these seats are taken.
+    bits: SeatBits,
+    /// The seat of each thread that has one.
+    seats: HashMap<u32, u16>,
     /// How many seats there are.
     limit: u16,
 }
@@ -62,13 +86,13 @@ pub struct Indices {
 impl Model for Indices {
     ghost use Rattle.std.specs.Prelude.{List, Option};
     ghost use Rattle.lock_word.specs.declared.ThreadId.{ThreadId};
-    ghost use Rattle.thread_index.specs.Padding.{padded, IsKept};
+    ghost use Rattle.thread_index.specs.Padding.{padded, IsWhole};
 
     ghost Value = { List (Option ThreadId) };
 
     ghost view = { λ a. padded a.holders.items a.limit };
 
-    ghost invariant = { λ a. IsKept a.holders.items a.limit };
+    ghost invariant = { λ a. IsWhole a.holders.items a.limit a.bits.taken.words.items a.seats };
 }
 
 impl Indices {
@@ -82,14 +106,17 @@ impl Indices {
     {
         Ok(Indices {
             holders: Vec::new(alloc),
+            bits: SeatBits::new(alloc),
+            seats: HashMap::new(alloc),
             limit: k,
         })
     }
 
     /// Gives a thread the lowest index that is free.
     ///
-    /// Memory is asked for only where that index is beyond all that were ever taken, and
-    /// `Err(TakeFault::Memory)` comes only where the system refused it: another call may succeed.
+    /// A thread that has an index, or that finds none free, is told so without asking for memory.
+    /// `Err(TakeFault::Memory)` comes only where the system refused a growth: another call may
+    /// succeed.
     #[tactic(auto, using(crate::proofs::Seats::taken))]
     pub fn take(&mut self, id: ThreadId) -> Result<u16, TakeFault>
         ensures low { IfOk result (λ i. 1 ≤ i) }
@@ -100,8 +127,10 @@ impl Indices {
 
         // The faults, in the order in which they are looked for.
         ensures known { (result ≡ Err TakeFault.Known) ↔ IsSome (seat_of self.old id) }
-        ensures no_index { (result ≡ Err TakeFault.NoIndex) ↔ ((seat_of self.old id ≡ None) × (free_seat self.old ≡ None)) }
-        ensures memory { result ≡ Err TakeFault.Memory → (seat_of self.old id ≡ None) × IsSome (free_seat self.old) }
+        ensures no_index { (result ≡ Err TakeFault.NoIndex)
+            ↔ ((seat_of self.old id ≡ None) × (free_seat self.old ≡ None)) }
+        ensures memory { result ≡ Err TakeFault.Memory
+            → (seat_of self.old id ≡ None) × IsSome (free_seat self.old) }
         ensures err { OnErr result (self.new ≡ self.old) }
 
         ensures one_to_one { IsOneToOne self.new }
@@ -116,16 +145,16 @@ impl Indices {
     }
 
     /// Takes a thread's index back, if it has one, and says which it was.
-    #[tactic(auto, using(crate::proofs::Paddings::changes))]
     pub fn give(&mut self, id: ThreadId) -> Option<u16>
         ensures index { result ≡ index_of self.old id }
         ensures given { self.new ≡ given_back self.old (seat_of self.old id) }
         ensures one_to_one { IsOneToOne self.new }
         ensures length { length self.new ≡ length self.old }
     {
-        let index = self.index_of(id)?;
-        self.holders[usize::from(index) - 1] = None;
-        Some(index)
+        let seat = usize::from(self.seats.remove(&id.0)?);
+        self.holders[seat] = None;
+        self.bits.give(seat);
+        Some(seat as u16 + 1)
     }
 
     /// The index of a thread, if it has one.
@@ -157,7 +186,7 @@ impl Indices {
         ensures one_to_one { IsOneToOne self.now }
         ensures length { length self.now ≤ 32767 }
     {
-        seat_in(&self.holders, id)
+        self.seats.get(&id.0).map(|&seat| usize::from(seat))
     }
 
     /// The lowest seat that nobody has.
@@ -166,37 +195,36 @@ impl Indices {
         ensures seat { result ≡ free_seat self.now }
         ensures within { IfSome result (λ k. k < length self.now) }
     {
-        let next = self.holders.len();
-        let unwritten = (next < usize::from(self.limit)).then_some(next);
-        free_seat_in(&self.holders).or(unwritten)
+        let seat = self.bits.lowest_free();
+        (seat < usize::from(self.limit)).then_some(seat)
     }
 
     /// Puts a thread that has no seat at the lowest free one.
-    #[tactic(auto, using(crate::proofs::Paddings::changes))]
     fn put(&mut self, seat: usize, id: ThreadId) -> Result<(), TakeFault>
         requires unknown { seat_of self.old id ≡ None }
         requires free { free_seat self.old ≡ Some seat }
         ensures value { self.new ≡ (if is_ok result then slice_set self.old seat (Some id) else self.old) }
         ensures memory { IfErr result (λ fault. fault ≡ TakeFault.Memory) }
     {
-        match self.holders.get_mut(seat) {
-            Some(holder) => *holder = Some(id),
-            None => self.holders.push(Some(id))?,
-        }
+        self.bits.make_room(seat)?;
+        write_down(&mut self.holders, seat)?;
+        self.seats.insert(id.0, seat as u16)?;
+        self.holders[seat] = Some(id);
+        self.bits.take(seat);
         Ok(())
     }
 }
 
-/// The first place at which a thread stands.
-fn seat_in(holders: &[Option<ThreadId>], id: ThreadId) -> Option<usize>
-    ensures { result ≡ seat_of holders.now id }
+/// Writes down that nobody has the next seat, where it is this one.
+fn write_down(holders: &mut Vec<Option<ThreadId>>, seat: usize) -> Result<(), AllocError>
+    requires { seat ≤ length holders.old.items }
+    ensures ok { OnOk result (seat < length holders.new.items) }
+    ensures same { (k : ℕ) → holder_at holders.new.items k ≡ holder_at holders.old.items k }
+    ensures longer { length holders.old.items ≤ length holders.new.items }
+    ensures few { length holders.new.items ≤ max (length holders.old.items) (seat + 1) }
 {
-    holders.iter().position(|&holder| holder == Some(id))
-}
-
-/// The first place at which nobody stands.
-fn free_seat_in(holders: &[Option<ThreadId>]) -> Option<usize>
-    ensures { result ≡ free_seat holders.now }
-{
-    holders.iter().position(Option::is_none)
+    if seat == holders.len() {
+        holders.push(None)?;
+    }
+    Ok(())
 }

@@ -1,5 +1,8 @@
+mod plain;
+
 use super::{Indices, TakeFault};
 use lock_word::ThreadId;
+use plain::PlainIndices;
 use std::test::Fail;
 
 #[test]
@@ -29,22 +32,51 @@ fn two_indices_and_three_threads(rt: HostRuntime) -> Result<(), Fail> {
 }
 
 #[test]
-fn the_most_indices(rt: HostRuntime) -> Result<(), Fail> {
+fn every_index_is_taken(rt: HostRuntime) -> Result<(), Fail> {
     let mut indices = Indices::new(rt.alloc(), 32_767)?;
-    assert_eq!(rt; indices.take(ThreadId(0)), Ok(1));
-    assert_eq!(rt; indices.id_of(32_767), None);
+    for number in 0..32_767u16 {
+        assert_eq!(rt; indices.take(ThreadId(u32::from(number))), Ok(number + 1));
+    }
+    let late = ThreadId(40_000);
+    assert_eq!(rt; indices.take(late), Err(TakeFault::NoIndex));
+    for index in [64, 32_767] {
+        let holder = indices.id_of(index).ok_or("nobody")?;
+        assert_eq!(rt; indices.give(holder), Some(index));
+        assert_eq!(rt; indices.index_of(holder), None);
+        assert_eq!(rt; indices.take(late), Ok(index));
+        assert_eq!(rt; indices.take(holder), Err(TakeFault::NoIndex));
+        assert_eq!(rt; indices.give(late), Some(index));
+        assert_eq!(rt; indices.take(holder), Ok(index));
+    }
     Ok(())
 }
 
 #[test]
-fn texts(rt: HostRuntime) -> Result<(), Fail> {
-    let rows = [
-        (TakeFault::Known, "the thread has an index"),
-        (TakeFault::NoIndex, "every index is taken"),
-        (TakeFault::Memory, "out of memory"),
-    ];
-    for (fault, text) in rows {
-        assert_eq!(rt; format!(in rt.alloc(); "{fault}")?.as_str(), text);
+fn takes_and_gives_in_no_order(rt: HostRuntime) -> Result<(), Fail> {
+    let mut indices = Indices::new(rt.alloc(), 150)?;
+    let mut plain = PlainIndices::new(rt.alloc(), 150);
+    let mut state = 1u32;
+    for round in 0..8_000 {
+        state = state.wrapping_mul(1_664_525).wrapping_add(1_013_904_223);
+        let id = ThreadId((state >> 16) % 200);
+        if (state >> 8) % 8 < 5 {
+            assert_eq!(rt;
+                indices.take(id).map(usize::from),
+                plain.take(id),
+                "{round}"
+            );
+        } else {
+            assert_eq!(rt;
+                indices.give(id).map(usize::from),
+                plain.give(id),
+                "{round}"
+            );
+        }
+        assert_eq!(rt;
+            indices.index_of(id).map(usize::from),
+            plain.index_of(id),
+            "{round}"
+        );
     }
     Ok(())
 }

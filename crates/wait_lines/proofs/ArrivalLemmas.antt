@@ -1,5 +1,5 @@
 -- The lines that arrivals show, after one more and without those of a thread.
-use Rattle.std.specs.Prelude.{◌≡◌, ◌≢◌, ◌⊎◌, ℕ, ◌+◌, ◌<◌, ◌≤◌, ◌==◌, Bool, true, false, cond, not, List, [], ◌∷◌, ◌++◌, map as list_map, length, filter, Contains}
+use Rattle.std.specs.Prelude.{◌≡◌, ◌≢◌, ◌⊎◌, ℕ, ◌<◌, ◌≤◌, ◌==◌, Bool, true, false, cond, not, List, [], ◌∷◌, ◌++◌, map as list_map, length, filter, Contains}
 use Rattle.std.proofs.Common.{refl, sym, ap, ◌∙◌, subst, inl, inr, arith, append-nil}
 use Rattle.std.proofs.lemmas.Bool.{eq-eqb, eqb-true, and_parts, and_from, cases_lt}
 use Rattle.std.proofs.lemmas.List.{map-append}
@@ -7,18 +7,17 @@ use Rattle.std.proofs.lemmas.List.Elements.{filter-append}
 use Rattle.std.proofs.lemmas.List.Sums.{length-filter, count_by-le-length}
 use Rattle.lock_word.specs.declared.ThreadId.{ThreadId}
 use Rattle.wait_lines.specs.declared.Role.{Role}
-use Rattle.wait_lines.specs.declared.Arrival.{Arrival}
 use Rattle.wait_lines.specs.Lines.{Key, key, role_number, line, StandsIn, Stands, StandsNowhere, is_thread, without, joined, left, total_count, IsFilled, IsOrderly}
-use Rattle.wait_lines.specs.Arrivals.{is_in, threads_in, lines_of, standing_of, IsKept}
-use Rattle.wait_lines.proofs.LineLemmas.{same_role, key-same, cases_key, line-key, line-empty, line-with_line_same, line-with_line_other, IsFilled-empty, IsFilled-with_line, same_lines, total_count-empty, total_count-with_line, IsOrderly-nobody, IsOrderly-reserved, IsOrderly-joined, IsOrderly-left}
+use Rattle.wait_lines.specs.Arrivals.{Arrival, is_in, threads_in, lines_of, standing_of}
+use Rattle.wait_lines.proofs.LineLemmas.{same_role, key-same, cases_key, line-key, line-empty, line-with_line_same, line-with_line_other, IsFilled-empty, IsFilled-with_line, same_lines, total_count-empty, total_count-with_line, IsOrderly-left}
 use Rattle.wait_lines.proofs.ThreadLemmas.{same_thread, is_same, Contains-cons_cases, Contains-cons_first, Contains-cons_later, Contains-without_itself, without-absent}
 
-is_in-key : (m : ℕ) (r : Role) (a : Arrival) → is_in m r a ≡ true → key m r ≡ key a.place a.role
+pub is_in-key : (m : ℕ) (r : Role) (a : Arrival) → is_in m r a ≡ true → key m r ≡ key a.place a.role
 is_in-key m r a e =
     let both = and_parts (a.place == m) (role_number a.role == role_number r) e in
     key-same m a.place r a.role (sym (eqb-true a.place m both.0)) (sym (same_role a.role r (eqb-true (role_number a.role) (role_number r) both.1)))
 
-is_in-itself : (m : ℕ) (r : Role) (a : Arrival) → key m r ≡ key a.place a.role → is_in m r a ≡ true
+pub is_in-itself : (m : ℕ) (r : Role) (a : Arrival) → key m r ≡ key a.place a.role → is_in m r a ≡ true
 is_in-itself m r a e =
     and_from (a.place == m) (role_number a.role == role_number r) (eq-eqb a.place m (ap (λ (k : Key). k.0) (sym e))) (eq-eqb (role_number a.role) (role_number r) (ap (λ (k : Key). role_number k.1) (sym e)))
 
@@ -183,22 +182,27 @@ IsOrderly-others t arrivals reservations orderly = at (cases_lt (length (others 
         (IsOrderly-left (standing_of arrivals reservations) t stands.0 stands.1 orderly)
     at (inr all) = subst (λ l. IsOrderly (standing_of l reservations)) (sym (others-all t arrivals all)) orderly
 
-pub IsKept-none : (arrivals : List Arrival) (capacity : ℕ) → arrivals ≡ [] → IsKept arrivals capacity 0
-IsKept-none arrivals capacity e = record { orderly = rw e IsOrderly-nobody; room = omega arith }
+-- ---- one more, before others of other lines
 
-pub IsKept-reserved : (arrivals now : List Arrival) (before after reservations : ℕ) → IsKept arrivals before reservations → now ≡ arrivals → reservations < 32767 → reservations + 1 ≤ after
-    → IsKept now after (reservations + 1)
-IsKept-reserved arrivals now before after reservations kept e few room =
-    record { orderly = rw e (IsOrderly-reserved (standing_of arrivals reservations) kept.orderly few); room = room }
+threads_in-append : (xs ys : List Arrival) (m : ℕ) (r : Role) → threads_in (xs ++ ys) m r ≡ threads_in xs m r ++ threads_in ys m r
+threads_in-append xs ys m r =
+    ap (list_map (λ (x : Arrival). x.thread)) (filter-append (is_in m r) xs ys)
+    ∙ map-append (λ (x : Arrival). x.thread) (filter (is_in m r) xs) (filter (is_in m r) ys)
 
-pub IsKept-push : (arrivals now : List Arrival) (a : Arrival) (before after reservations : ℕ) → IsKept arrivals before reservations → now ≡ arrivals ++ a ∷ [] → after ≡ before
-    → StandsNowhere (lines_of arrivals) a.thread → total_count (lines_of arrivals) < reservations → IsKept now after reservations
-IsKept-push arrivals now a before after reservations kept e same nowhere room =
-    record {
-      orderly = rw (e, lines_of-push arrivals a) (IsOrderly-joined (standing_of arrivals reservations) a.thread a.place a.role kept.orderly nowhere room);
-      room = let h = kept.room in omega arith;
-    }
-
-pub IsKept-others : (t : ThreadId) (arrivals now : List Arrival) (before after reservations : ℕ) → IsKept arrivals before reservations → now ≡ others t arrivals → after ≡ before → IsKept now after reservations
-IsKept-others t arrivals now before after reservations kept e same =
-    record { orderly = rw e (IsOrderly-others t arrivals reservations kept.orderly); room = let h = kept.room in omega arith }
+pub lines_of-insert : (xs ys : List Arrival) (a : Arrival) → threads_in ys a.place a.role ≡ [] → lines_of (xs ++ a ∷ ys) ≡ joined (lines_of (xs ++ ys)) a.thread a.place a.role
+lines_of-insert xs ys a none =
+    same_lines _ _ (IsFilled-lines_of (xs ++ a ∷ ys)) (IsFilled-with_line (lines_of (xs ++ ys)) a.place a.role _ (IsFilled-lines_of (xs ++ ys))) (λ m r.
+    line-lines_of (xs ++ a ∷ ys) m r ∙ threads_in-append xs (a ∷ ys) m r ∙ at m r (is_in m r a) refl)
+  where
+    at : (m : ℕ) (r : Role) (b : Bool) → is_in m r a ≡ b
+        → threads_in xs m r ++ list_map (λ (x : Arrival). x.thread) (cond b (a ∷ filter (is_in m r) ys) (filter (is_in m r) ys)) ≡ line (joined (lines_of (xs ++ ys)) a.thread a.place a.role) m r
+    at m r true e =
+        let same = is_in-key m r a e in
+        let here : threads_in ys m r ≡ [] = ap (λ (k : Key). threads_in ys k.0 k.1) same ∙ none in
+        ap (λ l. threads_in xs m r ++ a.thread ∷ l) here
+        ∙ ap (λ l. l ++ a.thread ∷ []) (sym (append-nil (threads_in xs m r)) ∙ ap (λ l. threads_in xs m r ++ l) (sym here) ∙ sym (threads_in-append xs ys m r) ∙ sym (line-lines_of (xs ++ ys) m r) ∙ line-key (lines_of (xs ++ ys)) a.place m a.role r same)
+        ∙ sym (line-key (joined (lines_of (xs ++ ys)) a.thread a.place a.role) a.place m a.role r same
+        ∙ line-with_line_same (lines_of (xs ++ ys)) a.place a.role (line (lines_of (xs ++ ys)) a.place a.role ++ a.thread ∷ []))
+    at m r false e =
+        sym (threads_in-append xs ys m r) ∙ sym (line-lines_of (xs ++ ys) m r)
+        ∙ sym (line-with_line_other (lines_of (xs ++ ys)) a.place m a.role r (line (lines_of (xs ++ ys)) a.place a.role ++ a.thread ∷ []) (λ same. let yes = is_in-itself m r a same in cc))

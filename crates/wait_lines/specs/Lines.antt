@@ -78,6 +78,24 @@ pub record Standing : Type 0 where
   pub lines : LineMap
   pub reservations : ℕ
 
+-- the node of each thread that stands in a line
+abbrev pub NodeMap : Type 0
+NodeMap = map.FinMap nat_cmp ℕ
+
+-- a thread stands at this node
+abbrev pub StandsAt : NodeMap → ThreadId → ℕ → Type 0
+StandsAt nodes t n = map.get nodes t.0 ≡ Some n
+
+-- who stands where, at which node, and for how many threads there is room
+pub record LinesState : Type 0 where
+  pub lines : LineMap
+  pub nodes : NodeMap
+  pub reservations : ℕ
+
+-- the same, but for the nodes
+abbrev pub standing : LinesState → Standing
+standing s = record { lines = s.lines; reservations = s.reservations }
+
 -- nobody stands anywhere, and there is room for nobody
 abbrev pub nobody : Standing
 nobody = record { lines = map.empty; reservations = 0 }

@@ -5,20 +5,26 @@
 //! each keeps the order of joining.
 #![tactic(auto)]
 
-ghost use Rattle.std.specs.Prelude.{◌≡◌, ◌↔◌, ◌+◌, ◌<◌, ◌≤◌, ℕ, length, IsTrue, OnOk, OnErr, slice_get};
+ghost use Rattle.std.specs.Prelude.{◌≡◌, ◌↔◌, ◌+◌, ◌<◌, ◌≤◌, ℕ, length, IsTrue, IfSome, IfNone, OnOk, OnErr, slice_get};
 ghost use Rattle.std.specs.Bool.{OnFalse};
 ghost use Rattle.wait_lines.specs.declared.Role.{Role};
-ghost use Rattle.wait_lines.specs.Lines.{line, joined, left, StandsIn, Stands, StandsNowhere, total_count, nobody, IsOrderly};
-ghost use Rattle.wait_lines.specs.Arrivals.{is_in};
+ghost use Rattle.wait_lines.specs.Lines.{line, joined, left, StandsIn, Stands, StandsNowhere, total_count, nobody, standing, IsOrderly, StandsAt};
+ghost use Rattle.std.specs.FinMap as map;
+ghost use Rattle.lock_word.specs.declared.ThreadId.{ThreadId};
 
 mod iter;
+mod links;
+mod table;
 #[cfg(test)]
 mod tests;
 
 pub use iter::All;
+pub use links::Node;
+use links::{Links, Stop};
 use lock_word::{Memory, ThreadId};
 use std::alloc::Global;
 use std::marker::Model;
+use table::Table;
 
 /// Which of a monitor's two lines.
 #[derive(Clone, Copy, PartialEq, Eq, Hash, Debug)]
@@ -29,61 +35,48 @@ pub enum Role {
     Waiting,
 }
 
-/// A thread that stands in a line.
-#[derive(Clone, Copy, PartialEq, Eq, Debug)]
-struct Arrival {
-    thread: ThreadId,
-    place: u32,
-    role: Role,
-}
-
-impl Arrival {
-    /// Whether the thread stands in this line.
-    fn is_in(&self, place: u32, role: Role) -> bool
-        ensures { result ≡ is_in place role self.now }
-    {
-        self.place == place && self.role == role
-    }
-}
-
 /// The lines of all monitors, which are named by their numbers.
+///
+/// A line is linked from node to node, and a table has the record of each line that has a thread,
+/// so what a call costs does not grow with the number of lines or of those who stand in them,
+/// unless it is said to walk.
 ///
 /// A thread stands in one line at most, and once. Joining asks for no memory: it uses a reservation,
 /// and leaving makes that free again.
 #[derive(Debug, Drop)]
 pub struct Lines {
-    /// The threads of all lines, in order of joining.
-    arrivals: Vec<Arrival>,
-    /// For how many threads there is room, 0 to 32,767.
-    reservations: u16,
+    links: Links,
+    table: Table,
 }
 
 impl Model for Lines {
     ghost use Rattle.std.specs.Coded.{codes};
     ghost use Rattle.std.specs.FinMap as map;
-    ghost use Rattle.std.specs.Vec.{vec_capacity};
-    ghost use Rattle.wait_lines.specs.Lines.{Standing};
+    ghost use Rattle.wait_lines.specs.Lines.{LinesState};
 
-    ghost Value = { Standing };
+    ghost Value = { LinesState };
 
     ghost coded = { Prim.hlevel (codes, map.code) };
 
-    ghost use Rattle.wait_lines.specs.Arrivals.{standing_of, IsKept};
+    ghost use Rattle.wait_lines.specs.Links.{chart};
+    ghost use Rattle.wait_lines.specs.Arrivals.{shown};
+    ghost use Rattle.wait_lines.specs.Tables.{IsWhole};
 
-    ghost view = { λ l. standing_of l.arrivals.items l.reservations };
+    ghost view = { λ l. shown (chart l.links) };
 
-    ghost invariant = { λ l. IsKept l.arrivals.items (vec_capacity l.arrivals) l.reservations };
+    ghost invariant = { λ l. IsWhole (chart l.links) l.table };
 }
 
 impl Lines {
     /// Nobody stands in a line. No memory is asked for yet.
     pub fn new(alloc: Global) -> Lines
-        ensures empty { result ≡ nobody }
-        ensures orderly { IsOrderly result }
+        ensures empty { standing result ≡ nobody }
+        ensures nodes { result.nodes ≡ map.empty }
+        ensures orderly { IsOrderly (standing result) }
     {
         Lines {
-            arrivals: Vec::new(alloc),
-            reservations: 0,
+            links: Links::new(alloc),
+            table: Table::new(alloc),
         }
     }
 
@@ -92,40 +85,28 @@ impl Lines {
     pub fn reserve_one(&mut self) -> Result<(), Memory>
         requires { self.old.reservations < 32767 }
         ensures lines { self.new.lines ≡ self.old.lines }
+        ensures nodes { self.new.nodes ≡ self.old.nodes }
         ensures ok { OnOk result (self.new.reservations ≡ self.old.reservations + 1) }
         ensures err { OnErr result (self.new ≡ self.old) }
-        ensures orderly { IsOrderly self.new }
+        ensures orderly { IsOrderly (standing self.new) }
     {
-        let wanted = usize::from(self.reservations) + 1;
-        self.arrivals.reserve(wanted - self.arrivals.len())?;
-        self.reservations += 1;
+        self.links.reserve()?;
+        self.table.grow()?;
+        self.links.grow();
+        self.table.spread(&self.links);
         Ok(())
     }
 
     /// For how many threads there is room, 0 to 32,767.
     pub fn reservations(&self) -> u16
         ensures reservations { result ≡ self.now.reservations }
-        ensures orderly { IsOrderly self.now }
+        ensures orderly { IsOrderly (standing self.now) }
     {
-        self.reservations
+        self.links.spots.len() as u16
     }
 
-    /// Puts a thread at the end of a line.
-    pub fn join(&mut self, thread: ThreadId, place: u32, role: Role)
-        requires nowhere { StandsNowhere self.old.lines thread }
-        requires room { total_count self.old.lines < self.old.reservations }
-        ensures joined { self.new.lines ≡ joined self.old.lines thread place role }
-        ensures reservations { self.new.reservations ≡ self.old.reservations }
-        ensures orderly { IsOrderly self.new }
-    {
-        self.arrivals.push_reserved(Arrival {
-            thread,
-            place,
-            role,
-        });
-    }
-
-    /// Takes a thread out of the line that it stands in, and says whether it stood in one.
+    /// Takes a thread out of the line that it stands in, and says whether it stood in one. This walks
+    /// the lines.
     pub fn leave(&mut self, thread: ThreadId) -> bool
         ensures stood { IsTrue result ↔ Stands self.old.lines thread }
         ensures left { (m : ℕ) (r : Role) → StandsIn self.old.lines thread m r
@@ -133,17 +114,31 @@ impl Lines {
         ensures gone { StandsNowhere self.new.lines thread }
         ensures stays { OnFalse result (self.new ≡ self.old) }
         ensures reservations { self.new.reservations ≡ self.old.reservations }
-        ensures orderly { IsOrderly self.new }
+        ensures orderly { IsOrderly (standing self.new) }
     {
-        let before = self.arrivals.len();
-        self.arrivals.retain(|arrival| arrival.thread != thread);
-        self.arrivals.len() < before
+        match self.node_of(thread) {
+            Some(node) => {
+                self.leave_at(node);
+                true
+            }
+            None => false,
+        }
+    }
+
+    /// The node at which a thread stands; None where it stands in no line. This walks the lines.
+    pub fn node_of(&self, thread: ThreadId) -> Option<Node>
+        ensures found { IfSome result (λ n. StandsAt self.now.nodes thread n.0) }
+        ensures stands { IfSome result (λ n. Stands self.now.lines thread) }
+        ensures none { IfNone result (StandsNowhere self.now.lines thread) }
+        ensures orderly { IsOrderly (standing self.now) }
+    {
+        self.links.node_of(thread)
     }
 
     /// The thread that joined a line first, of those that stand in it.
     pub fn first(&self, place: u32, role: Role) -> Option<ThreadId>
         ensures first { result ≡ slice_get (line self.now.lines place role) 0 }
-        ensures orderly { IsOrderly self.now }
+        ensures orderly { IsOrderly (standing self.now) }
     {
         self.all(place, role).next()
     }
@@ -152,8 +147,50 @@ impl Lines {
     pub fn all(&self, place: u32, role: Role) -> All<'_>
         ensures threads { result ≡ line self.now.lines place role }
         ensures few { length result ≤ 32767 }
-        ensures orderly { IsOrderly self.now }
+        ensures orderly { IsOrderly (standing self.now) }
     {
-        All::new(&self.arrivals, place, role)
+        let first = self.table.first_of(&self.links, place, role);
+        All::new(&self.links.spots, first)
+    }
+
+    /// Puts a thread at the end of a line, and answers its node, which stays its node until it
+    /// leaves. No other thread moves.
+    pub fn join(&mut self, thread: ThreadId, place: u32, role: Role) -> Node
+        requires nowhere { StandsNowhere self.old.lines thread }
+        requires room { total_count self.old.lines < self.old.reservations }
+        ensures joined { self.new.lines ≡ joined self.old.lines thread place role }
+        ensures node { self.new.nodes ≡ map.insert self.old.nodes thread.0 result.0 }
+        ensures reservations { self.new.reservations ≡ self.old.reservations }
+        ensures orderly { IsOrderly (standing self.new) }
+    {
+        let Stop::At(node) = self.links.first_free else {
+            unreachable!();
+        };
+        let Some(line) = self.table.line_for(&self.links, place, role) else {
+            unreachable!();
+        };
+        self.links.unlink(node);
+        self.links.seat(node, thread);
+        self.links.name(line, place, role);
+        self.links.link(node, Stop::End(line));
+        self.table.put(line, place, role);
+        node
+    }
+
+    /// Takes the thread that stands at a node out of its line. No other thread moves.
+    pub fn leave_at(&mut self, node: Node)
+        requires stands { (t : ThreadId) × StandsAt self.old.nodes t node.0 }
+        ensures left { (t : ThreadId) (m : ℕ) (r : Role)
+            → StandsAt self.old.nodes t node.0 → StandsIn self.old.lines t m r
+            → self.new.lines ≡ left self.old.lines t m r }
+        ensures nodes { (t : ThreadId) → StandsAt self.old.nodes t node.0
+            → self.new.nodes ≡ map.remove self.old.nodes t.0 }
+        ensures reservations { self.new.reservations ≡ self.old.reservations }
+        ensures orderly { IsOrderly (standing self.new) }
+    {
+        let before = self.links.before(Stop::At(node));
+        self.links.unlink(node);
+        self.links.link(node, Stop::Free);
+        self.table.release(&self.links, before);
     }
 }

@@ -1,7 +1,10 @@
 ghost use Rattle.std.specs.Prelude.{◌≡◌, ◌+◌, ◌<◌, OnOk};
 
+mod plain;
+
 use super::{Lines, Role};
 use lock_word::{Memory, ThreadId};
+use plain::PlainLines;
 use std::test::Fail;
 
 /// Makes room for one more thread, and moves this one to the end of a line.
@@ -65,5 +68,60 @@ fn the_middle_one_leaves(rt: HostRuntime) -> Result<(), Fail> {
         .map(|thread| thread.0)
         .collect(rt.alloc())?;
     assert_eq!(rt; line.as_slice(), [3, 2].as_slice());
+    Ok(())
+}
+
+#[test]
+fn a_long_line_is_emptied_from_the_middle_outwards(rt: HostRuntime) -> Result<(), Fail> {
+    let mut lines = Lines::new(rt.alloc());
+    let mut plain = PlainLines::new(rt.alloc());
+    for number in 0..1000 {
+        add(&mut lines, number, 3, Role::Waiting)?;
+        plain.join(ThreadId(number), 3, Role::Waiting)?;
+    }
+    for turn in 0..1000 {
+        let thread = ThreadId(if turn % 2 == 0 {
+            500 + turn / 2
+        } else {
+            499 - turn / 2
+        });
+        let node = lines.node_of(thread).ok_or("nowhere")?;
+        lines.leave_at(node);
+        plain.leave(thread);
+        assert_eq!(rt; lines.node_of(thread), None);
+        let all = lines
+            .all(3, Role::Waiting)
+            .collect::<Vec<ThreadId>>(rt.alloc())?;
+        assert!(rt; all == plain.all(rt.alloc(), 3, Role::Waiting)?, "{turn}");
+    }
+    assert_eq!(rt; lines.first(3, Role::Waiting), None);
+    Ok(())
+}
+
+#[test]
+fn threads_join_and_leave_in_no_order(rt: HostRuntime) -> Result<(), Fail> {
+    let mut lines = Lines::new(rt.alloc());
+    let mut plain = PlainLines::new(rt.alloc());
+    let mut state = 1u32;
+    for round in 0..600u32 {
+        state = state.wrapping_mul(1_664_525).wrapping_add(1_013_904_223);
+        let thread = ThreadId((state >> 8) % 60);
+        let place = (state >> 16) % 90;
+        let role = if state >> 31 == 0 {
+            Role::Entry
+        } else {
+            Role::Waiting
+        };
+        plain.leave(thread);
+        if (state >> 24) % 4 == 0 {
+            let _stood = lines.leave(thread);
+        } else {
+            add(&mut lines, thread.0, place, role)?;
+            plain.join(thread, place, role)?;
+        }
+        let all = lines.all(place, role).collect::<Vec<ThreadId>>(rt.alloc())?;
+        assert!(rt; all == plain.all(rt.alloc(), place, role)?, "{round}");
+        assert_eq!(rt; lines.first(place, role), all.first().copied(), "{round}");
+    }
     Ok(())
 }

@@ -28,8 +28,8 @@ impl Fats {
             return reply_with(Reply::Entered);
         };
         if owner.0 != thread.0 {
-            self.posts.set(thread, Post::Entering { monitor });
-            self.lines.join(thread, monitor, Role::Entry);
+            let node = self.lines.join(thread, monitor, Role::Entry);
+            self.posts.park(thread, Post::Entering { monitor }, node);
             return tell(Answer::Parked, None, None);
         }
         let holds = self.holds(monitor);
@@ -78,8 +78,8 @@ impl Fats {
             deadline: deadline(self.moment, millis, nanos),
         };
         let granted = self.hand_on(monitor);
-        self.posts.set(thread, post);
-        self.lines.join(thread, monitor, Role::Waiting);
+        let node = self.lines.join(thread, monitor, Role::Waiting);
+        self.posts.park(thread, post, node);
         tell(Answer::Parked, granted, None)
     }
 
@@ -210,13 +210,13 @@ impl Fats {
         requires comes { ComesBack post }
         ensures { (r : Role) → place_of (post_at self.old thread) ≡ Some (key monitor r) → self.new ≡ granted self.old monitor thread post r }
     {
+        self.lines.leave_at(self.posts.node(thread));
         let (holds, reply) = granted_to(post);
         self.monitors[monitor as usize].give(Some(thread), holds);
         if let Reply::Interrupted = reply {
             self.posts.set_flag(thread, false);
         }
         self.posts.set(thread, Post::Granted(reply));
-        self.lines.leave(thread);
     }
 
     /// Takes a thread out of its wait set: behind an owner it goes to the end of the entry line, and a
@@ -238,9 +238,9 @@ impl Fats {
             self.grant(monitor, thread, back);
             return Some(thread);
         }
-        self.posts.set(thread, back);
-        self.lines.leave(thread);
-        self.lines.join(thread, monitor, Role::Entry);
+        self.lines.leave_at(self.posts.node(thread));
+        let node = self.lines.join(thread, monitor, Role::Entry);
+        self.posts.park(thread, back, node);
         None
     }
 

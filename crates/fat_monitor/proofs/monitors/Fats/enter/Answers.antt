@@ -1,4 +1,4 @@
-use Rattle.std.proofs.Common.{◌+◌, ◌<◌, Some, Ok, subst, arith}
+use Rattle.std.proofs.Common.{◌+◌, ◌<◌, Some, Ok, subst, sym, arith}
 use Rattle.std.proofs.lemmas.Bool.{lt-ltb, eq-eqb, ne_eqb}
 use Rattle.wait_lines.specs.declared.Role.TheVariants.{Entry}
 use Rattle.fat_monitor.specs.declared.actions.Action.TheVariants.{Enter}
@@ -7,6 +7,11 @@ use Rattle.fat_monitor.specs.FatState.{FatState, IsSound}
 use Rattle.fat_monitor.specs.Fats.{fat_state_in}
 use Rattle.fat_monitor.proofs.Soundness.{stands_nowhere, room_to_join}
 use Rattle.fat_monitor.proofs.Steps.{written, parked_as, replied_at, told_at, sound_after}
+use Rattle.std.specs.FinMap as map
+use Rattle.fat_monitor.specs.Slots.{Posted}
+use Rattle.fat_monitor.specs.Fats.{AreSeated}
+use Rattle.wait_lines.specs.Lines.{NodeMap}
+use Rattle.fat_monitor.proofs.Seats.{AreSeated-joined}
 use Rattle.fat_monitor.proofs.monitors.Fats.enter.Goals as goal
 
 pub returns-in_default : goal.returns-in_default
@@ -17,22 +22,31 @@ returns-in_default c =
 
 pub invariant_of-self : goal.invariant_of-self
 invariant_of-self c =
-    sound_after c.args.self.now _ c.args.thread (Enter c.args.monitor) (Ok c.reply_with.result)
-    (subst (λ (f : FatState). IsSound f) c.self.view_is c.self.invariant) c.requires.out c.requires.bound (returns-in_default c)
+    record {
+      sound =
+          sound_after c.args.self.now _ c.args.thread (Enter c.args.monitor) (Ok c.reply_with.result)
+          (subst (λ (f : FatState). IsSound f) c.self.view_is c.self.invariant.sound) c.requires.out c.requires.bound (returns-in_default c);
+      seated = c.self.invariant.seated;
+    }
 
-pub join-requires-clause-nowhere : goal.join-requires-clause-nowhere
-join-requires-clause-nowhere c = stands_nowhere (fat_state_in c.self.inside) c.args.thread c.self.invariant (rw (← c.self.view_is) at c.requires.out)
+pub join-node-requires-clause-nowhere : goal.join-node-requires-clause-nowhere
+join-node-requires-clause-nowhere c = stands_nowhere (fat_state_in c.self.inside) c.args.thread c.self.invariant.sound (rw (← c.self.view_is) at c.requires.out)
 
-pub join-requires-clause-room : goal.join-requires-clause-room
-join-requires-clause-room c = room_to_join (fat_state_in c.self.inside) c.args.thread c.self.invariant (rw (← c.self.view_is) at c.requires.out)
+pub join-node-requires-clause-room : goal.join-node-requires-clause-room
+join-node-requires-clause-room c = room_to_join (fat_state_in c.self.inside) c.args.thread c.self.invariant.sound (rw (← c.self.view_is) at c.requires.out)
 
 pub invariant_of-self-then-owner-thread : goal.invariant_of-self-then-owner-thread
 invariant_of-self-then-owner-thread c =
-    let after = parked_as (fat_state_in c.self.inside) c.args.thread (Entering c.args.monitor) c.args.monitor Entry c.set.new.self c.join.new.self c.set.ensures c.join.ensures.joined c.join.ensures.reservations in
-    sound_after c.args.self.now _ c.args.thread (Enter c.args.monitor) (Ok c.tell.result)
-    (subst (λ (f : FatState). IsSound f) c.self.view_is c.self.invariant) c.requires.out c.requires.bound
-    (rw (← c.in-Some.ensures, ne_eqb c.in-Some.owner.0 c.args.thread.0 c.if-owner-thread.true, ← c.self.view_is)
-    (told_at c.tell.result _ _ _ _ _ c.tell.ensures after))
+    record {
+      sound =
+          let after = parked_as (fat_state_in c.self.inside) c.args.thread (Entering c.args.monitor) c.args.monitor Entry c.park.new.self c.join-node.new.self c.park.ensures c.join-node.ensures.joined c.join-node.ensures.reservations in
+          sound_after c.args.self.now _ c.args.thread (Enter c.args.monitor) (Ok c.tell.result)
+          (subst (λ (f : FatState). IsSound f) c.self.view_is c.self.invariant.sound) c.requires.out c.requires.bound
+          (rw (← c.in-Some.ensures, ne_eqb c.in-Some.owner.0 c.args.thread.0 c.if-owner-thread.true, ← c.self.view_is)
+          (told_at c.tell.result _ _ _ _ _ c.tell.ensures after));
+      seated = subst (λ (m : NodeMap). AreSeated c.park.new.self.posts c.park.new.self.nodes m) (sym c.join-node.ensures.node)
+          (subst (λ (p : Posted). AreSeated p.posts p.nodes (map.insert c.self.inside.lines.nodes c.args.thread.0 c.join-node.result.0)) (sym c.park.ensures) (AreSeated-joined _ _ _ c.self.invariant.seated c.args.thread (Entering c.args.monitor) c.join-node.result.0));
+    }
 
 pub returns-then-holds : goal.returns-then-holds
 returns-then-holds c =
@@ -50,5 +64,9 @@ returns c =
 
 pub invariant_of-self-2 : goal.invariant_of-self-2
 invariant_of-self-2 c =
-    sound_after c.args.self.now _ c.args.thread (Enter c.args.monitor) (Ok c.reply_with-2.result)
-    (subst (λ (f : FatState). IsSound f) c.self.view_is c.self.invariant) c.requires.out c.requires.bound (returns c)
+    record {
+      sound =
+          sound_after c.args.self.now _ c.args.thread (Enter c.args.monitor) (Ok c.reply_with-2.result)
+          (subst (λ (f : FatState). IsSound f) c.self.view_is c.self.invariant.sound) c.requires.out c.requires.bound (returns c);
+      seated = c.self.invariant.seated;
+    }

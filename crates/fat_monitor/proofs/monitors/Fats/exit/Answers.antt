@@ -18,5 +18,9 @@ returns-then-holds-gt1 c =
 
 pub invariant_of-self : goal.invariant_of-self
 invariant_of-self c =
-    sound_after c.args.self.now _ c.args.thread (Exit c.args.monitor) (Ok c.reply_with-then-holds-gt1.result)
-    (subst (λ (f : FatState). IsSound f) c.self.view_is c.self.invariant) c.requires.out c.requires.bound (returns-then-holds-gt1 c)
+    record {
+      sound =
+          sound_after c.args.self.now _ c.args.thread (Exit c.args.monitor) (Ok c.reply_with-then-holds-gt1.result)
+          (subst (λ (f : FatState). IsSound f) c.self.view_is c.self.invariant.sound) c.requires.out c.requires.bound (returns-then-holds-gt1 c);
+      seated = c.self.invariant.seated;
+    }

@@ -11,28 +11,32 @@ use Rattle.fat_monitor.proofs.monitors.Fats.hand_on.Goals as goal
 
 pub invariant_of-self : goal.invariant_of-self
 invariant_of-self c =
-    let bound = rw (← c.self.view_is) at c.requires in
-    let after = written (fat_state_in c.self.inside) c.args.monitor c.index_mut.result.now c.give.new.self None 0 bound c.index_mut.ensures.value c.give.ensures in
-    let kept = rw (← c.in_default.ensures.first) at (IsSound-handed_on (fat_state_in c.self.inside) c.args.monitor c.self.invariant bound) in
-    rw (after) kept
+    record {
+      sound =
+          let bound = rw (← c.self.view_is) at c.requires in
+          let after = written (fat_state_in c.self.inside) c.args.monitor c.index_mut.result.now c.give.new.self None 0 bound c.index_mut.ensures.value c.give.ensures in
+          let kept = rw (← c.in_default.ensures.first) at (IsSound-handed_on (fat_state_in c.self.inside) c.args.monitor c.self.invariant.sound bound) in
+          rw (after) kept;
+      seated = c.self.invariant.seated;
+    }
 
 pub grant-requires-clause-stands : goal.grant-requires-clause-stands
 grant-requires-clause-stands c =
     let f = fat_state_in c.self.inside in
-    let stood = c.self.invariant.standing c.in-Some.next c.args.monitor Entry (StandsIn-first f.standing.lines c.in-Some.next c.args.monitor Entry (sym c.in-Some.ensures.first)) in
+    let stood = c.self.invariant.sound.standing c.in-Some.next c.args.monitor Entry (StandsIn-first f.standing.lines c.in-Some.next c.args.monitor Entry (sym c.in-Some.ensures.first)) in
     rw (← c.self.view_is) (Entry, ap place_of (post_at-is f c.in-Some.next stood.0 stood.1) ∙ stood.2)
 
 pub grant-requires-clause-comes : goal.grant-requires-clause-comes
 grant-requires-clause-comes c =
     let f = fat_state_in c.self.inside in
-    let stood = c.self.invariant.standing c.in-Some.next c.args.monitor Entry (StandsIn-first f.standing.lines c.in-Some.next c.args.monitor Entry (sym c.in-Some.ensures.first)) in
-    rw (c.unwrap_or-post.ensures, c.get.ensures, stood.1) (comes_back f stood.0 (c.self.invariant.proper c.in-Some.next stood.0 stood.1))
+    let stood = c.self.invariant.sound.standing c.in-Some.next c.args.monitor Entry (StandsIn-first f.standing.lines c.in-Some.next c.args.monitor Entry (sym c.in-Some.ensures.first)) in
+    rw (c.unwrap_or-post.ensures, c.get.ensures, stood.1) (comes_back f stood.0 (c.self.invariant.sound.proper c.in-Some.next stood.0 stood.1))
 
 pub returns-clause-after : goal.returns-clause-after
 returns-clause-after c =
     let f = c.args.self.now in
     let first : first_of f c.args.monitor Entry ≡ Some c.in-Some.next = rw (← c.self.view_is) (sym c.in-Some.ensures.first) in
-    let sound = subst (λ (f : FatState). IsSound f) c.self.view_is c.self.invariant in
+    let sound = subst (λ (f : FatState). IsSound f) c.self.view_is c.self.invariant.sound in
     let stood = sound.standing c.in-Some.next c.args.monitor Entry (StandsIn-first f.standing.lines c.in-Some.next c.args.monitor Entry first) in
     let post : c.unwrap_or-post.result ≡ post_at f c.in-Some.next = rw (c.unwrap_or-post.ensures, c.get.ensures, ← c.self.view_is) refl in
     rw (first) (

@@ -1,7 +1,9 @@
-use Rattle.std.proofs.Common.{true}
+use Rattle.std.proofs.Common.{true, sym, subst}
 use Rattle.fat_monitor.specs.Fats.{fat_state_in}
 use Rattle.fat_monitor.proofs.SoundSteps.{IsSound-flags}
 use Rattle.fat_monitor.proofs.Steps.{flagged_as, replied_at, interrupted_outside}
+use Rattle.fat_monitor.specs.Slots.{Posted}
+use Rattle.fat_monitor.specs.Fats.{AreSeated}
 use Rattle.fat_monitor.proofs.monitors.Fats.interrupt.Goals as goal
 
 pub returns-in_default : goal.returns-in_default
@@ -9,13 +11,21 @@ returns-in_default c t = rw (← c.self.view_is, ← c.in_default.ensures) (c.re
 
 pub invariant_of-self : goal.invariant_of-self
 invariant_of-self c =
-    let f = fat_state_in c.self.inside in
-    rw (flagged_as f c.args.target true c.set_flag.new.self c.set_flag.ensures) (IsSound-flags f _ c.self.invariant)
+    record {
+      sound =
+          let f = fat_state_in c.self.inside in
+          rw (flagged_as f c.args.target true c.set_flag.new.self c.set_flag.ensures) (IsSound-flags f _ c.self.invariant.sound);
+      seated = subst (λ (p : Posted). AreSeated p.posts p.nodes c.self.inside.lines.nodes) (sym c.set_flag.ensures) c.self.invariant.seated;
+    }
 
 pub invariant_of-self-2 : goal.invariant_of-self-2
 invariant_of-self-2 c =
-    let f = fat_state_in c.self.inside in
-    rw (flagged_as f c.args.target true c.set_flag.new.self c.set_flag.ensures) (IsSound-flags f _ c.self.invariant)
+    record {
+      sound =
+          let f = fat_state_in c.self.inside in
+          rw (flagged_as f c.args.target true c.set_flag.new.self c.set_flag.ensures) (IsSound-flags f _ c.self.invariant.sound);
+      seated = subst (λ (p : Posted). AreSeated p.posts p.nodes c.self.inside.lines.nodes) (sym c.set_flag.ensures) c.self.invariant.seated;
+    }
 
 pub returns-in_default-post : goal.returns-in_default-post
 returns-in_default-post c t =

@@ -1,6 +1,3 @@
-use Rattle.std.proofs.Common.{w32, w64, refl, FitsSigned, rules}
-use Rattle.std.proofs.lemmas.Int.{to_z-of_z}
-use Rattle.fat_monitor.specs.Fats.{fat_state_in}
 use Rattle.fat_monitor.proofs.monitors.Fats.make.Goals as goal
 
 pub returns-in-Holds-clause-table : goal.returns-in-Holds-clause-table

@@ -10,5 +10,5 @@ returns-then-not-is_owner c = rw (← c.if-not-is_owner.ensures) (c.reply_with.e
 pub call_back-requires : goal.call_back-requires
 call_back-requires c =
     let first : first_of c.args.self.now c.args.monitor WaitSet ≡ Some c.in-Some.waiter = rw (← c.self.view_is) (sym c.in-Some.ensures.first) in
-    let waits = first_waiting c.args.self.now c.args.monitor c.in-Some.waiter (subst (λ (f : FatState). IsSound f) c.self.view_is c.self.invariant) first in
+    let waits = first_waiting c.args.self.now c.args.monitor c.in-Some.waiter (subst (λ (f : FatState). IsSound f) c.self.view_is c.self.invariant.sound) first in
     record { waits = (c.args.monitor, waits.0, waits.1, waits.2) }

@@ -15,7 +15,7 @@ pub call_back-requires : goal.call_back-requires
 call_back-requires c =
     let f = c.loop-first.self in
     let first : first_of f c.args.monitor WaitSet ≡ Some c.in-Some.first = rw (← c.self-in-loop-first.view_is) (sym c.in-Some.ensures.first) in
-    let waits = first_waiting f c.args.monitor c.in-Some.first (subst (λ (f : FatState). IsSound f) c.self-in-loop-first.view_is c.self-in-loop-first.invariant) first in
+    let waits = first_waiting f c.args.monitor c.in-Some.first (subst (λ (f : FatState). IsSound f) c.self-in-loop-first.view_is c.self-in-loop-first.invariant.sound) first in
     record { waits = (c.args.monitor, waits.0, waits.1, waits.2) }
 
 -- the first of the wait set
@@ -23,7 +23,7 @@ first : (c : goal.After-call_back) → first_of c.loop-first.self c.args.monitor
 first c = rw (← c.self-in-loop-first.view_is) (sym c.in-Some.ensures.first)
 
 sound : (c : goal.After-call_back) → IsSound c.loop-first.self
-sound c = subst (λ (f : FatState). IsSound f) c.self-in-loop-first.view_is c.self-in-loop-first.invariant
+sound c = subst (λ (f : FatState). IsSound f) c.self-in-loop-first.view_is c.self-in-loop-first.invariant.sound
 
 -- the monitor still has the owner that it had
 owned : (c : goal.After-call_back) → IsSome (monitor_at c.loop-first.self c.args.monitor).owner

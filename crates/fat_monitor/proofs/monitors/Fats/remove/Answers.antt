@@ -1,10 +1,18 @@
+use Rattle.std.proofs.Common.{sym, subst}
 use Rattle.fat_monitor.specs.Fats.{fat_state_in}
 use Rattle.fat_monitor.proofs.Soundness.{IsSound-without_thread}
+use Rattle.fat_monitor.specs.Slots.{Posted}
+use Rattle.fat_monitor.specs.Fats.{AreSeated}
+use Rattle.fat_monitor.proofs.Seats.{AreSeated-removed}
 use Rattle.fat_monitor.proofs.monitors.Fats.remove.Goals as goal
 
 pub invariant_of-self : goal.invariant_of-self
 invariant_of-self c =
-    rw (c.remove.ensures) (IsSound-without_thread (fat_state_in c.self.inside) c.args.thread c.self.invariant (rw (← c.self.view_is) at c.requires.out))
+    record {
+      sound =
+          rw (c.remove.ensures) (IsSound-without_thread (fat_state_in c.self.inside) c.args.thread c.self.invariant.sound (rw (← c.self.view_is) at c.requires.out));
+      seated = subst (λ (p : Posted). AreSeated p.posts p.nodes c.self.inside.lines.nodes) (sym c.remove.ensures) (AreSeated-removed _ _ _ c.self.invariant.seated c.args.thread);
+    }
 
 pub returns-clause-sound : goal.returns-clause-sound
-returns-clause-sound c = invariant_of-self c
+returns-clause-sound c = (invariant_of-self c).sound

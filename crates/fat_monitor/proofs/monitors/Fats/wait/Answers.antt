@@ -14,6 +14,11 @@ use Rattle.fat_monitor.specs.Fats.{fat_state_in}
 use Rattle.fat_monitor.proofs.SoundSteps.{IsSound-flags}
 use Rattle.fat_monitor.proofs.Soundness.{stands_nowhere, room_to_join, out-handed_on}
 use Rattle.fat_monitor.proofs.Steps.{monitor_read, parked_as, flagged_as, replied_at, told_at, sound_after}
+use Rattle.std.specs.FinMap as map
+use Rattle.fat_monitor.specs.Slots.{Posted}
+use Rattle.fat_monitor.specs.Fats.{AreSeated}
+use Rattle.wait_lines.specs.Lines.{NodeMap}
+use Rattle.fat_monitor.proofs.Seats.{AreSeated-joined}
 use Rattle.fat_monitor.proofs.monitors.Fats.wait.Goals as goal
 
 pub returns-then-not-is_owner : goal.returns-then-not-is_owner
@@ -26,8 +31,12 @@ returns-then-not-are_good c =
 
 pub invariant_of-self : goal.invariant_of-self
 invariant_of-self c =
-    let f = fat_state_in c.self.inside in
-    rw (flagged_as f c.args.thread false c.set_flag.new.self c.set_flag.ensures) (IsSound-flags f _ c.self.invariant)
+    record {
+      sound =
+          let f = fat_state_in c.self.inside in
+          rw (flagged_as f c.args.thread false c.set_flag.new.self c.set_flag.ensures) (IsSound-flags f _ c.self.invariant.sound);
+      seated = subst (λ (p : Posted). AreSeated p.posts p.nodes c.self.inside.lines.nodes) (sym c.set_flag.ensures) c.self.invariant.seated;
+    }
 
 pub returns-then-flag : goal.returns-then-flag
 returns-then-flag c =
@@ -37,26 +46,29 @@ returns-then-flag c =
     let after = flagged_as (fat_state_in c.self.inside) c.args.thread false c.set_flag.new.self c.set_flag.ensures in
     rw (← c.if-not-is_owner.ensures, ← good, ← flagged, ← c.self.view_is) (replied_at c.reply_with-then-flag.result Interrupted _ _ c.reply_with-then-flag.ensures after)
 
-pub set-requires : goal.set-requires
-set-requires c =
-    let sound = subst (λ (f : FatState). IsSound f) c.self.view_is c.self.invariant in
+pub park-requires : goal.park-requires
+park-requires c =
+    let sound = subst (λ (f : FatState). IsSound f) c.self.view_is c.self.invariant.sound in
     let after = c.self-2.view_is ∙ c.hand_on-granted.ensures.after in
     let out : post_of (fat_state_in c.self-2.inside) c.args.thread ≡ Some Out =
     subst (λ (f : FatState). post_of f c.args.thread ≡ Some Out) (sym after) (out-handed_on c.args.self.now c.args.thread c.args.monitor sound c.requires.out) in
     rw (out) refl
 
--- the thread stands nowhere when the monitor was handed on
-still_out : (c : goal.After-join-arg-1) → post_of (fat_state_in c.self-2.inside) c.args.thread ≡ Some Out
-still_out c =
-    let sound = subst (λ (f : FatState). IsSound f) c.self.view_is c.self.invariant in
+pub join-node-requires-clause-nowhere : goal.join-node-requires-clause-nowhere
+join-node-requires-clause-nowhere c =
+    let sound = subst (λ (f : FatState). IsSound f) c.self.view_is c.self.invariant.sound in
     let after = c.self-2.view_is ∙ c.hand_on-granted.ensures.after in
-    subst (λ (f : FatState). post_of f c.args.thread ≡ Some Out) (sym after) (out-handed_on c.args.self.now c.args.thread c.args.monitor sound c.requires.out)
+    let out : post_of (fat_state_in c.self-2.inside) c.args.thread ≡ Some Out =
+    subst (λ (f : FatState). post_of f c.args.thread ≡ Some Out) (sym after) (out-handed_on c.args.self.now c.args.thread c.args.monitor sound c.requires.out) in
+    stands_nowhere (fat_state_in c.self-2.inside) c.args.thread c.self-2.invariant.sound out
 
-pub join-requires-clause-nowhere : goal.join-requires-clause-nowhere
-join-requires-clause-nowhere c = stands_nowhere (fat_state_in c.self-2.inside) c.args.thread c.self-2.invariant (still_out c)
-
-pub join-requires-clause-room : goal.join-requires-clause-room
-join-requires-clause-room c = room_to_join (fat_state_in c.self-2.inside) c.args.thread c.self-2.invariant (still_out c)
+pub join-node-requires-clause-room : goal.join-node-requires-clause-room
+join-node-requires-clause-room c =
+    let sound = subst (λ (f : FatState). IsSound f) c.self.view_is c.self.invariant.sound in
+    let after = c.self-2.view_is ∙ c.hand_on-granted.ensures.after in
+    let out : post_of (fat_state_in c.self-2.inside) c.args.thread ≡ Some Out =
+    subst (λ (f : FatState). post_of f c.args.thread ≡ Some Out) (sym after) (out-handed_on c.args.self.now c.args.thread c.args.monitor sound c.requires.out) in
+    room_to_join (fat_state_in c.self-2.inside) c.args.thread c.self-2.invariant.sound out
 
 pub returns : goal.returns
 returns c =
@@ -72,7 +84,7 @@ returns c =
     let good : true ≡ are_good c.args.millis c.args.nanos =
     simp (to_z-of_z w64 c.args.millis c.ranges.millis, to_z-of_z w32 c.args.nanos c.ranges.nanos) at c.if-not-are_good.ensures in
     let post : Waiting m c.index.result.now.holds c.deadline.result ≡ Waiting m (monitor_at f m).holds (deadline f.moment c.args.millis c.args.nanos) = rw (read, time) refl in
-    let parks = parked_as (fat_state_in c.self-2.inside) t (Waiting m c.index.result.now.holds c.deadline.result) m WaitSet c.set.new.self c.join.new.self c.set.ensures c.join.ensures.joined c.join.ensures.reservations in
+    let parks = parked_as (fat_state_in c.self-2.inside) t (Waiting m c.index.result.now.holds c.deadline.result) m WaitSet c.park.new.self c.join-node.new.self c.park.ensures c.join-node.ensures.joined c.join-node.ensures.reservations in
     let handed = c.self-2.view_is ∙ c.hand_on-granted.ensures.after in
     let after = parks ∙ ap (λ (g : FatState). parked g t (Waiting m c.index.result.now.holds c.deadline.result) m WaitSet) handed ∙ ap (λ (p : Post). parked (handed_on f m first) t p m WaitSet) post in
     let told : c.tell.result ≡ record { answer = Parked; granted = first; chosen = None } =
@@ -81,5 +93,10 @@ returns c =
 
 pub invariant_of-self-2 : goal.invariant_of-self-2
 invariant_of-self-2 c =
-    sound_after c.args.self.now _ c.args.thread (Wait c.args.monitor c.args.millis c.args.nanos) (Ok c.tell.result)
-    (subst (λ (f : FatState). IsSound f) c.self.view_is c.self.invariant) c.requires.out c.requires.bound (returns c)
+    record {
+      sound =
+          sound_after c.args.self.now _ c.args.thread (Wait c.args.monitor c.args.millis c.args.nanos) (Ok c.tell.result)
+          (subst (λ (f : FatState). IsSound f) c.self.view_is c.self.invariant.sound) c.requires.out c.requires.bound (returns c);
+      seated = subst (λ (m : NodeMap). AreSeated c.park.new.self.posts c.park.new.self.nodes m) (sym c.join-node.ensures.node)
+          (subst (λ (p : Posted). AreSeated p.posts p.nodes (map.insert c.self-2.inside.lines.nodes c.args.thread.0 c.join-node.result.0)) (sym c.park.ensures) (AreSeated-joined _ _ _ c.self-2.invariant.seated c.args.thread _ c.join-node.result.0));
+    }

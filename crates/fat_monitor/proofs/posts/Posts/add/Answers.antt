@@ -26,7 +26,7 @@ led c =
 
 pub invariant_of-self-2 : goal.invariant_of-self-2
 invariant_of-self-2 c =
-    let new : Record = record { thread = c.args.thread; post = Out; flag = false } in
+    let new : Record = record { thread = c.args.thread; post = Out; node = record { 0 = 0 }; flag = false } in
     let keys = c.self.inside.keys.entries in (
       LeadToRecords-put c.reserve.new.self c.insert_reserved.new.self keys c.insert.new.self.entries c.args.thread.0 c.insert_reserved.result new
           (rw (c.in-Ok.ensures.rest_kept) c.self.invariant.0) c.insert_reserved.ensures.was_vacant c.insert_reserved.ensures.updates (led c) refl,
@@ -38,7 +38,7 @@ pub returns-clause-ok : goal.returns-clause-ok
 returns-clause-ok c =
     rw (← c.self.view_is) (
     posted_in-put c.reserve.new.self c.insert_reserved.new.self c.self.inside.keys.entries c.insert.new.self.entries c.args.thread.0 c.insert_reserved.result
-    (record { thread = c.args.thread; post = Out; flag = false })
+    (record { thread = c.args.thread; post = Out; node = record { 0 = 0 }; flag = false })
     (rw (c.in-Ok.ensures.rest_kept) c.self.invariant.0) c.insert_reserved.ensures.was_vacant c.insert_reserved.ensures.updates (led c)
     ∙ rw (c.in-Ok.ensures.rest_kept) refl)
 
@@ -48,6 +48,15 @@ returns-clause-fresh c = rw (← c.self.view_is) (unvalued (λ r. r.post) Out c.
 pub returns-clause-flagless : goal.returns-clause-flagless
 returns-clause-flagless c = rw (← c.self.view_is) (unvalued (λ r. r.flag) false c.self.inside.records c.self.inside.keys.entries c.args.thread.0 (sym c.contains_key.ensures ∙ c.if-contains_key.false))
 
+pub returns-clause-nodeless : goal.returns-clause-nodeless
+returns-clause-nodeless c = rw (← c.self.view_is) (unvalued (λ r. r.node.0) 0 c.self.inside.records c.self.inside.keys.entries c.args.thread.0 (sym c.contains_key.ensures ∙ c.if-contains_key.false))
+
 pub returns-clause-known : goal.returns-clause-known
 returns-clause-known c =
     ((λ e. absurd (cc)), (λ h. absurd (not_posted c.self.inside.records c.self.inside.keys.entries c.args.thread.0 (sym c.contains_key.ensures ∙ c.if-contains_key.false) (rw (← c.self.view_is) at h))))
+
+pub returns-in_default-clause-err : goal.returns-in_default-clause-err
+returns-in_default-clause-err c = let h = c.reserve.ensures.rest_kept in rw (← c.self.view_is, h) refl
+
+pub returns-in_default-insert-clause-err : goal.returns-in_default-insert-clause-err
+returns-in_default-insert-clause-err c = let h = c.reserve.ensures.rest_kept in rw (← c.self.view_is, h, c.in_default-insert.ensures.err) refl

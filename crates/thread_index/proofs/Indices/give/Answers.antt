@@ -1,0 +1,46 @@
+use Rattle.std.proofs.Common.{ℕ, ◌+◌, arith, Some, ap, sym, ◌∙◌}
+use Rattle.std.specs.Option.{option_map}
+use Rattle.thread_index.specs.Indices.{given_back}
+use Rattle.thread_index.proofs.Wholes.{looked_up, seat_of-low, given-shown, IsWhole-given}
+use Rattle.thread_index.proofs.Indices.give.Goals as goal
+
+pub returns-in_err-remove-clause-index : goal.returns-in_err-remove-clause-index
+returns-in_err-remove-clause-index c =
+    let none = looked_up _ _ _ c.args.id _ _ _ c.self.invariant c.self.view_is (sym c.in_err-remove.was ∙ c.remove.ensures.value) in
+    c.from_residual.ensures ∙ ap (option_map (λ (k : ℕ). k + 1)) none
+
+pub returns-in_err-remove-clause-given : goal.returns-in_err-remove-clause-given
+returns-in_err-remove-clause-given c =
+    let none = looked_up _ _ _ c.args.id _ _ _ c.self.invariant c.self.view_is (sym c.in_err-remove.was ∙ c.remove.ensures.value) in
+    c.self.view_is ∙ ap (given_back c.args.self.now) none
+
+pub index_mut-requires : goal.index_mut-requires
+index_mut-requires c =
+    let seat = ap (λ (k : ℕ). Some k) c.from-seat.ensures ∙ looked_up _ _ _ c.args.id _ _ _ c.self.invariant c.self.view_is c.in_ok-remove.ensures.value in
+    omega (arith, (seat_of-low _ _ _ _ c.args.id _ _ c.self.invariant c.self.view_is (sym seat)).0)
+
+pub give-requires : goal.give-requires
+give-requires c =
+    let seat = ap (λ (k : ℕ). Some k) c.from-seat.ensures ∙ looked_up _ _ _ c.args.id _ _ _ c.self.invariant c.self.view_is c.in_ok-remove.ensures.value in
+    record { room = omega (arith, (seat_of-low _ _ _ _ c.args.id _ _ c.self.invariant c.self.view_is (sym seat)).2) }
+
+pub overflow_add-result : goal.overflow_add-result
+overflow_add-result c =
+    let seat = ap (λ (k : ℕ). Some k) c.from-seat.ensures ∙ looked_up _ _ _ c.args.id _ _ _ c.self.invariant c.self.view_is c.in_ok-remove.ensures.value in
+    omega (arith, (seat_of-low _ _ _ _ c.args.id _ _ c.self.invariant c.self.view_is (sym seat)).1)
+
+pub invariant_of-self-2 : goal.invariant_of-self-2
+invariant_of-self-2 c =
+    let seat = ap (λ (k : ℕ). Some k) c.from-seat.ensures ∙ looked_up _ _ _ c.args.id _ _ _ c.self.invariant c.self.view_is c.in_ok-remove.ensures.value in
+    IsWhole-given _ _ _ _ c.args.id _ _ c.self.inside.seats c.remove.new.self c.self.invariant c.self.view_is (sym seat)
+    c.give.ensures.bits c.give.ensures.length c.remove.ensures.updates
+
+pub returns-clause-given : goal.returns-clause-given
+returns-clause-given c =
+    let seat = ap (λ (k : ℕ). Some k) c.from-seat.ensures ∙ looked_up _ _ _ c.args.id _ _ _ c.self.invariant c.self.view_is c.in_ok-remove.ensures.value in
+    (given-shown _ _ _ _ c.args.id _ _ c.self.invariant c.self.view_is (sym seat)).0
+
+pub returns-clause-one_to_one : goal.returns-clause-one_to_one
+returns-clause-one_to_one c =
+    let seat = ap (λ (k : ℕ). Some k) c.from-seat.ensures ∙ looked_up _ _ _ c.args.id _ _ _ c.self.invariant c.self.view_is c.in_ok-remove.ensures.value in
+    (given-shown _ _ _ _ c.args.id _ _ c.self.invariant c.self.view_is (sym seat)).1

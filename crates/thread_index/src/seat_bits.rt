@@ -1,0 +1,77 @@
+//! Which seats are taken: a bit for each, and a second row with a bit for each full word.
+
+ghost use Rattle.std.specs.Prelude.{◌≡◌, ◌*◌, ◌/◌, ◌<◌, ◌≤◌, [], length, OnOk};
+ghost use Rattle.thread_index.specs.BitRows.{bit_of, AreSetBelow, SameBits, SetsBit, AreTwoRows};
+
+use crate::bit_row::BitRow;
+use std::alloc::{AllocError, Global};
+
+/// Which of the seats are taken.
+///
+/// The second row has a bit for each word of the first, which is 1 where all 64 seats of the word
+/// are taken: so the lowest free seat is found by looking at the few words of the second row and
+/// at one word of the first.
+#[derive(Debug, Drop)]
+pub(crate) struct SeatBits {
+    taken: BitRow,
+    full: BitRow,
+    ghost rows: { AreTwoRows taken.words.items full.words.items },
+}
+
+impl SeatBits {
+    /// Every seat is free.
+    pub(crate) fn new(alloc: Global) -> SeatBits
+        ensures { result.taken.words.items ≡ [] }
+    {
+        SeatBits {
+            taken: BitRow::new(alloc),
+            full: BitRow::new(alloc),
+        }
+    }
+
+    /// The lowest seat that is free: past the last word, each is.
+    pub(crate) fn lowest_free(&self) -> usize
+        ensures free { bit_of self.now.taken.words.items result ≡ 0 }
+        ensures lowest { AreSetBelow self.now.taken.words.items result }
+    {
+        let j = self.full.lowest_clear();
+        64 * j + self.taken.word(j).trailing_ones() as usize
+    }
+
+    /// Makes room for the bit of a seat. No bit changes.
+    pub(crate) fn make_room(&mut self, seat: usize) -> Result<(), AllocError>
+        requires next { seat / 64 ≤ length self.old.taken.words.items }
+        requires few { seat < 32768 }
+        ensures ok { OnOk result (seat < 64 * length self.new.taken.words.items) }
+        ensures longer { length self.old.taken.words.items ≤ length self.new.taken.words.items }
+        ensures bits { SameBits self.old.taken.words.items self.new.taken.words.items }
+    {
+        let j = seat / 64;
+        self.full.make_word(j / 64)?;
+        self.taken.make_word(j)
+    }
+
+    /// Says that a free seat is taken.
+    pub(crate) fn take(&mut self, seat: usize)
+        requires room { seat < 64 * length self.old.taken.words.items }
+        requires free { bit_of self.old.taken.words.items seat ≡ 0 }
+        ensures bits { SetsBit self.old.taken.words.items self.new.taken.words.items seat 1 }
+        ensures length { length self.new.taken.words.items ≡ length self.old.taken.words.items }
+    {
+        let j = seat / 64;
+        self.taken.set(seat);
+        if self.taken.word(j) == u64::MAX {
+            self.full.set(j);
+        }
+    }
+
+    /// Says that a seat is free.
+    pub(crate) fn give(&mut self, seat: usize)
+        requires room { seat < 64 * length self.old.taken.words.items }
+        ensures bits { SetsBit self.old.taken.words.items self.new.taken.words.items seat 0 }
+        ensures length { length self.new.taken.words.items ≡ length self.old.taken.words.items }
+    {
+        self.taken.clear(seat);
+        self.full.clear(seat / 64);
+    }
+}

@@ -1,0 +1,55 @@
+//! Indices as a plain list of holders, which each call walks.
+
+ghost use Rattle.std.specs.Prelude.{◌<◌, length, IfSome};
+
+use crate::TakeFault;
+use lock_word::ThreadId;
+use std::alloc::Global;
+
+#[derive(Drop)]
+pub(super) struct PlainIndices {
+    holders: Vec<Option<ThreadId>>,
+    limit: usize,
+}
+
+impl PlainIndices {
+    pub(super) fn new(alloc: Global, limit: usize) -> PlainIndices {
+        PlainIndices {
+            holders: Vec::new(alloc),
+            limit,
+        }
+    }
+
+    pub(super) fn take(&mut self, id: ThreadId) -> Result<usize, TakeFault> {
+        if self.seat_of(id).is_some() {
+            return Err(TakeFault::Known);
+        }
+        match self.holders.iter().position(|holder| holder.is_none()) {
+            Some(seat) => {
+                self.holders[seat] = Some(id);
+                Ok(seat + 1)
+            }
+            None if self.holders.len() < self.limit => {
+                self.holders.push(Some(id))?;
+                Ok(self.holders.len())
+            }
+            None => Err(TakeFault::NoIndex),
+        }
+    }
+
+    pub(super) fn give(&mut self, id: ThreadId) -> Option<usize> {
+        let seat = self.seat_of(id)?;
+        self.holders[seat] = None;
+        Some(seat + 1)
+    }
+
+    pub(super) fn index_of(&self, id: ThreadId) -> Option<usize> {
+        Some(self.seat_of(id)? + 1)
+    }
+
+    fn seat_of(&self, id: ThreadId) -> Option<usize>
+        ensures { IfSome result (λ k. k < length self.now.holders.items) }
+    {
+        self.holders.iter().position(|&holder| holder == Some(id))
+    }
+}

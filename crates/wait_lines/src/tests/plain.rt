@@ -1,0 +1,56 @@
+//! Lines as one plain list of those who stand in them, in order of joining, which each call walks.
+
+use crate::Role;
+use lock_word::ThreadId;
+use std::alloc::{AllocError, Global};
+
+#[derive(Clone, Copy)]
+struct Arrival {
+    thread: ThreadId,
+    place: u32,
+    role: Role,
+}
+
+#[derive(Drop)]
+pub(super) struct PlainLines {
+    arrivals: Vec<Arrival>,
+}
+
+impl PlainLines {
+    pub(super) fn new(alloc: Global) -> PlainLines {
+        PlainLines {
+            arrivals: Vec::new(alloc),
+        }
+    }
+
+    pub(super) fn join(
+        &mut self,
+        thread: ThreadId,
+        place: u32,
+        role: Role,
+    ) -> Result<(), AllocError> {
+        self.arrivals.push(Arrival {
+            thread,
+            place,
+            role,
+        })?;
+        Ok(())
+    }
+
+    pub(super) fn leave(&mut self, thread: ThreadId) {
+        self.arrivals.retain(|arrival| arrival.thread != thread);
+    }
+
+    pub(super) fn all(
+        &self,
+        alloc: Global,
+        place: u32,
+        role: Role,
+    ) -> Result<Vec<ThreadId>, AllocError> {
+        self.arrivals
+            .iter()
+            .filter(|arrival| arrival.place == place && arrival.role == role)
+            .map(|arrival| arrival.thread)
+            .collect(alloc)
+    }
+}
