@@ -1,4 +1,5 @@
--- The rule of the words: there is one history, which replays to them. Each seat has seen a beginning of it, and knows all events of its own.
+-- The rule of the words: there is one history, which replays to them. Each seat has seen a
+-- beginning of it, and knows all events of its own.
 use Rattle.std.specs.Prelude.{◌≡◌, ◌≢◌, ℕ, zero, suc, ◌+◌, ◌<◌, ◌≤◌, false, Option, List, [], ◌∷◌, ◌++◌, length, slice_index, if◌then◌else◌, nat_lt}
 use mathlib.Core.List.{IsPrefix}
 use mathlib.Core.Option.{some}
@@ -43,9 +44,18 @@ new_parts i (suc n) = part i [] ∷ new_parts (suc i) n
 
 -- the first seat of a table, which has all indices
 abbrev pub opening_view : List ℕ → ℕ → View
-opening_view lows count = record { lows = lows; count = count; parts = new_parts 1 count; seen = []; earlier = []; has_gate = false; steps = 0 }
+opening_view lows count = record {
+  lows = lows;
+  count = count;
+  parts = new_parts 1 count;
+  seen = [];
+  earlier = [];
+  has_gate = false;
+  steps = 0;
+}
 
--- the seat k with this view has this index: the index has just these events in the history, and in what the seat has seen
+-- the seat k with this view has this index: the index has just these events in the history, and in
+-- what the seat has seen
 pub record IsMine (lows : List ℕ) (count : ℕ) (log : List Event) (seat_of : ℕ → ℕ) (k : ℕ) (v : View) (p : Part) : Type 0 where
   pub same : v.lows ≡ lows
   pub same_count : v.count ≡ count
@@ -60,14 +70,16 @@ abbrev pub AreApart : List Part → Type 0
 AreApart [] = Unit {0}
 AreApart (p ∷ ps) = Each (λ q. p.index ≢ q.index) ps × AreApart ps
 
--- what the seat k with this view knows of the history: it has seen a beginning, as did the seats that it took in, and it has its indices alone
+-- what the seat k with this view knows of the history: it has seen a beginning, as did the seats
+-- that it took in, and it has its indices alone
 pub record Knows (lows : List ℕ) (count : ℕ) (log : List Event) (seat_of : ℕ → ℕ) (k : ℕ) (v : View) : Type 0 where
   pub seen : IsPrefix v.seen log
   pub earlier : Each (λ old. IsPrefix old log) v.earlier
   pub parts : Each (IsMine lows count log seat_of k v) v.parts
   pub apart : AreApart v.parts
 
--- the rule: one history replays to the words, of which 0 is the gate and o + 1 that of the object o, and the book binds what it publishes
+-- the rule: one history replays to the words, of which 0 is the gate and o + 1 that of the object
+-- o, and the book binds what it publishes
 pub record Ruled {B : Type 0} (bound : B → List ObjectId) (lows : List ℕ) (count : ℕ) (s : State (Option B) View) : Type 0 where
   pub log : List Event
   pub locks : List Lock
@@ -80,17 +92,42 @@ pub record Ruled {B : Type 0} (bound : B → List ObjectId) (lows : List ℕ) (c
   pub views : (k : ℕ) (v : View) → get_elem? s.views k ≡ some v → Knows lows count log seat_of k v
   pub gated : Gated bound count log seat_of (slice_index s.words 0) s.homes s.views
 
--- what a step of a seat with the index i and the events m makes of its view, where the history is log
+-- what a step of a seat with the index i and the events m makes of its view, where the history is
+-- log
 abbrev pub stepped_view : View → List Event → ℕ → List Event → Event → View
-stepped_view v log i m e = record { lows = v.lows; count = v.count; parts = part i (m ++ e ∷ []) ∷ []; seen = log ++ e ∷ []; earlier = []; has_gate = v.has_gate; steps = suc v.steps }
+stepped_view v log i m e = record {
+  lows = v.lows;
+  count = v.count;
+  parts = part i (m ++ e ∷ []) ∷ [];
+  seen = log ++ e ∷ [];
+  earlier = [];
+  has_gate = v.has_gate;
+  steps = suc v.steps;
+}
 
 -- a seat that has no index any more
 abbrev pub spent_view : View
-spent_view = record { lows = []; count = 0; parts = []; seen = []; earlier = []; has_gate = false; steps = 0 }
+spent_view = record {
+  lows = [];
+  count = 0;
+  parts = [];
+  seen = [];
+  earlier = [];
+  has_gate = false;
+  steps = 0;
+}
 
 -- the view with another number of steps and other indices
 abbrev pub with_parts : View → ℕ → List Part → View
-with_parts v n ps = record { lows = v.lows; count = v.count; parts = ps; seen = v.seen; earlier = v.earlier; has_gate = v.has_gate; steps = n }
+with_parts v n ps = record {
+  lows = v.lows;
+  count = v.count;
+  parts = ps;
+  seen = v.seen;
+  earlier = v.earlier;
+  has_gate = v.has_gate;
+  steps = n;
+}
 
 -- the first of the parts, alone
 abbrev pub first_part : List Part → List Part
@@ -114,6 +151,15 @@ given_view v = with_parts v 0 (first_part v.parts)
 abbrev pub longer_of : List Event → List Event → List Event
 longer_of xs ys = if nat_lt (length xs) (length ys) then ys else xs
 
--- a seat with the indices of both, which keeps both seen lists beside the longer one; neither has the gate
+-- a seat with the indices of both, which keeps both seen lists beside the longer one; neither has
+-- the gate
 abbrev pub joined_view : View → View → View
-joined_view v w = record { lows = v.lows; count = v.count; parts = v.parts ++ w.parts; seen = longer_of v.seen w.seen; earlier = (v.seen ∷ v.earlier) ++ (w.seen ∷ w.earlier); has_gate = false; steps = suc v.steps }
+joined_view v w = record {
+  lows = v.lows;
+  count = v.count;
+  parts = v.parts ++ w.parts;
+  seen = longer_of v.seen w.seen;
+  earlier = (v.seen ∷ v.earlier) ++ (w.seen ∷ w.earlier);
+  has_gate = false;
+  steps = suc v.steps;
+}

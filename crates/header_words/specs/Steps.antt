@@ -14,7 +14,8 @@ use Rattle.header_words.specs.Bindings.{Covers, HasPublish, HasPublishesOf, Gate
 use Rattle.header_words.specs.Events.{event, Legal, effect, depth_after, lock_at, Replays, free_locks, own_events, depth}
 use Rattle.header_words.specs.Rule.{Each, AreApart, stepped_view, index_of, mine_of}
 
--- `decode` reads this low byte off the word, and a thin lock with the index i and the count c exactly where d, the depth of the pass i, is c + 1
+-- `decode` reads this low byte off the word, and a thin lock with the index i and the count c
+-- exactly where d, the depth of the pass i, is c + 1
 pub record ShowsDepth (i d low word : ℕ) : Type 0 where
   pub thin : (c : ℕ) → (d ≡ c + 1) ↔ (lock_of word ≡ Thin i c)
   pub kept : low_of word ≡ low
@@ -27,7 +28,8 @@ pub record Saw (lows : List ℕ) (count : ℕ) (seen : List Event) (i : ℕ) (mi
   pub replays : Replays lows count (free_locks lows) seen locks
   pub own : own_events i seen ≡ mine
 
--- the seat added this event of its own to the history, saw it all, and the object's word then is n, which is fat only by a publish
+-- the seat added this event of its own to the history, saw it all, and the object's word then is n,
+-- which is fat only by a publish
 -- publishes: while the seat has the gate, no other publishes
 pub record AddsEvent (o : ℕ) (deed : Deed) (n : ℕ) (v w : View) : Type 0 where
   pub rest : List Event
@@ -59,9 +61,12 @@ publish_of n = Publish ((n - 2147483648) / 256)
 abbrev pub Exchanges : {S : Type 0} → Step S → Me S View → ℕ → Me S View → Type 0
 Exchanges st me n me' = (n ≡ st.first → Does Win st.second st me me') × (n ≢ st.first → Does Lose n st me me')
 
--- the pass i, which holds the object `deep` times and has the gate or not, may store the word of this lock, and then holds it `left` times
+-- the pass i, which holds the object `deep` times and has the gate or not, may store the word of
+-- this lock, and then holds it `left` times
 abbrev pub MayStore : ℕ → ℕ → Bool → Deed → ℕ → Lock → ℕ → Type 0
-MayStore i deep has_gate deed low lock left = GateAllows has_gate deed × (d : ℕ) × (deep ≡ suc d) × Legal i deed (Thin i d) low × (lock ≡ effect i deed (Thin i d)) × (left ≡ depth_after deed deep)
+MayStore i deep has_gate deed low lock left =
+  GateAllows has_gate deed × (d : ℕ) × (deep ≡ suc d) × Legal i deed (Thin i d) low
+    × (lock ≡ effect i deed (Thin i d)) × (left ≡ depth_after deed deep)
 
 -- the seat sees the whole history, which replays and begins with each list that was seen before
 pub record SeesAll (v w : View) : Type 0 where
@@ -86,13 +91,25 @@ pub record TakesGate (v w : View) : Type 0 where
   pub seen : IsPrefix v.seen w.seen
   pub saw : Saw v.lows v.count w.seen (index_of v.parts) (mine_of v.parts)
 
--- the exchange of the gate word: where the gate was open the seat has it, and the book's slot; else nothing changed
+-- the exchange of the gate word: where the gate was open the seat has it, and the book's slot; else
+-- nothing changed
 abbrev pub Takes : {B : Type 0} → (B → List ObjectId) → Step (Option B) → Me (Option B) View → ℕ → Me (Option B) View → Type 0
-Takes {B} bound st me n me' = (n ≡ 0 → TakesGate me.0 me'.0 × (b : B) × (me'.1 ≡ (0, Some b) ∷ me.1) × Covers (bound b) me'.0.seen) × (n ≢ 0 → me' ≡ me)
+Takes {B} bound st me n me' =
+  (n ≡ 0 → TakesGate me.0 me'.0 × (b : B) × (me'.1 ≡ (0, Some b) ∷ me.1)
+      × Covers (bound b) me'.0.seen)
+    × (n ≢ 0 → me' ≡ me)
 
 -- the view of a seat that gave the gate back
 abbrev pub without_gate : View → View
-without_gate v = record { lows = v.lows; count = v.count; parts = v.parts; seen = v.seen; earlier = v.earlier; has_gate = false; steps = suc v.steps }
+without_gate v = record {
+  lows = v.lows;
+  count = v.count;
+  parts = v.parts;
+  seen = v.seen;
+  earlier = v.earlier;
+  has_gate = false;
+  steps = suc v.steps;
+}
 
 -- the store of the gate word: the seat has given the gate back, and the slot that it took last
 abbrev pub Gives : {S : Type 0} → Step S → Me S View → ℕ → Me S View → Type 0
