@@ -113,7 +113,7 @@ pub record MakesEvent (o : ℕ) (deed : Deed) (n : ℕ) (p q : PassValue) : Type
   pub others : (k : ℕ) → k ≢ o → depth k q.mine ≡ depth k p.mine
   pub publishes : p.has_gate ≡ true → HasPublishesOf (p.seen ++ rest) p.seen
   pub covers : p.has_gate ≡ true → (objects : List ObjectId)
-    → Covers objects p.seen → BindsDeed objects deed o → Covers objects q.seen
+      → Covers objects p.seen → BindsDeed objects deed o → Covers objects q.seen
 
 -- in the replay of what the pass has seen, the object is locked thinly with its index and the count
 -- c exactly where d is c + 1
@@ -138,7 +138,7 @@ new_passes z i (suc n) = new_pass z i ∷ new_passes z (suc i) n
 -- have the gate
 abbrev pub SeesMore : PassValue → PassValue → List Event → Type 0
 SeesMore p q seen = IsPrefix p.seen seen × (q
-  ≡ record { opening = p.opening; index = p.index; mine = p.mine; seen = seen; has_gate = false; steps = q.steps })
+    ≡ record { opening = p.opening; index = p.index; mine = p.mine; seen = seen; has_gate = false; steps = q.steps })
 
 -- two passes have met: they have seen one history, which replays and has just the events that each
 -- made, and they do not both hold an object thinly
@@ -194,7 +194,7 @@ pub record IsClosed (z : Opening) (ps : List PassValue) (words : List ℕ) (obje
   pub wide : length words ≡ length z.lows
   pub each : (o : ℕ) → o < length z.lows → slice_index words o ≡ word_of (lock_at locks o) (slice_index z.lows o)
   pub shows :
-    All (λ p. (o : ℕ) → o < length z.lows
+      All (λ p. (o : ℕ) → o < length z.lows
       → ShowsDepth p.index (depth_at p o) (low_at z o) (slice_index words o)) ps
   pub covers : Covers objects log
 

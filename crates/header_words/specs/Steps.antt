@@ -65,7 +65,7 @@ Exchanges st me n me' = (n ≡ st.first → Does Win st.second st me me') × (n 
 -- this lock, and then holds it `left` times
 abbrev pub MayStore : ℕ → ℕ → Bool → Deed → ℕ → Lock → ℕ → Type 0
 MayStore i deep has_gate deed low lock left =
-  GateAllows has_gate deed × (d : ℕ) × (deep ≡ suc d) × Legal i deed (Thin i d) low
+    GateAllows has_gate deed × (d : ℕ) × (deep ≡ suc d) × Legal i deed (Thin i d) low
     × (lock ≡ effect i deed (Thin i d)) × (left ≡ depth_after deed deep)
 
 -- the seat sees the whole history, which replays and begins with each list that was seen before
@@ -95,8 +95,8 @@ pub record TakesGate (v w : View) : Type 0 where
 -- nothing changed
 abbrev pub Takes : {B : Type 0} → (B → List ObjectId) → Step (Option B) → Me (Option B) View → ℕ → Me (Option B) View → Type 0
 Takes {B} bound st me n me' =
-  (n ≡ 0 → TakesGate me.0 me'.0 × (b : B) × (me'.1 ≡ (0, Some b) ∷ me.1)
-      × Covers (bound b) me'.0.seen)
+    (n ≡ 0 → TakesGate me.0 me'.0 × (b : B) × (me'.1 ≡ (0, Some b) ∷ me.1)
+    × Covers (bound b) me'.0.seen)
     × (n ≢ 0 → me' ≡ me)
 
 -- the view of a seat that gave the gate back
