@@ -1,0 +1,211 @@
+-- A checker takes a move exactly where the machine may make it, and knows then what the machine's row says.
+use Rattle.std.specs.Prelude.{◌≡◌, ◌⊎◌, ℕ, ◌+◌, ◌-◌, ◌<◌, ◌≤◌, Bool, true, false, not, ◌&&◌, ◌||◌, if◌then◌else◌, ◌==◌, nat_lt, length, ℤ, pos, int_le, Option, Some, None, is_some, T}
+use Rattle.std.specs.Option.{option_map}
+use Rattle.std.proofs.Common.{refl, ap, sym, ◌∙◌, inl, inr, subst, arith}
+use Rattle.std.proofs.lemmas.Bool.{and_parts, cases_eq, eqb-true, eq-eqb, ne_eqb, ltb-true, lt-ltb}
+use Rattle.std.proofs.lemmas.Option.{same_Some}
+use Rattle.lock_word.specs.declared.ThreadId.{ThreadId}
+use Rattle.lock_word.specs.declared.ObjectId.{ObjectId}
+use Rattle.fat_monitor.specs.declared.actions.Reply.{Reply}
+use Rattle.fat_monitor.specs.declared.actions.Reply.TheVariants as reply
+use Rattle.fat_monitor.specs.declared.actions.Why.TheVariants as why
+use Rattle.fast_path.specs.declared.calls.Call.{Call}
+use Rattle.fast_path.specs.declared.calls.Call.TheVariants as call
+use Rattle.step_core.specs.declared.machine.Doing.{Doing}
+use Rattle.step_core.specs.declared.machine.Doing.TheVariants.{Idle, Wants, Waits, Back, Has}
+use Rattle.step_core.specs.declared.machine.Move.TheVariants as move
+use Rattle.step_core.specs.Machine.{State, Thread, Monitor, Steps, Is, Calls, Exists, ActExists, now_is, with_reply, with_monitor, OwnedBy, Unowned, held, free, owner_only}
+use Rattle.jls_check.specs.declared.threads.Live.{Live}
+use Rattle.jls_check.specs.declared.monitors.Held.{Held}
+use Rattle.jls_check.specs.declared.machine.Wish.{Wish}
+use Rattle.jls_check.specs.LiveThreads.{live_of}
+use Rattle.jls_check.specs.MachineState.{MachineState, state, put, replied, with_held, held_at, thread_of, monitor_of, is_owned_by, owns, unheld, IsSound}
+use Rattle.jls_check.specs.Taking.{wants, wanted_of, wanted, may_be_locked, lock_for, lock, held_by, less_held, unlock_for, unlock, illegal_on, illegal_for, illegal, wish_for, wish}
+use Rattle.jls_check.proofs.States.{state-put, state-with_held}
+
+-- ---- what a guard says
+
+pub guarded : {A : Type 0} (b : Bool) (x w : A) → (if b then Some x else None) ≡ Some w → (b ≡ true) × (x ≡ w)
+guarded true x w e = (refl, same_Some x w e)
+guarded false x w e = absurd (cc)
+
+pub guarded_not : {A : Type 0} (b : Bool) (x w : A) → (if b then None else Some x) ≡ Some w → (b ≡ false) × (x ≡ w)
+guarded_not true x w e = absurd (cc)
+guarded_not false x w e = (refl, same_Some x w e)
+
+pub refused : {A : Type 0} (b : Bool) (x : A) → (if b then Some x else None) ≡ None → b ≡ true → ⊥
+refused true x e h = cc
+refused false x e h = cc
+
+pub refused_not : {A : Type 0} (b : Bool) (x : A) → (if b then None else Some x) ≡ None → b ≡ true
+refused_not true x e = refl
+refused_not false x e = absurd (cc)
+
+-- ---- owners
+
+pub owner_is : (o : Option ThreadId) (t : ThreadId) → is_owned_by o t ≡ true → o ≡ Some t
+owner_is None t e = absurd (cc)
+owner_is (Some u) t e = ap (λ (n : ℕ). let x : ThreadId = record { 0 = n } in Some x) (eqb-true u.0 t.0 e)
+
+pub owner_yes : (o : Option ThreadId) (t : ThreadId) → o ≡ Some t → is_owned_by o t ≡ true
+owner_yes o t e = ap (λ p. is_owned_by p t) e ∙ eq-eqb t.0 t.0 refl
+
+pub owner_not : (o : Option ThreadId) (t : ThreadId) → is_owned_by o t ≡ false → o ≡ Some t → ⊥
+owner_not o t e h = let never : true ≡ false = sym (owner_yes o t h) ∙ e in cc
+
+-- ---- what a thread is doing
+
+abbrev pub live : Bool → Doing → Live
+live flag act = record { flag = flag; act = act }
+
+live_back : Thread → Live
+live_back x = live x.flag x.act
+
+module _ (v : MachineState) (t : ThreadId) where
+  pub live_is : (flag : Bool) (act : Doing) → Is (state v) t flag act → live_of v.threads t ≡ Some (live flag act)
+  unfolding live_back
+  live_is flag act e = by (live_of v.threads t) e
+    where
+      by : (y : Option Live) → option_map thread_of y ≡ Some (thread_of (live flag act)) → y ≡ Some (live flag act)
+      by None e = absurd (cc)
+      by (Some x) e = ap (λ (z : Thread). Some (live_back z)) (same_Some (thread_of x) (thread_of (live flag act)) e)
+
+  pub is_live : (x : Live) → live_of v.threads t ≡ Some x → Is (state v) t x.flag x.act
+  is_live x e = ap (option_map thread_of) e
+
+  wants_is : (flag : Bool) (act : Doing) (g : Bool) (c : Call) → wants flag act ≡ Some (g, c) → (flag ≡ g) × (act ≡ Wants c)
+  wants_is flag (Wants d) g c e = let p = same_Some (flag, d) (g, c) e in (ap (λ x. x.0) p, ap (λ x. Wants x.1) p)
+  wants_is flag Idle g c e = absurd (cc)
+  wants_is flag (Waits o n d) g c e = absurd (cc)
+  wants_is flag (Back o n w) g c e = absurd (cc)
+  wants_is flag (Has r) g c e = absurd (cc)
+
+  pub calls : (flag : Bool) (c : Call) → wanted v t ≡ Some (flag, c) → Calls (state v) t flag c
+  calls flag c e = by (live_of v.threads t) refl e
+    where
+      by : (y : Option Live) → live_of v.threads t ≡ y → wanted_of y ≡ Some (flag, c) → Calls (state v) t flag c
+      by None h e = absurd (cc)
+      by (Some x) h e = let p = wants_is x.flag x.act flag c e in is_live x h ∙ (λ i. Some (thread_of (live (p.0 i) (p.1 i))))
+
+  pub wanted_as : (flag : Bool) (c : Call) → Calls (state v) t flag c → wanted v t ≡ Some (flag, c)
+  wanted_as flag c e = ap wanted_of (live_is flag (Wants c) e)
+
+  pub there : IsSound v → (flag : Bool) (c : Call) → wanted v t ≡ Some (flag, c) → Exists (length v.monitors) c
+  there sound flag c e = sound t (live flag (Wants c)) (live_is flag (Wants c) (calls flag c e))
+
+  -- ---- what a row leaves
+
+  pub answer : (flag : Bool) (r : Reply) (w : MachineState) → replied v t flag r ≡ w → state w ≡ with_reply (state v) t flag r
+  answer flag r w e = sym (ap state e) ∙ state-put v t flag (Has r)
+
+  pub changed : (flag : Bool) (act : Doing) (o : ObjectId) (h : Held) (w : MachineState) → o.0 < length v.monitors → with_held (put v t flag act) o h ≡ w
+      → state w ≡ with_monitor (now_is (state v) t flag act) o (monitor_of h)
+  changed flag act o h w exists e =
+      sym (ap state e) ∙ state-with_held (put v t flag act) o h exists
+      ∙ ap (λ (s : State). with_monitor s o (monitor_of h)) (state-put v t flag act)
+
+  -- ---- locks
+
+  may_own : (o : Option ThreadId) → (not (is_some o) || is_owned_by o t) ≡ true → (o ≡ None) ⊎ (o ≡ Some t)
+  may_own None e = inl refl
+  may_own (Some u) e = inr (owner_is (Some u) t e)
+
+  lock_free : (h : Held) → (h.owner ≡ None) ⊎ (h.owner ≡ Some t) → h.count < 65535 → may_be_locked h t ≡ true
+  lock_free h (inl e) few = rw (e, lt-ltb h.count 65535 few) refl
+  lock_free h (inr e) few = rw (e, eq-eqb t.0 t.0 refl, lt-ltb h.count 65535 few) refl
+
+  pub lock_right : (w : MachineState) → IsSound v → lock v t ≡ Some w → Steps (state v) (move.Lock t) (state w)
+  lock_right w sound e = by (wanted v t) refl e
+    where
+      by : (q : Option (Bool × Call)) → wanted v t ≡ q → lock_for v t q ≡ Some w → Steps (state v) (move.Lock t) (state w)
+      by None h e = absurd (cc)
+      by (Some (flag, call.Enter o)) h e =
+          let g = guarded (may_be_locked (held_at v o) t) (with_held (replied v t flag reply.Entered) o (held_by t ((held_at v o).count + 1))) w e in
+          let m = and_parts (not (is_some (held_at v o).owner) || is_owned_by (held_at v o).owner t) (nat_lt (held_at v o).count 65535) g.0 in
+          (flag, o, calls flag (call.Enter o) h, may_own (held_at v o).owner m.0, ltb-true (held_at v o).count 65535 m.1,
+          changed flag (Has reply.Entered) o (held_by t ((held_at v o).count + 1)) w (there sound flag (call.Enter o) h) g.1)
+      by (Some (flag, c)) h e = absurd (cc)
+
+  pub lock_only : (s : State) → lock v t ≡ None → Steps (state v) (move.Lock t) s → ⊥
+  lock_only s e p =
+      refused (may_be_locked (held_at v p.1) t) (with_held (replied v t p.0 reply.Entered) p.1 (held_by t ((held_at v p.1).count + 1)))
+      (ap (lock_for v t) (sym (wanted_as p.0 (call.Enter p.1) p.2)) ∙ e)
+      (lock_free (held_at v p.1) p.3 p.4)
+
+  less_is : (n : ℕ) → monitor_of (less_held t (n + 1)) ≡ (if n == 0 then free else held t n)
+  less_is n = by (cases_eq n 0)
+    where
+      by : (n ≡ 0) ⊎ (n ≡ 0 → ⊥) → monitor_of (less_held t (n + 1)) ≡ (if n == 0 then free else held t n)
+      by (inl e) = rw (e) refl
+      by (inr ne) =
+          let more : n + 1 ≡ 1 → ⊥ = λ e. ne (omega (arith, e)) in
+          let back : n + 1 - 1 ≡ n = omega arith in
+          rw (ne_eqb n 0 ne, ne_eqb (n + 1) 1 more) (ap (held t) back)
+
+  both_true : (a b : Bool) → a ≡ true → b ≡ true → (a && b) ≡ true
+  both_true a b e h = rw (e, h) refl
+
+  pub unlock_right : (w : MachineState) → IsSound v → unlock v t ≡ Some w → Steps (state v) (move.Unlock t) (state w)
+  unlock_right w sound e = by (wanted v t) refl e
+    where
+      by : (q : Option (Bool × Call)) → wanted v t ≡ q → unlock_for v t q ≡ Some w → Steps (state v) (move.Unlock t) (state w)
+      by None h e = absurd (cc)
+      by (Some (flag, call.Exit o)) h e =
+          let n = (held_at v o).count in
+          let g = guarded (owns v t o && nat_lt 0 n) (with_held (replied v t flag reply.Exited) o (less_held t n)) w e in
+          let m = and_parts (owns v t o) (nat_lt 0 n) g.0 in
+          let some : 0 < n = ltb-true 0 n m.1 in
+          let same : n ≡ n - 1 + 1 = omega (arith, some) in
+          let owner = owner_is (held_at v o).owner t m.0 in
+          (flag, o, n - 1, calls flag (call.Exit o) h, (λ i. record { owner = owner i; count = same i }),
+          changed flag (Has reply.Exited) o (less_held t n) w (there sound flag (call.Exit o) h) g.1
+          ∙ ap (λ (x : Monitor). with_monitor (with_reply (state v) t flag reply.Exited) o x) (ap (λ k. monitor_of (less_held t k)) same ∙ less_is (n - 1)))
+      by (Some (flag, c)) h e = absurd (cc)
+
+  pub unlock_only : (s : State) → unlock v t ≡ None → Steps (state v) (move.Unlock t) s → ⊥
+  unlock_only s e p =
+      let n = (held_at v p.1).count in
+      let count : n ≡ p.2 + 1 = ap (λ (x : Monitor). x.count) p.4 in
+      refused (owns v t p.1 && nat_lt 0 n) (with_held (replied v t p.0 reply.Exited) p.1 (less_held t n))
+      (ap (unlock_for v t) (sym (wanted_as p.0 (call.Exit p.1) p.3)) ∙ e)
+      (both_true (owns v t p.1) (nat_lt 0 n) (owner_yes (held_at v p.1).owner t (ap (λ (x : Monitor). x.owner) p.4)) (lt-ltb 0 n (omega (arith, count))))
+
+  pub illegal_right : (w : MachineState) → illegal v t ≡ Some w → Steps (state v) (move.Illegal t) (state w)
+  illegal_right w e = by (wanted v t) refl e
+    where
+      on : (flag : Bool) (c : Call) → wanted v t ≡ Some (flag, c) → (o : Option ObjectId) → owner_only c ≡ o → illegal_on v t flag o ≡ Some w
+          → Steps (state v) (move.Illegal t) (state w)
+      on flag c h None k e = absurd (cc)
+      on flag c h (Some o) k e =
+          let g = guarded_not (owns v t o) (replied v t flag reply.IllegalMonitorState) w e in
+          (flag, c, o, calls flag c h, k, owner_not (held_at v o).owner t g.0, answer flag reply.IllegalMonitorState w g.1)
+
+      by : (q : Option (Bool × Call)) → wanted v t ≡ q → illegal_for v t q ≡ Some w → Steps (state v) (move.Illegal t) (state w)
+      by None h e = absurd (cc)
+      by (Some (flag, c)) h e = on flag c h (owner_only c) refl e
+
+  pub illegal_only : (s : State) → illegal v t ≡ None → Steps (state v) (move.Illegal t) s → ⊥
+  illegal_only s e p =
+      let none = ap (illegal_on v t p.0) (sym p.4) ∙ ap (illegal_for v t) (sym (wanted_as p.0 p.1 p.3)) ∙ e in
+      p.5 (owner_is (held_at v p.2).owner t (refused_not (owns v t p.2) (replied v t p.0 reply.IllegalMonitorState) none))
+
+  -- ---- waits
+
+  wish_is : (w : Wish) → IsSound v → wish v t ≡ Some w
+      → Calls (state v) t w.flag (call.Wait w.object w.millis w.nanos) × OwnedBy (state v) w.object t × (w.object.0 < length v.monitors)
+  wish_is w sound e = by (wanted v t) refl e
+    where
+      by : (q : Option (Bool × Call)) → wanted v t ≡ q → wish_for v t q ≡ Some w
+          → Calls (state v) t w.flag (call.Wait w.object w.millis w.nanos) × OwnedBy (state v) w.object t × (w.object.0 < length v.monitors)
+      by None h e = absurd (cc)
+      by (Some (flag, call.Wait o millis nanos)) h e =
+          let g = guarded (owns v t o) (record { flag = flag; object = o; millis = millis; nanos = nanos }) w e in
+          subst (λ (x : Wish). Calls (state v) t x.flag (call.Wait x.object x.millis x.nanos) × OwnedBy (state v) x.object t × (x.object.0 < length v.monitors)) g.1
+          (calls flag (call.Wait o millis nanos) h, owner_is (held_at v o).owner t g.0, there sound flag (call.Wait o millis nanos) h)
+      by (Some (flag, c)) h e = absurd (cc)
+
+  wish_as : (flag : Bool) (o : ObjectId) (millis nanos : ℤ) → Calls (state v) t flag (call.Wait o millis nanos) → OwnedBy (state v) o t
+      → wish v t ≡ Some (record { flag = flag; object = o; millis = millis; nanos = nanos })
+  wish_as flag o millis nanos h own =
+      ap (wish_for v t) (wanted_as flag (call.Wait o millis nanos) h)
+      ∙ ap (λ b. if b then Some (record { flag = flag; object = o; millis = millis; nanos = nanos }) else None) (owner_yes (held_at v o).owner t own)

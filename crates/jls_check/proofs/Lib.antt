@@ -1,0 +1,3 @@
+pub mod LiveMaps
+pub mod States
+pub mod Judging

@@ -1,0 +1,4 @@
+pub mod LiveThreads
+pub mod MachineState
+pub mod View
+pub mod Taking
