@@ -1,8 +1,9 @@
 -- A checker takes a move exactly where the machine may make it, and knows then what the machine's row says.
-use Rattle.std.specs.Prelude.{◌≡◌, ◌⊎◌, ℕ, ◌+◌, ◌-◌, ◌<◌, ◌≤◌, Bool, true, false, not, ◌&&◌, ◌||◌, if◌then◌else◌, ◌==◌, nat_lt, length, ℤ, pos, int_le, Option, Some, None, is_some, T}
+use Rattle.std.specs.Prelude.{◌≡◌, ◌⊎◌, ℕ, ◌+◌, ◌-◌, ◌<◌, ◌≤◌, Bool, true, false, not, ◌&&◌, ◌||◌, if◌then◌else◌, ◌==◌, nat_lt, length, ℤ, pos, int_le, Option, Some, None, is_some, T, MatchOption}
 use Rattle.std.specs.Option.{option_map}
 use Rattle.std.proofs.Common.{refl, ap, sym, ◌∙◌, inl, inr, subst, arith}
-use Rattle.std.proofs.lemmas.Bool.{and_parts, cases_eq, eqb-true, eq-eqb, ne_eqb, ltb-true, lt-ltb}
+use Rattle.std.proofs.lemmas.Bool.{and_parts, cases_eq, eqb-true, eq-eqb, ne_eqb, ltb-true, ltb-false, lt-ltb}
+use lib.Signed.{le_z_yes}
 use Rattle.std.proofs.lemmas.Option.{same_Some}
 use Rattle.lock_word.specs.declared.ThreadId.{ThreadId}
 use Rattle.lock_word.specs.declared.ObjectId.{ObjectId}
@@ -11,16 +12,17 @@ use Rattle.fat_monitor.specs.declared.actions.Reply.TheVariants as reply
 use Rattle.fat_monitor.specs.declared.actions.Why.TheVariants as why
 use Rattle.fast_path.specs.declared.calls.Call.{Call}
 use Rattle.fast_path.specs.declared.calls.Call.TheVariants as call
+use Rattle.fast_path.specs.Calls.{object_of}
 use Rattle.step_core.specs.declared.machine.Doing.{Doing}
 use Rattle.step_core.specs.declared.machine.Doing.TheVariants.{Idle, Wants, Waits, Back, Has}
 use Rattle.step_core.specs.declared.machine.Move.TheVariants as move
-use Rattle.step_core.specs.Machine.{State, Thread, Monitor, Steps, Is, Calls, Exists, ActExists, now_is, with_reply, with_monitor, OwnedBy, Unowned, held, free, owner_only}
+use Rattle.step_core.specs.Machine.{State, Thread, Monitor, Steps, Is, Calls, Exists, ActExists, now_is, with_reply, with_monitor, OwnedBy, Unowned, held, free, owner_only, AreGood, over_at, yes_or_no, flag_back, reply_of}
 use Rattle.jls_check.specs.declared.threads.Live.{Live}
 use Rattle.jls_check.specs.declared.monitors.Held.{Held}
 use Rattle.jls_check.specs.declared.machine.Wish.{Wish}
 use Rattle.jls_check.specs.LiveThreads.{live_of}
 use Rattle.jls_check.specs.MachineState.{MachineState, state, put, replied, with_held, held_at, thread_of, monitor_of, is_owned_by, owns, unheld, IsSound}
-use Rattle.jls_check.specs.Taking.{wants, wanted_of, wanted, may_be_locked, lock_for, lock, held_by, less_held, unlock_for, unlock, illegal_on, illegal_for, illegal, wish_for, wish}
+use Rattle.jls_check.specs.Taking.{wants, wanted_of, wanted, may_be_locked, lock_for, lock, held_by, less_held, unlock_for, unlock, illegal_on, illegal_for, illegal, wish_for, wish, is_good, bad_argument_of, bad_argument, early_of, early, wait_of, wait, test_clear_for, test_clear, attach_at, attach, exists_below, make_call_from, make_call_at, make_call, expire_from, expire_at, expire, relock_from, relock_at, relock, time}
 use Rattle.jls_check.proofs.States.{state-put, state-with_held}
 
 -- ---- what a guard says
@@ -40,6 +42,33 @@ refused false x e h = cc
 pub refused_not : {A : Type 0} (b : Bool) (x : A) → (if b then None else Some x) ≡ None → b ≡ true
 refused_not true x e = refl
 refused_not false x e = absurd (cc)
+
+is_true : (b : Bool) → T b → b ≡ true
+is_true true h = refl
+is_true false h = absurd h
+
+pub both_true : (a b : Bool) → a ≡ true → b ≡ true → (a && b) ≡ true
+both_true a b e h = rw (e, h) refl
+
+pub flipped : (b : Bool) → not b ≡ true → b ≡ false
+flipped true e = absurd (cc)
+flipped false e = refl
+
+pub good_time : (millis nanos : ℤ) → is_good millis nanos ≡ true → AreGood millis nanos
+good_time millis nanos e =
+    let p = and_parts (int_le (pos 0) millis && int_le (pos 0) nanos) (int_le nanos (pos 999999)) e in
+    let q = and_parts (int_le (pos 0) millis) (int_le (pos 0) nanos) p.0 in
+    (le_z_yes (subst T (sym q.0) tt), le_z_yes (subst T (sym q.1) tt), le_z_yes (subst T (sym p.1) tt))
+
+pub time_good : (millis nanos : ℤ) → AreGood millis nanos → is_good millis nanos ≡ true
+time_good millis nanos (a, b, c) =
+    both_true (int_le (pos 0) millis && int_le (pos 0) nanos) (int_le nanos (pos 999999))
+    (both_true (int_le (pos 0) millis) (int_le (pos 0) nanos) (is_true (int_le (pos 0) millis) a.le) (is_true (int_le (pos 0) nanos) b.le))
+    (is_true (int_le nanos (pos 999999)) c.le)
+
+pub never : {A : Type 0} (b : Bool) → b ≡ true → b ≡ false → A
+never true e h = absurd (cc)
+never false e h = absurd (cc)
 
 -- ---- owners
 
@@ -142,9 +171,6 @@ module _ (v : MachineState) (t : ThreadId) where
           let back : n + 1 - 1 ≡ n = omega arith in
           rw (ne_eqb n 0 ne, ne_eqb (n + 1) 1 more) (ap (held t) back)
 
-  both_true : (a b : Bool) → a ≡ true → b ≡ true → (a && b) ≡ true
-  both_true a b e h = rw (e, h) refl
-
   pub unlock_right : (w : MachineState) → IsSound v → unlock v t ≡ Some w → Steps (state v) (move.Unlock t) (state w)
   unlock_right w sound e = by (wanted v t) refl e
     where
@@ -209,3 +235,171 @@ module _ (v : MachineState) (t : ThreadId) where
   wish_as flag o millis nanos h own =
       ap (wish_for v t) (wanted_as flag (call.Wait o millis nanos) h)
       ∙ ap (λ b. if b then Some (record { flag = flag; object = o; millis = millis; nanos = nanos }) else None) (owner_yes (held_at v o).owner t own)
+
+  pub bad_argument_right : (w : MachineState) → IsSound v → bad_argument v t ≡ Some w → Steps (state v) (move.BadArgument t) (state w)
+  bad_argument_right w sound e = by (wish v t) refl e
+    where
+      by : (q : Option Wish) → wish v t ≡ q → bad_argument_of v t q ≡ Some w → Steps (state v) (move.BadArgument t) (state w)
+      by None h e = absurd (cc)
+      by (Some x) h e =
+          let g = guarded_not (is_good x.millis x.nanos) (replied v t x.flag reply.IllegalArgument) w e in
+          let k = wish_is x sound h in
+          (x.flag, x.object, x.millis, x.nanos, k.0, k.1, (λ good. never (is_good x.millis x.nanos) (time_good x.millis x.nanos good) g.0), answer x.flag reply.IllegalArgument w g.1)
+
+  pub bad_argument_only : (s : State) → bad_argument v t ≡ None → Steps (state v) (move.BadArgument t) s → ⊥
+  bad_argument_only s e p =
+      let none = ap (bad_argument_of v t) (sym (wish_as p.0 p.1 p.2 p.3 p.4 p.5)) ∙ e in
+      p.6 (good_time p.2 p.3 (refused_not (is_good p.2 p.3) (replied v t p.0 reply.IllegalArgument) none))
+
+  pub early_right : (w : MachineState) → IsSound v → early v t ≡ Some w → Steps (state v) (move.Early t) (state w)
+  early_right w sound e = by (wish v t) refl e
+    where
+      by : (q : Option Wish) → wish v t ≡ q → early_of v t q ≡ Some w → Steps (state v) (move.Early t) (state w)
+      by None h e = absurd (cc)
+      by (Some x) h e =
+          let g = guarded (is_good x.millis x.nanos && x.flag) (replied v t false reply.Interrupted) w e in
+          let m = and_parts (is_good x.millis x.nanos) x.flag g.0 in
+          let k = wish_is x sound h in
+          (x.object, x.millis, x.nanos, subst (λ (f : Bool). Calls (state v) t f (call.Wait x.object x.millis x.nanos)) m.1 k.0, k.1,
+          good_time x.millis x.nanos m.0, answer false reply.Interrupted w g.1)
+
+  pub early_only : (s : State) → early v t ≡ None → Steps (state v) (move.Early t) s → ⊥
+  early_only s e p =
+      refused (is_good p.1 p.2 && true) (replied v t false reply.Interrupted) (ap (early_of v t) (sym (wish_as true p.0 p.1 p.2 p.3 p.4)) ∙ e)
+      (both_true (is_good p.1 p.2) true (time_good p.1 p.2 p.5) refl)
+
+  pub wait_right : (w : MachineState) → IsSound v → wait v t ≡ Some w → Steps (state v) (move.Wait t) (state w)
+  wait_right w sound e = by (wish v t) refl e
+    where
+      by : (q : Option Wish) → wish v t ≡ q → wait_of v t q ≡ Some w → Steps (state v) (move.Wait t) (state w)
+      by None h e = absurd (cc)
+      by (Some x) h e =
+          let act = Waits x.object (held_at v x.object).count (over_at v.moment x.millis x.nanos) in
+          let g = guarded (is_good x.millis x.nanos && not x.flag) (with_held (put v t false act) x.object unheld) w e in
+          let m = and_parts (is_good x.millis x.nanos) (not x.flag) g.0 in
+          let k = wish_is x sound h in
+          (x.object, x.millis, x.nanos, subst (λ (f : Bool). Calls (state v) t f (call.Wait x.object x.millis x.nanos)) (flipped x.flag m.1) k.0, k.1,
+          good_time x.millis x.nanos m.0, changed false act x.object unheld w k.2 g.1)
+
+  pub wait_only : (s : State) → wait v t ≡ None → Steps (state v) (move.Wait t) s → ⊥
+  wait_only s e p =
+      refused (is_good p.1 p.2 && not false) (with_held (put v t false (Waits p.0 (held_at v p.0).count (over_at v.moment p.1 p.2))) p.0 unheld)
+      (ap (wait_of v t) (sym (wish_as false p.0 p.1 p.2 p.3 p.4)) ∙ e)
+      (both_true (is_good p.1 p.2) true (time_good p.1 p.2 p.5) refl)
+
+  -- ---- the flag, and the way back
+
+  pub test_clear_right : (w : MachineState) → test_clear v t ≡ Some w → Steps (state v) (move.TestClear t) (state w)
+  test_clear_right w e = by (wanted v t) refl e
+    where
+      by : (q : Option (Bool × Call)) → wanted v t ≡ q → test_clear_for v t q ≡ Some w → Steps (state v) (move.TestClear t) (state w)
+      by None h e = absurd (cc)
+      by (Some (flag, call.Interrupted)) h e =
+          (flag, calls flag call.Interrupted h, answer false (yes_or_no flag) w (same_Some (replied v t false (yes_or_no flag)) w e))
+      by (Some (flag, c)) h e = absurd (cc)
+
+  pub test_clear_only : (s : State) → test_clear v t ≡ None → Steps (state v) (move.TestClear t) s → ⊥
+  test_clear_only s e p = let never = ap (test_clear_for v t) (sym (wanted_as p.0 call.Interrupted p.1)) ∙ e in cc
+
+  pub expire_right : (w : MachineState) → expire v t ≡ Some w → Steps (state v) (move.Expire t) (state w)
+  expire_right w e = by (live_of v.threads t) refl e
+    where
+      on : (flag : Bool) (d : Doing) → live_of v.threads t ≡ Some (live flag d) → expire_from v t flag d ≡ Some w → Steps (state v) (move.Expire t) (state w)
+      on flag (Waits o n (Some d)) h e =
+          let g = guarded_not (nat_lt v.moment d) (put v t flag (Back o n why.Elapsed)) w e in
+          let due : d ≤ v.moment = omega (arith, ltb-false v.moment d g.0) in
+          (flag, o, n, d, is_live (live flag (Waits o n (Some d))) h, due, sym (ap state g.1) ∙ state-put v t flag (Back o n why.Elapsed))
+      on flag (Waits o n None) h e = absurd (cc)
+      on flag Idle h e = absurd (cc)
+      on flag (Wants c) h e = absurd (cc)
+      on flag (Back o n w) h e = absurd (cc)
+      on flag (Has r) h e = absurd (cc)
+
+      by : (q : Option Live) → live_of v.threads t ≡ q → expire_at v t q ≡ Some w → Steps (state v) (move.Expire t) (state w)
+      by None h e = absurd (cc)
+      by (Some x) h e = on x.flag x.act h e
+
+  pub expire_only : (s : State) → expire v t ≡ None → Steps (state v) (move.Expire t) s → ⊥
+  expire_only s e p =
+      let late = refused_not (nat_lt v.moment p.3) (put v t p.0 (Back p.1 p.2 why.Elapsed))
+          (ap (expire_at v t) (sym (live_is p.0 (Waits p.1 p.2 (Some p.3)) p.4)) ∙ e) in
+      let due = p.5 in
+      let no : v.moment < p.3 = ltb-true v.moment p.3 late in
+      omega (arith, due, no)
+
+  pub relock_right : (w : MachineState) → IsSound v → relock v t ≡ Some w → Steps (state v) (move.Relock t) (state w)
+  relock_right w sound e = by (live_of v.threads t) refl e
+    where
+      unowned : (o : Option ThreadId) → is_some o ≡ false → o ≡ None
+      unowned None e = refl
+      unowned (Some u) e = absurd (cc)
+
+      on : (flag : Bool) (d : Doing) → live_of v.threads t ≡ Some (live flag d) → relock_from v t flag d ≡ Some w → Steps (state v) (move.Relock t) (state w)
+      on flag (Back o n y) h e =
+          let g = guarded_not (is_some (held_at v o).owner) (with_held (replied v t (flag_back y flag) (reply_of y)) o (held_by t n)) w e in
+          (flag, o, n, y, is_live (live flag (Back o n y)) h, unowned (held_at v o).owner g.0,
+          changed (flag_back y flag) (Has (reply_of y)) o (held_by t n) w (sound t (live flag (Back o n y)) h) g.1)
+      on flag Idle h e = absurd (cc)
+      on flag (Wants c) h e = absurd (cc)
+      on flag (Waits o n d) h e = absurd (cc)
+      on flag (Has r) h e = absurd (cc)
+
+      by : (q : Option Live) → live_of v.threads t ≡ q → relock_at v t q ≡ Some w → Steps (state v) (move.Relock t) (state w)
+      by None h e = absurd (cc)
+      by (Some x) h e = on x.flag x.act h e
+
+  pub relock_only : (s : State) → relock v t ≡ None → Steps (state v) (move.Relock t) s → ⊥
+  relock_only s e p =
+      let taken = refused_not (is_some (held_at v p.1).owner) (with_held (replied v t (flag_back p.3 p.0) (reply_of p.3)) p.1 (held_by t p.2))
+          (ap (relock_at v t) (sym (live_is p.0 (Back p.1 p.2 p.3) p.4)) ∙ e) in
+      never (is_some (held_at v p.1).owner) taken (ap (λ (o : Option ThreadId). is_some o) p.5)
+
+  -- ---- attach and call
+
+  pub attach_right : (w : MachineState) → attach v t ≡ Some w → Steps (state v) (move.Attach t) (state w)
+  attach_right w e = by (live_of v.threads t) refl e
+    where
+      by : (q : Option Live) → live_of v.threads t ≡ q → attach_at v t q ≡ Some w → Steps (state v) (move.Attach t) (state w)
+      by None h e = (ap (option_map thread_of) h, sym (ap state (same_Some (put v t false Idle) w e)) ∙ state-put v t false Idle)
+      by (Some x) h e = absurd (cc)
+
+  pub attach_only : (s : State) → attach v t ≡ None → Steps (state v) (move.Attach t) s → ⊥
+  attach_only s e p = by (live_of v.threads t) e p.0
+    where
+      by : (q : Option Live) → attach_at v t q ≡ None → option_map thread_of q ≡ None → ⊥
+      by None e h = cc
+      by (Some x) e h = cc
+
+  names : (c : Call) → exists_below (length v.monitors) (object_of c) ≡ true → Exists (length v.monitors) c
+  names c e = by (object_of c) e
+    where
+      by : (o : Option ObjectId) → exists_below (length v.monitors) o ≡ true → MatchOption o (Unit {0}) (λ p. p.0 < length v.monitors)
+      by None e = tt
+      by (Some o) e = ltb-true o.0 (length v.monitors) e
+
+  named : (c : Call) → Exists (length v.monitors) c → exists_below (length v.monitors) (object_of c) ≡ true
+  named c e = by (object_of c) e
+    where
+      by : (o : Option ObjectId) → MatchOption o (Unit {0}) (λ p. p.0 < length v.monitors) → exists_below (length v.monitors) o ≡ true
+      by None e = refl
+      by (Some o) e = lt-ltb o.0 (length v.monitors) e
+
+  pub make_call_right : (c : Call) (w : MachineState) → make_call v t c ≡ Some w → Steps (state v) (move.Call t c) (state w)
+  make_call_right c w e = by (live_of v.threads t) refl e
+    where
+      on : (flag : Bool) (d : Doing) → live_of v.threads t ≡ Some (live flag d) → make_call_from v t c flag d ≡ Some w → Steps (state v) (move.Call t c) (state w)
+      on flag Idle h e =
+          let g = guarded (exists_below (length v.monitors) (object_of c)) (put v t flag (Wants c)) w e in
+          (flag, is_live (live flag Idle) h, names c g.0, sym (ap state g.1) ∙ state-put v t flag (Wants c))
+      on flag (Wants d) h e = absurd (cc)
+      on flag (Waits o n d) h e = absurd (cc)
+      on flag (Back o n y) h e = absurd (cc)
+      on flag (Has r) h e = absurd (cc)
+
+      by : (q : Option Live) → live_of v.threads t ≡ q → make_call_at v t c q ≡ Some w → Steps (state v) (move.Call t c) (state w)
+      by None h e = absurd (cc)
+      by (Some x) h e = on x.flag x.act h e
+
+  pub make_call_only : (c : Call) (s : State) → make_call v t c ≡ None → Steps (state v) (move.Call t c) s → ⊥
+  make_call_only c s e p =
+      refused (exists_below (length v.monitors) (object_of c)) (put v t p.0 (Wants c)) (ap (make_call_at v t c) (sym (live_is p.0 Idle p.1)) ∙ e) (named c p.2)

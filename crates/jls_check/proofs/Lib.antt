@@ -1,3 +1,4 @@
 pub mod LiveMaps
 pub mod States
 pub mod Judging
+pub mod Replying
