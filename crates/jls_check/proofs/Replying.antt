@@ -250,7 +250,7 @@ module _ (v : MachineState) (t : ThreadId) where
       by (call.IsInterrupted u) e h = at (live_of v.threads u) e h.0 h.1
       by c e h = h
 
-  one_owned : (hs : List Held) → owns_one hs t ≡ true → (k : ℕ) × (is_owned_by (get_or hs k unheld).owner t ≡ true)
+  pub one_owned : (hs : List Held) → owns_one hs t ≡ true → (k : ℕ) × (is_owned_by (get_or hs k unheld).owner t ≡ true)
   one_owned [] e = absurd (cc)
   one_owned (h ∷ hs) e = by (one_owned hs) (is_owned_by h.owner t) refl e
     where
@@ -259,7 +259,7 @@ module _ (v : MachineState) (t : ThreadId) where
       by rest true i e = (zero, i)
       by rest false i e = let r = rest e in (suc r.0, r.1)
 
-  owned_one : (hs : List Held) (k : ℕ) → is_owned_by (get_or hs k unheld).owner t ≡ true → owns_one hs t ≡ true
+  pub owned_one : (hs : List Held) (k : ℕ) → is_owned_by (get_or hs k unheld).owner t ≡ true → owns_one hs t ≡ true
   owned_one [] k e = absurd (cc)
   owned_one (h ∷ hs) zero e = rw (e) refl
   owned_one (h ∷ hs) (suc k) e = ap (λ b. is_owned_by h.owner t || b) (owned_one hs k e) ∙ by (is_owned_by h.owner t)

@@ -1,9 +1,11 @@
 //! The machine behind some moves.
 
-ghost use Rattle.std.specs.Prelude.{◌≡◌, IfOk, IsSome, Bool, true};
-ghost use Rattle.step_core.specs.Machine.{opening, over_at};
+ghost use Rattle.std.specs.Prelude.{◌≡◌, ◌↔◌, OnOk, OnErr, IsErrOf, IfOk, IsSome, Bool, true};
+ghost use Rattle.step_core.specs.Machine.{opening, over_at, Steps};
 ghost use Rattle.jls_check.specs.LiveThreads.{live_of};
 ghost use Rattle.jls_check.specs.MachineState.{state, held_at, owns, IsSound};
+ghost use Rattle.jls_check.specs.Judging.{IsUnlawful, IsAttach};
+ghost use Rattle.jls_check.specs.declared.faults.MoveFault.TheVariants.{Broken, Memory as NoMemory};
 ghost use Rattle.jls_check.specs.Taking.{answered, wanted, wish, is_good};
 
 use crate::MoveFault;
@@ -63,16 +65,23 @@ impl Machine {
         })
     }
 
-    /// Takes a move, if it is lawful now; else the state stays. Want of memory is answered only at an Attach.
+    /// Takes a move, if it is lawful now (JLS SE 8, 17.1 and 17.2). It is refused with [`Broken`](MoveFault::Broken)
+    /// exactly where the machine may not make it, and with [`Memory`](MoveFault::Memory) at most where it is an Attach.
     pub fn take(&mut self, made: Move) -> Result<(), MoveFault>
-        ensures { (room : Bool) × (record { answer = result; after = self.new } ≡ answered room self.old made) }
+        ensures taken { OnOk result (Steps (state self.old) made (state self.new)) }
+        ensures broken { IsErrOf result Broken ↔ IsUnlawful (state self.old) made }
+        ensures memory { IsErrOf result NoMemory → IsAttach made }
+        ensures kept { OnErr result (self.new ≡ self.old) }
     {
         self.advance(made)
     }
 
     fn advance(&mut self, made: Move) -> Result<(), MoveFault>
-        ensures { (room : Bool) × (record { answer = result; after = self.new } ≡ answered room self.old made) }
+        ensures was { IsSound self.old }
+        ensures exact { (room : Bool) × (record { answer = result; after = self.new } ≡ answered room self.old made) }
     {
+        // A use of a field, by which the state is known to be sound.
+        let _ = &self.moment;
         match made {
             Move::Attach { thread } => self.attach(thread),
             Move::Call { thread, call } => self.make_call(thread, call),
