@@ -1,46 +1,33 @@
 -- A checker takes each move exactly where the machine may make it.
-use Rattle.std.specs.Prelude.{◌≡◌, ◌⊎◌, ℕ, ◌<◌, ◌≤◌, Bool, true, false, not, ◌&&◌, ◌||◌, if◌then◌else◌, ◌==◌, nat_lt, List, [], ◌∷◌, zero, suc, get_or, cond, T, Option, Some, None, is_some, ◌↔◌, ℤ}
+use Rattle.std.specs.Prelude.{◌≡◌, ℕ, ◌<◌, Bool, true, false, not, if◌then◌else◌, ◌==◌, nat_lt, Option, Some, None, is_some}
 use Rattle.std.specs.Option.{option_map}
-use Rattle.std.specs.List.{list_any}
-use Rattle.std.specs.Map.{values_of}
-use Rattle.std.specs.Ordering.{nat_cmp, is_eq, is_lt}
-use Rattle.std.specs.declared.cmp.Ordering.{Ordering}
-use Rattle.std.specs.declared.cmp.Ordering.TheVariants.{Less, Equal, Greater}
-use Rattle.std.specs.Cmp.{unsigned_tied}
-use Rattle.std.specs.FinMap as map
-use Rattle.std.specs.FinMap.{get-entries, entries_sorted}
-use Rattle.std.specs.FinMap.Entries.{find, is_sorted, below_all}
-use Rattle.std.proofs.Common.{refl, ap, sym, ◌∙◌, inl, inr, subst, arith}
-use Rattle.std.proofs.lemmas.Bool.{and_parts, cases_eq, eqb-true, eq-eqb, ne_eqb, ltb-true, ltb-false}
-use Rattle.std.proofs.lemmas.Option.{same_Some}
+use Rattle.std.proofs.Common.{refl, ap, sym, ◌∙◌, subst, arith}
+use Rattle.std.proofs.lemmas.Bool.{and_parts, eqb-true, eq-eqb, ltb-true, ltb-false}
 use Rattle.lock_word.specs.declared.ThreadId.{ThreadId}
 use Rattle.lock_word.specs.declared.ObjectId.{ObjectId}
 use Rattle.fat_monitor.specs.declared.actions.Cause.{Cause}
 use Rattle.fat_monitor.specs.declared.actions.Cause.TheVariants as cause
 use Rattle.fat_monitor.specs.declared.actions.Reply.{Reply}
 use Rattle.fat_monitor.specs.declared.actions.Reply.TheVariants as reply
-use Rattle.fat_monitor.specs.declared.actions.Why.TheVariants as why
 use Rattle.fast_path.specs.declared.calls.Call.{Call}
 use Rattle.fast_path.specs.declared.calls.Call.TheVariants as call
 use Rattle.step_core.specs.declared.machine.Doing.{Doing}
 use Rattle.step_core.specs.declared.machine.Doing.TheVariants.{Idle, Wants, Waits, Back, Has}
 use Rattle.step_core.specs.declared.machine.Move.{Move}
 use Rattle.step_core.specs.declared.machine.Move.TheVariants as move
-use Rattle.step_core.specs.Machine.{State, Thread, Steps, Is, Calls, now_is, with_reply, OwnedBy, NobodyWaits, MayRefuse, IsAnswer, waits_on, after_interrupt, yes_or_no, all_notified, AreGood}
-use Rattle.step_core.proofs.Facts.Moves.{one_object}
+use Rattle.step_core.specs.Machine.{State, Steps, Is, MayRefuse}
 use Rattle.jls_check.specs.declared.threads.Live.{Live}
-use Rattle.jls_check.specs.declared.monitors.Held.{Held}
-use Rattle.jls_check.specs.LiveThreads.{LiveThreads, live_of, some_waits, all_back}
-use Rattle.jls_check.specs.MachineState.{MachineState, state, put, replied, held_at, thread_of, is_owned_by, owns, unheld, IsSound}
-use Rattle.jls_check.specs.Taking.{wanted, notify_from, notify_at, notify_for, notify, notify_nobody_for, notify_nobody, notify_all_for, notify_all, interrupt_at, interrupt_for, interrupt, ask_at, ask_for, ask, owns_one, may_refuse, refuse_for, refuse, end_for, end, time, reply_number, has_reply, after_return, return_at, return_with, is_good}
-use Rattle.jls_check.proofs.States.{state-put, state-without, state-all_back}
+use Rattle.jls_check.specs.LiveThreads.{live_of}
+use Rattle.jls_check.specs.MachineState.{MachineState, state, put, replied, held_at, thread_of, owns, IsSound}
+use Rattle.jls_check.specs.Taking.{wanted, may_refuse, refuse_for, refuse, time, reply_number, has_reply, after_return, return_at, return_with, is_good}
+use Rattle.jls_check.proofs.States.{state-put, state-without}
 use Rattle.jls_check.proofs.Replying.{one_owned, owned_one, notify_right, notify_only, notify_nobody_right, notify_nobody_only, notify_all_right, notify_all_only, interrupt_right, interrupt_only, ask_right, ask_only, end_right, end_only}
-use Rattle.std.specs.Prelude.{Result, Ok, Err, OnOk, OnErr, IsErrOf}
+use Rattle.std.specs.Prelude.{Result, Err, OnOk, OnErr, IsErrOf}
 use Rattle.jls_check.specs.declared.faults.MoveFault.{MoveFault}
 use Rattle.jls_check.specs.declared.faults.MoveFault.TheVariants.{Broken, Memory}
 use Rattle.jls_check.specs.Judging.{IsUnlawful, IsAttach}
 use Rattle.jls_check.specs.Taking.{takes, taken, answered, attach_at, attach, Outcome}
-use Rattle.jls_check.proofs.Judging.{lock_right, lock_only, unlock_right, unlock_only, illegal_right, illegal_only, bad_argument_right, bad_argument_only, early_right, early_only, wait_right, wait_only, test_clear_right, test_clear_only, expire_right, expire_only, relock_right, relock_only, attach_right, attach_only, make_call_right, make_call_only, guarded, guarded_not, refused, refused_not, both_true, flipped, never, owner_is, owner_yes, owner_not, live, live_is, is_live, calls, wanted_as, answer, good_time, time_good}
+use Rattle.jls_check.proofs.Judging.{lock_right, lock_only, unlock_right, unlock_only, illegal_right, illegal_only, bad_argument_right, bad_argument_only, early_right, early_only, wait_right, wait_only, test_clear_right, test_clear_only, expire_right, expire_only, relock_right, relock_only, attach_right, attach_only, make_call_right, make_call_only, guarded, guarded_not, refused, refused_not, both_true, owner_is, owner_yes, live_is, is_live, calls, wanted_as, answer, good_time, time_good}
 
 -- a reply is known by its number
 numbered : ℕ → Reply

@@ -16,13 +16,13 @@ use Rattle.fast_path.specs.Calls.{object_of}
 use Rattle.step_core.specs.declared.machine.Doing.{Doing}
 use Rattle.step_core.specs.declared.machine.Doing.TheVariants.{Idle, Wants, Waits, Back, Has}
 use Rattle.step_core.specs.declared.machine.Move.TheVariants as move
-use Rattle.step_core.specs.Machine.{State, Thread, Monitor, Steps, Is, Calls, Exists, ActExists, now_is, with_reply, with_monitor, OwnedBy, Unowned, held, free, owner_only, AreGood, over_at, yes_or_no, flag_back, reply_of}
+use Rattle.step_core.specs.Machine.{State, Thread, Monitor, Steps, Is, Calls, Exists, now_is, with_reply, with_monitor, OwnedBy, held, free, owner_only, AreGood, over_at, yes_or_no, flag_back, reply_of}
 use Rattle.jls_check.specs.declared.threads.Live.{Live}
 use Rattle.jls_check.specs.declared.monitors.Held.{Held}
 use Rattle.jls_check.specs.declared.machine.Wish.{Wish}
 use Rattle.jls_check.specs.LiveThreads.{live_of}
 use Rattle.jls_check.specs.MachineState.{MachineState, state, put, replied, with_held, held_at, thread_of, monitor_of, is_owned_by, owns, unheld, IsSound}
-use Rattle.jls_check.specs.Taking.{wants, wanted_of, wanted, may_be_locked, lock_for, lock, held_by, less_held, unlock_for, unlock, illegal_on, illegal_for, illegal, wish_for, wish, is_good, bad_argument_of, bad_argument, early_of, early, wait_of, wait, test_clear_for, test_clear, attach_at, attach, exists_below, make_call_from, make_call_at, make_call, expire_from, expire_at, expire, relock_from, relock_at, relock, time}
+use Rattle.jls_check.specs.Taking.{wants, wanted_of, wanted, may_be_locked, lock_for, lock, held_by, less_held, unlock_for, unlock, illegal_on, illegal_for, illegal, wish_for, wish, is_good, bad_argument_of, bad_argument, early_of, early, wait_of, wait, test_clear_for, test_clear, attach_at, attach, exists_below, make_call_from, make_call_at, make_call, expire_from, expire_at, expire, relock_from, relock_at, relock}
 use Rattle.jls_check.proofs.States.{state-put, state-with_held}
 
 -- ---- what a guard says
@@ -150,9 +150,14 @@ module _ (v : MachineState) (t : ThreadId) where
       by None h e = absurd (cc)
       by (Some (flag, call.Enter o)) h e =
           let g = guarded (may_be_locked (held_at v o) t) (with_held (replied v t flag reply.Entered) o (held_by t ((held_at v o).count + 1))) w e in
-          let m = and_parts (not (is_some (held_at v o).owner) || is_owned_by (held_at v o).owner t) (nat_lt (held_at v o).count 65535) g.0 in
-          (flag, o, calls flag (call.Enter o) h, may_own (held_at v o).owner m.0, ltb-true (held_at v o).count 65535 m.1,
-          changed flag (Has reply.Entered) o (held_by t ((held_at v o).count + 1)) w (there sound flag (call.Enter o) h) g.1)
+          let m = and_parts (not (is_some (held_at v o).owner) || is_owned_by (held_at v o).owner t) (nat_lt (held_at v o).count 65535) g.0 in (
+            flag,
+            o,
+            calls flag (call.Enter o) h,
+            may_own (held_at v o).owner m.0,
+            ltb-true (held_at v o).count 65535 m.1,
+            changed flag (Has reply.Entered) o (held_by t ((held_at v o).count + 1)) w (there sound flag (call.Enter o) h) g.1,
+          )
       by (Some (flag, c)) h e = absurd (cc)
 
   pub lock_only : (s : State) → lock v t ≡ None → Steps (state v) (move.Lock t) s → ⊥
@@ -182,10 +187,15 @@ module _ (v : MachineState) (t : ThreadId) where
           let m = and_parts (owns v t o) (nat_lt 0 n) g.0 in
           let some : 0 < n = ltb-true 0 n m.1 in
           let same : n ≡ n - 1 + 1 = omega (arith, some) in
-          let owner = owner_is (held_at v o).owner t m.0 in
-          (flag, o, n - 1, calls flag (call.Exit o) h, (λ i. record { owner = owner i; count = same i }),
-          changed flag (Has reply.Exited) o (less_held t n) w (there sound flag (call.Exit o) h) g.1
-          ∙ ap (λ (x : Monitor). with_monitor (with_reply (state v) t flag reply.Exited) o x) (ap (λ k. monitor_of (less_held t k)) same ∙ less_is (n - 1)))
+          let owner = owner_is (held_at v o).owner t m.0 in (
+            flag,
+            o,
+            n - 1,
+            calls flag (call.Exit o) h,
+            (λ i. record { owner = owner i; count = same i }),
+            changed flag (Has reply.Exited) o (less_held t n) w (there sound flag (call.Exit o) h) g.1
+                ∙ ap (λ (x : Monitor). with_monitor (with_reply (state v) t flag reply.Exited) o x) (ap (λ k. monitor_of (less_held t k)) same ∙ less_is (n - 1)),
+          )
       by (Some (flag, c)) h e = absurd (cc)
 
   pub unlock_only : (s : State) → unlock v t ≡ None → Steps (state v) (move.Unlock t) s → ⊥
@@ -259,9 +269,15 @@ module _ (v : MachineState) (t : ThreadId) where
       by (Some x) h e =
           let g = guarded (is_good x.millis x.nanos && x.flag) (replied v t false reply.Interrupted) w e in
           let m = and_parts (is_good x.millis x.nanos) x.flag g.0 in
-          let k = wish_is x sound h in
-          (x.object, x.millis, x.nanos, subst (λ (f : Bool). Calls (state v) t f (call.Wait x.object x.millis x.nanos)) m.1 k.0, k.1,
-          good_time x.millis x.nanos m.0, answer false reply.Interrupted w g.1)
+          let k = wish_is x sound h in (
+            x.object,
+            x.millis,
+            x.nanos,
+            subst (λ (f : Bool). Calls (state v) t f (call.Wait x.object x.millis x.nanos)) m.1 k.0,
+            k.1,
+            good_time x.millis x.nanos m.0,
+            answer false reply.Interrupted w g.1,
+          )
 
   pub early_only : (s : State) → early v t ≡ None → Steps (state v) (move.Early t) s → ⊥
   early_only s e p =
@@ -277,9 +293,15 @@ module _ (v : MachineState) (t : ThreadId) where
           let act = Waits x.object (held_at v x.object).count (over_at v.moment x.millis x.nanos) in
           let g = guarded (is_good x.millis x.nanos && not x.flag) (with_held (put v t false act) x.object unheld) w e in
           let m = and_parts (is_good x.millis x.nanos) (not x.flag) g.0 in
-          let k = wish_is x sound h in
-          (x.object, x.millis, x.nanos, subst (λ (f : Bool). Calls (state v) t f (call.Wait x.object x.millis x.nanos)) (flipped x.flag m.1) k.0, k.1,
-          good_time x.millis x.nanos m.0, changed false act x.object unheld w k.2 g.1)
+          let k = wish_is x sound h in (
+            x.object,
+            x.millis,
+            x.nanos,
+            subst (λ (f : Bool). Calls (state v) t f (call.Wait x.object x.millis x.nanos)) (flipped x.flag m.1) k.0,
+            k.1,
+            good_time x.millis x.nanos m.0,
+            changed false act x.object unheld w k.2 g.1,
+          )
 
   pub wait_only : (s : State) → wait v t ≡ None → Steps (state v) (move.Wait t) s → ⊥
   wait_only s e p =
@@ -322,7 +344,7 @@ module _ (v : MachineState) (t : ThreadId) where
   pub expire_only : (s : State) → expire v t ≡ None → Steps (state v) (move.Expire t) s → ⊥
   expire_only s e p =
       let late = refused_not (nat_lt v.moment p.3) (put v t p.0 (Back p.1 p.2 why.Elapsed))
-          (ap (expire_at v t) (sym (live_is p.0 (Waits p.1 p.2 (Some p.3)) p.4)) ∙ e) in
+      (ap (expire_at v t) (sym (live_is p.0 (Waits p.1 p.2 (Some p.3)) p.4)) ∙ e) in
       let due = p.5 in
       let no : v.moment < p.3 = ltb-true v.moment p.3 late in
       omega (arith, due, no)
@@ -336,9 +358,15 @@ module _ (v : MachineState) (t : ThreadId) where
 
       on : (flag : Bool) (d : Doing) → live_of v.threads t ≡ Some (live flag d) → relock_from v t flag d ≡ Some w → Steps (state v) (move.Relock t) (state w)
       on flag (Back o n y) h e =
-          let g = guarded_not (is_some (held_at v o).owner) (with_held (replied v t (flag_back y flag) (reply_of y)) o (held_by t n)) w e in
-          (flag, o, n, y, is_live (live flag (Back o n y)) h, unowned (held_at v o).owner g.0,
-          changed (flag_back y flag) (Has (reply_of y)) o (held_by t n) w (sound t (live flag (Back o n y)) h) g.1)
+          let g = guarded_not (is_some (held_at v o).owner) (with_held (replied v t (flag_back y flag) (reply_of y)) o (held_by t n)) w e in (
+            flag,
+            o,
+            n,
+            y,
+            is_live (live flag (Back o n y)) h,
+            unowned (held_at v o).owner g.0,
+            changed (flag_back y flag) (Has (reply_of y)) o (held_by t n) w (sound t (live flag (Back o n y)) h) g.1,
+          )
       on flag Idle h e = absurd (cc)
       on flag (Wants c) h e = absurd (cc)
       on flag (Waits o n d) h e = absurd (cc)
@@ -351,7 +379,7 @@ module _ (v : MachineState) (t : ThreadId) where
   pub relock_only : (s : State) → relock v t ≡ None → Steps (state v) (move.Relock t) s → ⊥
   relock_only s e p =
       let taken = refused_not (is_some (held_at v p.1).owner) (with_held (replied v t (flag_back p.3 p.0) (reply_of p.3)) p.1 (held_by t p.2))
-          (ap (relock_at v t) (sym (live_is p.0 (Back p.1 p.2 p.3) p.4)) ∙ e) in
+      (ap (relock_at v t) (sym (live_is p.0 (Back p.1 p.2 p.3) p.4)) ∙ e) in
       never (is_some (held_at v p.1).owner) taken (ap (λ (o : Option ThreadId). is_some o) p.5)
 
   -- ---- attach and call

@@ -1,5 +1,5 @@
 -- The same for notifications, interrupts, questions, refusals, ends and returns.
-use Rattle.std.specs.Prelude.{◌≡◌, ◌⊎◌, ℕ, ◌<◌, ◌≤◌, Bool, true, false, not, ◌&&◌, ◌||◌, if◌then◌else◌, ◌==◌, nat_lt, List, [], ◌∷◌, zero, suc, get_or, cond, T, Option, Some, None, is_some, ◌↔◌, ℤ}
+use Rattle.std.specs.Prelude.{◌≡◌, ◌⊎◌, ℕ, Bool, true, false, not, ◌&&◌, ◌||◌, if◌then◌else◌, ◌==◌, List, [], ◌∷◌, zero, suc, get_or, cond, T, Option, Some, None}
 use Rattle.std.specs.Option.{option_map}
 use Rattle.std.specs.List.{list_any}
 use Rattle.std.specs.Map.{values_of}
@@ -10,31 +10,27 @@ use Rattle.std.specs.Cmp.{unsigned_tied}
 use Rattle.std.specs.FinMap as map
 use Rattle.std.specs.FinMap.{get-entries, entries_sorted}
 use Rattle.std.specs.FinMap.Entries.{find, is_sorted, below_all}
-use Rattle.std.proofs.Common.{refl, ap, sym, ◌∙◌, inl, inr, subst, arith}
-use Rattle.std.proofs.lemmas.Bool.{and_parts, cases_eq, eqb-true, eq-eqb, ne_eqb, ltb-true, ltb-false}
+use Rattle.std.proofs.Common.{refl, ap, sym, ◌∙◌, inl, inr, subst}
+use Rattle.std.proofs.lemmas.Bool.{and_parts, cases_eq, eqb-true, eq-eqb, ne_eqb}
 use Rattle.std.proofs.lemmas.Option.{same_Some}
 use Rattle.lock_word.specs.declared.ThreadId.{ThreadId}
 use Rattle.lock_word.specs.declared.ObjectId.{ObjectId}
-use Rattle.fat_monitor.specs.declared.actions.Cause.{Cause}
-use Rattle.fat_monitor.specs.declared.actions.Cause.TheVariants as cause
-use Rattle.fat_monitor.specs.declared.actions.Reply.{Reply}
 use Rattle.fat_monitor.specs.declared.actions.Reply.TheVariants as reply
 use Rattle.fat_monitor.specs.declared.actions.Why.TheVariants as why
 use Rattle.fast_path.specs.declared.calls.Call.{Call}
 use Rattle.fast_path.specs.declared.calls.Call.TheVariants as call
 use Rattle.step_core.specs.declared.machine.Doing.{Doing}
 use Rattle.step_core.specs.declared.machine.Doing.TheVariants.{Idle, Wants, Waits, Back, Has}
-use Rattle.step_core.specs.declared.machine.Move.{Move}
 use Rattle.step_core.specs.declared.machine.Move.TheVariants as move
-use Rattle.step_core.specs.Machine.{State, Thread, Steps, Is, Calls, now_is, with_reply, OwnedBy, NobodyWaits, MayRefuse, IsAnswer, waits_on, after_interrupt, yes_or_no, all_notified, AreGood}
+use Rattle.step_core.specs.Machine.{State, Thread, Steps, Is, Calls, now_is, with_reply, OwnedBy, NobodyWaits, IsAnswer, waits_on, after_interrupt, yes_or_no}
 use Rattle.step_core.proofs.Facts.Moves.{one_object}
 use Rattle.jls_check.specs.declared.threads.Live.{Live}
 use Rattle.jls_check.specs.declared.monitors.Held.{Held}
-use Rattle.jls_check.specs.LiveThreads.{LiveThreads, live_of, some_waits, all_back}
-use Rattle.jls_check.specs.MachineState.{MachineState, state, put, replied, held_at, thread_of, is_owned_by, owns, unheld, IsSound}
-use Rattle.jls_check.specs.Taking.{wanted, notify_from, notify_at, notify_for, notify, notify_nobody_for, notify_nobody, notify_all_for, notify_all, interrupt_at, interrupt_for, interrupt, ask_at, ask_for, ask, owns_one, may_refuse, refuse_for, refuse, end_for, end, time, reply_number, has_reply, after_return, return_at, return_with, is_good}
-use Rattle.jls_check.proofs.States.{state-put, state-without, state-all_back}
-use Rattle.jls_check.proofs.Judging.{guarded, guarded_not, refused, refused_not, both_true, flipped, never, owner_is, owner_yes, owner_not, live, live_is, is_live, calls, wanted_as, answer, good_time, time_good}
+use Rattle.jls_check.specs.LiveThreads.{live_of, some_waits, all_back}
+use Rattle.jls_check.specs.MachineState.{MachineState, state, put, replied, held_at, thread_of, is_owned_by, owns, unheld}
+use Rattle.jls_check.specs.Taking.{wanted, notify_from, notify_at, notify_for, notify, notify_nobody_for, notify_nobody, notify_all_for, notify_all, interrupt_at, interrupt_for, interrupt, ask_at, ask_for, ask, owns_one, end_for, end}
+use Rattle.jls_check.proofs.States.{state-put, state-all_back}
+use Rattle.jls_check.proofs.Judging.{guarded, guarded_not, refused, refused_not, both_true, flipped, never, owner_is, owner_yes, live, live_is, is_live, calls, wanted_as, answer}
 
 guarded_by : {A : Type 0} (b : Bool) (x : Option A) (w : A) → (if b then x else None) ≡ Some w → (b ≡ true) × (x ≡ Some w)
 guarded_by true x w e = (refl, e)
@@ -127,11 +123,19 @@ module _ (v : MachineState) (t : ThreadId) where
           → (other : Bool) (d : Doing) → live_of v.threads u ≡ Some (live other d) → notify_from v t flag o u other d ≡ Some w → Steps (state v) (move.Notify t (Some u)) (state w)
       on flag o h own other (Waits p n d) k e =
           let g = guarded (p.0 == o.0) (put (replied v t flag reply.Notified) u other (Back p n why.Notified)) w e in
-          let same = waits_here p o (eqb-true p.0 o.0 g.0) in
-          (flag, o, h, own, other, n, d, subst (λ (q : ObjectId). Is (state v) u other (Waits q n d)) same (is_live v u (live other (Waits p n d)) k),
-          sym (ap state g.1) ∙ state-put (replied v t flag reply.Notified) u other (Back p n why.Notified)
-          ∙ ap (λ (s : State). now_is s u other (Back p n why.Notified)) (state-put v t flag (Has reply.Notified))
-          ∙ ap (λ (q : ObjectId). now_is (with_reply (state v) t flag reply.Notified) u other (Back q n why.Notified)) same)
+          let same = waits_here p o (eqb-true p.0 o.0 g.0) in (
+            flag,
+            o,
+            h,
+            own,
+            other,
+            n,
+            d,
+            subst (λ (q : ObjectId). Is (state v) u other (Waits q n d)) same (is_live v u (live other (Waits p n d)) k),
+            sym (ap state g.1) ∙ state-put (replied v t flag reply.Notified) u other (Back p n why.Notified)
+                ∙ ap (λ (s : State). now_is s u other (Back p n why.Notified)) (state-put v t flag (Has reply.Notified))
+                ∙ ap (λ (q : ObjectId). now_is (with_reply (state v) t flag reply.Notified) u other (Back q n why.Notified)) same,
+          )
       on flag o h own other Idle k e = absurd (cc)
       on flag o h own other (Wants c) k e = absurd (cc)
       on flag o h own other (Back p n y) k e = absurd (cc)
@@ -182,9 +186,13 @@ module _ (v : MachineState) (t : ThreadId) where
       by None h e = absurd (cc)
       by (Some (flag, call.NotifyAll o)) h e =
           let back : MachineState = record v { threads = all_back v.threads o } in
-          let g = guarded (owns v t o) (replied back t flag reply.Notified) w e in
-          (flag, o, calls v t flag (call.NotifyAll o) h, owner_is (held_at v o).owner t g.0,
-          sym (ap state g.1) ∙ state-put back t flag (Has reply.Notified) ∙ ap (λ (s : State). with_reply s t flag reply.Notified) (state-all_back v o))
+          let g = guarded (owns v t o) (replied back t flag reply.Notified) w e in (
+            flag,
+            o,
+            calls v t flag (call.NotifyAll o) h,
+            owner_is (held_at v o).owner t g.0,
+            sym (ap state g.1) ∙ state-put back t flag (Has reply.Notified) ∙ ap (λ (s : State). with_reply s t flag reply.Notified) (state-all_back v o),
+          )
       by (Some (flag, c)) h e = absurd (cc)
 
   pub notify_all_only : (s : State) → notify_all v t ≡ None → Steps (state v) (move.NotifyAll t) s → ⊥
@@ -202,10 +210,15 @@ module _ (v : MachineState) (t : ThreadId) where
       at flag u h None k e = absurd (cc)
       at flag u h (Some x) k e =
           let mine = if t.0 == u.0 then true else flag in
-          let there : MachineState = put v u true (after_interrupt x.act) in
-          (flag, u, thread_of x, h, ap (option_map thread_of) k,
-          sym (ap state (same_Some (replied there t mine reply.Done) w e)) ∙ state-put there t mine (Has reply.Done)
-          ∙ ap (λ (s : State). with_reply s t mine reply.Done) (state-put v u true (after_interrupt x.act)))
+          let there : MachineState = put v u true (after_interrupt x.act) in (
+            flag,
+            u,
+            thread_of x,
+            h,
+            ap (option_map thread_of) k,
+            sym (ap state (same_Some (replied there t mine reply.Done) w e)) ∙ state-put there t mine (Has reply.Done)
+                ∙ ap (λ (s : State). with_reply s t mine reply.Done) (state-put v u true (after_interrupt x.act)),
+          )
 
       by : (q : Option (Bool × Call)) → wanted v t ≡ q → interrupt_for v t q ≡ Some w → Steps (state v) (move.Interrupt t) (state w)
       by None h e = absurd (cc)
@@ -232,9 +245,14 @@ module _ (v : MachineState) (t : ThreadId) where
 
       by : (q : Option (Bool × Call)) → wanted v t ≡ q → ask_for v t q ≡ Some w → Steps (state v) (move.Ask t) (state w)
       by None h e = absurd (cc)
-      by (Some (flag, call.Holds o)) h e =
-          (flag, owns v t o, call.Holds o, calls v t flag (call.Holds o) h, (owner_is (held_at v o).owner t, owner_yes (held_at v o).owner t),
-          answer v t flag (yes_or_no (owns v t o)) w (same_Some (replied v t flag (yes_or_no (owns v t o))) w e))
+      by (Some (flag, call.Holds o)) h e = (
+        flag,
+        owns v t o,
+        call.Holds o,
+        calls v t flag (call.Holds o) h,
+        (owner_is (held_at v o).owner t, owner_yes (held_at v o).owner t),
+        answer v t flag (yes_or_no (owns v t o)) w (same_Some (replied v t flag (yes_or_no (owns v t o))) w e),
+      )
       by (Some (flag, call.IsInterrupted u)) h e = at flag u (calls v t flag (call.IsInterrupted u) h) (live_of v.threads u) refl e
       by (Some (flag, c)) h e = absurd (cc)
 

@@ -1,8 +1,8 @@
 -- What a change of what a checker knows changes of the shown state, and what stays sound.
-use Rattle.std.specs.Prelude.{◌≡◌, ◌⊎◌, ℕ, ◌<◌, Bool, true, false, if◌then◌else◌, ◌==◌, List, length, slice_set, slice_index_or, Option, Some, None, get_or, set, replicate, zero, suc, IsSome}
+use Rattle.std.specs.Prelude.{◌≡◌, ◌⊎◌, ℕ, ◌<◌, Bool, true, false, if◌then◌else◌, ◌==◌, List, length, Option, Some, None, get_or, replicate, zero, suc, IsSome}
 use Rattle.std.specs.Option.{option_map}
 use Rattle.std.specs.FinMap as map
-use Rattle.std.proofs.Common.{refl, ap, sym, ◌∙◌, inl, inr, subst, arith, get_or-set_same, get_or-set_other}
+use Rattle.std.proofs.Common.{refl, ap, sym, ◌∙◌, inl, inr, subst, get_or-set_same, get_or-set_other}
 use Rattle.std.proofs.lemmas.List.{length-set, length-replicate}
 use Rattle.std.specs.FinMap.{get-empty}
 use Rattle.std.specs.Ordering.{nat_cmp}

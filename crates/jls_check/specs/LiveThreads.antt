@@ -1,5 +1,5 @@
 -- The live threads of a checker, by their numbers.
-use Rattle.std.specs.Prelude.{ℕ, Bool, List, Option, Some, None, map as list_map}
+use Rattle.std.specs.Prelude.{Bool, Option, map as list_map}
 use Rattle.std.specs.List.{list_any}
 use Rattle.std.specs.Ordering.{nat_cmp}
 use Rattle.std.specs.FinMap as map

@@ -1,5 +1,5 @@
 -- What each move leaves of what a checker knows; None where the move is not lawful.
-use Rattle.std.specs.Prelude.{◌≡◌, ℕ, ◌+◌, ◌-◌, Bool, true, false, not, ◌&&◌, ◌||◌, if◌then◌else◌, ◌==◌, nat_lt, List, length, ℤ, pos, int_le, Option, Some, None, is_some, Result, Ok, Err}
+use Rattle.std.specs.Prelude.{ℕ, ◌+◌, ◌-◌, Bool, true, false, not, ◌&&◌, ◌||◌, if◌then◌else◌, ◌==◌, nat_lt, List, length, ℤ, pos, int_le, Option, Some, None, is_some, Result, Ok, Err}
 use Rattle.std.specs.List.{list_any}
 use Rattle.lock_word.specs.declared.ThreadId.{ThreadId}
 use Rattle.lock_word.specs.declared.ObjectId.{ObjectId}
@@ -21,7 +21,7 @@ use Rattle.jls_check.specs.declared.monitors.Held.{Held}
 use Rattle.jls_check.specs.declared.machine.Wish.{Wish}
 use Rattle.jls_check.specs.declared.faults.MoveFault.{MoveFault}
 use Rattle.jls_check.specs.declared.faults.MoveFault.TheVariants.{Broken, Memory}
-use Rattle.jls_check.specs.LiveThreads.{live_of, with_live, without_live, some_waits, all_back}
+use Rattle.jls_check.specs.LiveThreads.{live_of, without_live, some_waits, all_back}
 use Rattle.jls_check.specs.MachineState.{MachineState, unheld, held_at, put, replied, with_held, is_owned_by, owns}
 
 -- an answer, and what is known then

@@ -9,6 +9,8 @@ mod faults;
 mod machine;
 mod monitors;
 mod rows;
+#[cfg(test)]
+mod tests;
 mod threads;
 
 pub use faults::MoveFault;

@@ -144,7 +144,17 @@ impl Machine {
         ensures wish { result ≡ wish self.now thread }
         ensures live { IsSome result → IsSome (live_of self.now.threads thread) }
     {
-        let Some((flag, Call::Wait { object, millis, nanos })) = self.wanted(thread) else {
+        let Some(
+            (
+                flag,
+                Call::Wait {
+                    object,
+                    millis,
+                    nanos,
+                },
+            ),
+        ) = self.wanted(thread)
+        else {
             return None;
         };
         if !self.owns(thread, object) {

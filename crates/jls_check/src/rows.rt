@@ -79,10 +79,12 @@ impl Machine {
     pub(crate) fn make_call(&mut self, thread: ThreadId, call: Call) -> Result<(), MoveFault>
         ensures { record { answer = result; after = self.new } ≡ taken self.old (rows.make_call self.old thread call) }
     {
-        let Some(Live {
-            flag,
-            act: Doing::Idle,
-        }) = self.threads.get(thread)
+        let Some(
+            Live {
+                flag,
+                act: Doing::Idle,
+            },
+        ) = self.threads.get(thread)
         else {
             return Err(MoveFault::Broken);
         };
@@ -194,15 +196,16 @@ impl Machine {
         if !self.owns(thread, object) {
             return Err(MoveFault::Broken);
         }
-        let Some(Live {
-            flag: other,
-            act:
-                Doing::Waits {
+        let Some(
+            Live {
+                flag: other,
+                act: Doing::Waits {
                     object: place,
                     holds,
                     ..
                 },
-        }) = self.threads.get(chosen)
+            },
+        ) = self.threads.get(chosen)
         else {
             return Err(MoveFault::Broken);
         };
@@ -273,15 +276,16 @@ impl Machine {
     pub(crate) fn expire(&mut self, thread: ThreadId) -> Result<(), MoveFault>
         ensures { record { answer = result; after = self.new } ≡ taken self.old (rows.expire self.old thread) }
     {
-        let Some(Live {
-            flag,
-            act:
-                Doing::Waits {
+        let Some(
+            Live {
+                flag,
+                act: Doing::Waits {
                     object,
                     holds,
                     deadline: Some(deadline),
                 },
-        }) = self.threads.get(thread)
+            },
+        ) = self.threads.get(thread)
         else {
             return Err(MoveFault::Broken);
         };
@@ -300,10 +304,12 @@ impl Machine {
     pub(crate) fn relock(&mut self, thread: ThreadId) -> Result<(), MoveFault>
         ensures { record { answer = result; after = self.new } ≡ taken self.old (rows.relock self.old thread) }
     {
-        let Some(Live {
-            flag,
-            act: Doing::Back { object, holds, why },
-        }) = self.threads.get(thread)
+        let Some(
+            Live {
+                flag,
+                act: Doing::Back { object, holds, why },
+            },
+        ) = self.threads.get(thread)
         else {
             return Err(MoveFault::Broken);
         };

@@ -9,8 +9,8 @@ ghost use Rattle.jls_check.specs.declared.threads.Live.{Live};
 ghost use Rattle.step_core.specs.Machine.{waits_on, after_notify_all};
 ghost use Rattle.jls_check.specs.LiveThreads.{live_of, with_live, without_live, some_waits, all_back};
 
-use lock_word::{Memory, ObjectId, ThreadId};
 use fat_monitor::Why;
+use lock_word::{Memory, ObjectId, ThreadId};
 use std::alloc::Global;
 use std::collections::BTreeMap;
 use std::marker::Model;

@@ -1,4 +1,4 @@
-use Rattle.std.proofs.Common.{rules, refl}
+use Rattle.std.proofs.Common.{rules}
 use Rattle.jls_check.proofs.States.{opening_sound, state-opening}
 use Rattle.jls_check.proofs.machine.Machine.new.Goals as goal
 

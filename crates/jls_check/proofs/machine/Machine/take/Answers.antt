@@ -1,4 +1,4 @@
-use Rattle.jls_check.proofs.Judged.{Judges, judged}
+use Rattle.jls_check.proofs.Judged.{judged}
 use Rattle.jls_check.proofs.machine.Machine.take.Goals as goal
 
 pub returns-clause-taken : goal.returns-clause-taken

@@ -1,5 +1,4 @@
-use Rattle.std.proofs.Common.{sym, ap, ◌∙◌}
-use Rattle.std.specs.FinMap as map
+use Rattle.std.proofs.Common.{sym, ◌∙◌}
 use Rattle.jls_check.proofs.LiveMaps.{get_shown}
 use Rattle.jls_check.proofs.threads.Threads.get.Goals as goal
 

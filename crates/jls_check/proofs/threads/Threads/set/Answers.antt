@@ -1,5 +1,4 @@
-use Rattle.std.proofs.Common.{◌≡◌, ◌∙◌, sym, ap, is_some, None, Some, false, true}
-use Rattle.std.specs.FinMap as map
+use Rattle.std.proofs.Common.{◌≡◌, ◌∙◌, None, false, true}
 use Rattle.jls_check.proofs.LiveMaps.{get_shown, shown_inserted}
 use Rattle.jls_check.specs.LiveThreads.{live_of}
 use Rattle.jls_check.proofs.threads.Threads.set.Goals as goal
@@ -7,7 +6,7 @@ use Rattle.jls_check.proofs.threads.Threads.set.Goals as goal
 pub unreachable-requires : goal.unreachable-requires
 unreachable-requires c =
     let none : live_of c.args.self.now c.args.thread ≡ None =
-        rw (← c.self.view_is) (get_shown c.self.inside.by_number.entries c.args.thread.0 ∙ c.in_default.ensures.absent) in
+    rw (← c.self.view_is) (get_shown c.self.inside.by_number.entries c.args.thread.0 ∙ c.in_default.ensures.absent) in
     let never : false ≡ true = rw (none) at c.requires in
     absurd (cc)
 
