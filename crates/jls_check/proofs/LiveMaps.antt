@@ -1,0 +1,108 @@
+-- What an ordered map of live threads shows.
+use Rattle.std.specs.Prelude.{◌≡◌, ◌⊎◌, ℕ, ◌==◌, List, [], ◌∷◌, Some, None, Bool, true, false, cond, map as list_map}
+use Rattle.std.specs.Option.{option_map}
+use Rattle.std.specs.Map.{lookup}
+use Rattle.std.specs.BTreeMap.{BTreeMap, is_at, Updates}
+use Rattle.std.specs.Ordering.{nat_cmp, is_eq}
+use Rattle.std.specs.Cmp.{unsigned_tied, nat_cmp_total}
+use Rattle.std.specs.FinMap as map
+use Rattle.std.specs.FinMap.{get-from_entries, same_map, nat_cmp-IsAntisymmetric}
+use Rattle.std.specs.FinMap.Entries.{find}
+use Rattle.std.proofs.Common.{refl, ap, sym, ◌∙◌, inl, inr}
+use Rattle.std.proofs.lemmas.Bool.{cases_eq, ne_eqb}
+use Rattle.std.proofs.lemmas.Map.Made.{lookup-map_values}
+use Rattle.std.specs.FinMap.{get-entries, get-from_sorted, entries-from_sorted}
+use Rattle.std.specs.FinMap.Entries.{is_sorted, below_all}
+use Rattle.std.specs.List.{AllByRecursion}
+use Rattle.std.specs.List.Sorted.{IsStrictlySortedBy}
+use Rattle.std.specs.Map.{keys_of}
+use Rattle.std.specs.Ordering.{is_lt}
+use Rattle.std.specs.declared.cmp.Ordering.TheVariants.{Less}
+use Rattle.std.specs.Prelude.{T, ◌&&◌}
+use Rattle.lock_word.specs.declared.ObjectId.{ObjectId}
+use Rattle.jls_check.specs.declared.threads.Live.{Live}
+use Rattle.jls_check.specs.LiveThreads.{LiveThreads, notified, all_back}
+use Rattle.fat_monitor.proofs.PostMaps.{get-insert_by, get-remove_by}
+
+find-lookup : {X : Type 0} (q : ℕ) (es : List (ℕ × X)) → find nat_cmp q es ≡ lookup (is_at (nat_cmp q)) es
+find-lookup q [] = refl
+find-lookup q (e ∷ es) = ap (λ o. cond (is_eq (nat_cmp q e.0)) (Some e.1) o) (find-lookup q es)
+
+-- the map that entries show has at a number what the entries have there
+pub get_shown : {X : Type 0} (es : List (ℕ × X)) (q : ℕ) → map.get {R = nat_cmp} (map.from_entries es) q ≡ lookup (is_at (nat_cmp q)) es
+get_shown es q = get-from_entries nat_cmp_total es q ∙ find-lookup q es
+
+-- the map that entries show
+abbrev pub shown_map : {X : Type 0} → List (ℕ × X) → map.FinMap nat_cmp X
+shown_map es = map.from_entries es
+
+at_key : (k q : ℕ) → is_at (nat_cmp k) q ≡ (q == k)
+at_key k q = unsigned_tied k q ∙ by (cases_eq q k)
+  where
+    by : (q ≡ k) ⊎ (q ≡ k → ⊥) → (k == q) ≡ (q == k)
+    by (inl same) = rw (same) refl
+    by (inr other) = rw (ne_eqb q k other, ne_eqb k q (λ e. other (sym e))) refl
+
+-- after an insert
+get_inserted : {X : Type 0} (m n : BTreeMap ℕ X) (k : ℕ) (x : X) → Updates nat_cmp m n k (Some x) → (q : ℕ)
+    → map.get (shown_map n.entries) q ≡ map.get (map.insert (shown_map m.entries) k x) q
+get_inserted m n k x updates q =
+    get_shown n.entries q ∙ updates.0 q ∙ ap (λ b. cond b (Some x) (lookup (is_at (nat_cmp q)) m.entries)) (at_key k q)
+    ∙ ap (λ o. cond (q == k) (Some x) o) (sym (get_shown m.entries q)) ∙ sym (get-insert_by (shown_map m.entries) k x q)
+
+pub shown_inserted : {X : Type 0} (m n : BTreeMap ℕ X) (k : ℕ) (x : X) → Updates nat_cmp m n k (Some x)
+    → shown_map n.entries ≡ map.insert (shown_map m.entries) k x
+shown_inserted m n k x updates = same_map nat_cmp_total nat_cmp-IsAntisymmetric _ _ (get_inserted m n k x updates)
+
+-- after a removal
+get_removed : {X : Type 0} (m n : BTreeMap ℕ X) (k : ℕ) → Updates nat_cmp m n k None → (q : ℕ)
+    → map.get (shown_map n.entries) q ≡ map.get (map.remove (shown_map m.entries) k) q
+get_removed m n k updates q =
+    get_shown n.entries q ∙ updates.0 q ∙ ap (λ b. cond b None (lookup (is_at (nat_cmp q)) m.entries)) (at_key k q)
+    ∙ ap (λ o. cond (q == k) None o) (sym (get_shown m.entries q)) ∙ sym (get-remove_by (shown_map m.entries) k q)
+
+pub shown_removed : {X : Type 0} (m n : BTreeMap ℕ X) (k : ℕ) → Updates nat_cmp m n k None
+    → shown_map n.entries ≡ map.remove (shown_map m.entries) k
+shown_removed m n k updates = same_map nat_cmp_total nat_cmp-IsAntisymmetric _ _ (get_removed m n k updates)
+
+-- a value that is written anew from each value
+pub get_mapped : {X : Type 0} (f : X → X) (es : List (ℕ × X)) (q : ℕ)
+    → map.get (shown_map (list_map (λ e. (e.0, f e.1)) es)) q ≡ option_map f (lookup (is_at (nat_cmp q)) es)
+get_mapped f es q = get_shown (list_map (λ e. (e.0, f e.1)) es) q ∙ lookup-map_values f (is_at (nat_cmp q)) es
+
+-- every thread is written anew where all leave a wait set
+pub get-all_back : (l : LiveThreads) (o : ObjectId) (q : ℕ) → map.get (all_back l o) q ≡ option_map (notified o) (map.get l q)
+get-all_back l o q =
+    get_mapped (notified o) (map.entries l) q
+    ∙ ap (option_map (notified o)) (sym (find-lookup q (map.entries l)) ∙ sym (get-entries l q))
+
+pub shown_all_back : (es kept : List (ℕ × Live)) (o : ObjectId) → kept ≡ list_map (λ e. (e.0, notified o e.1)) es → shown_map kept ≡ all_back (shown_map es) o
+shown_all_back es kept o e = same_map nat_cmp_total nat_cmp-IsAntisymmetric _ _ (λ q.
+    ap (λ ks. map.get (shown_map ks) q) e ∙ get_mapped (notified o) es q
+    ∙ ap (option_map (notified o)) (sym (get_shown es q)) ∙ sym (get-all_back (shown_map es) o q))
+
+-- ---- in order
+
+first_below : (b c : Bool) → b ≡ true → T c → T (b && c)
+first_below true c e h = h
+first_below false c e h = absurd (cc)
+
+below : {X : Type 0} (k : ℕ) (es : List (ℕ × X)) → AllByRecursion (λ q. nat_cmp k q ≡ Less) (keys_of es) → T (below_all nat_cmp k es)
+below k [] h = tt
+below k (e ∷ es) h = first_below (is_lt (nat_cmp k e.0)) (below_all nat_cmp k es) (ap is_lt h.0) (below k es h.1)
+
+sorted : {X : Type 0} (es : List (ℕ × X)) → IsStrictlySortedBy nat_cmp (keys_of es) → T (is_sorted nat_cmp es)
+unfolding IsStrictlySortedBy
+sorted [] h = tt
+sorted (e ∷ es) h = both (below_all nat_cmp e.0 es) (is_sorted nat_cmp es) (below e.0 es h.0) (sorted es h.1)
+  where
+    both : (b c : Bool) → T b → T c → T (b && c)
+    both true c p q = q
+    both false c p q = absurd p
+
+-- a map shows the entries that it has
+pub entries_shown : {X : Type 0} (es : List (ℕ × X)) → IsStrictlySortedBy nat_cmp (keys_of es) → map.entries (shown_map es) ≡ es
+entries_shown es ordered =
+    ap map.entries (same_map nat_cmp_total nat_cmp-IsAntisymmetric (shown_map es) (map.from_sorted es) (λ q.
+    get-from_entries nat_cmp_total es q ∙ sym (get-from_sorted nat_cmp es q (sorted es ordered))))
+    ∙ entries-from_sorted nat_cmp es (sorted es ordered)

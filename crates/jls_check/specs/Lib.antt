@@ -1,0 +1,5 @@
+pub mod LiveThreads
+pub mod MachineState
+pub mod View
+pub mod Taking
+pub mod Judging

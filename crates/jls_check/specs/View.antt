@@ -1,0 +1,6 @@
+-- What the fields of a checker show.
+use Rattle.jls_check.specs.declared.machine.Machine.TheInside.{Inside}
+use Rattle.jls_check.specs.MachineState.{MachineState}
+
+abbrev pub machine_in : Inside → MachineState
+machine_in a = record { threads = a.threads; monitors = a.monitors.items; moment = a.moment }

@@ -1,0 +1,190 @@
+//! The machine behind some moves.
+
+ghost use Rattle.std.specs.Prelude.{◌≡◌, ◌↔◌, OnOk, OnErr, IsErrOf, IfOk, IsSome, Bool, true};
+ghost use Rattle.step_core.specs.Machine.{opening, over_at, Steps};
+ghost use Rattle.jls_check.specs.LiveThreads.{live_of};
+ghost use Rattle.jls_check.specs.MachineState.{state, held_at, owns, IsSound};
+ghost use Rattle.jls_check.specs.Judging.{IsUnlawful, IsAttach};
+ghost use Rattle.jls_check.specs.declared.faults.MoveFault.TheVariants.{Broken, Memory as NoMemory};
+ghost use Rattle.jls_check.specs.Taking.{answered, wanted, wish, is_good};
+
+use crate::MoveFault;
+use crate::monitors::{Held, UNHELD};
+use crate::threads::Threads;
+use fast_path::Call;
+use lock_word::{Memory, ObjectId, ThreadId};
+use std::alloc::Global;
+use std::marker::Model;
+use step_core::{Doing, Move};
+
+/// What a thread wants that wants to wait on an object of its own.
+#[derive(Clone, Copy, PartialEq, Eq, Debug)]
+pub(crate) struct Wish {
+    pub(crate) flag: bool,
+    pub(crate) object: ObjectId,
+    pub(crate) millis: i64,
+    pub(crate) nanos: i32,
+}
+
+/// The machine behind the moves that it has taken.
+#[derive(Drop)]
+pub struct Machine {
+    pub(crate) threads: Threads,
+    // By object.
+    pub(crate) monitors: Vec<Held>,
+    // In nanoseconds.
+    pub(crate) moment: u64,
+}
+
+impl Model for Machine {
+    ghost use Rattle.std.specs.Coded.{codes};
+    ghost use Rattle.std.specs.FinMap as map;
+    ghost use Rattle.jls_check.specs.MachineState.{MachineState, IsSound};
+
+    ghost Value = { MachineState };
+
+    ghost coded = { Prim.hlevel (codes, map.code) };
+
+    ghost use Rattle.jls_check.specs.View.{machine_in};
+
+    ghost view = { machine_in };
+
+    ghost invariant = { λ a. IsSound (machine_in a) };
+}
+
+impl Machine {
+    /// The machine before all moves: no thread is live, nobody owns an object, and the moment is 0. An object is named
+    /// by a number below `objects`.
+    pub fn new(alloc: Global, objects: u32) -> Result<Machine, Memory>
+        ensures { IfOk result (λ machine. state machine ≡ opening objects) }
+    {
+        Ok(Machine {
+            threads: Threads::new(alloc),
+            monitors: vec![in alloc; UNHELD; objects as usize]?,
+            moment: 0,
+        })
+    }
+
+    /// Takes a move, if it is lawful now (JLS SE 8, 17.1 and 17.2). It is refused with [`Broken`](MoveFault::Broken)
+    /// exactly where the machine may not make it, and with [`Memory`](MoveFault::Memory) at most where it is an Attach.
+    pub fn take(&mut self, made: Move) -> Result<(), MoveFault>
+        ensures taken { OnOk result (Steps (state self.old) made (state self.new)) }
+        ensures broken { IsErrOf result Broken ↔ IsUnlawful (state self.old) made }
+        ensures memory { IsErrOf result NoMemory → IsAttach made }
+        ensures kept { OnErr result (self.new ≡ self.old) }
+    {
+        self.advance(made)
+    }
+
+    fn advance(&mut self, made: Move) -> Result<(), MoveFault>
+        ensures was { IsSound self.old }
+        ensures exact { (room : Bool) × (record { answer = result; after = self.new } ≡ answered room self.old made) }
+    {
+        // A use of a field, by which the state is known to be sound.
+        let _ = &self.moment;
+        match made {
+            Move::Attach { thread } => self.attach(thread),
+            Move::Call { thread, call } => self.make_call(thread, call),
+            Move::Return { thread, reply } => self.return_with(thread, reply),
+            Move::Lock { thread } => self.lock(thread),
+            Move::Unlock { thread } => self.unlock(thread),
+            Move::Illegal { thread } => self.illegal(thread),
+            Move::BadArgument { thread } => self.bad_argument(thread),
+            Move::Early { thread } => self.early(thread),
+            Move::Wait { thread } => self.wait(thread),
+            Move::Notify {
+                thread,
+                chosen: Some(chosen),
+            } => self.notify(thread, chosen),
+            Move::Notify {
+                thread,
+                chosen: None,
+            } => self.notify_nobody(thread),
+            Move::NotifyAll { thread } => self.notify_all(thread),
+            Move::Interrupt { thread } => self.interrupt(thread),
+            Move::TestClear { thread } => self.test_clear(thread),
+            Move::Expire { thread } => self.expire(thread),
+            Move::Relock { thread } => self.relock(thread),
+            Move::Ask { thread } => self.ask(thread),
+            Move::Refuse { thread, cause } => self.refuse(thread, cause),
+            Move::End { thread } => self.end(thread),
+            Move::Time { now } => self.time(now),
+        }
+    }
+
+    /// The call that a thread has made and that has no answer yet, and the thread's flag.
+    pub(crate) fn wanted(&self, thread: ThreadId) -> Option<(bool, Call)>
+        ensures wanted { result ≡ wanted self.now thread }
+        ensures live { IsSome result → IsSome (live_of self.now.threads thread) }
+    {
+        let live = self.threads.get(thread)?;
+        match live.act {
+            Doing::Wants(call) => Some((live.flag, call)),
+            _ => None,
+        }
+    }
+
+    pub(crate) fn held(&self, object: ObjectId) -> Held
+        ensures { result ≡ held_at self.now object }
+    {
+        match self.monitors.get(object.0 as usize) {
+            Some(held) => *held,
+            None => UNHELD,
+        }
+    }
+
+    pub(crate) fn owns(&self, thread: ThreadId, object: ObjectId) -> bool
+        ensures { result ≡ owns self.now thread object }
+    {
+        self.held(object).is_owned_by(thread)
+    }
+
+    /// What a thread wants that wants to wait on an object of its own.
+    pub(crate) fn wish(&self, thread: ThreadId) -> Option<Wish>
+        ensures wish { result ≡ wish self.now thread }
+        ensures live { IsSome result → IsSome (live_of self.now.threads thread) }
+    {
+        let Some(
+            (
+                flag,
+                Call::Wait {
+                    object,
+                    millis,
+                    nanos,
+                },
+            ),
+        ) = self.wanted(thread)
+        else {
+            return None;
+        };
+        if !self.owns(thread, object) {
+            return None;
+        }
+        Some(Wish {
+            flag,
+            object,
+            millis,
+            nanos,
+        })
+    }
+}
+
+/// Whether the arguments of a wait are in their ranges (JLS SE 8, 17.2.1).
+pub(crate) fn is_good(millis: i64, nanos: i32) -> bool
+    ensures { result ≡ is_good millis nanos }
+{
+    0 <= millis && 0 <= nanos && nanos <= 999_999
+}
+
+/// When a wait that begins at this moment is over, in nanoseconds; a wait of no limit never is.
+pub(crate) fn over_at(moment: u64, millis: i64, nanos: i32) -> Option<u128>
+    requires { is_good millis nanos ≡ true }
+    ensures { result ≡ over_at moment millis nanos }
+{
+    let time = millis as u128 * 1_000_000 + nanos as u128;
+    if time == 0 {
+        None
+    } else {
+        Some(u128::from(moment) + time)
+    }
+}

@@ -1,0 +1,460 @@
+//! The rows of the machine: a function for each kind of move.
+
+ghost use Rattle.std.specs.Prelude.{◌≡◌, ◌↔◌, Bool, IsSome, IsTrue, length};
+ghost use Rattle.step_core.specs.Machine.{ActExists, owner_only, after_interrupt, yes_or_no};
+ghost use Rattle.jls_check.specs.LiveThreads.{live_of};
+ghost use Rattle.jls_check.specs.MachineState.{put, replied, with_held};
+ghost use Rattle.jls_check.specs.Taking as rows;
+ghost use Rattle.fast_path.specs.Calls.{object_of};
+ghost use Rattle.jls_check.specs.Taking.{taken, attached, has_reply, exists_below, may_refuse};
+
+use crate::MoveFault;
+use crate::machine::{Machine, is_good, over_at};
+use crate::monitors::{Held, UNHELD, owns_one};
+use crate::threads::Live;
+use fast_path::Call;
+use fat_monitor::{Cause, Reply, Why};
+use lock_word::{ObjectId, ThreadId};
+use step_core::Doing;
+
+impl Machine {
+    /// Writes the flag of a live thread, and what it is doing.
+    fn put(&mut self, thread: ThreadId, flag: bool, act: Doing)
+        requires live { IsSome (live_of self.old.threads thread) }
+        requires there { ActExists (length self.old.monitors) act }
+        ensures { self.new ≡ put self.old thread flag act }
+    {
+        self.threads.set(thread, Live { flag, act });
+    }
+
+    /// The call of a live thread has this reply.
+    fn reply(&mut self, thread: ThreadId, flag: bool, reply: Reply)
+        requires { IsSome (live_of self.old.threads thread) }
+        ensures { self.new ≡ replied self.old thread flag reply }
+    {
+        self.put(thread, flag, Doing::Has(reply));
+    }
+
+    /// Writes who owns an object, and how often it is locked.
+    fn hold(&mut self, object: ObjectId, held: Held)
+        ensures { self.new ≡ with_held self.old object held }
+    {
+        if let Some(place) = self.monitors.get_mut(object.0 as usize) {
+            *place = held;
+        }
+    }
+
+    pub(crate) fn attach(&mut self, thread: ThreadId) -> Result<(), MoveFault>
+        ensures { (room : Bool) × (record { answer = result; after = self.new } ≡ attached room self.old thread) }
+    {
+        if self.threads.get(thread).is_some() {
+            return Err(MoveFault::Broken);
+        }
+        let live = Live {
+            flag: false,
+            act: Doing::Idle,
+        };
+        let Ok(()) = self.threads.add(thread, live) else {
+            return Err(MoveFault::Memory);
+        };
+        Ok(())
+    }
+
+    pub(crate) fn return_with(&mut self, thread: ThreadId, reply: Reply) -> Result<(), MoveFault>
+        ensures { record { answer = result; after = self.new } ≡ taken self.old (rows.return_with self.old thread reply) }
+    {
+        let Some(live) = self.threads.get(thread) else {
+            return Err(MoveFault::Broken);
+        };
+        if !has(live.act, reply) {
+            return Err(MoveFault::Broken);
+        }
+        match reply {
+            Reply::Ended => self.threads.remove(thread),
+            _ => self.put(thread, live.flag, Doing::Idle),
+        }
+        Ok(())
+    }
+
+    pub(crate) fn make_call(&mut self, thread: ThreadId, call: Call) -> Result<(), MoveFault>
+        ensures { record { answer = result; after = self.new } ≡ taken self.old (rows.make_call self.old thread call) }
+    {
+        let Some(
+            Live {
+                flag,
+                act: Doing::Idle,
+            },
+        ) = self.threads.get(thread)
+        else {
+            return Err(MoveFault::Broken);
+        };
+        if !self.names_an_object(call) {
+            return Err(MoveFault::Broken);
+        }
+        self.put(thread, flag, Doing::Wants(call));
+        Ok(())
+    }
+
+    pub(crate) fn lock(&mut self, thread: ThreadId) -> Result<(), MoveFault>
+        ensures { record { answer = result; after = self.new } ≡ taken self.old (rows.lock self.old thread) }
+    {
+        let Some((flag, Call::Enter(object))) = self.wanted(thread) else {
+            return Err(MoveFault::Broken);
+        };
+        let held = self.held(object);
+        if !held.may_be_locked(thread) {
+            return Err(MoveFault::Broken);
+        }
+        self.reply(thread, flag, Reply::Entered);
+        self.hold(object, Held::by(thread, held.count + 1));
+        Ok(())
+    }
+
+    pub(crate) fn unlock(&mut self, thread: ThreadId) -> Result<(), MoveFault>
+        ensures { record { answer = result; after = self.new } ≡ taken self.old (rows.unlock self.old thread) }
+    {
+        let Some((flag, Call::Exit(object))) = self.wanted(thread) else {
+            return Err(MoveFault::Broken);
+        };
+        let held = self.held(object);
+        if !held.is_owned_by(thread) || held.count == 0 {
+            return Err(MoveFault::Broken);
+        }
+        self.reply(thread, flag, Reply::Exited);
+        self.hold(object, held.less(thread));
+        Ok(())
+    }
+
+    pub(crate) fn illegal(&mut self, thread: ThreadId) -> Result<(), MoveFault>
+        ensures { record { answer = result; after = self.new } ≡ taken self.old (rows.illegal self.old thread) }
+    {
+        let Some((flag, call)) = self.wanted(thread) else {
+            return Err(MoveFault::Broken);
+        };
+        let Some(object) = owner_only(call) else {
+            return Err(MoveFault::Broken);
+        };
+        if self.owns(thread, object) {
+            return Err(MoveFault::Broken);
+        }
+        self.reply(thread, flag, Reply::IllegalMonitorState);
+        Ok(())
+    }
+
+    pub(crate) fn bad_argument(&mut self, thread: ThreadId) -> Result<(), MoveFault>
+        ensures { record { answer = result; after = self.new } ≡ taken self.old (rows.bad_argument self.old thread) }
+    {
+        let Some(wish) = self.wish(thread) else {
+            return Err(MoveFault::Broken);
+        };
+        if is_good(wish.millis, wish.nanos) {
+            return Err(MoveFault::Broken);
+        }
+        self.reply(thread, wish.flag, Reply::IllegalArgument);
+        Ok(())
+    }
+
+    pub(crate) fn early(&mut self, thread: ThreadId) -> Result<(), MoveFault>
+        ensures { record { answer = result; after = self.new } ≡ taken self.old (rows.early self.old thread) }
+    {
+        let Some(wish) = self.wish(thread) else {
+            return Err(MoveFault::Broken);
+        };
+        if !is_good(wish.millis, wish.nanos) || !wish.flag {
+            return Err(MoveFault::Broken);
+        }
+        self.reply(thread, false, Reply::Interrupted);
+        Ok(())
+    }
+
+    pub(crate) fn wait(&mut self, thread: ThreadId) -> Result<(), MoveFault>
+        ensures { record { answer = result; after = self.new } ≡ taken self.old (rows.wait self.old thread) }
+    {
+        let Some(wish) = self.wish(thread) else {
+            return Err(MoveFault::Broken);
+        };
+        if !is_good(wish.millis, wish.nanos) || wish.flag {
+            return Err(MoveFault::Broken);
+        }
+        let object = wish.object;
+        let waits = Doing::Waits {
+            object,
+            holds: self.held(object).count,
+            deadline: over_at(self.moment, wish.millis, wish.nanos),
+        };
+        self.put(thread, false, waits);
+        self.hold(object, UNHELD);
+        Ok(())
+    }
+
+    pub(crate) fn notify(&mut self, thread: ThreadId, chosen: ThreadId) -> Result<(), MoveFault>
+        ensures { record { answer = result; after = self.new } ≡ taken self.old (rows.notify self.old thread chosen) }
+    {
+        let Some((flag, Call::Notify(object))) = self.wanted(thread) else {
+            return Err(MoveFault::Broken);
+        };
+        if !self.owns(thread, object) {
+            return Err(MoveFault::Broken);
+        }
+        let Some(
+            Live {
+                flag: other,
+                act: Doing::Waits {
+                    object: place,
+                    holds,
+                    ..
+                },
+            },
+        ) = self.threads.get(chosen)
+        else {
+            return Err(MoveFault::Broken);
+        };
+        if place.0 != object.0 {
+            return Err(MoveFault::Broken);
+        }
+        let back = Doing::Back {
+            object: place,
+            holds,
+            why: Why::Notified,
+        };
+        self.reply(thread, flag, Reply::Notified);
+        self.put(chosen, other, back);
+        Ok(())
+    }
+
+    pub(crate) fn notify_nobody(&mut self, thread: ThreadId) -> Result<(), MoveFault>
+        ensures { record { answer = result; after = self.new } ≡ taken self.old (rows.notify_nobody self.old thread) }
+    {
+        let Some((flag, Call::Notify(object))) = self.wanted(thread) else {
+            return Err(MoveFault::Broken);
+        };
+        if !self.owns(thread, object) || self.threads.some_waits(object) {
+            return Err(MoveFault::Broken);
+        }
+        self.reply(thread, flag, Reply::Notified);
+        Ok(())
+    }
+
+    pub(crate) fn notify_all(&mut self, thread: ThreadId) -> Result<(), MoveFault>
+        ensures { record { answer = result; after = self.new } ≡ taken self.old (rows.notify_all self.old thread) }
+    {
+        let Some((flag, Call::NotifyAll(object))) = self.wanted(thread) else {
+            return Err(MoveFault::Broken);
+        };
+        if !self.owns(thread, object) {
+            return Err(MoveFault::Broken);
+        }
+        self.threads.notify_all(object);
+        self.reply(thread, flag, Reply::Notified);
+        Ok(())
+    }
+
+    pub(crate) fn interrupt(&mut self, thread: ThreadId) -> Result<(), MoveFault>
+        ensures { record { answer = result; after = self.new } ≡ taken self.old (rows.interrupt self.old thread) }
+    {
+        let Some((flag, Call::Interrupt(target))) = self.wanted(thread) else {
+            return Err(MoveFault::Broken);
+        };
+        let Some(live) = self.threads.get(target) else {
+            return Err(MoveFault::Broken);
+        };
+        self.put(target, true, after_interrupt(live.act));
+        self.reply(thread, thread.0 == target.0 || flag, Reply::Done);
+        Ok(())
+    }
+
+    pub(crate) fn test_clear(&mut self, thread: ThreadId) -> Result<(), MoveFault>
+        ensures { record { answer = result; after = self.new } ≡ taken self.old (rows.test_clear self.old thread) }
+    {
+        let Some((flag, Call::Interrupted)) = self.wanted(thread) else {
+            return Err(MoveFault::Broken);
+        };
+        self.reply(thread, false, yes_or_no(flag));
+        Ok(())
+    }
+
+    pub(crate) fn expire(&mut self, thread: ThreadId) -> Result<(), MoveFault>
+        ensures { record { answer = result; after = self.new } ≡ taken self.old (rows.expire self.old thread) }
+    {
+        let Some(
+            Live {
+                flag,
+                act: Doing::Waits {
+                    object,
+                    holds,
+                    deadline: Some(deadline),
+                },
+            },
+        ) = self.threads.get(thread)
+        else {
+            return Err(MoveFault::Broken);
+        };
+        if u128::from(self.moment) < deadline {
+            return Err(MoveFault::Broken);
+        }
+        let back = Doing::Back {
+            object,
+            holds,
+            why: Why::Elapsed,
+        };
+        self.put(thread, flag, back);
+        Ok(())
+    }
+
+    pub(crate) fn relock(&mut self, thread: ThreadId) -> Result<(), MoveFault>
+        ensures { record { answer = result; after = self.new } ≡ taken self.old (rows.relock self.old thread) }
+    {
+        let Some(
+            Live {
+                flag,
+                act: Doing::Back { object, holds, why },
+            },
+        ) = self.threads.get(thread)
+        else {
+            return Err(MoveFault::Broken);
+        };
+        if self.held(object).owner.is_some() {
+            return Err(MoveFault::Broken);
+        }
+        let (flag, reply) = match why {
+            Why::Interrupted => (false, Reply::Interrupted),
+            Why::Notified | Why::Elapsed => (flag, Reply::WaitOver),
+        };
+        self.reply(thread, flag, reply);
+        self.hold(object, Held::by(thread, holds));
+        Ok(())
+    }
+
+    pub(crate) fn ask(&mut self, thread: ThreadId) -> Result<(), MoveFault>
+        ensures { record { answer = result; after = self.new } ≡ taken self.old (rows.ask self.old thread) }
+    {
+        let (flag, answer) = match self.wanted(thread) {
+            Some((flag, Call::Holds(object))) => (flag, self.owns(thread, object)),
+            Some((flag, Call::IsInterrupted(target))) => match self.threads.get(target) {
+                Some(live) => (flag, live.flag),
+                None => return Err(MoveFault::Broken),
+            },
+            _ => return Err(MoveFault::Broken),
+        };
+        self.reply(thread, flag, yes_or_no(answer));
+        Ok(())
+    }
+
+    pub(crate) fn refuse(&mut self, thread: ThreadId, cause: Cause) -> Result<(), MoveFault>
+        ensures { record { answer = result; after = self.new } ≡ taken self.old (rows.refuse self.old thread cause) }
+    {
+        let Some((flag, call)) = self.wanted(thread) else {
+            return Err(MoveFault::Broken);
+        };
+        if !self.may_refuse(thread, call, cause) {
+            return Err(MoveFault::Broken);
+        }
+        self.reply(thread, flag, Reply::Refused(cause));
+        Ok(())
+    }
+
+    pub(crate) fn end(&mut self, thread: ThreadId) -> Result<(), MoveFault>
+        ensures { record { answer = result; after = self.new } ≡ taken self.old (rows.end self.old thread) }
+    {
+        let Some((flag, Call::End)) = self.wanted(thread) else {
+            return Err(MoveFault::Broken);
+        };
+        if owns_one(&self.monitors, thread) {
+            return Err(MoveFault::Broken);
+        }
+        self.reply(thread, flag, Reply::Ended);
+        Ok(())
+    }
+
+    pub(crate) fn time(&mut self, now: u64) -> Result<(), MoveFault>
+        ensures { record { answer = result; after = self.new } ≡ taken self.old (rows.time self.old now) }
+    {
+        if now < self.moment {
+            return Err(MoveFault::Broken);
+        }
+        self.moment = now;
+        Ok(())
+    }
+
+    /// Whether the object that a call names, if it names one, exists.
+    fn names_an_object(&self, call: Call) -> bool
+        ensures { result ≡ exists_below (length self.now.monitors) (object_of call) }
+    {
+        match call.object() {
+            Some(object) => (object.0 as usize) < self.monitors.len(),
+            None => true,
+        }
+    }
+
+    /// Whether the thread, which has made this call, may be refused for this cause.
+    fn may_refuse(&self, thread: ThreadId, call: Call, cause: Cause) -> bool
+        ensures { result ≡ may_refuse self.now thread call cause }
+    {
+        match (call, cause) {
+            (Call::Enter(object), Cause::NoMonitor | Cause::Memory) => self.owns(thread, object),
+            (Call::Enter(object), Cause::TooDeep) => {
+                self.owns(thread, object) && self.held(object).count == u16::MAX
+            }
+            (
+                Call::Wait {
+                    object,
+                    millis,
+                    nanos,
+                },
+                Cause::NoMonitor | Cause::Memory,
+            ) => self.owns(thread, object) && is_good(millis, nanos),
+            (Call::Interrupt(target) | Call::IsInterrupted(target), Cause::NoThread) => {
+                self.threads.get(target).is_none()
+            }
+            (Call::End, Cause::StillOwner) => owns_one(&self.monitors, thread),
+            _ => false,
+        }
+    }
+}
+
+/// The object whose owner alone may make this call.
+fn owner_only(call: Call) -> Option<ObjectId>
+    ensures { result ≡ owner_only call }
+{
+    match call {
+        Call::Exit(object) | Call::Notify(object) | Call::NotifyAll(object) => Some(object),
+        Call::Wait { object, .. } => Some(object),
+        _ => None,
+    }
+}
+
+/// What a thread does once it has been interrupted: it comes back, if it waited.
+fn after_interrupt(act: Doing) -> Doing
+    ensures { result ≡ after_interrupt act }
+{
+    match act {
+        Doing::Waits { object, holds, .. } => Doing::Back {
+            object,
+            holds,
+            why: Why::Interrupted,
+        },
+        _ => act,
+    }
+}
+
+fn yes_or_no(answer: bool) -> Reply
+    ensures { result ≡ yes_or_no answer }
+{
+    if answer { Reply::Yes } else { Reply::No }
+}
+
+/// Whether a thread that does this has this reply.
+fn has(act: Doing, reply: Reply) -> bool
+    ensures { result ≡ has_reply act reply }
+{
+    match act {
+        Doing::Has(other) => is_same(other, reply),
+        _ => false,
+    }
+}
+
+fn is_same(one: Reply, other: Reply) -> bool
+    ensures { IsTrue result ↔ (one ≡ other) }
+{
+    one == other
+}
