@@ -27,7 +27,8 @@ use Rattle.jls_check.specs.declared.faults.MoveFault.{MoveFault}
 use Rattle.jls_check.specs.declared.faults.MoveFault.TheVariants.{Broken, Memory}
 use Rattle.jls_check.specs.Judging.{IsUnlawful, IsAttach}
 use Rattle.jls_check.specs.Taking.{takes, taken, answered, attach_at, attach, Outcome}
-use Rattle.jls_check.proofs.Judging.{lock_right, lock_only, unlock_right, unlock_only, illegal_right, illegal_only, bad_argument_right, bad_argument_only, early_right, early_only, wait_right, wait_only, test_clear_right, test_clear_only, expire_right, expire_only, relock_right, relock_only, attach_right, attach_only, make_call_right, make_call_only, guarded, guarded_not, refused, refused_not, both_true, owner_is, owner_yes, live_is, is_live, calls, wanted_as, answer, good_time, time_good}
+use Rattle.jls_check.proofs.Guards.{guarded, guarded_not, refused, refused_not, both_true, owner_is, owner_yes, good_time, time_good}
+use Rattle.jls_check.proofs.Judging.{lock_right, lock_only, unlock_right, unlock_only, illegal_right, illegal_only, bad_argument_right, bad_argument_only, early_right, early_only, wait_right, wait_only, test_clear_right, test_clear_only, expire_right, expire_only, relock_right, relock_only, attach_right, attach_only, make_call_right, make_call_only, live_is, is_live, calls, wanted_as, answer}
 
 -- a reply is known by its number
 numbered : ℕ → Reply

@@ -30,7 +30,8 @@ use Rattle.jls_check.specs.LiveThreads.{live_of, some_waits, all_back}
 use Rattle.jls_check.specs.MachineState.{MachineState, state, put, replied, held_at, thread_of, is_owned_by, owns, unheld}
 use Rattle.jls_check.specs.Taking.{wanted, notify_from, notify_at, notify_for, notify, notify_nobody_for, notify_nobody, notify_all_for, notify_all, interrupt_at, interrupt_for, interrupt, ask_at, ask_for, ask, owns_one, end_for, end}
 use Rattle.jls_check.proofs.States.{state-put, state-all_back}
-use Rattle.jls_check.proofs.Judging.{guarded, guarded_not, refused, refused_not, both_true, flipped, never, owner_is, owner_yes, live, live_is, is_live, calls, wanted_as, answer}
+use Rattle.jls_check.proofs.Guards.{guarded, guarded_not, refused, refused_not, both_true, flipped, never, owner_is, owner_yes}
+use Rattle.jls_check.proofs.Judging.{live, live_is, is_live, calls, wanted_as, answer}
 
 guarded_by : {A : Type 0} (b : Bool) (x : Option A) (w : A) → (if b then x else None) ≡ Some w → (b ≡ true) × (x ≡ Some w)
 guarded_by true x w e = (refl, e)

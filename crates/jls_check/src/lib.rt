@@ -5,6 +5,7 @@
 //! notified, any thread may lock an object that is free.
 #![tactic(auto)]
 
+mod acts;
 mod faults;
 mod machine;
 mod monitors;

@@ -1,17 +1,19 @@
 //! The machine behind some moves.
 
-ghost use Rattle.std.specs.Prelude.{◌≡◌, ◌↔◌, OnOk, OnErr, IsErrOf, IfOk, IsSome, Bool, true};
+ghost use Rattle.std.specs.Prelude.{◌≡◌, ◌↔◌, OnOk, OnErr, IsErrOf, IfOk, IsSome, Bool, true, length};
 ghost use Rattle.step_core.specs.Machine.{opening, over_at, Steps};
 ghost use Rattle.jls_check.specs.LiveThreads.{live_of};
 ghost use Rattle.jls_check.specs.MachineState.{state, held_at, owns, IsSound};
 ghost use Rattle.jls_check.specs.Judging.{IsUnlawful, IsAttach};
 ghost use Rattle.jls_check.specs.declared.faults.MoveFault.TheVariants.{Broken, Memory as NoMemory};
-ghost use Rattle.jls_check.specs.Taking.{answered, wanted, wish, is_good};
+ghost use Rattle.fast_path.specs.Calls.{object_of};
+ghost use Rattle.jls_check.specs.Taking.{answered, wanted, wish, is_good, exists_below, may_refuse};
 
 use crate::MoveFault;
-use crate::monitors::{Held, UNHELD};
+use crate::monitors::{Held, UNHELD, owns_one};
 use crate::threads::Threads;
 use fast_path::Call;
+use fat_monitor::Cause;
 use lock_word::{Memory, ObjectId, ThreadId};
 use std::alloc::Global;
 use std::marker::Model;
@@ -166,6 +168,41 @@ impl Machine {
             millis,
             nanos,
         })
+    }
+
+    /// Whether the object that a call names, if it names one, exists.
+    pub(crate) fn names_an_object(&self, call: Call) -> bool
+        ensures { result ≡ exists_below (length self.now.monitors) (object_of call) }
+    {
+        match call.object() {
+            Some(object) => (object.0 as usize) < self.monitors.len(),
+            None => true,
+        }
+    }
+
+    /// Whether the thread, which has made this call, may be refused for this cause.
+    pub(crate) fn may_refuse(&self, thread: ThreadId, call: Call, cause: Cause) -> bool
+        ensures { result ≡ may_refuse self.now thread call cause }
+    {
+        match (call, cause) {
+            (Call::Enter(object), Cause::NoMonitor | Cause::Memory) => self.owns(thread, object),
+            (Call::Enter(object), Cause::TooDeep) => {
+                self.owns(thread, object) && self.held(object).count == u16::MAX
+            }
+            (
+                Call::Wait {
+                    object,
+                    millis,
+                    nanos,
+                },
+                Cause::NoMonitor | Cause::Memory,
+            ) => self.owns(thread, object) && is_good(millis, nanos),
+            (Call::Interrupt(target) | Call::IsInterrupted(target), Cause::NoThread) => {
+                self.threads.get(target).is_none()
+            }
+            (Call::End, Cause::StillOwner) => owns_one(&self.monitors, thread),
+            _ => false,
+        }
     }
 }
 

@@ -1,14 +1,14 @@
 //! The rows of the machine: a function for each kind of move.
 
-ghost use Rattle.std.specs.Prelude.{◌≡◌, ◌↔◌, Bool, IsSome, IsTrue, length};
-ghost use Rattle.step_core.specs.Machine.{ActExists, owner_only, after_interrupt, yes_or_no};
+ghost use Rattle.std.specs.Prelude.{◌≡◌, Bool, IsSome, length};
+ghost use Rattle.step_core.specs.Machine.{ActExists};
 ghost use Rattle.jls_check.specs.LiveThreads.{live_of};
 ghost use Rattle.jls_check.specs.MachineState.{put, replied, with_held};
 ghost use Rattle.jls_check.specs.Taking as rows;
-ghost use Rattle.fast_path.specs.Calls.{object_of};
-ghost use Rattle.jls_check.specs.Taking.{taken, attached, has_reply, exists_below, may_refuse};
+ghost use Rattle.jls_check.specs.Taking.{taken, attached};
 
 use crate::MoveFault;
+use crate::acts::{after_interrupt, has, owner_only, yes_or_no};
 use crate::machine::{Machine, is_good, over_at};
 use crate::monitors::{Held, UNHELD, owns_one};
 use crate::threads::Live;
@@ -375,86 +375,4 @@ impl Machine {
         self.moment = now;
         Ok(())
     }
-
-    /// Whether the object that a call names, if it names one, exists.
-    fn names_an_object(&self, call: Call) -> bool
-        ensures { result ≡ exists_below (length self.now.monitors) (object_of call) }
-    {
-        match call.object() {
-            Some(object) => (object.0 as usize) < self.monitors.len(),
-            None => true,
-        }
-    }
-
-    /// Whether the thread, which has made this call, may be refused for this cause.
-    fn may_refuse(&self, thread: ThreadId, call: Call, cause: Cause) -> bool
-        ensures { result ≡ may_refuse self.now thread call cause }
-    {
-        match (call, cause) {
-            (Call::Enter(object), Cause::NoMonitor | Cause::Memory) => self.owns(thread, object),
-            (Call::Enter(object), Cause::TooDeep) => {
-                self.owns(thread, object) && self.held(object).count == u16::MAX
-            }
-            (
-                Call::Wait {
-                    object,
-                    millis,
-                    nanos,
-                },
-                Cause::NoMonitor | Cause::Memory,
-            ) => self.owns(thread, object) && is_good(millis, nanos),
-            (Call::Interrupt(target) | Call::IsInterrupted(target), Cause::NoThread) => {
-                self.threads.get(target).is_none()
-            }
-            (Call::End, Cause::StillOwner) => owns_one(&self.monitors, thread),
-            _ => false,
-        }
-    }
-}
-
-/// The object whose owner alone may make this call.
-fn owner_only(call: Call) -> Option<ObjectId>
-    ensures { result ≡ owner_only call }
-{
-    match call {
-        Call::Exit(object) | Call::Notify(object) | Call::NotifyAll(object) => Some(object),
-        Call::Wait { object, .. } => Some(object),
-        _ => None,
-    }
-}
-
-/// What a thread does once it has been interrupted: it comes back, if it waited.
-fn after_interrupt(act: Doing) -> Doing
-    ensures { result ≡ after_interrupt act }
-{
-    match act {
-        Doing::Waits { object, holds, .. } => Doing::Back {
-            object,
-            holds,
-            why: Why::Interrupted,
-        },
-        _ => act,
-    }
-}
-
-fn yes_or_no(answer: bool) -> Reply
-    ensures { result ≡ yes_or_no answer }
-{
-    if answer { Reply::Yes } else { Reply::No }
-}
-
-/// Whether a thread that does this has this reply.
-fn has(act: Doing, reply: Reply) -> bool
-    ensures { result ≡ has_reply act reply }
-{
-    match act {
-        Doing::Has(other) => is_same(other, reply),
-        _ => false,
-    }
-}
-
-fn is_same(one: Reply, other: Reply) -> bool
-    ensures { IsTrue result ↔ (one ≡ other) }
-{
-    one == other
 }

@@ -56,7 +56,7 @@ impl Threads {
         self.by_number.get(&thread.0).copied()
     }
 
-    /// Makes a thread live, which is in no call and not interrupted.
+    /// Makes a thread live, or writes anew what a live one does.
     pub(crate) fn add(&mut self, thread: ThreadId, live: Live) -> Result<(), Memory>
         ensures ok { OnOk result (self.new ≡ with_live self.old thread live) }
         ensures err { OnErr result (self.new ≡ self.old) }
