@@ -1,5 +1,4 @@
-//! What the contracts do not say: that memory is asked for only where there is some, and each kind of move once, lawful
-//! and not.
+//! Runs of moves where memory is ample, which no contract can say, and between them moves that are not lawful.
 
 use super::*;
 use fast_path::Call;
