@@ -5,8 +5,8 @@ ghost use Rattle.header_words.specs.Passes.{depth_at, new_passes};
 
 use super::books::{Ledger, Names};
 use crate::{Headers, Kept, OpenFault, Pass};
-use fat_monitor::{Fats, Receipt};
-use lock_word::{Lock, ObjectId, ThreadId, Word, decode};
+use fat_monitor::Receipt;
+use lock_word::{Lock, ObjectId, decode};
 use std::alloc::Global;
 use std::test::Fail;
 use std::thread::{Threads, join};
@@ -153,43 +153,6 @@ fn the_book_is_taken_by_one_pass_at_a_time(rt: HostRuntime) -> Result<(), Fail> 
     assert_eq!(rt; names.object(0), Some(ObjectId(7)));
     assert_eq!(rt; names.object(1), None);
     headers.give(&mut second, names);
-    Ok(())
-}
-
-#[test]
-fn a_receipt_is_published(rt: HostRuntime) -> Result<(), Fail> {
-    let mut fats = Fats::new(rt.alloc(), 1);
-    fats.attach(ThreadId(1)).ok().ok_or("attached")?;
-    let receipt = fats
-        .bind(OBJECT, ThreadId(1), 2)
-        .ok()
-        .ok_or("a monitor is left")?;
-    let names = Names::new(rt.alloc());
-    let Ok((headers, mut passes)) = Headers::open(rt.alloc(), &[0xa5], 2, names) else {
-        panic!(rt; "memory")
-    };
-    let mut second = passes.pop().ok_or("two passes")?;
-    let mut first = passes.pop().ok_or("two passes")?;
-    assert!(rt; headers.acquire(&mut first, OBJECT));
-    headers.nest(&mut first, OBJECT);
-    let Some(names) = headers.take(&mut first) else {
-        panic!(rt; "the gate was open")
-    };
-    assert!(rt; inflate(&headers, &mut first, names, receipt));
-    assert_eq!(rt; headers.load(&mut first, OBJECT), Word(0x8000_00a5));
-    assert_eq!(rt; first.depth(OBJECT), 0);
-    assert!(rt; !headers.acquire(&mut first, OBJECT));
-    let Some((monitor, names)) = monitor_of(&headers, &mut second, OBJECT) else {
-        panic!(rt; "the gate is open, and the word is fat")
-    };
-    assert_eq!(rt; monitor, 0);
-    assert_eq!(rt; names.object(0), Some(OBJECT));
-    headers.give(&mut second, names);
-    passes.push(first).ok().ok_or("memory")?;
-    passes.push(second).ok().ok_or("memory")?;
-    let (words, names) = headers.close(rt.alloc(), passes).ok().ok_or("closed")?;
-    assert_eq!(rt; words.as_slice(), [Word(0x8000_00a5)].as_slice());
-    assert_eq!(rt; names.object(0), Some(OBJECT));
     Ok(())
 }
 
