@@ -6,8 +6,9 @@
 
 ghost use Rattle.std.specs.Prelude.{◌≡◌, ◌<◌, ◌^◌, ◌↔◌, ℕ, IfSome, IsNone, Some};
 ghost use Rattle.lock_word.specs.declared.Lock.{Lock};
+ghost use Rattle.lock_word.specs.declared.Split.{Split};
 ghost use Rattle.lock_word.specs.Names.{hex_digit};
-ghost use Rattle.lock_word.specs.Layout.{word_of, lock_of, low_of, with_lock, Fits, IsMalformed};
+ghost use Rattle.lock_word.specs.Layout.{greatest_index, greatest_count, word_of, lock_of, low_of, with_lock, Fits, IsMalformed};
 
 #[cfg(test)]
 mod tests;
@@ -63,13 +64,46 @@ fn hex_digit(digit: u32) -> u8
     }
 }
 
+/// How a thin lock divides bits 30 to 8 of its word between the index of its owner and its count. The
+/// other locks have the same words in both splits.
+#[derive(Clone, Copy, PartialEq, Eq, Hash, Debug)]
+pub enum Split {
+    /// 15 bits of index, 1 to 32,767, and 8 bits of count, 0 to 255: for many threads.
+    Wide,
+    /// 11 bits of index, 1 to 2,047, and 12 bits of count, 0 to 4,095: for deep nesting.
+    Deep,
+}
+
+impl Split {
+    /// The greatest index of a thread.
+    pub fn greatest_index(self) -> u16
+        ensures { result ≡ greatest_index self }
+    {
+        match self {
+            Split::Wide => 32_767,
+            Split::Deep => 2_047,
+        }
+    }
+
+    /// The greatest count of a thin lock, which is one less than the most holds that it shows.
+    pub fn greatest_count(self) -> u16
+        ensures { result ≡ greatest_count self }
+    {
+        match self {
+            Split::Wide => 255,
+            Split::Deep => 4_095,
+        }
+    }
+}
+
 /// What bits 31 to 8 of a header word say of the object's monitor.
 #[derive(Clone, Copy, PartialEq, Eq, Hash, Debug)]
 pub enum Lock {
     /// Nobody owns the monitor.
     Free,
-    /// The thread with this index, 1 to 32,767, owns the monitor and holds it `count + 1` times.
-    Thin { index: u16, count: u8 },
+    /// The thread with this index owns the monitor and holds it `count + 1` times. The split has the
+    /// ranges of the two.
+    Thin { index: u16, count: u16 },
     /// The fat monitor with this number, 0 to 8,388,607, has owner and holds.
     Fat { monitor: u32 },
 }
@@ -105,19 +139,21 @@ impl<T: Drop> From<AllocFailed<T>> for Memory {
 /// The lock that a word shows, and the low byte that it keeps for others.
 ///
 /// None for a word that no lock has: index 0 with a count other than 0.
-pub fn decode(word: Word) -> Option<(Lock, u8)>
-    ensures shown { IfSome result (λ r. (r.0 ≡ lock_of word.0) × (r.1 ≡ low_of word.0)) }
-    ensures spelled { IfSome result (λ r. Fits r.0 × (word.0 ≡ word_of r.0 r.1)) }
-    ensures none { IsNone result ↔ IsMalformed word.0 }
+pub fn decode(split: Split, word: Word) -> Option<(Lock, u8)>
+    ensures shown { IfSome result (λ r. (r.0 ≡ lock_of split word.0) × (r.1 ≡ low_of word.0)) }
+    ensures spelled { IfSome result (λ r. Fits split r.0 × (word.0 ≡ word_of split r.0 r.1)) }
+    ensures none { IsNone result ↔ IsMalformed split word.0 }
 {
     let bits = word.0;
     let low = (bits % 256) as u8;
-    let count = (bits / 256 % 256) as u8;
     if bits >= 0x8000_0000 {
         let monitor = (bits - 0x8000_0000) / 256;
         return Some((Lock::Fat { monitor }, low));
     }
-    let index = (bits / 0x1_0000) as u16;
+    let (index, count) = match split {
+        Split::Wide => ((bits / 0x1_0000) as u16, (bits / 256 % 0x100) as u16),
+        Split::Deep => ((bits / 0x10_0000) as u16, (bits / 256 % 0x1000) as u16),
+    };
     if index > 0 {
         return Some((Lock::Thin { index, count }, low));
     }
@@ -128,47 +164,51 @@ pub fn decode(word: Word) -> Option<(Lock, u8)>
 }
 
 /// The word that shows a lock and keeps a low byte.
-pub fn encode(lock: Lock, low: u8) -> Word
-    requires { Fits lock }
-    ensures { result.0 ≡ word_of lock low }
+pub fn encode(split: Split, lock: Lock, low: u8) -> Word
+    requires { Fits split lock }
+    ensures { result.0 ≡ word_of split lock low }
 {
     let low = u32::from(low);
     match lock {
         Lock::Free => Word(low),
-        Lock::Thin { index, count } => Word(
-            u32::from(index) * 0x1_0000 + u32::from(count) * 256 + low,
-        ),
+        Lock::Thin { index, count } => {
+            let index = match split {
+                Split::Wide => u32::from(index) * 0x1_0000,
+                Split::Deep => u32::from(index) * 0x10_0000,
+            };
+            Word(index + u32::from(count) * 256 + low)
+        }
         Lock::Fat { monitor } => Word(0x8000_0000 + monitor * 256 + low),
     }
 }
 
 /// The lock of a word that decodes.
-pub fn lock_of(word: Word) -> Lock
-    requires { IsMalformed word.0 → ⊥ }
-    ensures { result ≡ lock_of word.0 }
+pub fn lock_of(split: Split, word: Word) -> Lock
+    requires { IsMalformed split word.0 → ⊥ }
+    ensures { result ≡ lock_of split word.0 }
 {
-    match decode(word) {
+    match decode(split, word) {
         Some((lock, _)) => lock,
         None => unreachable!(),
     }
 }
 
 /// The word with this lock, and with the low byte of the word that was there.
-pub fn with_lock(word: Word, lock: Lock) -> Word
-    requires { Fits lock }
-    ensures { result.0 ≡ with_lock word.0 lock }
+pub fn with_lock(split: Split, word: Word, lock: Lock) -> Word
+    requires { Fits split lock }
+    ensures { result.0 ≡ with_lock split word.0 lock }
 {
-    encode(lock, (word.0 % 256) as u8)
+    encode(split, lock, (word.0 % 256) as u8)
 }
 
-/// The layout is one to one: what `encode` writes, `decode` reads back; a word that is not malformed
-/// is the one word of its lock and low byte; and another lock leaves the low byte as it is.
+/// The layout is one to one in each split: what `encode` writes, `decode` reads back; a word that is not
+/// malformed is the one word of its lock and low byte; and another lock leaves the low byte as it is.
 #[tactic(auto, using(crate::proofs::Words::read_back, crate::proofs::Words::one_spelling, crate::proofs::Words::low_kept))]
 pub fn layout_is_one_to_one()
-    ensures read_back { (l : Lock) (low : ℕ) → Fits l → low < 256
-        → (lock_of (word_of l low) ≡ l) × (low_of (word_of l low) ≡ low)
-        × (IsMalformed (word_of l low) → ⊥) }
-    ensures one_spelling { (w : ℕ) → w < 2 ^ 32 → (IsMalformed w → ⊥)
-        → Fits (lock_of w) × (word_of (lock_of w) (low_of w) ≡ w) }
-    ensures low_kept { (w : ℕ) (l : Lock) → Fits l → low_of (with_lock w l) ≡ low_of w }
+    ensures read_back { (s : Split) (l : Lock) (low : ℕ) → Fits s l → low < 256
+        → (lock_of s (word_of s l low) ≡ l) × (low_of (word_of s l low) ≡ low)
+        × (IsMalformed s (word_of s l low) → ⊥) }
+    ensures one_spelling { (s : Split) (w : ℕ) → w < 2 ^ 32 → (IsMalformed s w → ⊥)
+        → Fits s (lock_of s w) × (word_of s (lock_of s w) (low_of w) ≡ w) }
+    ensures low_kept { (s : Split) (w : ℕ) (l : Lock) → low_of (with_lock s w l) ≡ low_of w }
 {}
