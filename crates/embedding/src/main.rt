@@ -9,7 +9,7 @@ mod reading;
 mod runtime;
 
 use runtime::{JavaThread, Trouble, attach_all, run};
-use step_core::{Call, ObjectId, ThreadId, World};
+use step_core::{Call, ObjectId, Split, ThreadId, World};
 
 const OBJECT: ObjectId = ObjectId(0);
 
@@ -61,7 +61,7 @@ const SECOND_CALLS: [Call; 8] = [
 
 fn main(rt: HostRuntime) -> Result<(), Trouble> {
     // One object with the low byte A5, one fat monitor, two indices.
-    let mut world = World::new(rt.alloc(), &[0xA5], 1, 2)?;
+    let mut world = World::new(rt.alloc(), &[0xA5], 1, 2, Split::Wide)?;
     let mut threads = [
         JavaThread::new(FIRST, &FIRST_CALLS),
         JavaThread::new(SECOND, &SECOND_CALLS),

@@ -1,6 +1,6 @@
 -- What a loaded word calls for.
 --                        Free                  Thin, own index                          Thin, another's       Fat m
---     Enter              exchange for Thin 0   store count + 1; at count 255 bind       spin                  act at m
+--     Enter              exchange for Thin 0   store count + 1; at the greatest bind     spin                  act at m
 --     Exit               IllegalMonitorState   store count - 1; at count 0 store Free   IllegalMonitorState   act at m
 --     Wait               IllegalMonitorState   bind; IllegalArgument out of range       IllegalMonitorState   act at m
 --     Notify, NotifyAll  IllegalMonitorState   Notified                                 IllegalMonitorState   act at m
@@ -8,6 +8,8 @@
 use Rattle.std.specs.Prelude.{ℕ, ◌+◌, ◌-◌, if◌then◌else◌, ◌==◌, nat_lt}
 use Rattle.lock_word.specs.declared.Lock.{Lock}
 use Rattle.lock_word.specs.declared.Lock.TheVariants as lock
+use Rattle.lock_word.specs.declared.Split.{Split}
+use Rattle.lock_word.specs.Layout.{greatest_count}
 use Rattle.fat_monitor.specs.declared.actions.Reply.TheVariants.{Yes, No, Notified, IllegalMonitorState, IllegalArgument}
 use Rattle.fat_monitor.specs.Acting.{are_good}
 use Rattle.fast_path.specs.declared.calls.Operation.{Operation}
@@ -25,13 +27,13 @@ when_free NotifyAll me = Reply IllegalMonitorState
 when_free Holds me = Reply No
 
 -- the caller owns it thinly, and holds it c + 1 times:
-abbrev pub when_own : Operation → ℕ → ℕ → Next
-when_own Enter me c = if nat_lt c 255 then Store (lock.Thin me (c + 1)) else Bind
-when_own Exit me c = if nat_lt 0 c then Store (lock.Thin me (c - 1)) else Store lock.Free
-when_own (Wait millis nanos) me c = if are_good millis nanos then Bind else Reply IllegalArgument
-when_own Notify me c = Reply Notified
-when_own NotifyAll me c = Reply Notified
-when_own Holds me c = Reply Yes
+abbrev pub when_own : Split → Operation → ℕ → ℕ → Next
+when_own s Enter me c = if nat_lt c (greatest_count s) then Store (lock.Thin me (c + 1)) else Bind
+when_own s Exit me c = if nat_lt 0 c then Store (lock.Thin me (c - 1)) else Store lock.Free
+when_own s (Wait millis nanos) me c = if are_good millis nanos then Bind else Reply IllegalArgument
+when_own s Notify me c = Reply Notified
+when_own s NotifyAll me c = Reply Notified
+when_own s Holds me c = Reply Yes
 
 -- another thread owns it thinly:
 abbrev pub when_anothers : Operation → Next
@@ -43,7 +45,7 @@ when_anothers NotifyAll = Reply IllegalMonitorState
 when_anothers Holds = Reply No
 
 -- what this lock calls for, where the index of the caller is me
-abbrev pub next_of : Operation → Lock → ℕ → Next
-next_of p lock.Free me = when_free p me
-next_of p (lock.Thin i n) me = if i == me then when_own p me n else when_anothers p
-next_of p (lock.Fat m) me = Fat m
+abbrev pub next_of : Split → Operation → Lock → ℕ → Next
+next_of s p lock.Free me = when_free p me
+next_of s p (lock.Thin i n) me = if i == me then when_own s p me n else when_anothers p
+next_of s p (lock.Fat m) me = Fat m

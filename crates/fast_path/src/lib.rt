@@ -16,7 +16,7 @@ mod tests;
 
 pub use calls::{Call, InterruptCall, MonitorCall, Operation, Subject};
 use fat_monitor::{Reply, are_good};
-use lock_word::Lock;
+use lock_word::{Lock, Split};
 
 /// What a loaded word calls for.
 #[derive(Clone, Copy, PartialEq, Eq, Hash, Debug)]
@@ -36,24 +36,24 @@ pub enum Next {
 }
 
 /// What a loaded lock calls for, where `me` is the index of the thread that calls.
-pub fn decide(call: Call, lock: Lock, me: u16) -> Next
+pub fn decide(split: Split, call: Call, lock: Lock, me: u16) -> Next
     requires { IsSome (object_of call) }
-    ensures { (c : MonitorCall) → subject_of call ≡ Monitor c → result ≡ next_of c.operation lock me }
+    ensures { (c : MonitorCall) → subject_of call ≡ Monitor c → result ≡ next_of split c.operation lock me }
 {
     match call.subject() {
-        Subject::Monitor(call) => call.operation.next(lock, me),
+        Subject::Monitor(call) => call.operation.next(split, lock, me),
         Subject::Interrupt(_) | Subject::End => unreachable!(),
     }
 }
 
 impl Operation {
     /// What a loaded lock calls for, where `me` is the index of the thread that calls.
-    pub fn next(self, lock: Lock, me: u16) -> Next
-        ensures { result ≡ next_of self lock me }
+    pub fn next(self, split: Split, lock: Lock, me: u16) -> Next
+        ensures { result ≡ next_of split self lock me }
     {
         match lock {
             Lock::Free => self.when_free(me),
-            Lock::Thin { index, count } if index == me => self.when_own(me, count),
+            Lock::Thin { index, count } if index == me => self.when_own(split, me, count),
             Lock::Thin { .. } => self.when_anothers(),
             Lock::Fat { monitor } => Next::Fat(monitor),
         }
@@ -78,12 +78,12 @@ impl Operation {
 
     /// The thread itself owns the object, and holds it `count + 1` times. Nobody waits on an object that
     /// is held thinly, so a notify wakes nobody.
-    fn when_own(self, me: u16, count: u8) -> Next
-        ensures { result ≡ when_own self me count }
+    fn when_own(self, split: Split, me: u16, count: u16) -> Next
+        ensures { result ≡ when_own split self me count }
     {
         let thin = |count| Lock::Thin { index: me, count };
         match self {
-            Operation::Enter if count < 255 => Next::Store(thin(count + 1)),
+            Operation::Enter if count < split.greatest_count() => Next::Store(thin(count + 1)),
             Operation::Enter => Next::Bind,
             Operation::Exit if count > 0 => Next::Store(thin(count - 1)),
             Operation::Exit => Next::Store(Lock::Free),

@@ -173,7 +173,7 @@ impl Fats {
     pub fn bind(&mut self, object: ObjectId, owner: ThreadId, holds: u16) -> Result<Receipt, Cause>
         requires attached { IsAttached self.old owner }
         requires low { 1 ≤ holds }
-        requires high { holds ≤ 256 }
+        requires high { holds ≤ 4096 }
         ensures receipt { IfOk result (λ r. r ≡ record { object = object; owner = owner; holds = holds; monitor = length self.old.monitors }) }
         ensures bound { OnOk result (self.new ≡ bound_with self.old object owner holds) }
         ensures room { OnOk result (length self.old.monitors < self.old.limit) }

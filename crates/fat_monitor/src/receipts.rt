@@ -23,7 +23,7 @@ impl Model for Receipt {
 
     ghost view = { λ r. record { object = r.object; owner = r.owner; holds = r.holds; monitor = r.monitor } };
 
-    ghost invariant = { λ r. (1 ≤ r.holds) × (r.holds ≤ 256) × (r.monitor ≤ 8388607) };
+    ghost invariant = { λ r. (1 ≤ r.holds) × (r.holds ≤ 4096) × (r.monitor ≤ 8388607) };
 
     ghost inverse = { λ b. record { object = b.object; owner = b.owner; holds = b.holds; monitor = b.monitor } };
 }
@@ -32,7 +32,7 @@ impl Receipt {
     /// Makes the receipt of a bind.
     pub(crate) fn new(object: ObjectId, owner: ThreadId, holds: u16, monitor: u32) -> Receipt
         requires low { 1 ≤ holds }
-        requires high { holds ≤ 256 }
+        requires high { holds ≤ 4096 }
         requires numbered { monitor ≤ 8388607 }
         ensures { result ≡ record { object = object; owner = owner; holds = holds; monitor = monitor } }
     {
@@ -58,11 +58,11 @@ impl Receipt {
         self.owner
     }
 
-    /// How many times the owner held the object then, 1 to 256.
+    /// How many times the owner held the object then, 1 to 4,096.
     pub fn holds(&self) -> u16
         ensures value { result ≡ self.now.holds }
         ensures low { 1 ≤ result }
-        ensures high { result ≤ 256 }
+        ensures high { result ≤ 4096 }
     {
         self.holds
     }

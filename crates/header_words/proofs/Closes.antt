@@ -19,7 +19,7 @@ use Rattle.header_words.specs.declared.rule.View.{View}
 use Rattle.header_words.specs.Bindings.{Covers}
 use Rattle.header_words.specs.Events.{own_events, lock_at, depth}
 use Rattle.header_words.specs.Steps.{ShowsDepth}
-use Rattle.lock_word.specs.Layout.{word_of}
+use Rattle.header_words.specs.WideWords.{word_of}
 use Rattle.header_words.specs.Rule.{Each, part, IsMine, Knows, Ruled, spent_view, joined_view}
 use Rattle.header_words.specs.Passes.{PassValue, parts_of, seen_lists, Within, TookAll, IsClosed, Opening, opening_of, indices_of, HasAll}
 use Rattle.header_words.proofs.Gates.{not_holder}

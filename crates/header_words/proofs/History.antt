@@ -3,9 +3,11 @@ use Rattle.std.proofs.Common.{◌≡◌, ◌≢◌, ℕ, zero, suc, ◌+◌, ◌
 use Rattle.std.specs.Prelude.{◌↔◌, slice_index, if◌then◌else◌, ◌==◌}
 use Rattle.std.proofs.lemmas.List.Elements.{filter-append}
 use native.Mathlib.Decide.{ℕ_discrete}
+use Rattle.lock_word.specs.declared.Split.TheVariants.{Wide}
 use Rattle.lock_word.specs.declared.Lock.{Lock}
 use Rattle.lock_word.specs.declared.Lock.TheVariants.{Free, Thin, Fat}
-use Rattle.lock_word.specs.Layout.{count_of, word_of, lock_of, low_of, with_lock, Fits, IsMalformed}
+use Rattle.header_words.specs.WideWords.{word_of, lock_of, with_lock, Fits, IsMalformed}
+use Rattle.lock_word.specs.Layout.{count_of, low_of}
 use Rattle.lock_word.proofs.Words.{lock_of-word_of, low_of-word_of, formed-word_of, low_kept}
 use Rattle.header_words.specs.Steps.{ShowsDepth}
 use Rattle.header_words.specs.declared.event.Deed.{Deed}
@@ -153,13 +155,13 @@ thin_iff i d l is c = ((λ (e : d ≡ c + 1). let one : c + 1 ≡ suc c = omega 
 pub shows_depth : (i d : ℕ) (l : Lock) (low n : ℕ) → Fits l → low < 256 → d ≡ holds_of i l → n ≡ word_of l low → ShowsDepth i d low n
 shows_depth i d l low n fits small is word = record {
   thin = λ c. ((λ (e : d ≡ c + 1). lock ∙ (thin_iff i d l is c).0 e), λ (t : lock_of n ≡ Thin i c). (thin_iff i d l is c).1 (sym lock ∙ t));
-  kept = ap low_of word ∙ low_of-word_of l low fits small;
+  kept = ap low_of word ∙ low_of-word_of Wide l low small;
   spelled = word ∙ ap (λ (k : Lock). word_of k low) (sym lock);
-  formed = λ bad. formed-word_of l low fits small (subst IsMalformed word bad);
+  formed = λ bad. formed-word_of Wide l low fits small (subst IsMalformed word bad);
 }
   where
     lock : lock_of n ≡ l
-    lock = ap lock_of word ∙ lock_of-word_of l low fits small
+    lock = ap lock_of word ∙ lock_of-word_of Wide l low fits small
 
 -- the lock after a deed fits a word
 pub fits_effect : (i count : ℕ) (d : Deed) (l : Lock) (b : ℕ) → 1 ≤ i → i ≤ count → count ≤ 32767 → Legal i d l b → Fits l → Fits (effect i d l)
@@ -239,4 +241,4 @@ row_same depths m e is rows o lt = go (ℕ_discrete e.object o)
 
 -- a deed leaves the low byte of the word
 pub low_kept_by : (i : ℕ) (deed : Deed) (word : ℕ) → 1 ≤ i → i ≤ 32767 → Fits (lock_of word) → Legal i deed (lock_of word) (low_of word) → low_of (with_lock word (effect i deed (lock_of word))) ≡ low_of word
-low_kept_by i deed word low high fits legal = low_kept word (effect i deed (lock_of word)) (fits_effect i 32767 deed (lock_of word) (low_of word) low high (omega arith) legal fits)
+low_kept_by i deed word low high fits legal = low_kept Wide word (effect i deed (lock_of word))

@@ -9,10 +9,11 @@ use lib.ListN.{get_elem?}
 use prog.Atomic.{either}
 use Rattle.atomic_table.specs.Table.{State, Me, Step, step, keeps, stepped, Allows}
 use Rattle.atomic_table.proofs.Lists.{at_set}
+use Rattle.lock_word.specs.declared.Split.TheVariants.{Wide}
 use Rattle.lock_word.specs.declared.Lock.{Lock}
 use Rattle.lock_word.specs.declared.Lock.TheVariants.{Free, Thin}
 use Rattle.lock_word.specs.declared.ObjectId.{ObjectId}
-use Rattle.lock_word.specs.Layout.{word_of, lock_of, Fits}
+use Rattle.header_words.specs.WideWords.{word_of, lock_of, Fits}
 use Rattle.lock_word.proofs.Words.{lock_of-word_of}
 use Rattle.header_words.specs.declared.event.Deed.{Deed}
 use Rattle.header_words.specs.declared.event.Deed.TheVariants.{Load, Win, Lose}
@@ -144,7 +145,7 @@ told bound lows count s r id v o deed n at one inside legal is = record {
   };
   word = word' ∙ ap (λ (ls : List ℕ). word_of (lock_at (locks_after e r.locks) o) (slice_index ls o)) (sym mine.same);
   small = subst (λ (x : ℕ). x < 4294967296) (sym word') (small_word (lock_at (locks_after e r.locks) o) (slice_index lows o) fits (r.bytes o));
-  published = λ k fat. fat_published lows count o k (r.log ++ e ∷ []) (locks_after e r.locks) again (sym (ap lock_of word' ∙ lock_of-word_of (lock_at (locks_after e r.locks) o) (slice_index lows o) fits (r.bytes o)) ∙ fat);
+  published = λ k fat. fat_published lows count o k (r.log ++ e ∷ []) (locks_after e r.locks) again (sym (ap lock_of word' ∙ lock_of-word_of Wide (lock_at (locks_after e r.locks) o) (slice_index lows o) fits (r.bytes o)) ∙ fat);
   publishes = λ has k q h. (r.gated.holders id v at has).2 k q (subst (HasPublish k q) knows.seen.1 h);
   shows = subst (λ (ls : List ℕ). ShowsDepth i (depth o (m ++ e ∷ [])) (slice_index ls o) n) (sym mine.same)
       (shows_depth i (depth o (m ++ e ∷ [])) (lock_at (locks_after e r.locks) o) (slice_index lows o) n fits (r.bytes o)

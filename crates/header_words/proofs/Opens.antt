@@ -8,7 +8,7 @@ use Rattle.atomic_table.specs.Table.{Splits, opening}
 use Rattle.atomic_table.specs.declared.shared.Seat.{Seat}
 use Rattle.lock_word.specs.declared.Lock.{Lock}
 use Rattle.lock_word.specs.declared.ObjectId.{ObjectId}
-use Rattle.lock_word.specs.Layout.{word_of}
+use Rattle.header_words.specs.WideWords.{word_of}
 use Rattle.header_words.specs.declared.rule.Part.{Part}
 use Rattle.header_words.specs.declared.rule.View.{View}
 use Rattle.header_words.specs.Steps.{Saw}

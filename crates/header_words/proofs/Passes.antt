@@ -12,7 +12,7 @@ use Rattle.atomic_table.specs.declared.shared.Seat.{Seat}
 use Rattle.lock_word.specs.declared.Lock.{Lock}
 use Rattle.lock_word.specs.declared.Lock.TheVariants.{Thin}
 use Rattle.lock_word.specs.declared.ObjectId.{ObjectId}
-use Rattle.lock_word.specs.Layout.{word_of}
+use Rattle.header_words.specs.WideWords.{word_of}
 use Rattle.header_words.specs.declared.rule.Layout.{Layout}
 use Rattle.header_words.proofs.Keeps.{loads, stores, exchanges}
 use Rattle.header_words.specs.declared.event.Deed.{Deed}

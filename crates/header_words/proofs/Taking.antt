@@ -11,7 +11,7 @@ use Rattle.atomic_table.specs.Table.{State, Me, step, keeps, takes, gives, stepp
 use Rattle.atomic_table.specs.declared.shared.Seat.{Seat}
 use Rattle.atomic_table.proofs.Lists.{at_set, at_index, set_again}
 use Rattle.lock_word.specs.declared.ObjectId.{ObjectId}
-use Rattle.lock_word.specs.Layout.{word_of}
+use Rattle.header_words.specs.WideWords.{word_of}
 use Rattle.header_words.specs.declared.rule.View.{View}
 use Rattle.header_words.specs.Bindings.{Covers}
 use Rattle.header_words.specs.Events.{Replays, free_locks, lock_at}

@@ -2,7 +2,8 @@
 use Rattle.std.specs.Prelude.{◌≡◌, ◌≢◌, ℕ, ◌+◌, ◌-◌, ◌<◌, ◌≤◌, if◌then◌else◌, ◌==◌, List, [], ◌∷◌, map, length, filter, slice_index, slice_index_or, slice_set}
 use Rattle.lock_word.specs.declared.Lock.{Lock}
 use Rattle.lock_word.specs.declared.Lock.TheVariants.{Free, Thin, Fat}
-use Rattle.lock_word.specs.Layout.{word_of, count_of}
+use Rattle.header_words.specs.WideWords.{word_of}
+use Rattle.lock_word.specs.Layout.{count_of}
 use Rattle.header_words.specs.declared.event.Deed.{Deed}
 use Rattle.header_words.specs.declared.event.Deed.TheVariants.{Load, Win, Lose, Nest, Unnest, Release, Publish}
 use Rattle.header_words.specs.declared.event.Event.{Event}

@@ -5,3 +5,4 @@ pub mod Gate
 pub mod Passes
 pub mod Rule
 pub mod Steps
+pub mod WideWords

@@ -7,7 +7,7 @@ use Rattle.atomic_table.specs.declared.shared.Seat.{Seat}
 use Rattle.lock_word.specs.declared.Lock.{Lock}
 use Rattle.lock_word.specs.declared.ObjectId.{ObjectId}
 use Rattle.lock_word.specs.declared.Lock.TheVariants.{Thin}
-use Rattle.lock_word.specs.Layout.{word_of}
+use Rattle.header_words.specs.WideWords.{word_of}
 use Rattle.header_words.specs.declared.event.Deed.{Deed}
 use Rattle.header_words.specs.declared.event.Event.{Event}
 use Rattle.header_words.specs.declared.open.Row.{Row}

@@ -7,7 +7,7 @@ use lib.ListN.{get_elem?}
 use Rattle.atomic_table.specs.Table.{State}
 use Rattle.lock_word.specs.declared.Lock.{Lock}
 use Rattle.lock_word.specs.declared.ObjectId.{ObjectId}
-use Rattle.lock_word.specs.Layout.{word_of}
+use Rattle.header_words.specs.WideWords.{word_of}
 use Rattle.header_words.specs.declared.event.Event.{Event}
 use Rattle.header_words.specs.declared.rule.Part.{Part}
 use Rattle.header_words.specs.declared.rule.View.{View}

@@ -5,7 +5,8 @@ use Rattle.atomic_table.specs.Table.{Me, Step, rest}
 use Rattle.lock_word.specs.declared.Lock.{Lock}
 use Rattle.lock_word.specs.declared.ObjectId.{ObjectId}
 use Rattle.lock_word.specs.declared.Lock.TheVariants.{Thin, Fat}
-use Rattle.lock_word.specs.Layout.{word_of, lock_of, low_of, IsMalformed}
+use Rattle.header_words.specs.WideWords.{word_of, lock_of, IsMalformed}
+use Rattle.lock_word.specs.Layout.{low_of}
 use Rattle.header_words.specs.declared.event.Deed.{Deed}
 use Rattle.header_words.specs.declared.event.Deed.TheVariants.{Load, Win, Lose, Publish}
 use Rattle.header_words.specs.declared.event.Event.{Event}

@@ -1,6 +1,7 @@
 //! What passes do to words, one event after another.
 ghost use Rattle.std.specs.Prelude.{◌≡◌, ℕ, ◌≤◌};
-ghost use Rattle.lock_word.specs.Layout.{Fits, lock_of, low_of, with_lock};
+ghost use Rattle.header_words.specs.WideWords.{Fits, lock_of, with_lock};
+ghost use Rattle.lock_word.specs.Layout.{low_of};
 ghost use Rattle.header_words.specs.Events.{Legal, effect};
 ghost use Rattle.header_words.specs.declared.event.Deed.{Deed};
 

@@ -10,7 +10,7 @@ use crate::rule::{
 };
 use atomic_table::Table;
 use fat_monitor::Receipt;
-use lock_word::{Lock, ObjectId, Word, encode};
+use lock_word::{Lock, ObjectId, Split, Word, encode};
 use std::alloc::Global;
 use std::marker::Model;
 
@@ -38,7 +38,7 @@ impl<B: Kept> Headers<B> {
     ghost use Rattle.header_words.specs.declared.event.Deed.TheVariants.{Load, Win, Lose, Nest, Unnest, Release, Publish};
     ghost use Rattle.lock_word.specs.declared.Lock.TheVariants.{Free, Thin, Fat};
     ghost use Rattle.header_words.specs.Bindings.{Binds, HasPublish};
-    ghost use Rattle.lock_word.specs.Layout.{Fits, lock_of};
+    ghost use Rattle.header_words.specs.WideWords.{Fits, lock_of};
 
     /// Loads the word of the object. Other threads may change it at once, unless the pass holds the
     /// object thinly.
@@ -77,7 +77,7 @@ impl<B: Kept> Headers<B> {
         let at = object.0 as usize;
         let low = pass.lows[at];
         let index = pass.index;
-        let new = encode(Lock::Thin { index, count: 0 }, low);
+        let new = encode(Split::Wide, Lock::Thin { index, count: 0 }, low);
         let found = self
             .table
             .shared
@@ -103,7 +103,7 @@ impl<B: Kept> Headers<B> {
     {
         let at = object.0 as usize;
         let low = pass.lows[at];
-        let new = encode(lock, low);
+        let new = encode(Split::Wide, lock, low);
         pass.depths[at] = left;
         self.table
             .shared
@@ -124,7 +124,7 @@ impl<B: Kept> Headers<B> {
         let index = pass.index();
         let lock = Lock::Thin {
             index,
-            count: depth as u8,
+            count: depth,
         };
         self.note_then_store::<Nests>(pass, object, lock, depth + 1);
     }
@@ -142,7 +142,7 @@ impl<B: Kept> Headers<B> {
         let index = pass.index();
         let lock = Lock::Thin {
             index,
-            count: (depth - 2) as u8,
+            count: depth - 2,
         };
         self.note_then_store::<Unnests>(pass, object, lock, depth - 1);
     }

@@ -8,6 +8,15 @@ use Rattle.lock_word.specs.declared.Split.{Split}
 use Rattle.lock_word.specs.declared.Split.TheVariants.{Wide, Deep}
 use Rattle.lock_word.specs.Layout.{greatest_index, greatest_count, unit_of, word_of, lock_of, low_of, with_lock, Fits, IsMalformed}
 
+-- no split has more than these
+pub greatest_index-bound : (s : Split) → greatest_index s ≤ 32767
+greatest_index-bound Wide = omega arith
+greatest_index-bound Deep = omega arith
+
+pub greatest_count-bound : (s : Split) → greatest_count s ≤ 4095
+greatest_count-bound Wide = omega arith
+greatest_count-bound Deep = omega arith
+
 thin_index : (s : Split) (i c low : ℕ) → c ≤ greatest_count s → low < 256 → (i * unit_of s + c * 256 + low) / unit_of s ≡ i
 thin_index Wide i c low hc hl = omega arith
 thin_index Deep i c low hc hl = omega arith
@@ -34,7 +43,7 @@ fat s m low hm hl =
     let number : (2147483648 + m * 256 + low - 2147483648) / 256 ≡ m = omega arith in
     rw (above, number) refl
 
-free : (s : Split) (low : ℕ) → low < 256 → lock_of s low ≡ Free
+pub free : (s : Split) (low : ℕ) → low < 256 → lock_of s low ≡ Free
 free Wide low h = grind arith
 free Deep low h = grind arith
 

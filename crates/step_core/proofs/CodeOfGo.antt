@@ -44,7 +44,7 @@ undone seats taken back t k none free put gave =
 
 module _ (w : WorldState) (sound : IsSound w) (k : ℕ) (t : ThreadId) (seat : seat_of w.seats t ≡ Some k) where
   -- a Go may be made from a stage that fits
-  ready_at : (s : Stage) → FittingStage w k s → IsReady w.words w.fats s
+  ready_at : (s : Stage) → FittingStage w k s → IsReady w.split w.words w.fats s
   ready_at (Begun c b) fit = fit
   ready_at (Taking o b) fit = fit
   ready_at (Storing c l) fit = (fit.0, store_fits w sound k t seat c.object c.operation l (storing w k c l fit))
@@ -55,7 +55,7 @@ module _ (w : WorldState) (sound : IsSound w) (k : ℕ) (t : ThreadId) (seat : s
   ready_at (Inflated c m) fit = (rw fit.1 at (stands_at w sound c.object.0)).0
   ready_at (Direct c) fit = tt
 
-  pub is_ready : (s : Stage) → place_at w k ≡ InCall s → IsReady w.words w.fats s
+  pub is_ready : (s : Stage) → place_at w k ≡ InCall s → IsReady w.split w.words w.fats s
   is_ready s e = ready_at s (subst (λ (x : Place). Fitting w k x) e (sound.places k (within w sound k t seat)))
 
   -- a live thread is attached, and out of every fat action where it is not at its post
@@ -74,11 +74,11 @@ module _ (w : WorldState) (sound : IsSound w) (k : ℕ) (t : ThreadId) (seat : s
   go_sound room p e o same = subst (λ (x : AfterStep). IsSound x.after) (sym (same ∙ go_answer room p e)) (step_sound w sound room (step.Go t))
 
 -- what the code of a stage, of a load and of an end gives is what a Go does there
-pub went_stage : (w : WorldState) (k : ℕ) (t : ThreadId) (room : Bool) (s : Stage) (a : AfterGo) → a ≡ after_stage room (bare w.words w.fats) k t s
+pub went_stage : (w : WorldState) (k : ℕ) (t : ThreadId) (room : Bool) (s : Stage) (a : AfterGo) → a ≡ after_stage room (bare w.split w.words w.fats) k t s
     → accept (with_go w k a) a.did ≡ after_go_at room w k t (InCall s)
 went_stage w k t room s a e = ap (λ (x : AfterGo). accept (with_go w k x) x.did) e
 
-pub look_at : (room : Bool) (w : WorldState) (k : ℕ) (t : ThreadId) (n : ℕ) → n < length w.words → (a : AfterGo) → a ≡ after_look (bare w.words w.fats) k t n
+pub look_at : (room : Bool) (w : WorldState) (k : ℕ) (t : ThreadId) (n : ℕ) → n < length w.words → (a : AfterGo) → a ≡ after_look (bare w.split w.words w.fats) k t n
     → accept (with_go w k a) a.did ≡ after_go_at room w k t (Ending n)
 look_at room w k t n more a e = ap (λ (x : AfterGo). accept (with_go w k x) x.did) e ∙ sym (rw (lt-ltb n (length w.words) more) refl)
 

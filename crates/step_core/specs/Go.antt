@@ -68,7 +68,7 @@ fats_changed w f p d = record { words = w.words; fats = f; place = p; did = d }
 
 -- the word of o with this lock
 abbrev pub new_word : WorldState → ObjectId → Lock → Word
-new_word w o l = record { 0 = with_lock (word_at w o.0).0 l }
+new_word w o l = record { 0 = with_lock w.split (word_at w o.0).0 l }
 
 -- the load of the word of o
 abbrev pub load_of : WorldState → ObjectId → Atomic
@@ -179,7 +179,7 @@ after_look_as w t n false = place_only w (Ending (n + 1)) (no_move (load_of w (r
 -- What a Go does at each stage of a call.
 abbrev pub after_stage : Bool → WorldState → ℕ → ThreadId → Stage → AfterGo
 after_stage room w k t (Begun c contended) =
-    after_load w t c contended (next_of c.operation (lock_at w c.object.0) (k + 1))
+    after_load w t c contended (next_of w.split c.operation (lock_at w c.object.0) (k + 1))
 after_stage room w k t (Taking o contended) = after_take w k t o contended (lock_at w o.0)
 after_stage room w k t (Storing c l) = after_store w t c l
 after_stage room w k t (Binding c n) = after_bind w t c false (n + 1) (bind_cause room w.fats)

@@ -53,7 +53,7 @@ left_of w t = left_of_seat w (seat_of w.seats t)
 abbrev pub HasMet : WorldState → ThreadId → Atomic → Type 0
 HasMet w t (Load o x) =
     ((p : ObjectId) × (flag : Bool) × Is (shown w) t flag (doing.Wants (call.Enter p)))
-    × ((i n : ℕ) × (lock_of x.0 ≡ Thin i n) × (index_of w.seats t ≢ Some i))
+    × ((i n : ℕ) × (lock_of w.split x.0 ≡ Thin i n) × (index_of w.seats t ≢ Some i))
 HasMet w t (Lost o x) = Unit {0}
 HasMet w t a = ⊥
 

@@ -5,7 +5,7 @@ use Rattle.lock_word.specs.declared.ThreadId.{ThreadId}
 use Rattle.lock_word.specs.declared.Word.{Word}
 use Rattle.lock_word.specs.declared.Lock.{Lock}
 use Rattle.lock_word.specs.declared.Lock.TheVariants.{Free, Thin, Fat}
-use Rattle.lock_word.specs.Layout.{lock_of, IsMalformed}
+use Rattle.lock_word.specs.Layout.{lock_of, IsMalformed, greatest_index, greatest_count}
 use Rattle.thread_index.specs.Indices.{seat_of, holder_at, IsOneToOne}
 use Rattle.fat_monitor.specs.FatState.{FatState, monitor_at, IsAttached, post_of, thread_count}
 use Rattle.fat_monitor.specs.declared.actions.Post.{Post}
@@ -26,7 +26,7 @@ Reaches w c = c.object.0 < length w.words
 -- a lock that object p may show: a thin one is a live thread's, and a fat one is of a monitor that is bound to p
 abbrev pub MayShow : WorldState → ℕ → Lock → Type 0
 MayShow w p Free = Unit {0}
-MayShow w p (Thin i c) = (1 ≤ i) × (i ≤ 32767) × (c ≤ 255) × IsSome (holder_at w.seats (i - 1))
+MayShow w p (Thin i c) = (1 ≤ i) × (i ≤ greatest_index w.split) × (c ≤ greatest_count w.split) × IsSome (holder_at w.seats (i - 1))
 MayShow w p (Fat m) = (m < length w.fats.monitors) × ((monitor_at w.fats m).object.0 ≡ p)
 
 -- The thread at seat k may stand at this stage of a call: what it found when it loaded still stands, since a
@@ -36,9 +36,9 @@ FittingStage w k (Begun c contended) = Reaches w c
 FittingStage w k (Taking o contended) = o.0 < length w.words
 FittingStage w k (Storing c l) =
     Reaches w c
-    × ((n : ℕ) × (lock_at w c.object.0 ≡ Thin (k + 1) n) × (next_of c.operation (Thin (k + 1) n) (k + 1) ≡ next.Store l))
+    × ((n : ℕ) × (lock_at w c.object.0 ≡ Thin (k + 1) n) × (next_of w.split c.operation (Thin (k + 1) n) (k + 1) ≡ next.Store l))
 FittingStage w k (Binding c n) =
-    Reaches w c × (lock_at w c.object.0 ≡ Thin (k + 1) n) × (next_of c.operation (Thin (k + 1) n) (k + 1) ≡ next.Bind)
+    Reaches w c × (lock_at w c.object.0 ≡ Thin (k + 1) n) × (next_of w.split c.operation (Thin (k + 1) n) (k + 1) ≡ next.Bind)
 FittingStage w k (Acting c m) = Reaches w c × (lock_at w c.object.0 ≡ Fat m)
 FittingStage w k (Won o) = (o.0 < length w.words) × (lock_at w o.0 ≡ Thin (k + 1) 0)
 FittingStage w k (Bound c won m) =
@@ -78,9 +78,9 @@ IsPublished w m =
 pub record IsSound (w : WorldState) : Type 0 where
   pub many : length w.words ≤ 65535
   pub seated : length w.places ≡ length w.seats
-  pub few : length w.seats ≤ 32767
+  pub few : length w.seats ≤ greatest_index w.split
   pub one_to_one : IsOneToOne w.seats
-  pub formed : (p : ℕ) → IsMalformed (word_at w p).0 → ⊥
+  pub formed : (p : ℕ) → IsMalformed w.split (word_at w p).0 → ⊥
   pub words : (p : ℕ) → p < length w.words → MayShow w p (lock_at w p)
   pub fats : fat.IsSound w.fats
   pub published : (m : ℕ) → m < length w.fats.monitors → IsPublished w m

@@ -1,9 +1,10 @@
--- A world as contracts see it: header words, the threads by index, the place of each in its call, and the fat state.
+-- A world as contracts see it: the split of its header words, the words, the threads by index, the place of each in its call, and the fat state.
 use Rattle.std.specs.Prelude.{Some, ◌≢◌, is_some, count_by, ◌≡◌, ℕ, ◌+◌, ◌-◌, ◌<◌, ◌≤◌, List, length, slice_index_or, Option, None, IsSome, map, replicate, Bool, true, false, ◌==◌, ◌⊎◌}
 use Rattle.lock_word.specs.declared.ThreadId.{ThreadId}
 use Rattle.lock_word.specs.declared.Word.{Word}
 use Rattle.lock_word.specs.declared.Lock.{Lock}
 use Rattle.lock_word.specs.declared.Lock.TheVariants.{Free, Thin, Fat}
+use Rattle.lock_word.specs.declared.Split.{Split}
 use Rattle.lock_word.specs.Layout.{lock_of, IsMalformed}
 use Rattle.thread_index.specs.Indices.{seat_of, holder_at, IsOneToOne}
 use Rattle.fat_monitor.specs.FatState.{FatState, monitor_at, IsAttached, post_of, thread_count}
@@ -18,9 +19,10 @@ use Rattle.step_core.specs.declared.places.Place.TheVariants.{Idle, InCall, Endi
 use Rattle.step_core.specs.declared.places.Stage.{Stage}
 use Rattle.step_core.specs.declared.places.Stage.TheVariants.{Begun, Taking, Storing, Binding, Acting, Won, Bound, Inflated, Direct}
 
--- the word of each object; who has each index, by seat, which is the index less one; the place of the
+-- the split of each word; the word of each object; who has each index, by seat, which is the index less one; the place of the
 -- thread at each seat; and the fat state
 pub record WorldState : Type 0 where
+  pub split : Split
   pub words : List Word
   pub seats : List (Option ThreadId)
   pub places : List Place
@@ -31,9 +33,9 @@ abbrev pub low_word : ℕ → Word
 low_word n = record { 0 = n }
 
 -- the world in which nothing has happened
-abbrev pub opening_world : List ℕ → ℕ → ℕ → WorldState
-opening_world lows monitors indices =
-    record { words = map low_word lows; seats = replicate indices None; places = replicate indices Idle; fats = fat.opened monitors }
+abbrev pub opening_world : List ℕ → ℕ → ℕ → Split → WorldState
+opening_world lows monitors indices split =
+    record { split = split; words = map low_word lows; seats = replicate indices None; places = replicate indices Idle; fats = fat.opened monitors }
 
 abbrev pub place_at : WorldState → ℕ → Place
 place_at w k = slice_index_or w.places k Idle
@@ -43,7 +45,7 @@ abbrev pub word_at : WorldState → ℕ → Word
 word_at w p = slice_index_or w.words p (low_word 0)
 
 abbrev pub lock_at : WorldState → ℕ → Lock
-lock_at w p = lock_of (word_at w p).0
+lock_at w p = lock_of w.split (word_at w p).0
 
 -- a thin lock of the thread with this index
 abbrev pub is_own : Lock → ℕ → Bool

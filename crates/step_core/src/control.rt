@@ -3,6 +3,7 @@
 ghost use Rattle.std.specs.Prelude.{◌≡◌, ◌≤◌, List, [], ◌∷◌, length, Bool, true, Option, Some, None, IsSome, is_some, count_by};
 ghost use Rattle.lock_word.specs.declared.ThreadId.{ThreadId};
 ghost use Rattle.lock_word.specs.declared.Word.{Word};
+ghost use Rattle.lock_word.specs.declared.Split.{Split};
 ghost use Rattle.thread_index.specs.Indices.{seat_of};
 ghost use Rattle.fat_monitor.specs.FatState.{FatState, IsAttached, thread_count};
 ghost use Rattle.fast_path.specs.Calls.{subject_of};
@@ -31,9 +32,9 @@ pub(crate) fn attach(
     requires live { IsAttached fats.old thread → IsSome (seat_of indices.old thread) }
     requires counted { thread_count fats.old ≡ count_by is_some indices.old }
     requires few { length indices.old ≤ 32767 }
-    ensures { (words : List Word) → (room : Bool)
-        × (record { answer = result; after = world_of words indices.new places.new.items fats.new }
-        ≡ step_of room (world_of words indices.old places.old.items fats.old)
+    ensures { (split : Split) → (words : List Word) → (room : Bool)
+        × (record { answer = result; after = world_of split words indices.new places.new.items fats.new }
+        ≡ step_of room (world_of split words indices.old places.old.items fats.old)
         (step.Attach thread)) }
 {
     let index = match indices.take(thread) {
@@ -63,9 +64,9 @@ pub(crate) fn begin(
     call: Call,
 ) -> Result<Did, Fault>
     requires { length places.old.items ≡ length indices.now }
-    ensures { (fats : FatState)
-        → record { answer = result; after = world_of words.now indices.now places.new.items fats }
-        ≡ step_of true (world_of words.now indices.now places.old.items fats)
+    ensures { (split : Split) → (fats : FatState)
+        → record { answer = result; after = world_of split words.now indices.now places.new.items fats }
+        ≡ step_of true (world_of split words.now indices.now places.old.items fats)
         (step.Begin thread call) }
 {
     let Some(index) = indices.index_of(thread) else {
@@ -100,9 +101,9 @@ fn first_place(subject: Subject) -> Place
 /// Ends the wait of a thread whose deadline has come.
 pub(crate) fn expire(indices: &Indices, fats: &mut Fats, thread: ThreadId) -> Result<Did, Fault>
     requires { IsSome (seat_of indices.now thread) → IsAttached fats.old thread }
-    ensures { (words : List Word) → (places : List Place)
-        → record { answer = result; after = world_of words indices.now places fats.new }
-        ≡ step_of true (world_of words indices.now places fats.old) (step.Expire thread) }
+    ensures { (split : Split) → (words : List Word) → (places : List Place)
+        → record { answer = result; after = world_of split words indices.now places fats.new }
+        ≡ step_of true (world_of split words indices.now places fats.old) (step.Expire thread) }
 {
     if indices.index_of(thread).is_none() {
         return Err(Fault::NoThread);
@@ -117,9 +118,9 @@ pub(crate) fn expire(indices: &Indices, fats: &mut Fats, thread: ThreadId) -> Re
 /// Ends the wait of a thread for no reason that a program can see.
 pub(crate) fn wake(indices: &Indices, fats: &mut Fats, thread: ThreadId) -> Result<Did, Fault>
     requires { IsSome (seat_of indices.now thread) → IsAttached fats.old thread }
-    ensures { (words : List Word) → (places : List Place)
-        → record { answer = result; after = world_of words indices.now places fats.new }
-        ≡ step_of true (world_of words indices.now places fats.old) (step.Spurious thread) }
+    ensures { (split : Split) → (words : List Word) → (places : List Place)
+        → record { answer = result; after = world_of split words indices.now places fats.new }
+        ≡ step_of true (world_of split words indices.now places fats.old) (step.Spurious thread) }
 {
     if indices.index_of(thread).is_none() {
         return Err(Fault::NoThread);
@@ -150,9 +151,9 @@ fn end_of_wait(fats: &Fats, action: Action, made: Move, done: Done) -> Did
 
 /// Tells the moment.
 pub(crate) fn tick(fats: &mut Fats, now: u64) -> Result<Did, Fault>
-    ensures { (words : List Word) → (seats : List (Option ThreadId)) → (places : List Place)
-        → record { answer = result; after = world_of words seats places fats.new }
-        ≡ step_of true (world_of words seats places fats.old) (step.Tick now) }
+    ensures { (split : Split) → (words : List Word) → (seats : List (Option ThreadId)) → (places : List Place)
+        → record { answer = result; after = world_of split words seats places fats.new }
+        ≡ step_of true (world_of split words seats places fats.old) (step.Tick now) }
 {
     match fats.tick(now) {
         Ok(()) => Ok(Did::one_move(Atomic::Label, Move::Time { now })),

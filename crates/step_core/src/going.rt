@@ -3,6 +3,7 @@
 ghost use Rattle.std.specs.Prelude.{◌≡◌, ℕ, ◌-◌, ◌<◌, ◌≤◌, List, length, Bool, Option, Some, Ok};
 ghost use Rattle.lock_word.specs.declared.ThreadId.{ThreadId};
 ghost use Rattle.lock_word.specs.declared.Word.{Word};
+ghost use Rattle.lock_word.specs.declared.Split.{Split};
 ghost use Rattle.thread_index.specs.Indices.{seat_of};
 ghost use Rattle.fat_monitor.specs.declared.actions.Action.TheVariants as action;
 ghost use Rattle.fat_monitor.specs.declared.actions.Post.TheVariants.{Out};
@@ -18,22 +19,23 @@ use crate::steps::move_for;
 use crate::{Atomic, Did, Fault, Place};
 use fast_path::Call;
 use fat_monitor::{Action, Answer, Done, Fats, Reply};
-use lock_word::{ThreadId, Word};
+use lock_word::{Split, ThreadId, Word};
 use thread_index::Indices;
 
 /// Does the next atomic step of a thread's call.
 pub(crate) fn go(
+    split: Split,
     words: &mut [Word],
     indices: &mut Indices,
     places: &mut [Place],
     fats: &mut Fats,
     thread: ThreadId,
 ) -> Result<Did, Fault>
-    requires { IsSound (world_of words.old indices.old places.old fats.old) }
-    ensures sound { IsSound (world_of words.new indices.new places.new fats.new) }
+    requires { IsSound (world_of split words.old indices.old places.old fats.old) }
+    ensures sound { IsSound (world_of split words.new indices.new places.new fats.new) }
     ensures exact { (room : Bool)
-        × (record { answer = result; after = world_of words.new indices.new places.new fats.new }
-        ≡ step_of room (world_of words.old indices.old places.old fats.old) (step.Go thread)) }
+        × (record { answer = result; after = world_of split words.new indices.new places.new fats.new }
+        ≡ step_of room (world_of split words.old indices.old places.old fats.old) (step.Go thread)) }
 {
     let Some(index) = indices.index_of(thread) else {
         return Err(Fault::NoThread);
@@ -42,12 +44,12 @@ pub(crate) fn go(
     match places[seat] {
         Place::Idle => Err(Fault::NotCalling),
         Place::InCall(stage) => {
-            let (next, did) = go_from(words, fats, index, thread, stage);
+            let (next, did) = go_from(split, words, fats, index, thread, stage);
             places[seat] = next;
             Ok(did)
         }
         Place::Ending { loaded } if (loaded as usize) < words.len() => {
-            let (next, did) = look(words, index, thread, loaded);
+            let (next, did) = look(split, words, index, thread, loaded);
             places[seat] = next;
             Ok(did)
         }
@@ -65,9 +67,9 @@ fn collect(
 ) -> Result<Did, Fault>
     requires seated { seat < length places.old }
     requires attached { IsAttached fats.old thread }
-    ensures { (words : List Word) (seats : List (Option ThreadId))
-        → record { answer = result; after = world_of words seats places.new fats.new }
-        ≡ after_collect (world_of words seats places.old fats.old) seat thread
+    ensures { (split : Split) (words : List Word) (seats : List (Option ThreadId))
+        → record { answer = result; after = world_of split words seats places.new fats.new }
+        ≡ after_collect (world_of split words seats places.old fats.old) seat thread
         (acted fats.old thread action.Collect).answer (acted fats.old thread action.Collect).after }
 {
     let action = Action::Collect;
@@ -93,9 +95,9 @@ fn end(
     requires seated { seat < length places.old }
     requires here { seat_of indices.old thread ≡ Some seat }
     requires out { post_of fats.old thread ≡ Some Out }
-    ensures { (words : List Word)
-        → record { answer = Ok result; after = world_of words indices.new places.new fats.new }
-        ≡ after_end (world_of words indices.old places.old fats.old) seat thread
+    ensures { (split : Split) (words : List Word)
+        → record { answer = Ok result; after = world_of split words indices.new places.new fats.new }
+        ≡ after_end (world_of split words indices.old places.old fats.old) seat thread
         (acted fats.old thread action.End).answer (acted fats.old thread action.End).after }
 {
     places[seat] = Place::Idle;

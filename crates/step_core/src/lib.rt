@@ -51,7 +51,7 @@ pub use laws::{
     a_waiter_throws_or_keeps_its_interrupt, every_call_is_patient, every_list_of_steps_is_a_run,
     every_list_of_steps_keeps_the_world, no_notification_is_lost,
 };
-pub use lock_word::{Lock, Memory, ObjectId, ThreadId, Word, decode};
+pub use lock_word::{Lock, Memory, ObjectId, Split, ThreadId, Word, decode};
 pub use machine::{Doing, Move};
 pub use places::{Place, Stage};
 pub use steps::{Atomic, Did, Fault, Step};

@@ -40,7 +40,7 @@ pub enum Stage {
     /// It loaded a thin word of its own with this count, and is to bind a fat monitor.
     Binding {
         call: MonitorCall,
-        count: u8,
+        count: u16,
     },
     /// It loaded a fat word, and is to act on its monitor.
     Acting {

@@ -2,7 +2,8 @@
 
 ghost use Rattle.std.specs.Prelude.{◌≡◌, ◌+◌, ◌-◌, ◌<◌, ◌≤◌, List, length, Bool, Some};
 ghost use Rattle.lock_word.specs.declared.Word.{Word};
-ghost use Rattle.lock_word.specs.Layout.{Fits, count_of};
+ghost use Rattle.lock_word.specs.Layout.{Fits, count_of, greatest_index};
+ghost use Rattle.lock_word.specs.declared.Split.{Split};
 ghost use Rattle.fat_monitor.specs.declared.actions.Post.TheVariants.{Out};
 ghost use Rattle.fat_monitor.specs.FatState.{FatState, IsAttached, post_of};
 ghost use Rattle.fat_monitor.specs.Acting.{NamesBound};
@@ -17,31 +18,32 @@ use crate::steps::{grant_of, move_for};
 use crate::{Atomic, Did, Move, Place, Stage};
 use fast_path::{Call, InterruptCall, MonitorCall, Next, Operation};
 use fat_monitor::{Action, Answer, Cause, Fats, Reply};
-use lock_word::{Lock, ObjectId, ThreadId, Word, lock_of, with_lock};
+use lock_word::{Lock, ObjectId, Split, ThreadId, Word, lock_of, with_lock};
 
 /// One Go of the thread with index `me` from a stage of its call: where it stands then, and what it did.
 pub(crate) fn go_from(
+    split: Split,
     words: &mut [Word],
     fats: &mut Fats,
     me: u16,
     thread: ThreadId,
     stage: Stage,
 ) -> (Place, Did)
-    requires ready { IsReady words.old fats.old stage }
+    requires ready { IsReady split words.old fats.old stage }
     requires few { length words.old ≤ 65535 }
-    requires formed { AreFormed words.old }
+    requires formed { AreFormed split words.old }
     requires out { post_of fats.old thread ≡ Some Out }
     requires low { 1 ≤ me }
-    requires high { me ≤ 32767 }
+    requires high { me ≤ greatest_index split }
     ensures { (room : Bool)
         × (record { words = words.new; fats = fats.new; place = result.0; did = result.1 }
-        ≡ after_stage room (bare words.old fats.old) (me - 1) thread stage) }
+        ≡ after_stage room (bare split words.old fats.old) (me - 1) thread stage) }
 {
     match stage {
-        Stage::Begun { call, contended } => load(words, me, thread, call, contended),
-        Stage::Taking { object, contended } => take(words, me, thread, object, contended),
-        Stage::Storing { call, lock } => store(words, thread, call, lock),
-        Stage::Binding { call, count } => bind(fats, thread, call, false, u16::from(count) + 1),
+        Stage::Begun { call, contended } => load(split, words, me, thread, call, contended),
+        Stage::Taking { object, contended } => take(split, words, me, thread, object, contended),
+        Stage::Storing { call, lock } => store(split, words, thread, call, lock),
+        Stage::Binding { call, count } => bind(fats, thread, call, false, count + 1),
         Stage::Acting { call, monitor } => act(
             fats,
             thread,
@@ -49,7 +51,7 @@ pub(crate) fn go_from(
             action_on(call.operation, monitor),
         ),
         Stage::Won { object } => bind(fats, thread, entering(object), true, 1),
-        Stage::Bound { call, won, monitor } => publish(words, thread, call, won, monitor),
+        Stage::Bound { call, won, monitor } => publish(split, words, thread, call, won, monitor),
         Stage::Inflated { call, monitor } => act(
             fats,
             thread,
@@ -72,6 +74,7 @@ fn entering(object: ObjectId) -> MonitorCall
 
 /// Loads the word of the call's object, and answers where the word says enough.
 fn load(
+    split: Split,
     words: &[Word],
     me: u16,
     thread: ThreadId,
@@ -79,17 +82,17 @@ fn load(
     contended: bool,
 ) -> (Place, Did)
     requires within { call.object.0 < length words.now }
-    requires formed { AreFormed words.now }
+    requires formed { AreFormed split words.now }
     ensures { (f : FatState)
         → record { words = words.now; fats = f; place = result.0; did = result.1 }
-        ≡ after_load (bare words.now f) thread call contended
-        (next_of call.operation (lock_at (bare words.now f) call.object.0) me) }
+        ≡ after_load (bare split words.now f) thread call contended
+        (next_of split call.operation (lock_at (bare split words.now f) call.object.0) me) }
 {
     let object = call.object;
     let word = words[object.0 as usize];
-    let lock = lock_of(word);
+    let lock = lock_of(split, word);
     let atomic = Atomic::Load { object, word };
-    let stage = match call.operation.next(lock, me) {
+    let stage = match call.operation.next(split, lock, me) {
         Next::Reply(reply) => {
             let made = move_for(call.call(), reply, None, thread);
             return (
@@ -114,6 +117,7 @@ fn load(
 
 /// Exchanges the free word for the thread's own, if it is still free.
 fn take(
+    split: Split,
     words: &mut [Word],
     me: u16,
     thread: ThreadId,
@@ -121,17 +125,17 @@ fn take(
     contended: bool,
 ) -> (Place, Did)
     requires within { object.0 < length words.old }
-    requires formed { AreFormed words.old }
+    requires formed { AreFormed split words.old }
     requires low { 1 ≤ me }
-    requires high { me ≤ 32767 }
+    requires high { me ≤ greatest_index split }
     ensures { (f : FatState)
         → record { words = words.new; fats = f; place = result.0; did = result.1 }
-        ≡ after_take (bare words.old f) (me - 1) thread object contended
-        (lock_at (bare words.old f) object.0) }
+        ≡ after_take (bare split words.old f) (me - 1) thread object contended
+        (lock_at (bare split words.old f) object.0) }
 {
     let at = object.0 as usize;
     let old = words[at];
-    let Lock::Free = lock_of(old) else {
+    let Lock::Free = lock_of(split, old) else {
         let call = entering(object);
         let contended = true;
         let atomic = Atomic::Lost { object, word: old };
@@ -144,7 +148,7 @@ fn take(
         index: me,
         count: 0,
     };
-    let new = with_lock(old, mine);
+    let new = with_lock(split, old, mine);
     words[at] = new;
     let atomic = Atomic::Won { object, old, new };
     let made = Move::Lock { thread };
@@ -161,17 +165,23 @@ fn take(
 }
 
 /// Stores a free or thin word over the thread's own thin one.
-fn store(words: &mut [Word], thread: ThreadId, call: MonitorCall, lock: Lock) -> (Place, Did)
+fn store(
+    split: Split,
+    words: &mut [Word],
+    thread: ThreadId,
+    call: MonitorCall,
+    lock: Lock,
+) -> (Place, Did)
     requires within { call.object.0 < length words.old }
-    requires fits { Fits lock }
+    requires fits { Fits split lock }
     ensures { (f : FatState)
         → record { words = words.new; fats = f; place = result.0; did = result.1 }
-        ≡ after_store (bare words.old f) thread call lock }
+        ≡ after_store (bare split words.old f) thread call lock }
 {
     let object = call.object;
     let at = object.0 as usize;
     let old = words[at];
-    let new = with_lock(old, lock);
+    let new = with_lock(split, old, lock);
     words[at] = new;
     let reply = stored_reply(call.operation);
     let made = move_for(call.call(), reply, None, thread);
@@ -197,11 +207,11 @@ fn stored_reply(operation: Operation) -> Reply
 fn bind(fats: &mut Fats, thread: ThreadId, call: MonitorCall, won: bool, holds: u16) -> (Place, Did)
     requires attached { IsAttached fats.old thread }
     requires low { 1 ≤ holds }
-    requires high { holds ≤ 256 }
-    ensures { (ws : List Word)
+    requires high { holds ≤ 4096 }
+    ensures { (split : Split) (ws : List Word)
         → (room : Bool)
         × (record { words = ws; fats = fats.new; place = result.0; did = result.1 }
-        ≡ after_bind (bare ws fats.old) thread call won holds (bind_cause room fats.old)) }
+        ≡ after_bind (bare split ws fats.old) thread call won holds (bind_cause room fats.old)) }
 {
     let object = call.object;
     let cause = match fats.bind(object, thread, holds) {
@@ -231,6 +241,7 @@ fn bind(fats: &mut Fats, thread: ThreadId, call: MonitorCall, won: bool, holds: 
 
 /// Stores the fat word over the thread's own thin one.
 fn publish(
+    split: Split,
     words: &mut [Word],
     thread: ThreadId,
     call: MonitorCall,
@@ -241,12 +252,12 @@ fn publish(
     requires fits { monitor ≤ 8388607 }
     ensures { (f : FatState)
         → record { words = words.new; fats = f; place = result.0; did = result.1 }
-        ≡ after_publish (bare words.old f) thread call won monitor }
+        ≡ after_publish (bare split words.old f) thread call won monitor }
 {
     let object = call.object;
     let at = object.0 as usize;
     let old = words[at];
-    let new = with_lock(old, Lock::Fat { monitor });
+    let new = with_lock(split, old, Lock::Fat { monitor });
     words[at] = new;
     let atomic = Atomic::Stored { object, old, new };
     if won {
@@ -266,9 +277,9 @@ fn act(fats: &mut Fats, thread: ThreadId, call: Call, action: Action) -> (Place,
     requires out { post_of fats.old thread ≡ Some Out }
     requires bound { NamesBound fats.old action }
     requires own { IsOwnAction action }
-    ensures { (ws : List Word)
+    ensures { (split : Split) (ws : List Word)
         → record { words = ws; fats = fats.new; place = result.0; did = result.1 }
-        ≡ after_act (bare ws fats.old) thread call action }
+        ≡ after_act (bare split ws fats.old) thread call action }
 {
     let Ok(done) = fats.act(thread, action) else {
         unreachable!();
@@ -317,19 +328,25 @@ fn action_about(call: InterruptCall) -> Action
 }
 
 /// Loads the word of one object after another: a thread that owns one may not end.
-pub(crate) fn look(words: &[Word], me: u16, thread: ThreadId, loaded: u32) -> (Place, Did)
+pub(crate) fn look(
+    split: Split,
+    words: &[Word],
+    me: u16,
+    thread: ThreadId,
+    loaded: u32,
+) -> (Place, Did)
     requires within { loaded < length words.now }
-    requires formed { AreFormed words.now }
+    requires formed { AreFormed split words.now }
     requires low { 1 ≤ me }
     requires few { length words.now ≤ 65535 }
     ensures { (f : FatState)
         → record { words = words.now; fats = f; place = result.0; did = result.1 }
-        ≡ after_look (bare words.now f) (me - 1) thread loaded }
+        ≡ after_look (bare split words.now f) (me - 1) thread loaded }
 {
     let object = ObjectId(loaded);
     let word = words[loaded as usize];
     let atomic = Atomic::Load { object, word };
-    if is_own(lock_of(word), me) {
+    if is_own(lock_of(split, word), me) {
         let cause = Cause::StillOwner;
         let made = Move::Refuse { thread, cause };
         return (
@@ -352,7 +369,7 @@ fn is_own(lock: Lock, me: u16) -> bool
 }
 
 /// The count of a thin lock; 0 for another.
-fn count_of(lock: Lock) -> u8
+fn count_of(lock: Lock) -> u16
     ensures { result ≡ count_of lock }
 {
     match lock {

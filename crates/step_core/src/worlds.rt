@@ -2,6 +2,7 @@
 
 ghost use Rattle.std.specs.Prelude.{◌≡◌, ◌+◌, ◌<◌, ◌≤◌, length, Bool, true, Option, IfOk, IfErr, IfSome, OnOk, OnErr, Some, None};
 ghost use Rattle.std.specs.Option.{option_map};
+ghost use Rattle.lock_word.specs.Layout.{greatest_index};
 ghost use Rattle.fat_monitor.specs.FatState.{monitor_at, StandBehindOwners};
 ghost use Rattle.thread_index.specs.Indices.{index_of, holder_of};
 ghost use Rattle.step_core.specs.Machine.{Run, opening, Thread, ActExists, is_waiting};
@@ -21,7 +22,7 @@ ghost use Rattle.step_core.specs.Kept.{Keeps};
 use crate::{Did, Doing, Fault, Place, Stage, Step, control, going};
 use fast_path::Call;
 use fat_monitor::{Fats, Post, Reply};
-use lock_word::{Lock, Memory, ObjectId, ThreadId, Word, lock_of};
+use lock_word::{Lock, Memory, ObjectId, Split, ThreadId, Word, lock_of};
 use std::alloc::Global;
 use std::marker::Model;
 use thread_index::Indices;
@@ -30,6 +31,7 @@ use thread_index::Indices;
 /// call, and the fat monitors.
 #[derive(Drop)]
 pub struct World {
+    split: Split,
     words: Vec<Word>,
     indices: Indices,
     // By seat, which is the index less one.
@@ -56,13 +58,19 @@ impl Model for World {
 impl World {
     /// A world with one free object for each low byte, 0 to 65,535 of them; with at most `monitors`
     /// fat monitors, 0 to 8,388,608; and without threads, of which at most `indices`, 1 to 32,767, are
-    /// live at once.
-    pub fn new(alloc: Global, lows: &[u8], monitors: u32, indices: u16) -> Result<World, Memory>
+    /// live at once: 2,047 where the split is [`Deep`](Split::Deep).
+    pub fn new(
+        alloc: Global,
+        lows: &[u8],
+        monitors: u32,
+        indices: u16,
+        split: Split,
+    ) -> Result<World, Memory>
         requires objects { length lows.now ≤ 65535 }
         requires monitors { monitors ≤ 8388608 }
         requires low { 1 ≤ indices }
-        requires high { indices ≤ 32767 }
-        ensures world { IfOk result (λ w. w ≡ opening_world lows.now monitors indices) }
+        requires high { indices ≤ greatest_index split }
+        ensures world { IfOk result (λ w. w ≡ opening_world lows.now monitors indices split) }
         ensures shows { IfOk result (λ w. shown w ≡ opening (length lows.now)) }
     {
         let mut words = Vec::with_capacity(alloc, lows.len())?;
@@ -71,6 +79,7 @@ impl World {
         }
         let places = vec![in alloc; Place::Idle; usize::from(indices)]?;
         Ok(World {
+            split,
             words,
             indices: Indices::new(alloc, indices)?,
             places,
@@ -157,6 +166,7 @@ impl World {
             ≡ step_of room self.old (step.Go thread)) }
     {
         going::go(
+            self.split,
             &mut self.words,
             &mut self.indices,
             &mut self.places,
@@ -215,7 +225,7 @@ impl World {
         requires { object.0 < length self.now.words }
         ensures { result ≡ ((shown self.now).monitor object).owner }
     {
-        match lock_of(self.words[object.0 as usize]) {
+        match lock_of(self.split, self.words[object.0 as usize]) {
             Lock::Free => None,
             Lock::Thin { index, .. } => self.indices.id_of(index),
             Lock::Fat { monitor } => self.fats.owner(monitor),
@@ -227,7 +237,7 @@ impl World {
         requires { object.0 < length self.now.words }
         ensures { result ≡ ((shown self.now).monitor object).count }
     {
-        match lock_of(self.words[object.0 as usize]) {
+        match lock_of(self.split, self.words[object.0 as usize]) {
             Lock::Free => 0,
             Lock::Thin { count, .. } => u16::from(count) + 1,
             Lock::Fat { monitor } => self.fats.holds(monitor),

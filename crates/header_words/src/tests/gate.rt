@@ -7,7 +7,7 @@ ghost use Rattle.header_words.specs.Passes.{depth_at, new_passes};
 use super::books::{Ledger, Names};
 use crate::{Headers, Kept, OpenFault, Pass};
 use fat_monitor::{Fats, Receipt};
-use lock_word::{Lock, ObjectId, ThreadId, Word, decode};
+use lock_word::{Lock, ObjectId, Split, ThreadId, Word, decode};
 use std::alloc::Global;
 use std::test::Fail;
 use std::thread::{Threads, join};
@@ -29,7 +29,7 @@ fn monitor_of<B: Kept>(
     ensures gate { IfSome result (λ _. pass.new.has_gate ≡ true) }
 {
     let word = headers.load(pass, object);
-    let Some((Lock::Fat { monitor }, _low)) = decode(word) else {
+    let Some((Lock::Fat { monitor }, _low)) = decode(Split::Wide, word) else {
         return None;
     };
     let book = headers.take(pass)?;

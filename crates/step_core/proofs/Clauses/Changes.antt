@@ -62,8 +62,8 @@ module _ (w : WorldState) (sound : IsSound w) (k : ℕ) (t : ThreadId) (seat : s
   own l n e = (k + 1, rw seat refl, e)
 
   -- another lock keeps the low byte
-  low : (o : ObjectId) (l : Lock) → Fits l → low_of (new_word w o l).0 ≡ low_of (word_at w o.0).0
-  low o l fits = low_kept (word_at w o.0).0 l fits
+  low : (o : ObjectId) (l : Lock) → Fits w.split l → low_of (new_word w o l).0 ≡ low_of (word_at w o.0).0
+  low o l fits = low_kept w.split (word_at w o.0).0 l
 
   loads : (c : MonitorCall) (b : Bool) (n : Next) → c.object.0 < length w.words
       → GoChanges w t (after_load w t c b n).did.atomic (with_go w k (after_load w t c b n))
@@ -77,10 +77,10 @@ module _ (w : WorldState) (sound : IsSound w) (k : ℕ) (t : ThreadId) (seat : s
   takes : (o : ObjectId) (b : Bool) (l : Lock) → o.0 < length w.words → lock_at w o.0 ≡ l
       → GoChanges w t (after_take w k t o b l).did.atomic (with_go w k (after_take w k t o b l))
   takes o true Free h e =
-      let fits : Fits (Thin (k + 1) 0) = thin_fits w sound k t seat 0 (omega arith) in
+      let fits : Fits w.split (Thin (k + 1) 0) = thin_fits w sound k t seat 0 (omega arith) in
       ((h, refl), e, own _ 0 (lock_of-new_word w o (Thin (k + 1) 0) fits), (low o (Thin (k + 1) 0) fits, refl, refl))
   takes o false Free h e =
-      let fits : Fits (Thin (k + 1) 0) = thin_fits w sound k t seat 0 (omega arith) in
+      let fits : Fits w.split (Thin (k + 1) 0) = thin_fits w sound k t seat 0 (omega arith) in
       ((h, refl), e, own _ 0 (lock_of-new_word w o (Thin (k + 1) 0) fits), (low o (Thin (k + 1) 0) fits, refl, refl))
   takes o b (Thin i n) h e = ((h, refl), (λ x. let never : Thin i n ≡ Free = sym e ∙ x in cc), (refl, refl))
   takes o b (Fat m) h e = ((h, refl), (λ x. let never : Fat m ≡ Free = sym e ∙ x in cc), (refl, refl))
@@ -138,7 +138,7 @@ module _ (w : WorldState) (sound : IsSound w) (k : ℕ) (t : ThreadId) (seat : s
   acts_about (about.IsInterrupted u) = acts (call_about (about.IsInterrupted u)) (action.IsInterrupted u) out tt tt
 
   stages : (room : Bool) (s : Stage) → FittingStage w k s → GoChanges w t (after_stage room w k t s).did.atomic (with_go w k (after_stage room w k t s))
-  stages room (Begun c b) fit = loads c b (next_of c.operation (lock_at w c.object.0) (k + 1)) fit
+  stages room (Begun c b) fit = loads c b (next_of w.split c.operation (lock_at w c.object.0) (k + 1)) fit
   stages room (Taking o b) fit = takes o b (lock_at w o.0) fit refl
   stages room (Storing c l) fit =
       ((fit.0, refl), (fit.1.0, own _ fit.1.0 fit.1.1), (low c.object l (store_fits w sound k t seat c.object c.operation l (storing w k c l fit)), refl, refl))

@@ -49,13 +49,13 @@ same w w' e = record { objects = ap (λ xs. length xs) e; low_bytes = λ p. ap (
 
 module _ (w : WorldState) (k : ℕ) where
   -- a word gets another lock
-  written : (o : ObjectId) (l : Lock) (a : AfterGo) → a.words ≡ set w.words o.0 (new_word w o l) → Fits l → o.0 < length w.words → Keeps w (with_go w k a)
+  written : (o : ObjectId) (l : Lock) (a : AfterGo) → a.words ≡ set w.words o.0 (new_word w o l) → Fits w.split l → o.0 < length w.words → Keeps w (with_go w k a)
   written o l a e fits inside = record {
     objects = ap (λ xs. length xs) e ∙ length-set w.words o.0 (new_word w o l);
     low_bytes = λ q. ap (λ xs. low_of (get_or xs q (low_word 0)).0) e ∙ at_object q (cases_eq q o.0);
   } where
     at_object : (q : ℕ) → (q ≡ o.0) ⊎ (q ≡ o.0 → ⊥) → low_of (get_or (set w.words o.0 (new_word w o l)) q (low_word 0)).0 ≡ low_of (word_at w q).0
-    at_object q (inl e) = rw (e, get_or-set_same w.words o.0 (new_word w o l) (low_word 0) inside) (low_kept (word_at w o.0).0 l fits)
+    at_object q (inl e) = rw (e, get_or-set_same w.words o.0 (new_word w o l) (low_word 0) inside) (low_kept w.split (word_at w o.0).0 l)
     at_object q (inr ne) = rw (get_or-set_other w.words o.0 q (new_word w o l) (low_word 0) ne) refl
 
 module _ (w : WorldState) (sound : IsSound w) (k : ℕ) (t : ThreadId) (seat : seat_of w.seats t ≡ Some k) where
@@ -94,7 +94,7 @@ module _ (w : WorldState) (sound : IsSound w) (k : ℕ) (t : ThreadId) (seat : s
   looks n false = same w _ refl
 
   stages : (room : Bool) (s : Stage) → FittingStage w k s → Keeps w (with_go w k (after_stage room w k t s))
-  stages room (Begun c b) fit = loads c b (next_of c.operation (lock_at w c.object.0) (k + 1))
+  stages room (Begun c b) fit = loads c b (next_of w.split c.operation (lock_at w c.object.0) (k + 1))
   stages room (Taking o b) fit = takes o b (lock_at w o.0) fit
   stages room (Storing c l) fit = written w k c.object l (after_store w t c l) refl (store_fits w sound k t seat c.object c.operation l (storing w k c l fit)) fit.0
   stages room (Binding c n) fit = binds c false (n + 1) (bind_cause room w.fats)

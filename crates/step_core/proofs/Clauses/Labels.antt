@@ -232,7 +232,7 @@ looks w t n true = answers (load_of w (record { 0 = n })) call.End (reply.Refuse
 looks w t n false = quiet (load_of w (record { 0 = n })) t
 
 stages : (room : Bool) (w : WorldState) (k : ℕ) (t : ThreadId) (s : Stage) → Shapely t (after_stage room w k t s).did
-stages room w k t (Begun c b) = loads w t c b (next_of c.operation (lock_at w c.object.0) (k + 1))
+stages room w k t (Begun c b) = loads w t c b (next_of w.split c.operation (lock_at w c.object.0) (k + 1))
 stages room w k t (Taking o b) = takes w k t o b (lock_at w o.0)
 stages room w k t (Storing c l) = answers (stored_at w c.object l) (call_of c) (stored_reply c.operation) None t
 stages room w k t (Binding c n) = binds w t c false (n + 1) (bind_cause room w.fats)

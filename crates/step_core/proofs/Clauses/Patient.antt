@@ -124,7 +124,7 @@ module _ (w : WorldState) (sound : IsSound w) (k : ℕ) (t : ThreadId) (seat : s
   abbrev Goes : ℕ → AfterGo → Type 0
   Goes n a = IsSome a.did.reply ⊎ (HasParked a.did.atomic ⊎ (HasMet w t a.did.atomic ⊎ ((left_at (length a.words) a.place < n) × (1 ≤ left_at (length a.words) a.place))))
 
-  loads : (c : MonitorCall) (b : Bool) (n : Next) → place_at w k ≡ InCall (Begun c b) → next_of c.operation (lock_at w c.object.0) (k + 1) ≡ n
+  loads : (c : MonitorCall) (b : Bool) (n : Next) → place_at w k ≡ InCall (Begun c b) → next_of w.split c.operation (lock_at w c.object.0) (k + 1) ≡ n
       → Goes 4 (after_load w t c b n)
   loads c b (next.Reply r) at e = inl refl
   loads c b (next.Cas l) at e = inr (inr (inr (omega arith, omega arith)))
@@ -132,7 +132,7 @@ module _ (w : WorldState) (sound : IsSound w) (k : ℕ) (t : ThreadId) (seat : s
   loads c b next.Bind at e = inr (inr (inr (omega arith, omega arith)))
   loads c b (next.Fat m) at e = inr (inr (inr (omega arith, omega arith)))
   loads c b next.Spin at e =
-      let fact = spin_fact c.operation (lock_at w c.object.0) (k + 1) e in
+      let fact = spin_fact w.split c.operation (lock_at w c.object.0) (k + 1) e in
       let wants : Is (shown w) t (flag_at w.fats t) (doing.Wants (call_of c)) = is_at w sound k t seat (InCall (Begun c b)) at (out_at w sound k t seat (InCall (Begun c b)) at (λ i. cc)) in
       let enters : Is (shown w) t (flag_at w.fats t) (doing.Wants (call.Enter c.object)) = subst (λ (p : Operation). Is (shown w) t (flag_at w.fats t) (doing.Wants (call_on c.object p))) fact.0 wants in
       inr (inr (inl ((c.object, flag_at w.fats t, enters), (fact.1.0, fact.1.1, fact.1.2, λ i. fact.1.3 (same_Some fact.1.0 (k + 1) (sym i ∙ rw seat refl))))))
@@ -175,7 +175,7 @@ module _ (w : WorldState) (sound : IsSound w) (k : ℕ) (t : ThreadId) (seat : s
   looks n false more = inr (inr (inr (omega arith, omega arith)))
 
   stages : (room : Bool) (s : Stage) → place_at w k ≡ InCall s → Goes (left_in s) (after_stage room w k t s)
-  stages room (Begun c b) at = loads c b (next_of c.operation (lock_at w c.object.0) (k + 1)) at refl
+  stages room (Begun c b) at = loads c b (next_of w.split c.operation (lock_at w c.object.0) (k + 1)) at refl
   stages room (Taking o b) at = takes o b (lock_at w o.0)
   stages room (Storing c l) at = inl refl
   stages room (Binding c n) at = binds c (n + 1) (bind_cause room w.fats)
@@ -237,7 +237,7 @@ module _ (w : WorldState) (sound : IsSound w) (k : ℕ) (t : ThreadId) (seat : s
 
   -- no Go changes how many objects there are
   sizes : (room : Bool) (s : Stage) → length (after_stage room w k t s).words ≡ length w.words
-  sizes room (Begun c b) = by_load c b (next_of c.operation (lock_at w c.object.0) (k + 1))
+  sizes room (Begun c b) = by_load c b (next_of w.split c.operation (lock_at w c.object.0) (k + 1))
   sizes room (Taking o b) = by_take o b (lock_at w o.0)
   sizes room (Storing c l) = length-set w.words c.object.0 _
   sizes room (Binding c n) = bound c false (n + 1) (bind_cause room w.fats)

@@ -4,7 +4,6 @@ use Rattle.std.specs.Option.{option_map, unwrap_or}
 use Rattle.std.proofs.Common.{arith, refl, ap, sym, ◌∙◌, subst, inl, inr}
 use Rattle.std.proofs.lemmas.Bool.{cases_lt}
 use Rattle.std.proofs.lemmas.Option.{same_Some}
-use Rattle.std.proofs.lemmas.List.{get_or_past}
 use Rattle.lock_word.specs.declared.ThreadId.{ThreadId}
 use Rattle.lock_word.specs.declared.ObjectId.{ObjectId}
 use Rattle.lock_word.specs.declared.Lock.{Lock}
@@ -32,7 +31,7 @@ use Rattle.step_core.specs.Shown.{shown, doing_of, doing_in, act_of, thread_of}
 use Rattle.step_core.specs.Sound.{IsSound, Fitting, FittingStage, IsPublished}
 use Rattle.step_core.proofs.Facts.PlaceFacts.{who_bound}
 use Rattle.step_core.proofs.Facts.ShownStates.{proper_at}
-use Rattle.step_core.proofs.Facts.OneThread.{within}
+use Rattle.step_core.proofs.Facts.OneThread.{lock_past, within}
 
 module _ (w : WorldState) (sound : IsSound w) where
   -- a word past the last object is free
@@ -42,8 +41,7 @@ module _ (w : WorldState) (sound : IsSound w) where
       by_place : (p < length w.words) ⊎ (length w.words ≤ p) → p < length w.words
       by_place (inl h) = h
       by_place (inr h) =
-          let free : lock_at w p ≡ Free = rw (get_or_past w.words p (low_word 0) h) refl in
-          let never : Free ≡ Fat m = sym free ∙ e in absurd (cc)
+          let never : Free ≡ Fat m = sym (lock_past w p h) ∙ e in absurd (cc)
 
   -- so the object of a bound monitor exists: its word shows the monitor, or its binder is to store it
   bound_exists : (m : ℕ) → m < length w.fats.monitors → (monitor_at w.fats m).object.0 < length w.words

@@ -9,9 +9,9 @@ use Rattle.lock_word.specs.declared.ThreadId.{ThreadId}
 use Rattle.lock_word.specs.declared.ObjectId.{ObjectId}
 use Rattle.lock_word.specs.declared.Word.{Word}
 use Rattle.lock_word.specs.declared.Lock.{Lock}
-use Rattle.lock_word.specs.declared.Lock.TheVariants.{Thin}
-use Rattle.lock_word.specs.Layout.{lock_of, low_of, Fits}
-use Rattle.lock_word.proofs.Words.{lock_of-word_of}
+use Rattle.lock_word.specs.declared.Lock.TheVariants.{Free, Thin}
+use Rattle.lock_word.specs.Layout.{lock_of, low_of, Fits, greatest_count, greatest_index}
+use Rattle.lock_word.proofs.Words.{free, lock_of-word_of}
 use Rattle.thread_index.specs.Indices.{seat_of}
 use Rattle.thread_index.proofs.Seats.{seat_found}
 use Rattle.step_core.specs.declared.machine.Doing.{Doing}
@@ -38,8 +38,12 @@ now_is_same s t flag d h =
     at_one u (inr ne) = rw (ne_eqb u.0 t.0 ne) refl
 
 -- the lock that is written is the lock that is shown
-pub lock_of-new_word : (w : WorldState) (o : ObjectId) (l : Lock) → Fits l → lock_of (new_word w o l).0 ≡ l
-lock_of-new_word w o l fits = lock_of-word_of l (low_of (word_at w o.0).0) fits (omega arith)
+pub lock_of-new_word : (w : WorldState) (o : ObjectId) (l : Lock) → Fits w.split l → lock_of w.split (new_word w o l).0 ≡ l
+lock_of-new_word w o l fits = lock_of-word_of w.split l (low_of (word_at w o.0).0) fits (omega arith)
+
+-- past the last object stands the free word
+pub lock_past : (w : WorldState) (p : ℕ) → length w.words ≤ p → lock_at w p ≡ Free
+lock_past w p h = ap (λ (x : Word). lock_of w.split x.0) (get_or_past w.words p (low_word 0) h) ∙ free w.split 0 (omega arith)
 
 -- each object shows a lock of this world, and so does the free word past the end
 pub stands_at : (w : WorldState) → IsSound w → (p : ℕ) → MayShow w p (lock_at w p)
@@ -47,7 +51,7 @@ stands_at w sound p = by_place (cases_lt p (length w.words))
   where
     by_place : (p < length w.words) ⊎ (length w.words ≤ p) → MayShow w p (lock_at w p)
     by_place (inl h) = sound.words p h
-    by_place (inr h) = rw (get_or_past w.words p (low_word 0) h) tt
+    by_place (inr h) = rw (lock_past w p h) tt
 
 -- what a thread shows that is out of every fat action
 pub act_out : (f : FatState) (t : ThreadId) (p : Place) → post_of f t ≡ Some Out → act_of f (post_at f t) p ≡ doing_of p
@@ -58,13 +62,13 @@ module _ (w : WorldState) (sound : IsSound w) (k : ℕ) (t : ThreadId) (seat : s
   pub within : k < length w.places
   within = rw sound.seated ((seat_found w.seats t k seat).0)
 
-  pub index_fits : k + 1 ≤ 32767
-  index_fits = let l : k < length w.seats = (seat_found w.seats t k seat).0 in let b : length w.seats ≤ 32767 = sound.few in omega arith
+  pub index_fits : k + 1 ≤ greatest_index w.split
+  index_fits = let l : k < length w.seats = (seat_found w.seats t k seat).0 in let b : length w.seats ≤ greatest_index w.split = sound.few in omega arith
 
-  pub thin_fits : (c : ℕ) → c ≤ 255 → Fits (Thin (k + 1) c)
+  pub thin_fits : (c : ℕ) → c ≤ greatest_count w.split → Fits w.split (Thin (k + 1) c)
   thin_fits c h = (omega arith, index_fits, h)
 
-  pub thin_stands : (q c : ℕ) → c ≤ 255 → MayShow w q (Thin (k + 1) c)
+  pub thin_stands : (q c : ℕ) → c ≤ greatest_count w.split → MayShow w q (Thin (k + 1) c)
   thin_stands q c h = let n : k + 1 - 1 ≡ k = omega arith in (omega arith, index_fits, h, rw (n, (seat_found w.seats t k seat).1) refl)
 
   -- a thread that is not at its post is out of every fat action
@@ -89,7 +93,7 @@ module _ (w : WorldState) (sound : IsSound w) (k : ℕ) (t : ThreadId) (seat : s
   not_owned o l e h own = h (rw e at own)
 
   -- the monitors that are shown after a write of a word
-  pub written : (o : ObjectId) (x : Word) (p : Place) (d : Did) (l : Lock) → o.0 < length w.words → lock_of x.0 ≡ l → (q : ObjectId)
+  pub written : (o : ObjectId) (x : Word) (p : Place) (d : Did) (l : Lock) → o.0 < length w.words → lock_of w.split x.0 ≡ l → (q : ObjectId)
       → monitor_of (with_go w k (word_written w o x p d)) (lock_at (with_go w k (word_written w o x p d)) q.0) ≡ (if q.0 == o.0 then monitor_of w l else monitor_of w (lock_at w q.0))
   written o x p d l h e q = at_object (cases_eq q.0 o.0)
     where
@@ -99,7 +103,7 @@ module _ (w : WorldState) (sound : IsSound w) (k : ℕ) (t : ThreadId) (seat : s
       at_object (inr ne) = rw (ne_eqb q.0 o.0 ne, get_or-set_other w.words o.0 q.0 x (low_word 0) ne) refl
 
   -- the state after a write of a lock that shows this monitor
-  pub shown_written : (o : ObjectId) (l : Lock) (m : Monitor) (p : Place) (d : Did) → post_of w.fats t ≡ Some Out → o.0 < length w.words → Fits l → monitor_of w l ≡ m
+  pub shown_written : (o : ObjectId) (l : Lock) (m : Monitor) (p : Place) (d : Did) → post_of w.fats t ≡ Some Out → o.0 < length w.words → Fits w.split l → monitor_of w l ≡ m
       → shown (with_go w k (word_written w o (new_word w o l) p d)) ≡ with_monitor (now_is (shown w) t (flag_at w.fats t) (doing_of p)) o m
   shown_written o l m p d out h f e =
       rw (← e) (shown_changed w k t (word_written w o (new_word w o l) p d) (flag_at w.fats t) (doing_of p) seat within (length-set w.words o.0 (new_word w o l)) refl

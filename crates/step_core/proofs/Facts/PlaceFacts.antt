@@ -103,7 +103,7 @@ bound_kept w j c won m fit =
 
 -- A thread still fits where there are as many objects, where the thin words of its index and the fat words stay, and
 -- where a monitor that it has bound and not stored is as it was.
-module _ (w w' : WorldState) (j : ℕ) (size : length w'.words ≡ length w.words)
+module _ (w w' : WorldState) (j : ℕ) (split : w'.split ≡ w.split) (size : length w'.words ≡ length w.words)
     (thin : (q n : ℕ) → lock_at w q ≡ Thin (j + 1) n → lock_at w' q ≡ Thin (j + 1) n)
     (fat : (q m : ℕ) → lock_at w q ≡ Fat m → lock_at w' q ≡ Fat m)
     (bound : (c : MonitorCall) (won : Bool) (m : ℕ) → FittingStage w j (Bound c won m)
@@ -116,8 +116,8 @@ module _ (w w' : WorldState) (j : ℕ) (size : length w'.words ≡ length w.word
   stage_kept : (s : Stage) → FittingStage w j s → FittingStage w' j s
   stage_kept (Begun c b) fit = inside c.object.0 fit
   stage_kept (Taking o b) fit = inside o.0 fit
-  stage_kept (Storing c l) fit = (inside c.object.0 fit.0, (fit.1.0, thin c.object.0 fit.1.0 fit.1.1, fit.1.2))
-  stage_kept (Binding c n) fit = (inside c.object.0 fit.0, thin c.object.0 n fit.1, fit.2)
+  stage_kept (Storing c l) fit = (inside c.object.0 fit.0, (fit.1.0, thin c.object.0 fit.1.0 fit.1.1, rw split fit.1.2))
+  stage_kept (Binding c n) fit = (inside c.object.0 fit.0, thin c.object.0 n fit.1, rw split fit.2)
   stage_kept (Acting c m) fit = (inside c.object.0 fit.0, fat c.object.0 m fit.1)
   stage_kept (Won o) fit = (inside o.0 fit.0, thin o.0 0 fit.1)
   stage_kept (Bound c won m) fit =

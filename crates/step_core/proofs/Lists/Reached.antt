@@ -4,6 +4,7 @@ use Rattle.std.proofs.Common.{refl, ap, ◌∙◌}
 use Rattle.std.proofs.lemmas.List.{length-map}
 use Rattle.std.proofs.lemmas.List.Elements.{filter-append}
 use Rattle.lock_word.specs.declared.ThreadId.{ThreadId}
+use Rattle.lock_word.specs.declared.Split.{Split}
 use Rattle.thread_index.specs.Indices.{IsOneToOne}
 use Rattle.fat_monitor.specs.declared.actions.Reply.{Reply}
 use Rattle.fast_path.specs.declared.calls.Call.TheVariants as call
@@ -69,55 +70,55 @@ all_keeps w sound (s ∷ ss) =
     let rest = all_keeps (step_of s.1 w s.0).after (step_right w sound s.1 s.0).0 ss in
     record { objects = rest.objects ∙ one.objects; low_bytes = λ p. rest.low_bytes p ∙ one.low_bytes p }
 
-module _ (lows : List ℕ) (monitors indices : ℕ) (steps : List (Step × Bool)) (limits : AreWithinLimits lows monitors indices) where
-  start : IsSound (opening_world lows monitors indices)
-  start = opened_sound lows monitors indices limits.bytes limits.objects limits.few limits.bounded
+module _ (lows : List ℕ) (monitors indices : ℕ) (split : Split) (steps : List (Step × Bool)) (limits : AreWithinLimits lows monitors indices split) where
+  start : IsSound (opening_world lows monitors indices split)
+  start = opened_sound lows monitors indices split limits.bytes limits.objects limits.few limits.bounded
 
-  pub reached_run : Run (opening (length lows)) (moves_after (opening_world lows monitors indices) steps) (shown (reached lows monitors indices steps))
-  reached_run = opened_run lows monitors indices steps limits.bytes limits.objects limits.bounded limits.few
+  pub reached_run : Run (opening (length lows)) (moves_after (opening_world lows monitors indices split) steps) (shown (reached lows monitors indices split steps))
+  reached_run = opened_run lows monitors indices split steps limits.bytes limits.objects limits.bounded limits.few
 
-  pub reached_labels : labels_of (moves_after (opening_world lows monitors indices) steps) ≡ labels_after (opening_world lows monitors indices) steps
-  reached_labels = all_labels (opening_world lows monitors indices) start steps
+  pub reached_labels : labels_of (moves_after (opening_world lows monitors indices split) steps) ≡ labels_after (opening_world lows monitors indices split) steps
+  reached_labels = all_labels (opening_world lows monitors indices split) start steps
 
-  pub reached_sound : IsSound (reached lows monitors indices steps)
-  reached_sound = all_sound (opening_world lows monitors indices) start steps
+  pub reached_sound : IsSound (reached lows monitors indices split steps)
+  reached_sound = all_sound (opening_world lows monitors indices split) start steps
 
-  pub reached_distinct : IsOneToOne (reached lows monitors indices steps).seats
+  pub reached_distinct : IsOneToOne (reached lows monitors indices split steps).seats
   reached_distinct = reached_sound.one_to_one
 
-  pub reached_keeps : Keeps (opening_world lows monitors indices) (reached lows monitors indices steps)
-  reached_keeps = all_keeps (opening_world lows monitors indices) start steps
+  pub reached_keeps : Keeps (opening_world lows monitors indices split) (reached lows monitors indices split steps)
+  reached_keeps = all_keeps (opening_world lows monitors indices split) start steps
 
-  pub reached_four : (t : ThreadId) (flag : Bool) (act : Doing) (more : List (Step × Bool)) → Is (shown (reached lows monitors indices steps)) t flag act
-      → (act ≡ doing.Idle → ⊥) → (act ≡ doing.Wants call.End → ⊥) → AllLinger (reached lows monitors indices steps) t more → goes_of t more < 4
-  reached_four t flag act more is busy not_end all = within_four (reached lows monitors indices steps) reached_sound t flag act is busy not_end more all
+  pub reached_four : (t : ThreadId) (flag : Bool) (act : Doing) (more : List (Step × Bool)) → Is (shown (reached lows monitors indices split steps)) t flag act
+      → (act ≡ doing.Idle → ⊥) → (act ≡ doing.Wants call.End → ⊥) → AllLinger (reached lows monitors indices split steps) t more → goes_of t more < 4
+  reached_four t flag act more is busy not_end all = within_four (reached lows monitors indices split steps) reached_sound t flag act is busy not_end more all
 
-  pub reached_all : (t : ThreadId) (flag : Bool) (more : List (Step × Bool)) → Is (shown (reached lows monitors indices steps)) t flag (doing.Wants call.End)
-      → AllLinger (reached lows monitors indices steps) t more → goes_of t more < length lows + 1
+  pub reached_all : (t : ThreadId) (flag : Bool) (more : List (Step × Bool)) → Is (shown (reached lows monitors indices split steps)) t flag (doing.Wants call.End)
+      → AllLinger (reached lows monitors indices split steps) t more → goes_of t more < length lows + 1
   reached_all t flag more is all =
-      let size : length (reached lows monitors indices steps).words ≡ length lows = reached_keeps.objects ∙ length-map lows low_word in
-      rw (← size) (within_all (reached lows monitors indices steps) reached_sound t flag is more all)
+      let size : length (reached lows monitors indices split steps).words ≡ length lows = reached_keeps.objects ∙ length-map lows low_word in
+      rw (← size) (within_all (reached lows monitors indices split steps) reached_sound t flag is more all)
 
-  pub reached_notified : (u : ThreadId) (o : ObjectId) (n : ℕ) (more : List (Step × Bool)) → IsNotified (shown (reached lows monitors indices steps)) u o n
-      → NeverReturns (reached lows monitors indices steps) u WaitOver more
-      → IsNotified (shown (world_after (reached lows monitors indices steps) more)) u o n ⊎ HasReply (shown (world_after (reached lows monitors indices steps) more)) u WaitOver
-  reached_notified u o n more note never = all_back (reached lows monitors indices steps) reached_sound u o n Notified more note never
+  pub reached_notified : (u : ThreadId) (o : ObjectId) (n : ℕ) (more : List (Step × Bool)) → IsNotified (shown (reached lows monitors indices split steps)) u o n
+      → NeverReturns (reached lows monitors indices split steps) u WaitOver more
+      → IsNotified (shown (world_after (reached lows monitors indices split steps) more)) u o n ⊎ HasReply (shown (world_after (reached lows monitors indices split steps) more)) u WaitOver
+  reached_notified u o n more note never = all_back (reached lows monitors indices split steps) reached_sound u o n Notified more note never
 
-  pub reached_interrupted : (u : ThreadId) (o : ObjectId) (n : ℕ) (more : List (Step × Bool)) → IsBack (shown (reached lows monitors indices steps)) u o n Interrupted
-      → NeverReturns (reached lows monitors indices steps) u Throws more
-      → IsBack (shown (world_after (reached lows monitors indices steps) more)) u o n Interrupted ⊎ HasReply (shown (world_after (reached lows monitors indices steps) more)) u Throws
-  reached_interrupted u o n more note never = all_back (reached lows monitors indices steps) reached_sound u o n Interrupted more note never
+  pub reached_interrupted : (u : ThreadId) (o : ObjectId) (n : ℕ) (more : List (Step × Bool)) → IsBack (shown (reached lows monitors indices split steps)) u o n Interrupted
+      → NeverReturns (reached lows monitors indices split steps) u Throws more
+      → IsBack (shown (world_after (reached lows monitors indices split steps) more)) u o n Interrupted ⊎ HasReply (shown (world_after (reached lows monitors indices split steps) more)) u Throws
+  reached_interrupted u o n more note never = all_back (reached lows monitors indices split steps) reached_sound u o n Interrupted more note never
 
-  pub reached_elapsed : (u : ThreadId) (o : ObjectId) (n : ℕ) (more : List (Step × Bool)) → IsBack (shown (reached lows monitors indices steps)) u o n Elapsed
-      → NeverReturns (reached lows monitors indices steps) u WaitOver more
-      → IsBack (shown (world_after (reached lows monitors indices steps) more)) u o n Elapsed ⊎ HasReply (shown (world_after (reached lows monitors indices steps) more)) u WaitOver
-  reached_elapsed u o n more over never = all_back (reached lows monitors indices steps) reached_sound u o n Elapsed more over never
+  pub reached_elapsed : (u : ThreadId) (o : ObjectId) (n : ℕ) (more : List (Step × Bool)) → IsBack (shown (reached lows monitors indices split steps)) u o n Elapsed
+      → NeverReturns (reached lows monitors indices split steps) u WaitOver more
+      → IsBack (shown (world_after (reached lows monitors indices split steps) more)) u o n Elapsed ⊎ HasReply (shown (world_after (reached lows monitors indices split steps) more)) u WaitOver
+  reached_elapsed u o n more over never = all_back (reached lows monitors indices split steps) reached_sound u o n Elapsed more over never
 
-  pub reached_spurious : (u : ThreadId) (o : ObjectId) (n : ℕ) (more : List (Step × Bool)) → IsBack (shown (reached lows monitors indices steps)) u o n Spurious
-      → NeverReturns (reached lows monitors indices steps) u WaitOver more
-      → IsBack (shown (world_after (reached lows monitors indices steps) more)) u o n Spurious ⊎ HasReply (shown (world_after (reached lows monitors indices steps) more)) u WaitOver
-  reached_spurious u o n more woken never = all_back (reached lows monitors indices steps) reached_sound u o n Spurious more woken never
+  pub reached_spurious : (u : ThreadId) (o : ObjectId) (n : ℕ) (more : List (Step × Bool)) → IsBack (shown (reached lows monitors indices split steps)) u o n Spurious
+      → NeverReturns (reached lows monitors indices split steps) u WaitOver more
+      → IsBack (shown (world_after (reached lows monitors indices split steps) more)) u o n Spurious ⊎ HasReply (shown (world_after (reached lows monitors indices split steps) more)) u WaitOver
+  reached_spurious u o n more woken never = all_back (reached lows monitors indices split steps) reached_sound u o n Spurious more woken never
 
-  pub reached_kept : (u : ThreadId) (r : Reply) (more : List (Step × Bool)) → HasReply (shown (reached lows monitors indices steps)) u r
-      → NeverReturns (reached lows monitors indices steps) u r more → HasReply (shown (world_after (reached lows monitors indices steps) more)) u r
-  reached_kept u r more has never = all_replied (reached lows monitors indices steps) reached_sound u r more has never
+  pub reached_kept : (u : ThreadId) (r : Reply) (more : List (Step × Bool)) → HasReply (shown (reached lows monitors indices split steps)) u r
+      → NeverReturns (reached lows monitors indices split steps) u r more → HasReply (shown (world_after (reached lows monitors indices split steps) more)) u r
+  reached_kept u r more has never = all_replied (reached lows monitors indices split steps) reached_sound u r more has never

@@ -41,16 +41,16 @@ IsScarce cause.StillOwner = ⊥
 IsScarce cause.NoThread = ⊥
 
 -- what a store that was found overwrites
-pub storing : (w : WorldState) (k : ℕ) (c : MonitorCall) (l : Lock) → FittingStage w k (Storing c l) → StoresOwn (k + 1) (lock_at w c.object.0) l c.operation
+pub storing : (w : WorldState) (k : ℕ) (c : MonitorCall) (l : Lock) → FittingStage w k (Storing c l) → StoresOwn w.split (k + 1) (lock_at w c.object.0) l c.operation
 storing w k c l fit =
-    subst (λ (x : Lock). StoresOwn (k + 1) x l c.operation) (sym fit.1.1) (store_own c.operation (Thin (k + 1) fit.1.0) l (k + 1) fit.1.2)
+    subst (λ (x : Lock). StoresOwn w.split (k + 1) x l c.operation) (sym fit.1.1) (store_own w.split c.operation (Thin (k + 1) fit.1.0) l (k + 1) fit.1.2)
 
 module _ (w : WorldState) (sound : IsSound w) (k : ℕ) (t : ThreadId) (seat : seat_of w.seats t ≡ Some k) (out : post_of w.fats t ≡ Some Out) where
   owner_here : (c : MonitorCall) (n : ℕ) → lock_at w c.object.0 ≡ Thin (k + 1) n → OwnedBy (shown w) c.object t
   owner_here c n e = rw e (ap (λ (m : Monitor). m.owner) (mine w sound k t seat n))
 
   -- a bind that is refused may be refused: the thread is the owner, and the time of its wait is in its range
-  may_refuse : (o : ObjectId) (p : Operation) (n : ℕ) (x : Cause) → IsScarce x → BindsOwn (k + 1) (Thin (k + 1) n) p → OwnedBy (shown w) o t
+  may_refuse : (o : ObjectId) (p : Operation) (n : ℕ) (x : Cause) → IsScarce x → BindsOwn w.split (k + 1) (Thin (k + 1) n) p → OwnedBy (shown w) o t
       → MayRefuse (shown w) t (call_on o p) x
   may_refuse o op.Enter n cause.NoMonitor scarce binds own = own
   may_refuse o op.Enter n cause.Memory scarce binds own = own
@@ -68,13 +68,13 @@ module _ (w : WorldState) (sound : IsSound w) (k : ℕ) (t : ThreadId) (seat : s
   pub stage_run : (room : Bool) (s : Stage) → place_at w k ≡ InCall s → FittingStage w k s
       → Run (shown w) (moves_made (after_stage room w k t s).did.moves) (shown (with_go w k (after_stage room w k t s)))
   stage_run room (Begun c b) e fit =
-      load_run w sound k t seat out c b (next_of c.operation (lock_at w c.object.0) (k + 1)) e
+      load_run w sound k t seat out c b (next_of w.split c.operation (lock_at w c.object.0) (k + 1)) e
       (load_facts w sound k t seat out c (lock_at w c.object.0) (is_at w sound k t seat (InCall (Begun c b)) e out) refl (stands_at w sound c.object.0) (ap bound_by e))
   stage_run room (Taking o b) e fit = take_run w sound k t seat out o b (lock_at w o.0) e fit refl
   stage_run room (Storing c l) e fit = store_run w sound k t seat out c l e fit.0 (storing w k c l fit)
   stage_run room (Binding c n) e fit =
       let own : OwnedBy (shown w) c.object t = owner_here c n fit.1 in
-      let binds : BindsOwn (k + 1) (Thin (k + 1) n) c.operation = bind_own c.operation (Thin (k + 1) n) (k + 1) fit.2 in
+      let binds : BindsOwn w.split (k + 1) (Thin (k + 1) n) c.operation = bind_own w.split c.operation (Thin (k + 1) n) (k + 1) fit.2 in
       bind_run w sound k t seat out c false (n + 1) (InCall (Binding c n)) (bind_cause room w.fats) e refl
       (causes w sound k t seat out room (λ x. false ≡ false → MayRefuse (shown w) t (call_of c) x)
       (λ _. may_refuse c.object c.operation n cause.NoMonitor tt binds own) (λ _. may_refuse c.object c.operation n cause.Memory tt binds own))

@@ -9,7 +9,8 @@ use Rattle.lock_word.specs.declared.ThreadId.{ThreadId}
 use Rattle.lock_word.specs.declared.ObjectId.{ObjectId}
 use Rattle.lock_word.specs.declared.Lock.{Lock}
 use Rattle.lock_word.specs.declared.Lock.TheVariants.{Free, Thin, Fat}
-use Rattle.lock_word.specs.Layout.{Fits, count_of}
+use Rattle.lock_word.proofs.Words.{greatest_count-bound}
+use Rattle.lock_word.specs.Layout.{Fits, count_of, greatest_count}
 use Rattle.thread_index.specs.Indices.{seat_of}
 use Rattle.fat_monitor.specs.declared.actions.Cause.{Cause}
 use Rattle.fat_monitor.specs.declared.actions.Cause.TheVariants as cause
@@ -135,8 +136,8 @@ module _ (w : WorldState) (sound : IsSound w) (k : ℕ) (t : ThreadId) (seat : s
 
   -- an owner of a thin word: its notify finds nobody, since who waits on an object waits on its fat monitor
   own_facts : (o : ObjectId) (p : Operation) (n : ℕ) → Is (shown w) t (flag_at w.fats t) (doing.Wants (call_on o p)) → lock_at w o.0 ≡ Thin (k + 1) n
-      → bound_by (place_at w k) ≡ None → LoadFact (shown w) t (flag_at w.fats t) (at_object o p) (when_own p (k + 1) n)
-  own_facts o op.Enter n is e none = cond_both (nat_lt n 255) _ _ (LoadFact (shown w) t (flag_at w.fats t) (at_object o op.Enter)) (λ _. tt) (λ _. tt)
+      → bound_by (place_at w k) ≡ None → LoadFact (shown w) t (flag_at w.fats t) (at_object o p) (when_own w.split p (k + 1) n)
+  own_facts o op.Enter n is e none = cond_both (nat_lt n (greatest_count w.split)) _ _ (LoadFact (shown w) t (flag_at w.fats t) (at_object o op.Enter)) (λ _. tt) (λ _. tt)
   own_facts o op.Exit n is e none = cond_both (nat_lt 0 n) _ _ (LoadFact (shown w) t (flag_at w.fats t) (at_object o op.Exit)) (λ _. tt) (λ _. tt)
   own_facts o (op.Wait millis nanos) n is e none =
       cond_both (are_good millis nanos) next.Bind (next.Reply reply.IllegalArgument) (LoadFact (shown w) t (flag_at w.fats t) (at_object o (op.Wait millis nanos))) (λ _. tt)
@@ -168,10 +169,10 @@ module _ (w : WorldState) (sound : IsSound w) (k : ℕ) (t : ThreadId) (seat : s
     anothers_facts op.Holds is = run_no (shown w) t (flag_at w.fats t) o is other
 
   pub load_facts : (c : MonitorCall) (l : Lock) → Is (shown w) t (flag_at w.fats t) (doing.Wants (call_of c)) → lock_at w c.object.0 ≡ l → MayShow w c.object.0 l → bound_by (place_at w k) ≡ None
-      → LoadFact (shown w) t (flag_at w.fats t) c (next_of c.operation l (k + 1))
+      → LoadFact (shown w) t (flag_at w.fats t) c (next_of w.split c.operation l (k + 1))
   load_facts c Free is e stands none = free_facts c.object (not_owned w sound k t seat c.object Free e (λ h. cc)) c.operation is
   load_facts c (Thin i n) is e stands none =
-      cond_both (i == k + 1) (when_own c.operation (k + 1) n) (when_anothers c.operation) (LoadFact (shown w) t (flag_at w.fats t) c)
+      cond_both (i == k + 1) (when_own w.split c.operation (k + 1) n) (when_anothers c.operation) (LoadFact (shown w) t (flag_at w.fats t) c)
       (λ same. own_facts c.object c.operation n is (e ∙ ap (λ (j : ℕ). Thin j n) (eqb-true i (k + 1) same)) none)
       (λ ne. anothers_facts c.object (not_owned w sound k t seat c.object (Thin i n) e (other w sound k t seat i n (eqb-false i (k + 1) ne) stands.0)) c.operation is)
   load_facts c (Fat m) is e stands none = tt
@@ -199,7 +200,7 @@ module _ (w : WorldState) (sound : IsSound w) (k : ℕ) (t : ThreadId) (seat : s
   take_run o b (Fat m) e h el = quiet (InCall (Taking o b)) (InCall (Begun (entering o) true)) (lost_at w o) e refl
 
   pub store_run : (c : MonitorCall) (l : Lock) → place_at w k ≡ InCall (Storing c l) → c.object.0 < length w.words
-      → StoresOwn (k + 1) (lock_at w c.object.0) l c.operation
+      → StoresOwn w.split (k + 1) (lock_at w c.object.0) l c.operation
       → Run (shown w) (moves_made (after_store w t c l).did.moves) (shown (with_go w k (after_store w t c l)))
   store_run c l e h fact = by_operation c.object c.operation e h fact
     where
@@ -211,18 +212,18 @@ module _ (w : WorldState) (sound : IsSound w) (k : ℕ) (t : ThreadId) (seat : s
           let n : suc m - 1 + 1 ≡ suc m = omega arith in
           rw (above, held_still) (mine w sound k t seat (suc m - 1) ∙ ap (λ (j : ℕ). held t j) n)
 
-      less_fits : (n : ℕ) → n ≤ 255 → Fits (if nat_lt 0 n then Thin (k + 1) (n - 1) else Free)
+      less_fits : (n : ℕ) → n ≤ greatest_count w.split → Fits w.split (if nat_lt 0 n then Thin (k + 1) (n - 1) else Free)
       less_fits zero b = tt
       less_fits (suc m) b = rw (lt-ltb 0 (suc m) (omega arith)) (thin_fits w sound k t seat (suc m - 1) (omega arith))
 
       by_operation : (o : ObjectId) (p : Operation) → place_at w k ≡ InCall (Storing (at_object o p) l) → o.0 < length w.words
-          → StoresOwn (k + 1) (lock_at w o.0) l p
+          → StoresOwn w.split (k + 1) (lock_at w o.0) l p
           → Run (shown w) (moves_made (after_store w t (at_object o p) l).did.moves) (shown (with_go w k (after_store w t (at_object o p) l)))
       by_operation o op.Enter e h (n, old, few, new) =
           subst (λ (s : State). Run (shown w) (move.Lock t ∷ move.Return t reply.Entered ∷ []) s)
           (sym (shown_written w sound k t seat o l (held t (n + 1 + 1)) Idle (move_and_return (stored_at w o l) (move.Lock t) t reply.Entered) out h (rw new (thin_fits w sound k t seat (n + 1) (omega arith))) (rw new (mine w sound k t seat (n + 1)))))
           (run_entered (shown w) t (flag_at w.fats t) o (n + 1) (is_at w sound k t seat (InCall (Storing (at_object o op.Enter) l)) e out)
-          (inr (owned w sound k t seat o (Thin (k + 1) n) old (ap (λ (m : Monitor). m.owner) (mine w sound k t seat n)))) (rw old refl) (omega arith))
+          (inr (owned w sound k t seat o (Thin (k + 1) n) old (ap (λ (m : Monitor). m.owner) (mine w sound k t seat n)))) (rw old refl) (let most = greatest_count-bound w.split in omega arith))
       by_operation o op.Exit e h (n, old, new) =
           subst (λ (s : State). Run (shown w) (move.Unlock t ∷ move.Return t reply.Exited ∷ []) s)
           (sym (shown_written w sound k t seat o l (if n == 0 then free else held t n) Idle (move_and_return (stored_at w o l) (move.Unlock t) t reply.Exited) out h (rw new (less_fits n (rw old at (stands_at w sound o.0)).2)) (rw new (less n))))

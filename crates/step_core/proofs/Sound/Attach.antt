@@ -6,6 +6,8 @@ use Rattle.std.proofs.Common.{arith, refl, sym, ◌∙◌, inl, inr, get_or-set_
 use Rattle.std.proofs.Math.Path.{fun_ext}
 use Rattle.std.proofs.lemmas.Bool.{cases_eq, eq-eqb, ne_eqb}
 use Rattle.std.proofs.lemmas.Option.{same_Some}
+use Rattle.lock_word.proofs.Words.{greatest_index-bound}
+use Rattle.lock_word.specs.Layout.{greatest_index}
 use Rattle.lock_word.specs.declared.ThreadId.{ThreadId}
 use Rattle.lock_word.specs.declared.Lock.{Lock}
 use Rattle.lock_word.specs.declared.Lock.TheVariants.{Free, Thin, Fat}
@@ -98,7 +100,7 @@ module _ (w : WorldState) (sound : IsSound w) (t : ThreadId) where
     old_stands q (Fat m) st = st
 
     old_fits : (j : ℕ) → (j ≡ k → ⊥) → (p : Place) → Fitting w j p → Fitting now j p
-    old_fits j ne = fitting_kept w now j refl (λ q n e. e) (λ q m e. e) still (λ q e. e)
+    old_fits j ne = fitting_kept w now j refl refl (λ q n e. e) (λ q m e. e) still (λ q e. e)
       where
         still : (c : MonitorCall) (won : Bool) (m : ℕ) → FittingStage w j (Bound c won m)
             → (m < length w.fats.monitors)
@@ -146,7 +148,8 @@ module _ (w : WorldState) (sound : IsSound w) (t : ThreadId) where
     has_room =
         let found = free_found w.seats k free in
         let below : count_by is_some w.seats < length w.seats = count_below w.seats k t found.0 found.1 in
-        let few : length w.seats ≤ 32767 = sound.few in
+        let few : length w.seats ≤ greatest_index w.split = sound.few in
+        let most : greatest_index w.split ≤ 32767 = greatest_index-bound w.split in
         let before : thread_count w.fats ≡ count_by is_some w.seats = sound.counted in
         omega arith
 

@@ -7,7 +7,6 @@ use Rattle.std.proofs.Common.{zero, suc, arith, refl, ap, sym, ◌∙◌, subst,
 use Rattle.std.proofs.Math.Path.{fun_ext}
 use Rattle.std.proofs.lemmas.Bool.{cases_eq, cases_lt, eq-eqb, ne_eqb, eqb-true, eqb-false}
 use Rattle.std.proofs.lemmas.Option.{same_Some}
-use Rattle.std.proofs.lemmas.List.{get_or_past}
 use Rattle.lock_word.specs.declared.ThreadId.{ThreadId}
 use Rattle.lock_word.specs.declared.ObjectId.{ObjectId}
 use Rattle.lock_word.specs.declared.Lock.{Lock}
@@ -40,7 +39,7 @@ use Rattle.step_core.specs.Step.{AfterStep, moves_of}
 use Rattle.fast_path.specs.declared.calls.MonitorCall.{MonitorCall}
 use Rattle.step_core.proofs.Facts.Moves.{run_ended, run_refused}
 use Rattle.step_core.proofs.Facts.ShownStates.{ActsAlike, acts_alike}
-use Rattle.step_core.proofs.Facts.OneThread.{stands_at, within, is_at, out_at, other, shown_stays}
+use Rattle.step_core.proofs.Facts.OneThread.{lock_past, stands_at, within, is_at, out_at, other, shown_stays}
 use Rattle.step_core.proofs.Sound.Posts.{count_given}
 use Rattle.step_core.proofs.Sound.Parts.{sound_stays}
 use Rattle.step_core.proofs.Facts.PlaceFacts.{who_bound, fitting_kept, bound_kept}
@@ -93,7 +92,7 @@ module _ (w : WorldState) (sound : IsSound w) (k : ℕ) (t : ThreadId) (seat : s
     where
       by_place : (p < length w.words) ⊎ (length w.words ≤ p) → is_own (lock_at w p) (k + 1) ≡ false
       by_place (inl h) = fit.1 p (omega arith)
-      by_place (inr h) = rw (get_or_past w.words p (record { 0 = 0 }) h) refl
+      by_place (inr h) = rw (lock_past w p h) refl
 
   none_bound : bound_by (place_at w k) ≡ None
   none_bound = rw at refl
@@ -186,7 +185,7 @@ module _ (w : WorldState) (sound : IsSound w) (k : ℕ) (t : ThreadId) (seat : s
     old_stands q (Fat m) e st = st
 
     old_fits : (j : ℕ) → (j ≡ k → ⊥) → (p : Place) → Fitting w j p → Fitting now j p
-    old_fits j ne = fitting_kept w now j refl (λ q m e. e) (λ q m e. e) still (λ q e. e)
+    old_fits j ne = fitting_kept w now j refl refl (λ q m e. e) (λ q m e. e) still (λ q e. e)
       where
         still : (c : MonitorCall) (won : Bool) (m : ℕ) → FittingStage w j (Bound c won m)
             → (m < length w.fats.monitors)

@@ -9,7 +9,9 @@ use Rattle.std.specs.Ordering.{nat_cmp}
 use Rattle.std.specs.FinMap.{get-empty, len-empty}
 use Rattle.lock_word.specs.declared.ThreadId.{ThreadId}
 use Rattle.lock_word.specs.declared.Lock.TheVariants.{Free}
-use Rattle.lock_word.specs.Layout.{lock_of}
+use Rattle.lock_word.specs.declared.Split.{Split}
+use Rattle.lock_word.specs.declared.Split.TheVariants.{Wide, Deep}
+use Rattle.lock_word.specs.Layout.{lock_of, greatest_index}
 use Rattle.thread_index.specs.Indices.{seat_of}
 use Rattle.thread_index.proofs.Seats.{seat_of-replicate, IsOneToOne-replicate}
 use Rattle.fat_monitor.specs.declared.actions.Post.{Post}
@@ -31,8 +33,9 @@ low_words (x ∷ xs) h zero = h 0 (omega arith)
 low_words (x ∷ xs) h (suc p) = low_words xs (λ k l. h (suc k) (omega arith)) p
 
 -- shows no lock
-free_at : (word : ℕ) → word < 256 → lock_of word ≡ Free
-free_at word h = rw (lt-ltb word 2147483648 (omega arith), lt-ltb word 65536 (omega arith)) refl
+free_at : (split : Split) (word : ℕ) → word < 256 → lock_of split word ≡ Free
+free_at Wide word h = rw (lt-ltb word 2147483648 (omega arith), lt-ltb word 65536 (omega arith)) refl
+free_at Deep word h = rw (lt-ltb word 2147483648 (omega arith), lt-ltb word 1048576 (omega arith)) refl
 
 -- no seat is taken
 none_taken : (n : ℕ) → count_by {X = Option ThreadId} is_some (replicate n None) ≡ 0
@@ -48,12 +51,12 @@ length-replicate : {A : Type 0} (n : ℕ) (x : A) → length (replicate n x) ≡
 length-replicate zero x = refl
 length-replicate (suc n) x = ap suc (length-replicate n x)
 
-module _ (lows : List ℕ) (monitors indices : ℕ) (bytes : (k : ℕ) → k < length lows → get_or lows k 0 < 256) where
+module _ (lows : List ℕ) (monitors indices : ℕ) (split : Split) (bytes : (k : ℕ) → k < length lows → get_or lows k 0 < 256) where
   abbrev world : WorldState
-  world = opening_world lows monitors indices
+  world = opening_world lows monitors indices split
 
   lock_free : (p : ℕ) → lock_at world p ≡ Free
-  lock_free p = free_at (get_or (map low_word lows) p (low_word 0)).0 (low_words lows bytes p)
+  lock_free p = free_at split (get_or (map low_word lows) p (low_word 0)).0 (low_words lows bytes p)
 
   -- nobody has an index, and nobody is attached
   nobody : (t : ThreadId) → IsSome (seat_of world.seats t) → ⊥
@@ -62,7 +65,7 @@ module _ (lows : List ℕ) (monitors indices : ℕ) (bytes : (k : ℕ) → k < l
   none_attached : (t : ThreadId) → IsAttached world.fats t → ⊥
   none_attached t h = let never : is_some {T = Post} None ≡ true = rw (get-empty {X = Post} nat_cmp t.0) at h in absurd (cc)
 
-  pub opened_sound : length lows ≤ 65535 → indices ≤ 32767 → monitors ≤ 8388608 → IsSound world
+  pub opened_sound : length lows ≤ 65535 → indices ≤ greatest_index split → monitors ≤ 8388608 → IsSound world
   opened_sound many few bounded = record {
     many = rw (length-map lows low_word) many;
     seated = length-replicate indices Idle ∙ sym size;
@@ -89,9 +92,9 @@ module _ (lows : List ℕ) (monitors indices : ℕ) (bytes : (k : ℕ) → k < l
       λ i. record { thread = threads i; objects = size i; monitor = monitors_free i; moment = 0 }
 
 -- Whatever steps come from the opening world, their moves are a run.
-pub opened_run : (lows : List ℕ) (monitors indices : ℕ) (ss : List (Step × Bool)) → ((k : ℕ) → k < length lows → get_or lows k 0 < 256)
-    → length lows ≤ 65535 → monitors ≤ 8388608 → indices ≤ 32767
-    → Run (opening (length lows)) (moves_after (opening_world lows monitors indices) ss) (shown (world_after (opening_world lows monitors indices) ss))
-opened_run lows monitors indices ss bytes many bounded few =
-    subst (λ (s : State). Run s (moves_after (opening_world lows monitors indices) ss) (shown (world_after (opening_world lows monitors indices) ss)))
-    (opened_shows lows monitors indices bytes) (steps_run (opening_world lows monitors indices) (opened_sound lows monitors indices bytes many few bounded) ss)
+pub opened_run : (lows : List ℕ) (monitors indices : ℕ) (split : Split) (ss : List (Step × Bool)) → ((k : ℕ) → k < length lows → get_or lows k 0 < 256)
+    → length lows ≤ 65535 → monitors ≤ 8388608 → indices ≤ greatest_index split
+    → Run (opening (length lows)) (moves_after (opening_world lows monitors indices split) ss) (shown (world_after (opening_world lows monitors indices split) ss))
+opened_run lows monitors indices split ss bytes many bounded few =
+    subst (λ (s : State). Run s (moves_after (opening_world lows monitors indices split) ss) (shown (world_after (opening_world lows monitors indices split) ss)))
+    (opened_shows lows monitors indices split bytes) (steps_run (opening_world lows monitors indices split) (opened_sound lows monitors indices split bytes many few bounded) ss)

@@ -52,7 +52,7 @@ module _ (w : WorldState) (sound : IsSound w) where
 
     -- a thread that has bound a monitor and not stored it is its owner
     pub fits_changed : (ps : List Place) (j : ℕ) (p : Place) → Fitting w j p → Fitting (with_fats ps) j p
-    fits_changed ps j = fitting_kept w (with_fats ps) j refl (λ q n e. e) (λ q m e. e) bound (λ q e. e)
+    fits_changed ps j = fitting_kept w (with_fats ps) j refl refl (λ q n e. e) (λ q m e. e) bound (λ q e. e)
       where
         bound : (c : MonitorCall) (won : Bool) (m : ℕ) → FittingStage w j (Bound c won m)
             → (m < length g.monitors) × (monitor_at g m ≡ record { object = c.object; owner = holder_at w.seats j; holds = (monitor_at w.fats m).holds })
@@ -89,7 +89,7 @@ module _ (w : WorldState) (sound : IsSound w) where
 module _ (w : WorldState) (sound : IsSound w) (k : ℕ) (t : ThreadId) (seat : seat_of w.seats t ≡ Some k) where
   -- a Go keeps the world sound where it keeps its words, its fat state, its own place and the others'
   sound_gone : (a : AfterGo) → length a.words ≡ length w.words
-      → ((p : ℕ) → IsMalformed (word_at (with_go w k a) p).0 → ⊥)
+      → ((p : ℕ) → IsMalformed w.split (word_at (with_go w k a) p).0 → ⊥)
       → ((p : ℕ) → MayShow (with_go w k a) p (lock_at (with_go w k a) p))
       → book.IsSound a.fats → KeepsPosts w.fats t a.fats → Agrees a.place (post_of a.fats t)
       → Fitting (with_go w k a) k a.place
@@ -169,7 +169,7 @@ module _ (w : WorldState) (sound : IsSound w) (k : ℕ) (t : ThreadId) (seat : s
   not_own (Fat m) h j ne = refl
 
   -- a write of a word that was free or one's own
-  module _ (o : ObjectId) (l : Lock) (inside : o.0 < length w.words) (fits : Fits l) (old : Mine (lock_at w o.0)) (new : NotAnothers l) where
+  module _ (o : ObjectId) (l : Lock) (inside : o.0 < length w.words) (fits : Fits w.split l) (old : Mine (lock_at w o.0)) (new : NotAnothers l) where
     abbrev after : Place → Did → AfterGo
     after p d = word_written w o (new_word w o l) p d
 
@@ -198,7 +198,7 @@ module _ (w : WorldState) (sound : IsSound w) (k : ℕ) (t : ThreadId) (seat : s
 
     others_kept : (p : Place) (d : Did) (j : ℕ) → (j ≡ k → ⊥) → (x : Place) → Fitting w j x → Fitting (with_go w k (after p d)) j x
     others_kept p d j ne =
-        fitting_kept w (with_go w k (after p d)) j (length-set w.words o.0 (new_word w o l)) (thin_kept p d j ne) (fat_kept p d) (bound_kept w j)
+        fitting_kept w (with_go w k (after p d)) j refl (length-set w.words o.0 (new_word w o l)) (thin_kept p d j ne) (fat_kept p d) (bound_kept w j)
         (λ q h. ending_kept p d j ne q h (cases_eq q o.0))
 
     -- a write keeps the world sound, where it publishes what the thread has bound
@@ -208,11 +208,11 @@ module _ (w : WorldState) (sound : IsSound w) (k : ℕ) (t : ThreadId) (seat : s
         sound_gone (after p d) (length-set w.words o.0 (new_word w o l)) formed words sound.fats (posts_same w.fats t w.fats refl) agrees fit (λ j ne h. others_kept p d j ne (place_at w j) h)
         (λ m h. still_published (after p d) m (sound.published m h) (λ q e. fat_kept p d q m e) refl (own m))
       where
-        formed : (q : ℕ) → IsMalformed (get_or (set w.words o.0 (new_word w o l)) q (low_word 0)).0 → ⊥
+        formed : (q : ℕ) → IsMalformed w.split (get_or (set w.words o.0 (new_word w o l)) q (low_word 0)).0 → ⊥
         formed q = by_object (cases_eq q o.0)
           where
-            by_object : (q ≡ o.0) ⊎ (q ≡ o.0 → ⊥) → IsMalformed (get_or (set w.words o.0 (new_word w o l)) q (low_word 0)).0 → ⊥
-            by_object (inl e) = rw (e, get_or-set_same w.words o.0 (new_word w o l) (low_word 0) inside) (formed-word_of l (low_of (word_at w o.0).0) fits (omega arith))
+            by_object : (q ≡ o.0) ⊎ (q ≡ o.0 → ⊥) → IsMalformed w.split (get_or (set w.words o.0 (new_word w o l)) q (low_word 0)).0 → ⊥
+            by_object (inl e) = rw (e, get_or-set_same w.words o.0 (new_word w o l) (low_word 0) inside) (formed-word_of w.split l (low_of (word_at w o.0).0) fits (omega arith))
             by_object (inr ne) = rw (get_or-set_other w.words o.0 q (new_word w o l) (low_word 0) ne) (sound.formed q)
 
         words : (q : ℕ) → MayShow (with_go w k (after p d)) q (lock_at (with_go w k (after p d)) q)
@@ -244,7 +244,7 @@ module _ (w : WorldState) (sound : IsSound w) (k : ℕ) (t : ThreadId) (seat : s
     stands_bound p d q (Fat m) h = (more m h.0, rw (monitor_kept m h.0) h.1)
 
     fits_bound : (p : Place) (d : Did) (j : ℕ) (x : Place) → Fitting w j x → Fitting (with_go w k (bound p d)) j x
-    fits_bound p d j = fitting_kept w (with_go w k (bound p d)) j refl (λ q n e. e) (λ q m e. e) still (λ q e. e)
+    fits_bound p d j = fitting_kept w (with_go w k (bound p d)) j refl refl (λ q n e. e) (λ q m e. e) still (λ q e. e)
       where
         still : (c : MonitorCall) (won : Bool) (m : ℕ) → FittingStage w j (Bound c won m)
             → (m < length (bound_with w.fats o t n).monitors)

@@ -8,7 +8,8 @@ use Rattle.lock_word.specs.declared.ThreadId.{ThreadId}
 use Rattle.lock_word.specs.declared.ObjectId.{ObjectId}
 use Rattle.lock_word.specs.declared.Lock.{Lock}
 use Rattle.lock_word.specs.declared.Lock.TheVariants.{Free, Thin, Fat}
-use Rattle.lock_word.specs.Layout.{Fits, count_of}
+use Rattle.lock_word.proofs.Words.{greatest_count-bound}
+use Rattle.lock_word.specs.Layout.{Fits, count_of, greatest_count}
 use Rattle.thread_index.specs.Indices.{seat_of}
 use Rattle.thread_index.proofs.Seats.{seat_found}
 use Rattle.fat_monitor.specs.declared.monitors.Monitor as fat
@@ -58,18 +59,18 @@ use Rattle.step_core.proofs.Runs.StageRuns.{storing}
 
 module _ (w : WorldState) (sound : IsSound w) (k : ℕ) (t : ThreadId) (seat : seat_of w.seats t ≡ Some k) where
   load_sound : (c : MonitorCall) (contended : Bool) (n : Next) → bound_by (place_at w k) ≡ None → post_of w.fats t ≡ Some Out → Reaches w c
-      → next_of c.operation (lock_at w c.object.0) (k + 1) ≡ n → IsSound (with_go w k (after_load w t c contended n))
+      → next_of w.split c.operation (lock_at w c.object.0) (k + 1) ≡ n → IsSound (with_go w k (after_load w t c contended n))
   load_sound c b (next.Reply r) none out h e = sound_stays w sound k t seat Idle (move_and_return (load_of w c.object) (move_for (call_of c) r None t) t r) none out tt
   load_sound c b (next.Cas l) none out h e = sound_stays w sound k t seat (InCall (Taking c.object b)) (no_move (load_of w c.object)) none out h
   load_sound c b (next.Store l) none out h e =
-      let own = own_of_store c.operation (lock_at w c.object.0) l (k + 1) (store_own c.operation (lock_at w c.object.0) l (k + 1) e) in
+      let own = own_of_store w.split c.operation (lock_at w c.object.0) l (k + 1) (store_own w.split c.operation (lock_at w c.object.0) l (k + 1) e) in
       sound_stays w sound k t seat (InCall (Storing c l)) (no_move (load_of w c.object)) none out (h, (own.0, own.1, rw own.1 at e))
   load_sound c b next.Bind none out h e =
-      let own = own_of_bind c.operation (lock_at w c.object.0) (k + 1) (bind_own c.operation (lock_at w c.object.0) (k + 1) e) in
+      let own = own_of_bind w.split c.operation (lock_at w c.object.0) (k + 1) (bind_own w.split c.operation (lock_at w c.object.0) (k + 1) e) in
       let count : lock_at w c.object.0 ≡ Thin (k + 1) (count_of (lock_at w c.object.0)) = own.1 ∙ ap (λ (x : Lock). Thin (k + 1) (count_of x)) (sym own.1) in
       sound_stays w sound k t seat (InCall (Binding c (count_of (lock_at w c.object.0)))) (no_move (load_of w c.object)) none out
-      (h, count, subst (λ (x : Lock). next_of c.operation x (k + 1) ≡ next.Bind) count e)
-  load_sound c b (next.Fat m) none out h e = sound_stays w sound k t seat (InCall (Acting c m)) (no_move (load_of w c.object)) none out (h, fat_fact c.operation (lock_at w c.object.0) (k + 1) m e)
+      (h, count, subst (λ (x : Lock). next_of w.split c.operation x (k + 1) ≡ next.Bind) count e)
+  load_sound c b (next.Fat m) none out h e = sound_stays w sound k t seat (InCall (Acting c m)) (no_move (load_of w c.object)) none out (h, fat_fact w.split c.operation (lock_at w c.object.0) (k + 1) m e)
   load_sound c b next.Spin none out h e = sound_stays w sound k t seat (InCall (Begun c true)) (no_move (load_of w c.object)) none out h
 
   take_sound : (o : ObjectId) (contended : Bool) (l : Lock) → bound_by (place_at w k) ≡ None → post_of w.fats t ≡ Some Out → o.0 < length w.words → lock_at w o.0 ≡ l
@@ -83,17 +84,17 @@ module _ (w : WorldState) (sound : IsSound w) (k : ℕ) (t : ThreadId) (seat : s
   take_sound o b (Fat m) none out h e = sound_stays w sound k t seat (InCall (Begun (entering o) true)) (no_move (lost_at w o)) none out h
 
   -- the lock of a plain store fits a word, is no other thread's, and stands
-  pub store_fits : (o : ObjectId) (p : Operation) (l : Lock) → StoresOwn (k + 1) (lock_at w o.0) l p → Fits l
+  pub store_fits : (o : ObjectId) (p : Operation) (l : Lock) → StoresOwn w.split (k + 1) (lock_at w o.0) l p → Fits w.split l
   store_fits o op.Enter l (n, old, few, new) = rw new (thin_fits w sound k t seat (n + 1) (omega arith))
   store_fits o op.Exit l (n, old, new) =
-      let low : n ≤ 255 = (rw old at (stands_at w sound o.0)).2 in
-      rw new (cond_both (nat_lt 0 n) _ _ Fits (λ e. thin_fits w sound k t seat (n - 1) (omega arith)) (λ e. tt))
+      let low : n ≤ greatest_count w.split = (rw old at (stands_at w sound o.0)).2 in
+      rw new (cond_both (nat_lt 0 n) _ _ (Fits w.split) (λ e. thin_fits w sound k t seat (n - 1) (omega arith)) (λ e. tt))
   store_fits o (op.Wait millis nanos) l fact = absurd fact
   store_fits o op.Notify l fact = absurd fact
   store_fits o op.NotifyAll l fact = absurd fact
   store_fits o op.Holds l fact = absurd fact
 
-  store_new : (o : ObjectId) (p : Operation) (l : Lock) → StoresOwn (k + 1) (lock_at w o.0) l p → NotAnothers w sound k t seat l
+  store_new : (o : ObjectId) (p : Operation) (l : Lock) → StoresOwn w.split (k + 1) (lock_at w o.0) l p → NotAnothers w sound k t seat l
   store_new o op.Enter l (n, old, few, new) = rw new refl
   store_new o op.Exit l (n, old, new) = rw new (cond_both (nat_lt 0 n) _ _ (NotAnothers w sound k t seat) (λ e. refl) (λ e. tt))
   store_new o (op.Wait millis nanos) l fact = absurd fact
@@ -101,10 +102,10 @@ module _ (w : WorldState) (sound : IsSound w) (k : ℕ) (t : ThreadId) (seat : s
   store_new o op.NotifyAll l fact = absurd fact
   store_new o op.Holds l fact = absurd fact
 
-  store_stands : (o : ObjectId) (p : Operation) (l : Lock) → StoresOwn (k + 1) (lock_at w o.0) l p → MayShow w o.0 l
+  store_stands : (o : ObjectId) (p : Operation) (l : Lock) → StoresOwn w.split (k + 1) (lock_at w o.0) l p → MayShow w o.0 l
   store_stands o op.Enter l (n, old, few, new) = rw new (thin_stands w sound k t seat o.0 (n + 1) (omega arith))
   store_stands o op.Exit l (n, old, new) =
-      let low : n ≤ 255 = (rw old at (stands_at w sound o.0)).2 in
+      let low : n ≤ greatest_count w.split = (rw old at (stands_at w sound o.0)).2 in
       rw new (cond_both (nat_lt 0 n) _ _ (MayShow w o.0) (λ e. thin_stands w sound k t seat o.0 (n - 1) (omega arith)) (λ e. tt))
   store_stands o (op.Wait millis nanos) l fact = absurd fact
   store_stands o op.Notify l fact = absurd fact
@@ -114,7 +115,7 @@ module _ (w : WorldState) (sound : IsSound w) (k : ℕ) (t : ThreadId) (seat : s
   store_sound : (c : MonitorCall) (l : Lock) → bound_by (place_at w k) ≡ None → post_of w.fats t ≡ Some Out → FittingStage w k (Storing c l)
       → IsSound (with_go w k (after_store w t c l))
   store_sound c l none out fit =
-      let own : StoresOwn (k + 1) (lock_at w c.object.0) l c.operation = storing w k c l fit in
+      let own : StoresOwn w.split (k + 1) (lock_at w c.object.0) l c.operation = storing w k c l fit in
       sound_stores w sound k t seat c.object l fit.0 (store_fits c.object c.operation l own) (rw fit.1.1 refl) (store_new c.object c.operation l own) Idle
       (move_and_return (stored_at w c.object l) (move_for (call_of c) (stored_reply c.operation) None t) t (stored_reply c.operation)) none out
       (store_stands c.object c.operation l own) tt
@@ -128,7 +129,8 @@ module _ (w : WorldState) (sound : IsSound w) (k : ℕ) (t : ThreadId) (seat : s
       → lock_at w c.object.0 ≡ Thin (k + 1) n → (refused ≡ None → length w.fats.monitors < w.fats.limit)
       → IsSound (with_go w k (after_bind w t c won (n + 1) refused))
   bind_sound c won n None none out h shows room =
-      let few : n ≤ 255 = (rw shows at (stands_at w sound c.object.0)).2 in
+      let few : n ≤ greatest_count w.split = (rw shows at (stands_at w sound c.object.0)).2 in
+      let most = greatest_count-bound w.split in
       sound_bound w sound k t seat c.object (n + 1) (omega arith) (omega arith) (room refl) (InCall (Bound c won (length w.fats.monitors))) (no_move (atomic.Bound c.object (length w.fats.monitors))) none refl out (
         h,
         omega (arith, length-append w.fats.monitors (record { object = c.object; owner = Some t; holds = n + 1 } ∷ [])),
@@ -138,7 +140,7 @@ module _ (w : WorldState) (sound : IsSound w) (k : ℕ) (t : ThreadId) (seat : s
   bind_sound c false n (Some x) none out h shows room = sound_stays w sound k t seat Idle (move_and_return (atomic.NotBound c.object x) (move.Refuse t x) t (reply.Refused x)) none out tt
 
   -- the number of a bound monitor fits a word
-  pub number_fits : (m : ℕ) → m < length w.fats.monitors → Fits (Fat m)
+  pub number_fits : (m : ℕ) → m < length w.fats.monitors → Fits w.split (Fat m)
   number_fits m h = let b : length w.fats.monitors ≤ w.fats.limit = sound.fats.few in let l : w.fats.limit ≤ 8388608 = sound.fats.limit in omega arith
 
   -- the store of a fat word publishes what the thread has bound
@@ -264,7 +266,7 @@ module _ (w : WorldState) (sound : IsSound w) (k : ℕ) (t : ThreadId) (seat : s
   -- A Go from a stage of a call keeps the world sound.
   pub stage_sound : post_of w.fats t ≡ Some Out → (room : Bool) (s : Stage) → place_at w k ≡ InCall s → FittingStage w k s
       → IsSound (with_go w k (after_stage room w k t s))
-  stage_sound out room (Begun c b) e fit = load_sound c b (next_of c.operation (lock_at w c.object.0) (k + 1)) (rw e refl) out fit refl
+  stage_sound out room (Begun c b) e fit = load_sound c b (next_of w.split c.operation (lock_at w c.object.0) (k + 1)) (rw e refl) out fit refl
   stage_sound out room (Taking o b) e fit = take_sound o b (lock_at w o.0) (rw e refl) out fit refl
   stage_sound out room (Storing c l) e fit = store_sound c l (rw e refl) out fit
   stage_sound out room (Binding c n) e fit = bind_sound c false n (bind_cause room w.fats) (rw e refl) out fit.0 fit.1 (room_for room)

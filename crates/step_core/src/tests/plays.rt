@@ -6,7 +6,7 @@ ghost use Rattle.step_core.specs.Shown.{shown};
 
 use super::*;
 use checker::Machine;
-use lock_word::Memory;
+use lock_word::{Memory, Split};
 use std::alloc::Global;
 
 #[derive(Drop)]
@@ -24,7 +24,7 @@ impl Play {
         requires high { indices ≤ 32767 }
     {
         Ok(Play {
-            world: World::new(alloc, lows, monitors, indices)?,
+            world: World::new(alloc, lows, monitors, indices, Split::Wide)?,
             machine: Machine::new(alloc, lows.len())?,
             indices,
         })

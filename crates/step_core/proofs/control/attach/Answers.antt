@@ -7,7 +7,7 @@ pub returns-in-Err-Memory-attach : goal.returns-in-Err-Memory-attach
 returns-in-Err-Memory-attach c =
     let back : c.give.new.self ≡ c.args.indices.now =
     undone c.args.indices.now c.take.new.self c.give.new.self c.args.thread (c.in-Ok.index - 1) c.in-Ok.ensures.unknown c.in-Ok.ensures.free c.in-Ok.ensures.taken c.give.ensures.given in
-    λ words. (false, rw (back, c.in-Err-Memory-attach.ensures.err, c.in-Ok.ensures.unknown, c.in-Ok.ensures.free) refl)
+    λ split words. (false, rw (back, c.in-Err-Memory-attach.ensures.err, c.in-Ok.ensures.unknown, c.in-Ok.ensures.free) refl)
 
 pub attach-requires : goal.attach-requires
 attach-requires c =

@@ -8,19 +8,19 @@ use Rattle.step_core.proofs.going.go.Goals as goal
 
 pub go_from-next-requires-clause-out : goal.go_from-next-requires-clause-out
 go_from-next-requires-clause-out c =
-    let w : WorldState = world_of c.args.words.now c.args.indices.now c.args.places.now c.args.fats.now in
+    let w : WorldState = world_of c.args.split c.args.words.now c.args.indices.now c.args.places.now c.args.fats.now in
     let seat : seat_of c.args.indices.now c.args.thread ≡ Some (c.in-Some.index - 1) = seat_of_index c.args.indices.now c.args.thread c.in-Some.index c.in-Some.ensures.index in
     is_out w c.requires (c.in-Some.index - 1) c.args.thread seat (InCall c.in-InCall.stage) c.in-InCall.is (λ e. cc)
 
 pub end-requires-clause-out : goal.end-requires-clause-out
 end-requires-clause-out c =
-    let w : WorldState = world_of c.args.words.now c.args.indices.now c.args.places.now c.args.fats.now in
+    let w : WorldState = world_of c.args.split c.args.words.now c.args.indices.now c.args.places.now c.args.fats.now in
     let seat : seat_of c.args.indices.now c.args.thread ≡ Some (c.in-Some.index - 1) = seat_of_index c.args.indices.now c.args.thread c.in-Some.index c.in-Some.ensures.index in
     is_out w c.requires (c.in-Some.index - 1) c.args.thread seat (Ending c.in-Ending.loaded) c.in-Ending.is (λ e. cc)
 
 pub returns-in-InCall : goal.returns-in-InCall
 returns-in-InCall c =
-    let w : WorldState = world_of c.args.words.now c.args.indices.now c.args.places.now c.args.fats.now in
+    let w : WorldState = world_of c.args.split c.args.words.now c.args.indices.now c.args.places.now c.args.fats.now in
     let seat : seat_of c.args.indices.now c.args.thread ≡ Some (c.in-Some.index - 1) = seat_of_index c.args.indices.now c.args.thread c.in-Some.index c.in-Some.ensures.index in
     let e = went_stage w (c.in-Some.index - 1) c.args.thread c.go_from-next.ensures.0 c.in-InCall.stage _ c.go_from-next.ensures.1 in
     record {
@@ -30,7 +30,7 @@ returns-in-InCall c =
 
 pub returns-in-Ending : goal.returns-in-Ending
 returns-in-Ending c =
-    let w : WorldState = world_of c.args.words.now c.args.indices.now c.args.places.now c.args.fats.now in
+    let w : WorldState = world_of c.args.split c.args.words.now c.args.indices.now c.args.places.now c.args.fats.now in
     let seat : seat_of c.args.indices.now c.args.thread ≡ Some (c.in-Some.index - 1) = seat_of_index c.args.indices.now c.args.thread c.in-Some.index c.in-Some.ensures.index in
     let e = look_at true w (c.in-Some.index - 1) c.args.thread c.in-Ending.loaded c.if-loaded-words.true _ (c.look-next.ensures c.args.fats.now) in
     record {
@@ -40,9 +40,9 @@ returns-in-Ending c =
 
 pub returns-in-Ending-2 : goal.returns-in-Ending-2
 returns-in-Ending-2 c =
-    let w : WorldState = world_of c.args.words.now c.args.indices.now c.args.places.now c.args.fats.now in
+    let w : WorldState = world_of c.args.split c.args.words.now c.args.indices.now c.args.places.now c.args.fats.now in
     let seat : seat_of c.args.indices.now c.args.thread ≡ Some (c.in-Some.index - 1) = seat_of_index c.args.indices.now c.args.thread c.in-Some.index c.in-Some.ensures.index in
-    let e = c.end.ensures c.args.words.now ∙ end_at true w (c.in-Some.index - 1) c.args.thread c.in-Ending.loaded c.if-loaded-words.false in
+    let e = c.end.ensures c.args.split c.args.words.now ∙ end_at true w (c.in-Some.index - 1) c.args.thread c.in-Ending.loaded c.if-loaded-words.false in
     record {
       sound = go_sound w c.requires (c.in-Some.index - 1) c.args.thread seat true (Ending c.in-Ending.loaded) c.in-Ending.is _ e;
       exact = (true, e ∙ go_answer w c.requires (c.in-Some.index - 1) c.args.thread seat true (Ending c.in-Ending.loaded) c.in-Ending.is);
@@ -50,9 +50,9 @@ returns-in-Ending-2 c =
 
 pub returns-in-AtPost : goal.returns-in-AtPost
 returns-in-AtPost c =
-    let w : WorldState = world_of c.args.words.now c.args.indices.now c.args.places.now c.args.fats.now in
+    let w : WorldState = world_of c.args.split c.args.words.now c.args.indices.now c.args.places.now c.args.fats.now in
     let seat : seat_of c.args.indices.now c.args.thread ≡ Some (c.in-Some.index - 1) = seat_of_index c.args.indices.now c.args.thread c.in-Some.index c.in-Some.ensures.index in
-    let e = c.collect.ensures c.args.words.now c.args.indices.now in
+    let e = c.collect.ensures c.args.split c.args.words.now c.args.indices.now in
     record {
       sound = go_sound w c.requires (c.in-Some.index - 1) c.args.thread seat true AtPost c.in-AtPost.is _ e;
       exact = (true, e ∙ go_answer w c.requires (c.in-Some.index - 1) c.args.thread seat true AtPost c.in-AtPost.is);

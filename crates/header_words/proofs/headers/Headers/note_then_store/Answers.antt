@@ -1,6 +1,6 @@
 use Rattle.std.proofs.Common.{◌≡◌, ◌+◌, ap, ◌∙◌, refl}
 use Rattle.std.specs.Prelude.{slice_index}
-use Rattle.lock_word.specs.Layout.{word_of}
+use Rattle.header_words.specs.WideWords.{word_of}
 use Rattle.header_words.proofs.Passes.{read_low, same_table, has_word, puts_at, put_row, put_made}
 use Rattle.header_words.proofs.headers.Headers.note_then_store.Goals as goal
 

@@ -1,6 +1,6 @@
 use Rattle.std.proofs.Common.{◌≡◌, ℕ, ◌+◌, ◌-◌, ◌*◌, ◌/◌, ◌<◌, ◌≤◌, sym, ap, ◌∙◌, subst, refl, inl, arith}
 use Rattle.std.specs.Prelude.{slice_index}
-use Rattle.lock_word.specs.Layout.{word_of}
+use Rattle.header_words.specs.WideWords.{word_of}
 use Rattle.lock_word.specs.declared.Lock.TheVariants.{Fat}
 use Rattle.header_words.specs.declared.event.Deed.TheVariants.{Publish}
 use Rattle.header_words.specs.Events.{depth}
