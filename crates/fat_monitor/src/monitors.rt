@@ -190,10 +190,11 @@ impl Fats {
             owner: Some(owner),
             holds,
         };
-        match self.monitors.push(monitor) {
-            Ok(()) => Ok(Receipt::new(object, owner, holds, number as u32)),
-            Err(_) => Err(Cause::Memory),
-        }
+        let Ok(()) = self.monitors.push(monitor) else {
+            return Err(Cause::Memory);
+        };
+        self.posts.hand_over(None, Some(owner));
+        Ok(Receipt::new(object, owner, holds, number as u32))
     }
 
     /// Tells the moment, in nanoseconds, which never falls.
