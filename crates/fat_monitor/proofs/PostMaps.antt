@@ -133,11 +133,11 @@ module _ (s s' : Slab Record) (ks ks' : List (ℕ × ℕ)) (t key : ℕ) (new : 
       same_map nat_cmp_total nat_cmp-IsAntisymmetric (values_of read none s' ks') (map.insert (values_of read none s ks) t (read new)) (λ q. value_at read none q (cases_eq q t))
 
   pub posted_in-put : posted_in s' ks' ≡ record {
-      posts = map.insert (posted_in s ks).posts t new.post;
-      nodes = map.insert (posted_in s ks).nodes t new.node.0;
-      flags = map.insert (posted_in s ks).flags t new.flag;
-      owned = map.insert (posted_in s ks).owned t new.owned;
-    }
+    posts = map.insert (posted_in s ks).posts t new.post;
+    nodes = map.insert (posted_in s ks).nodes t new.node.0;
+    flags = map.insert (posted_in s ks).flags t new.flag;
+    owned = map.insert (posted_in s ks).owned t new.owned;
+  }
   posted_in-put = rw (values_of-put (λ r. r.post) Out, values_of-put (λ r. r.node.0) 0, values_of-put (λ r. r.flag) false, values_of-put (λ r. r.owned) 0) refl
 
   leads_at : new.thread.0 ≡ t → (q k : ℕ) → (q ≡ t) ⊎ (q ≡ t → ⊥) → lookup (nat_eq q) ks' ≡ Some k → (r : Record) × (get s' k ≡ Some r) × (r.thread.0 ≡ q)
@@ -199,11 +199,11 @@ module _ (s s' : Slab Record) (ks ks' : List (ℕ × ℕ)) (t key : ℕ)
       same_map nat_cmp_total nat_cmp-IsAntisymmetric (values_of read none s' ks') (map.remove (values_of read none s ks) t) (λ q. value_after read none q (cases_eq q t))
 
   pub posted_in-drop : posted_in s' ks' ≡ record {
-      posts = map.remove (posted_in s ks).posts t;
-      nodes = map.remove (posted_in s ks).nodes t;
-      flags = map.remove (posted_in s ks).flags t;
-      owned = map.remove (posted_in s ks).owned t;
-    }
+    posts = map.remove (posted_in s ks).posts t;
+    nodes = map.remove (posted_in s ks).nodes t;
+    flags = map.remove (posted_in s ks).flags t;
+    owned = map.remove (posted_in s ks).owned t;
+  }
   posted_in-drop = rw (values_of-drop (λ r. r.post) Out, values_of-drop (λ r. r.node.0) 0, values_of-drop (λ r. r.flag) false, values_of-drop (λ r. r.owned) 0) refl
 
   leads_after : (q k : ℕ) → (q ≡ t) ⊎ (q ≡ t → ⊥) → lookup (nat_eq q) ks' ≡ Some k → (r : Record) × (get s' k ≡ Some r) × (r.thread.0 ≡ q)

@@ -1,5 +1,5 @@
 -- The fat state that the fields of `Fats` show, and what always holds of them.
-use Rattle.std.specs.Prelude.{◌≡◌, ℕ, true, Some, List, count_by}
+use Rattle.std.specs.Prelude.{◌≡◌, ℕ, ◌+◌, ◌≤◌, true, Some, List, count_by, vec_len, vec_capacity}
 use Rattle.std.specs.Ordering.{nat_cmp}
 use Rattle.std.specs.FinMap as map
 use Rattle.lock_word.specs.declared.ThreadId.{ThreadId}
@@ -11,7 +11,7 @@ use Rattle.fat_monitor.specs.FatState.{FatState, IsSound, stands, is_owned_by}
 use Rattle.fat_monitor.specs.Slots.{count_of}
 
 abbrev pub fat_state_in : Inside → FatState
-fat_state_in f = record { monitors = f.monitors.items; threads = f.posts.posts; flags = f.posts.flags; standing = standing f.lines; moment = f.moment; limit = f.limit }
+fat_state_in f = record { monitors = f.monitors.items; threads = f.posts.posts; flags = f.posts.flags; standing = standing f.lines; moment = f.moment; limit = f.limit; spare = f.spare }
 
 -- the node that is kept of a thread that stands in a line is the one at which it stands
 abbrev pub AreSeated : map.FinMap nat_cmp Post → NodeMap → NodeMap → Type 0
@@ -29,3 +29,4 @@ pub record IsKept (f : Inside) : Type 0 where
   pub sound : IsSound (fat_state_in f)
   pub seated : AreSeated f.posts.posts f.posts.nodes f.lines.nodes
   pub counted : AreCounted f.monitors.items f.posts.owned
+  pub reserved : vec_len f.monitors + f.spare ≤ vec_capacity f.monitors

@@ -53,6 +53,19 @@ fn monitors_are_numbered_in_order_of_binding(rt: HostRuntime) -> Result<(), Fail
 }
 
 #[test]
+fn a_bind_takes_room_that_was_reserved(rt: HostRuntime) -> Result<(), Fail> {
+    let mut fats = Fats::new(rt.alloc(), 1);
+    attach(&rt, &mut fats, SEVEN);
+    assert_eq!(rt; fats.spare(), 0);
+    assert_eq!(rt; fats.reserve_monitors(1), Ok(()));
+    assert_eq!(rt; fats.reserve_monitors(0), Ok(()));
+    assert_eq!(rt; fats.spare(), 1);
+    assert!(rt; fats.bind(OBJECT, SEVEN, 3).is_ok());
+    assert_eq!(rt; fats.spare(), 0);
+    Ok(())
+}
+
+#[test]
 fn a_thread_is_attached_once(rt: HostRuntime) -> Result<(), Fail> {
     let mut fats = Fats::new(rt.alloc(), 1);
     assert_eq!(rt; fats.post(SEVEN), None);

@@ -17,7 +17,12 @@ hand_over-requires-clause-few c t e = few_owned (fat_state_in c.self.inside) c.s
 
 pub invariant_of-self : goal.invariant_of-self
 invariant_of-self c =
-    record { sound = rw (c.in_default.ensures.items) c.self.invariant.sound; seated = c.self.invariant.seated; counted = rw (c.in_default.ensures.items) c.self.invariant.counted; }
+    record {
+      sound = rw (c.in_default.ensures.items) c.self.invariant.sound;
+      seated = c.self.invariant.seated;
+      counted = rw (c.in_default.ensures.items) c.self.invariant.counted;
+      reserved = let was = c.self.invariant.reserved in let len = c.in_default.ensures.len in let room = c.in_default.ensures.capacity in omega arith;
+    }
 
 pub returns-in_default-clause-sound : goal.returns-in_default-clause-sound
 returns-in_default-clause-sound c = (invariant_of-self c).sound
@@ -26,12 +31,14 @@ pub invariant_of-self-2 : goal.invariant_of-self-2
 invariant_of-self-2 c =
     record {
       sound =
-          rw (c.in-Ok.ensures.items, c.hand_over.ensures)
+          rw (c.in-Ok.ensures.items, c.hand_over.ensures, c.saturating_sub-self-inside.ensures)
           (IsSound-bound_with (fat_state_in c.self.inside) c.args.object c.args.owner c.args.holds c.self.invariant.sound (omega arith) c.requires.low (omega arith));
       seated = subst (λ (p : Posted). AreSeated p.posts p.nodes c.self.inside.lines.nodes) (sym c.hand_over.ensures) c.self.invariant.seated;
       counted =
           rw (c.in-Ok.ensures.items, c.hand_over.ensures)
           (AreCounted-bound c.self.inside.monitors.items c.self.inside.posts.owned (record { object = c.args.object; owner = Some c.args.owner; holds = c.args.holds }) c.self.invariant.counted);
+      reserved =
+          let was = c.self.invariant.reserved in let len = c.in-Ok.ensures.len in let room = c.in-Ok.ensures.capacity in let holds = c.push.new.self.ok.1 in let less = c.saturating_sub-self-inside.ensures in omega arith;
     }
 
 pub returns-clause-sound : goal.returns-clause-sound

@@ -67,6 +67,7 @@ invariant_of-self c =
           (sym (c.join-node.ensures.node ∙ ap (λ (m : NodeMap). map.insert m c.args.thread.0 c.join-node.result.0) (c.leave_at.ensures.nodes c.args.thread here)))
           (subst (λ (p : Posted). AreSeated p.posts p.nodes (map.insert (map.remove c.self.inside.lines.nodes c.args.thread.0) c.args.thread.0 c.join-node.result.0)) (sym c.park.ensures) (AreSeated-moved _ _ _ c.self.invariant.seated c.args.thread _ c.join-node.result.0));
       counted = subst (λ (p : Posted). AreCounted c.self.inside.monitors.items p.owned) (sym c.park.ensures) c.self.invariant.counted;
+      reserved = c.self.invariant.reserved;
     }
 
 pub leave_at-requires : goal.leave_at-requires

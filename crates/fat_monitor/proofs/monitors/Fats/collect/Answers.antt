@@ -23,4 +23,5 @@ invariant_of-self c =
           (subst (λ (f : FatState). IsSound f) c.self.view_is c.self.invariant.sound) c.requires tt (returns c);
       seated = subst (λ (p : Posted). AreSeated p.posts p.nodes c.self.inside.lines.nodes) (sym c.set.ensures) (AreSeated-set _ _ _ c.self.invariant.seated c.args.thread Out refl);
       counted = subst (λ (p : Posted). AreCounted c.self.inside.monitors.items p.owned) (sym c.set.ensures) c.self.invariant.counted;
+      reserved = c.self.invariant.reserved;
     }

@@ -34,6 +34,7 @@ invariant_of-self-then-is_err c =
           rw (posts_back c, lines_back c) c.self.invariant.sound;
       seated = rw (posts_back c, lines_back c) c.self.invariant.seated;
       counted = rw (posts_back c) c.self.invariant.counted;
+      reserved = c.self.invariant.reserved;
     }
 
 pub returns-then-is_err-clause-err : goal.returns-then-is_err-clause-err
@@ -55,6 +56,7 @@ invariant_of-self-else-is_err c =
           (subst (λ (p : Posted). AreSeated p.posts p.nodes c.self.inside.lines.nodes) (sym c.in_ok-add.ensures.ok) (AreSeated-added _ _ _ c.self.invariant.seated c.args.thread 0));
       counted = subst (λ (p : Posted). AreCounted c.self.inside.monitors.items p.owned) (sym c.in_ok-add.ensures.ok)
           (AreCounted-added c.self.inside.monitors.items c.self.inside.posts.owned c.args.thread c.self.invariant.counted c.in_ok-add.ensures.uncounted);
+      reserved = c.self.invariant.reserved;
     }
 
 pub invariant_of-self-else-crowded : goal.invariant_of-self-else-crowded
@@ -68,6 +70,7 @@ invariant_of-self-else-crowded c =
       seated = subst (λ (p : Posted). AreSeated p.posts p.nodes c.self.inside.lines.nodes) (sym c.in_ok-add.ensures.ok) (AreSeated-added _ _ _ c.self.invariant.seated c.args.thread 0);
       counted = subst (λ (p : Posted). AreCounted c.self.inside.monitors.items p.owned) (sym c.in_ok-add.ensures.ok)
           (AreCounted-added c.self.inside.monitors.items c.self.inside.posts.owned c.args.thread c.self.invariant.counted c.in_ok-add.ensures.uncounted);
+      reserved = c.self.invariant.reserved;
     }
 
 -- the thread has its post

@@ -34,6 +34,7 @@ invariant_of-self c =
       counted =
           counted_as c.self.inside.monitors.items c.self.inside.posts.owned c.hand_over.new.self.owned c.args.monitor c.give.new.self None (Some c.args.thread) c.self.invariant.counted
           (rw (← c.self.view_is) at c.requires.bound) (sym (rw (← c.self.view_is) at c.in_default.ensures)) (ap (λ (b : Monitor). b.owner) c.give.ensures) (ap (λ (p : Posted). p.owned) c.hand_over.ensures);
+      reserved = c.self.invariant.reserved;
     }
 
 pub hand_over-requires-clause-attached : goal.hand_over-requires-clause-attached
@@ -62,6 +63,7 @@ invariant_of-self-then-owner-thread c =
       seated = subst (λ (m : NodeMap). AreSeated c.park.new.self.posts c.park.new.self.nodes m) (sym c.join-node.ensures.node)
           (subst (λ (p : Posted). AreSeated p.posts p.nodes (map.insert c.self.inside.lines.nodes c.args.thread.0 c.join-node.result.0)) (sym c.park.ensures) (AreSeated-joined _ _ _ c.self.invariant.seated c.args.thread (Entering c.args.monitor) c.join-node.result.0));
       counted = subst (λ (p : Posted). AreCounted c.self.inside.monitors.items p.owned) (sym c.park.ensures) c.self.invariant.counted;
+      reserved = c.self.invariant.reserved;
     }
 
 pub returns-then-holds : goal.returns-then-holds
@@ -88,4 +90,5 @@ invariant_of-self-2 c =
       counted =
           AreCounted-kept c.self.inside.monitors.items c.self.inside.posts.owned c.args.monitor c.give-2.new.self c.self.invariant.counted (rw (← c.self.view_is) at c.requires.bound)
           (ap (λ (b : Monitor). b.owner) c.give-2.ensures ∙ (rw (← c.self.view_is) at c.in-Some.ensures));
+      reserved = c.self.invariant.reserved;
     }

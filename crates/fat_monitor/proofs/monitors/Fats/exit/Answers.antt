@@ -28,4 +28,5 @@ invariant_of-self c =
       counted =
           AreCounted-kept c.self.inside.monitors.items c.self.inside.posts.owned c.args.monitor c.give.new.self c.self.invariant.counted (rw (← c.self.view_is) at c.requires.bound)
           (ap (λ (b : Monitor). b.owner) c.give.ensures ∙ sym (owner_is _ c.args.thread (rw (← c.self.view_is) at (sym c.if-not-is_owner.ensures))));
+      reserved = c.self.invariant.reserved;
     }

@@ -86,6 +86,7 @@ invariant_of-self c =
           let set = rw (settled c) at c.set.ensures in
           rw (settled c) (counted_as c.self.inside.monitors.items c.self.inside.posts.owned c.set.new.self.owned c.args.monitor c.give.new.self c.owner-owner.result (Some c.args.thread) c.self.invariant.counted
           (rw (← c.self.view_is) at c.requires.bound) (sym (rw (← c.self.view_is) at c.owner-owner.ensures)) (ap (λ (b : Monitor). b.owner) c.give.ensures) (ap (λ (p : Posted). p.owned) set));
+      reserved = rw (settled c) c.self.invariant.reserved;
     }
 
 pub hand_over-requires-clause-owned : goal.hand_over-requires-clause-owned

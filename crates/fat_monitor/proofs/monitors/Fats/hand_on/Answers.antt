@@ -25,6 +25,7 @@ invariant_of-self c =
       counted =
           counted_as c.self.inside.monitors.items c.self.inside.posts.owned c.hand_over.new.self.owned c.args.monitor c.give.new.self c.owner-owner.result None c.self.invariant.counted
           (rw (← c.self.view_is) at c.requires) (sym (rw (← c.self.view_is) at c.owner-owner.ensures)) (ap (λ (b : Monitor). b.owner) c.give.ensures) (ap (λ (p : Posted). p.owned) c.hand_over.ensures);
+      reserved = c.self.invariant.reserved;
     }
 
 pub hand_over-requires-clause-owned : goal.hand_over-requires-clause-owned

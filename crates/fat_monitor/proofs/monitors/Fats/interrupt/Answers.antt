@@ -17,6 +17,7 @@ invariant_of-self c =
           rw (flagged_as f c.args.target true c.set_flag.new.self c.set_flag.ensures) (IsSound-flags f _ c.self.invariant.sound);
       seated = subst (λ (p : Posted). AreSeated p.posts p.nodes c.self.inside.lines.nodes) (sym c.set_flag.ensures) c.self.invariant.seated;
       counted = subst (λ (p : Posted). AreCounted c.self.inside.monitors.items p.owned) (sym c.set_flag.ensures) c.self.invariant.counted;
+      reserved = c.self.invariant.reserved;
     }
 
 pub invariant_of-self-2 : goal.invariant_of-self-2
@@ -27,6 +28,7 @@ invariant_of-self-2 c =
           rw (flagged_as f c.args.target true c.set_flag.new.self c.set_flag.ensures) (IsSound-flags f _ c.self.invariant.sound);
       seated = subst (λ (p : Posted). AreSeated p.posts p.nodes c.self.inside.lines.nodes) (sym c.set_flag.ensures) c.self.invariant.seated;
       counted = subst (λ (p : Posted). AreCounted c.self.inside.monitors.items p.owned) (sym c.set_flag.ensures) c.self.invariant.counted;
+      reserved = c.self.invariant.reserved;
     }
 
 pub returns-in_default-post : goal.returns-in_default-post

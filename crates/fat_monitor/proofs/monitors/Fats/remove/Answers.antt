@@ -15,6 +15,7 @@ invariant_of-self c =
       seated = subst (λ (p : Posted). AreSeated p.posts p.nodes c.self.inside.lines.nodes) (sym c.remove.ensures) (AreSeated-removed _ _ _ c.self.invariant.seated c.args.thread);
       counted = subst (λ (p : Posted). AreCounted c.self.inside.monitors.items p.owned) (sym c.remove.ensures)
           (AreCounted-removed c.self.inside.monitors.items c.self.inside.posts.owned c.args.thread c.self.invariant.counted (rw (← c.self.view_is) at c.requires.owns_none));
+      reserved = c.self.invariant.reserved;
     }
 
 pub returns-clause-sound : goal.returns-clause-sound

@@ -37,6 +37,7 @@ invariant_of-self c =
           rw (flagged_as f c.args.thread false c.set_flag.new.self c.set_flag.ensures) (IsSound-flags f _ c.self.invariant.sound);
       seated = subst (λ (p : Posted). AreSeated p.posts p.nodes c.self.inside.lines.nodes) (sym c.set_flag.ensures) c.self.invariant.seated;
       counted = subst (λ (p : Posted). AreCounted c.self.inside.monitors.items p.owned) (sym c.set_flag.ensures) c.self.invariant.counted;
+      reserved = c.self.invariant.reserved;
     }
 
 pub returns-then-flag : goal.returns-then-flag
@@ -101,4 +102,5 @@ invariant_of-self-2 c =
       seated = subst (λ (m : NodeMap). AreSeated c.park.new.self.posts c.park.new.self.nodes m) (sym c.join-node.ensures.node)
           (subst (λ (p : Posted). AreSeated p.posts p.nodes (map.insert c.self-2.inside.lines.nodes c.args.thread.0 c.join-node.result.0)) (sym c.park.ensures) (AreSeated-joined _ _ _ c.self-2.invariant.seated c.args.thread _ c.join-node.result.0));
       counted = subst (λ (p : Posted). AreCounted c.self-2.inside.monitors.items p.owned) (sym c.park.ensures) c.self-2.invariant.counted;
+      reserved = c.self-2.invariant.reserved;
     }
