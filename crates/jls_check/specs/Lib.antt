@@ -1,4 +1,5 @@
 pub mod LiveThreads
+pub mod Monitors
 pub mod MachineState
 pub mod View
 pub mod Taking
