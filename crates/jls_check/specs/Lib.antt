@@ -4,3 +4,4 @@ pub mod MachineState
 pub mod View
 pub mod Taking
 pub mod Judging
+pub mod Texts
