@@ -21,7 +21,7 @@ use Rattle.fat_monitor.specs.declared.actions.Why.TheVariants as why
 use Rattle.fat_monitor.specs.declared.actions.Action.{Action}
 use Rattle.fat_monitor.specs.declared.actions.Action.TheVariants as action
 use Rattle.fat_monitor.specs.FatState.{FatState, IsSound, IsAttached, monitor_at, post_of, post_at, thread_count, line_of, first_of, flag_at, flag_of, with_post, with_flag, with_thread, without_thread, place_of, is_owned_by, owns_one}
-use Rattle.fat_monitor.specs.Acting.{Outcome, acted, entered, exited, waited, notified, interrupted, asked, expired, collected, are_good, handed_on, sent_back, all_removed, parked, removed, reply_back, reply_granted, MayAct}
+use Rattle.fat_monitor.specs.Acting.{Outcome, acted, entered, exited, waited, notified, interrupted, asked, expired, woken, collected, are_good, handed_on, sent_back, all_removed, parked, removed, reply_back, reply_granted, MayAct}
 use Rattle.fat_monitor.proofs.PostMaps.{get-insert_by, get-remove_by}
 use Rattle.fat_monitor.proofs.SoundGrants.{granted-is}
 use Rattle.fat_monitor.proofs.MonitorEffects.{either}
@@ -147,6 +147,14 @@ KeepsThreads-expired f t (Some (Waiting m n (Some d))) e =
 KeepsThreads-expired f t (Some (Back m n w)) e = KeepsPosts-same t.0 f.threads
 KeepsThreads-expired f t (Some (Granted r)) e = KeepsPosts-same t.0 f.threads
 
+KeepsThreads-woken : (f : FatState) (t : ThreadId) (o : Option Post) → post_of f t ≡ o → KeepsThreads f t (woken f t (unwrap_or o Out)).after
+KeepsThreads-woken f t None e = KeepsPosts-same t.0 f.threads
+KeepsThreads-woken f t (Some Out) e = KeepsPosts-same t.0 f.threads
+KeepsThreads-woken f t (Some (Entering m)) e = KeepsPosts-same t.0 f.threads
+KeepsThreads-woken f t (Some (Waiting m n d)) e = KeepsPosts-removed t.0 f t why.Spurious (Some (Waiting m n d)) e
+KeepsThreads-woken f t (Some (Back m n w)) e = KeepsPosts-same t.0 f.threads
+KeepsThreads-woken f t (Some (Granted r)) e = KeepsPosts-same t.0 f.threads
+
 KeepsThreads-collected : (f : FatState) (t : ThreadId) (p : Post) → IsAttached f t → KeepsThreads f t (collected f t p).after
 KeepsThreads-collected f t Out here = KeepsPosts-same t.0 f.threads
 KeepsThreads-collected f t (Entering m) here = KeepsPosts-same t.0 f.threads
@@ -176,6 +184,7 @@ KeepsThreads-acted f t (action.Interrupt u) sound may other = KeepsThreads-inter
 KeepsThreads-acted f t action.Interrupted sound may other = KeepsPosts-same t.0 f.threads
 KeepsThreads-acted f t (action.IsInterrupted u) sound may other = KeepsThreads-asked f t (flag_of f u)
 KeepsThreads-acted f t action.Expire sound may other = KeepsThreads-expired f t (post_of f t) refl
+KeepsThreads-acted f t action.Spurious sound may other = KeepsThreads-woken f t (post_of f t) refl
 KeepsThreads-acted f t action.Collect sound may other = KeepsThreads-collected f t (post_at f t) may
 KeepsThreads-acted f t action.End sound may other = absurd (other refl)
 
@@ -205,6 +214,7 @@ out-acted f t u (action.Interrupt v) sound may apart = out_kept f t u (action.In
 out-acted f t u action.Interrupted sound may apart = out_kept f t u action.Interrupted sound may apart (λ e. cc)
 out-acted f t u (action.IsInterrupted v) sound may apart = out_kept f t u (action.IsInterrupted v) sound may apart (λ e. cc)
 out-acted f t u action.Expire sound may apart = out_kept f t u action.Expire sound may apart (λ e. cc)
+out-acted f t u action.Spurious sound may apart = out_kept f t u action.Spurious sound may apart (λ e. cc)
 out-acted f t u action.Collect sound may apart = out_kept f t u action.Collect sound may apart (λ e. cc)
 out-acted f t u action.End sound may apart =
     either (λ (g : FatState). (post_of g u ≡ Some Out) ↔ (post_of f u ≡ Some Out)) (owns_one f.monitors t) _ _ ((λ h. h), (λ h. h))

@@ -8,7 +8,7 @@ use Rattle.lock_word.specs.declared.ThreadId.{ThreadId}
 use Rattle.wait_lines.proofs.ThreadLemmas.{same_thread}
 use Rattle.fat_monitor.specs.declared.actions.Post.{Post}
 use Rattle.fat_monitor.specs.declared.actions.Post.TheVariants.{Out, Entering, Waiting, Back, Granted}
-use Rattle.fat_monitor.specs.declared.actions.Why.TheVariants.{Notified, Interrupted, Elapsed}
+use Rattle.fat_monitor.specs.declared.actions.Why.TheVariants.{Notified, Interrupted, Elapsed, Spurious}
 use Rattle.wait_lines.specs.declared.Role.TheVariants.{Waiting as WaitSet}
 use Rattle.fat_monitor.specs.declared.actions.Why.{Why}
 use Rattle.fat_monitor.specs.FatState.{FatState, IsSound, monitor_at, post_at, line_of, flag_at, with_flag}
@@ -30,6 +30,7 @@ abbrev pub settled_flag : Post → Bool → Bool
 settled_flag (Back m n Interrupted) flag = false
 settled_flag (Back m n Notified) flag = flag
 settled_flag (Back m n Elapsed) flag = flag
+settled_flag (Back m n Spurious) flag = flag
 settled_flag Out flag = flag
 settled_flag (Entering m) flag = flag
 settled_flag (Waiting m n d) flag = flag
@@ -42,6 +43,7 @@ flag-settled_same f u (Waiting m n d) = refl
 flag-settled_same f u (Back m n Notified) = refl
 flag-settled_same f u (Back m n Interrupted) = flag-with_flag_same f u false
 flag-settled_same f u (Back m n Elapsed) = refl
+flag-settled_same f u (Back m n Spurious) = refl
 flag-settled_same f u (Granted r) = refl
 
 pub flag-settled_other : (f : FatState) (u v : ThreadId) (p : Post) → v ≢ u → flag_at (settled f u p) v ≡ flag_at f v
@@ -51,6 +53,7 @@ flag-settled_other f u v (Waiting m n d) other = refl
 flag-settled_other f u v (Back m n Notified) other = refl
 flag-settled_other f u v (Back m n Interrupted) other = flag-with_flag_other f u v false other
 flag-settled_other f u v (Back m n Elapsed) other = refl
+flag-settled_other f u v (Back m n Spurious) other = refl
 flag-settled_other f u v (Granted r) other = refl
 
 pub threads-settled : (f : FatState) (u : ThreadId) (p : Post) → (settled f u p).threads ≡ f.threads
@@ -60,6 +63,7 @@ threads-settled f u (Waiting m n d) = refl
 threads-settled f u (Back m n Notified) = refl
 threads-settled f u (Back m n Interrupted) = refl
 threads-settled f u (Back m n Elapsed) = refl
+threads-settled f u (Back m n Spurious) = refl
 threads-settled f u (Granted r) = refl
 
 pub standing-settled : (f : FatState) (u : ThreadId) (p : Post) → (settled f u p).standing ≡ f.standing
@@ -69,6 +73,7 @@ standing-settled f u (Waiting m n d) = refl
 standing-settled f u (Back m n Notified) = refl
 standing-settled f u (Back m n Interrupted) = refl
 standing-settled f u (Back m n Elapsed) = refl
+standing-settled f u (Back m n Spurious) = refl
 standing-settled f u (Granted r) = refl
 
 -- a notifyAll of a monitor with an owner changes no flag

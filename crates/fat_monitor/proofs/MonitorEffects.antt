@@ -10,13 +10,13 @@ use Rattle.wait_lines.specs.declared.Role.TheVariants.{Entry, Waiting as WaitSet
 use Rattle.fat_monitor.specs.declared.actions.Post.{Post}
 use Rattle.fat_monitor.specs.declared.actions.Post.TheVariants.{Out, Entering, Waiting, Back, Granted}
 use Rattle.fat_monitor.specs.declared.actions.Why.{Why}
-use Rattle.fat_monitor.specs.declared.actions.Why.TheVariants.{Notified, Interrupted, Elapsed}
+use Rattle.fat_monitor.specs.declared.actions.Why.TheVariants.{Notified, Interrupted, Elapsed, Spurious}
 use Rattle.fat_monitor.specs.declared.actions.Action.{Action}
 use Rattle.fat_monitor.specs.declared.actions.Action.TheVariants as action
 use Rattle.fat_monitor.specs.declared.monitors.Monitor.{Monitor}
 use Rattle.fat_monitor.specs.FatState.{FatState, IsSound, monitor_at, unbound, post_of, post_at, line_of, first_of, with_owner, with_post, with_flag, without_thread, flag_at, flag_of, is_owned_by, owns_one}
 use Rattle.fat_monitor.proofs.WaitSets.{wait_set-queued, monitors-all_queued}
-use Rattle.fat_monitor.specs.Acting.{Outcome, acted, entered, exited, waited, notified, collected, are_good, handed_on, all_removed, parked, removed, sent_back, granted, settled, interrupted, asked, expired, holds_granted}
+use Rattle.fat_monitor.specs.Acting.{Outcome, acted, entered, exited, waited, notified, collected, are_good, handed_on, all_removed, parked, removed, sent_back, granted, settled, interrupted, asked, expired, woken, holds_granted}
 
 -- the monitor that an action names
 abbrev pub named : Action → Option ℕ
@@ -30,6 +30,7 @@ named (action.Interrupt u) = None
 named action.Interrupted = None
 named (action.IsInterrupted u) = None
 named action.Expire = None
+named action.Spurious = None
 named action.Collect = None
 named action.End = None
 
@@ -96,6 +97,7 @@ monitors-settled f u (Waiting m n d) = refl
 monitors-settled f u (Back m n Notified) = refl
 monitors-settled f u (Back m n Interrupted) = refl
 monitors-settled f u (Back m n Elapsed) = refl
+monitors-settled f u (Back m n Spurious) = refl
 monitors-settled f u (Granted r) = refl
 
 pub limit-settled : (f : FatState) (u : ThreadId) (p : Post) → (settled f u p).limit ≡ f.limit
@@ -105,6 +107,7 @@ limit-settled f u (Waiting m n d) = refl
 limit-settled f u (Back m n Notified) = refl
 limit-settled f u (Back m n Interrupted) = refl
 limit-settled f u (Back m n Elapsed) = refl
+limit-settled f u (Back m n Spurious) = refl
 limit-settled f u (Granted r) = refl
 
 pub moment-settled : (f : FatState) (u : ThreadId) (p : Post) → (settled f u p).moment ≡ f.moment
@@ -114,6 +117,7 @@ moment-settled f u (Waiting m n d) = refl
 moment-settled f u (Back m n Notified) = refl
 moment-settled f u (Back m n Interrupted) = refl
 moment-settled f u (Back m n Elapsed) = refl
+moment-settled f u (Back m n Spurious) = refl
 moment-settled f u (Granted r) = refl
 
 KeepsMonitors-granted : (f : FatState) (m : ℕ) (u : ThreadId) (p : Post) (r : Role) → KeepsMonitors f (Some m) (granted f m u p r)
@@ -204,6 +208,13 @@ KeepsMonitors-expired f t (Entering m) = KeepsMonitors-same f None f refl refl r
 KeepsMonitors-expired f t (Back m n w) = KeepsMonitors-same f None f refl refl refl
 KeepsMonitors-expired f t (Granted r) = KeepsMonitors-same f None f refl refl refl
 
+KeepsMonitors-woken : (f : FatState) (t : ThreadId) (p : Post) → KeepsMonitors f None (woken f t p).after
+KeepsMonitors-woken f t (Waiting m n d) = KeepsMonitors-removed f t Spurious (Waiting m n d)
+KeepsMonitors-woken f t Out = KeepsMonitors-same f None f refl refl refl
+KeepsMonitors-woken f t (Entering m) = KeepsMonitors-same f None f refl refl refl
+KeepsMonitors-woken f t (Back m n w) = KeepsMonitors-same f None f refl refl refl
+KeepsMonitors-woken f t (Granted r) = KeepsMonitors-same f None f refl refl refl
+
 -- another than the owner changes nothing
 KeepsMonitors-by_owner : (f : FatState) (t : ThreadId) (m : ℕ) (x y : Outcome) → KeepsMonitors f (Some m) x.after → y.after ≡ f → KeepsMonitors f (Some m) (if is_owned_by (monitor_at f m).owner t then x else y).after
 KeepsMonitors-by_owner f t m x y h e =
@@ -227,6 +238,7 @@ KeepsMonitors-acted f t (action.Interrupt u) = KeepsMonitors-interrupted f u (po
 KeepsMonitors-acted f t action.Interrupted = KeepsMonitors-same f None (with_flag f t false) refl refl refl
 KeepsMonitors-acted f t (action.IsInterrupted u) = KeepsMonitors-asked f (flag_of f u)
 KeepsMonitors-acted f t action.Expire = KeepsMonitors-expired f t (post_at f t)
+KeepsMonitors-acted f t action.Spurious = KeepsMonitors-woken f t (post_at f t)
 KeepsMonitors-acted f t action.Collect = KeepsMonitors-collected f t (post_at f t)
 KeepsMonitors-acted f t action.End = either (KeepsMonitors f None) (owns_one f.monitors t) _ _ (KeepsMonitors-same f None f refl refl refl) (KeepsMonitors-same f None (without_thread f t) refl refl refl)
 

@@ -57,6 +57,7 @@ module _ (f : FatState) (u : ThreadId) (m n : ℕ) (sound : IsSound f) (free : (
   same_flags why.Notified = refl
   same_flags why.Interrupted = refl
   same_flags why.Elapsed = refl
+  same_flags why.Spurious = refl
 
   granted_rejoined : (w : Why) → granted (rejoined f u m (Back m n w)) m u (Back m n w) Entry ≡ granted f m u (Back m n w) WaitSet
   granted_rejoined w =

@@ -44,6 +44,7 @@ reply_granted-proper f (Waiting m n d) = inl refl
 reply_granted-proper f (Back m n why.Notified) = inr (inl refl)
 reply_granted-proper f (Back m n why.Interrupted) = inr (inr refl)
 reply_granted-proper f (Back m n why.Elapsed) = inr (inl refl)
+reply_granted-proper f (Back m n why.Spurious) = inr (inl refl)
 reply_granted-proper f (Granted r) = inl refl
 
 -- a grant but for the flag that it clears
@@ -65,6 +66,7 @@ granted-is f m u (Waiting k n d) r = refl
 granted-is f m u (Back k n why.Notified) r = refl
 granted-is f m u (Back k n why.Interrupted) r = refl
 granted-is f m u (Back k n why.Elapsed) r = refl
+granted-is f m u (Back k n why.Spurious) r = refl
 granted-is f m u (Granted x) r = refl
 
 -- a thread that stands in a line leaves it and owns the monitor

@@ -18,7 +18,7 @@ use Rattle.fat_monitor.specs.declared.actions.Action.TheVariants as action
 use Rattle.fat_monitor.specs.declared.actions.Why.{Why}
 use Rattle.fat_monitor.specs.declared.actions.Why.TheVariants as why
 use Rattle.fat_monitor.specs.FatState.{FatState, IsSound, IsHeld, monitor_at, post_of, post_at, line_of, first_of, flag_at, flag_of, with_post, with_flag, with_lines, is_owned_by, owns_one, place_of}
-use Rattle.fat_monitor.specs.Acting.{acted, sent_back, removed, all_removed, entered, exited, waited, notified, interrupted, asked, expired, collected, by_owner, are_good, deadline, Outcome, NamesBound, MayAct}
+use Rattle.fat_monitor.specs.Acting.{acted, sent_back, removed, all_removed, entered, exited, waited, notified, interrupted, asked, expired, woken, collected, by_owner, are_good, deadline, Outcome, NamesBound, MayAct}
 use Rattle.fat_monitor.proofs.SoundCounts.{insert_twice}
 use Rattle.fat_monitor.proofs.SoundSteps.{get-written, IsSound-flags, IsSound-left, IsSound-parked}
 pub use Rattle.fat_monitor.proofs.SoundOwners.{stands_nowhere, room_to_join, some_owner, is_some_owner, stand_behind, nobody_first, post_at-is, IsSound-opened, IsSound-with_thread, IsSound-without_thread, IsSound-bound_with, owned_bound, holds_owned, IsSound-taken, IsSound-held, IsSound-freed, IsSound-entering, IsSound-waiting, IsSound-collected}
@@ -202,6 +202,15 @@ expired_sound f t (Some (Waiting m n (Some d))) sound here =
 expired_sound f t (Some (Back m n w)) sound here = sound
 expired_sound f t (Some (Granted r)) sound here = sound
 
+-- a spurious wake-up
+woken_sound : (f : FatState) (t : ThreadId) (o : Option Post) → IsSound f → post_of f t ≡ o → IsSound (woken f t (unwrap_or o Out)).after
+woken_sound f t None sound here = sound
+woken_sound f t (Some Out) sound here = sound
+woken_sound f t (Some (Entering m)) sound here = sound
+woken_sound f t (Some (Waiting m n d)) sound here = removed_post f t why.Spurious (Some (Waiting m n d)) sound here
+woken_sound f t (Some (Back m n w)) sound here = sound
+woken_sound f t (Some (Granted r)) sound here = sound
+
 -- a collect
 collected_sound : (f : FatState) (t : ThreadId) (o : Option Post) → IsSound f → post_of f t ≡ o → IsSound (collected f t (unwrap_or o Out)).after
 collected_sound f t None sound here = sound
@@ -227,5 +236,6 @@ IsSound-acted f t (action.Interrupt u) sound may bound = interrupted_sound f u (
 IsSound-acted f t action.Interrupted sound may bound = IsSound-flags f (map.insert f.flags t.0 false) sound
 IsSound-acted f t (action.IsInterrupted u) sound may bound = asked_sound f (flag_of f u) sound
 IsSound-acted f t action.Expire sound may bound = expired_sound f t (post_of f t) sound refl
+IsSound-acted f t action.Spurious sound may bound = woken_sound f t (post_of f t) sound refl
 IsSound-acted f t action.Collect sound may bound = collected_sound f t (post_of f t) sound refl
 IsSound-acted f t action.End sound may bound = either_sound (owns_one f.monitors t) _ _ (λ owns. sound) (λ none. IsSound-without_thread f t sound may)

@@ -111,6 +111,7 @@ flags_cleared f u (Waiting m n d) e = absurd (cc)
 flags_cleared f u (Back m n why.Notified) e = absurd (cc)
 flags_cleared f u (Back m n why.Interrupted) e = refl
 flags_cleared f u (Back m n why.Elapsed) e = absurd (cc)
+flags_cleared f u (Back m n why.Spurious) e = absurd (cc)
 flags_cleared f u (Granted r) e = absurd (cc)
 
 pub flags_kept : (f : FatState) (u : ThreadId) (p : Post) → (reply_granted p ≡ reply.Interrupted → ⊥) → granted_flags f u p ≡ f.flags
@@ -120,6 +121,7 @@ flags_kept f u (Waiting m n d) e = refl
 flags_kept f u (Back m n why.Notified) e = refl
 flags_kept f u (Back m n why.Interrupted) e = absurd (e refl)
 flags_kept f u (Back m n why.Elapsed) e = refl
+flags_kept f u (Back m n why.Spurious) e = refl
 flags_kept f u (Granted r) e = refl
 
 -- a thread of a wait set was sent to the entry line

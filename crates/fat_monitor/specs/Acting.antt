@@ -41,6 +41,7 @@ abbrev pub reply_back : Why → Reply
 reply_back why.Notified = reply.WaitOver
 reply_back why.Interrupted = reply.Interrupted
 reply_back why.Elapsed = reply.WaitOver
+reply_back why.Spurious = reply.WaitOver
 
 -- How often a thread holds the monitor that it is granted, and what its call replies: one that comes back
 -- from a wait has all its holds back, another had asked to enter.
@@ -63,6 +64,7 @@ abbrev pub settled : FatState → ThreadId → Post → FatState
 settled f u (Back m n why.Interrupted) = with_flag f u false
 settled f u (Back m n why.Notified) = f
 settled f u (Back m n why.Elapsed) = f
+settled f u (Back m n why.Spurious) = f
 settled f u Out = f
 settled f u (Entering m) = f
 settled f u (Waiting m n d) = f
@@ -202,6 +204,18 @@ expired f t (Entering m) = not_due f
 expired f t (Back m n w) = not_due f
 expired f t (Granted r) = not_due f
 
+-- A wait may be over without any reason that a program can see: a spurious wake-up (JLS 17.2.1).
+abbrev pub not_waiting : FatState → Outcome
+not_waiting f = record { answer = Err fault.NotWaiting; after = f }
+
+abbrev pub woken : FatState → ThreadId → Post → Outcome
+woken f t (Waiting m n d) =
+    told (removed f t why.Spurious (Waiting m n d)) answer.Quiet (served f t (Waiting m n d)) None
+woken f t Out = not_waiting f
+woken f t (Entering m) = not_waiting f
+woken f t (Back m n w) = not_waiting f
+woken f t (Granted r) = not_waiting f
+
 -- A collect takes the reply that was granted.
 abbrev pub collected : FatState → ThreadId → Post → Outcome
 collected f t (Granted r) = replied (with_post f t Out) r
@@ -222,6 +236,7 @@ acted f t (action.Interrupt u) = interrupted f u (post_of f u)
 acted f t action.Interrupted = replied (with_flag f t false) (yes_or_no (flag_at f t))
 acted f t (action.IsInterrupted u) = asked f (flag_of f u)
 acted f t action.Expire = expired f t (post_at f t)
+acted f t action.Spurious = woken f t (post_at f t)
 acted f t action.Collect = collected f t (post_at f t)
 acted f t action.End = if owns_one f.monitors t then replied f (reply.Refused StillOwner) else replied (without_thread f t) reply.Ended
 
@@ -237,12 +252,15 @@ NamesBound f (action.Interrupt u) = Unit {0}
 NamesBound f action.Interrupted = Unit {0}
 NamesBound f (action.IsInterrupted u) = Unit {0}
 NamesBound f action.Expire = Unit {0}
+NamesBound f action.Spurious = Unit {0}
 NamesBound f action.Collect = Unit {0}
 NamesBound f action.End = Unit {0}
 
--- the thread may make the action: it is attached, and out of every other action but for an Expire and a Collect
+-- the thread may make the action: it is attached, and out of every other action but for an Expire, a Spurious
+-- and a Collect
 abbrev pub MayAct : FatState → ThreadId → Action → Type 0
 MayAct f t action.Expire = IsAttached f t
+MayAct f t action.Spurious = IsAttached f t
 MayAct f t action.Collect = IsAttached f t
 MayAct f t (action.Enter m) = post_of f t ≡ Some Out
 MayAct f t (action.Exit m) = post_of f t ≡ Some Out

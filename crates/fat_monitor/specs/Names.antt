@@ -52,6 +52,7 @@ action_name (action.Interrupt u) = codes "Interrupt"
 action_name action.Interrupted = codes "Interrupted"
 action_name (action.IsInterrupted u) = codes "IsInterrupted"
 action_name action.Expire = codes "Expire"
+action_name action.Spurious = codes "Spurious"
 action_name action.Collect = codes "Collect"
 action_name action.End = codes "End"
 
@@ -62,6 +63,7 @@ fault_text fault.Memory = codes "out of memory"
 abbrev pub act_fault_text : ActFault → List ℕ
 act_fault_text act_fault.Parked = codes "no reply is granted"
 act_fault_text act_fault.NotDue = codes "no wait of the thread is over"
+act_fault_text act_fault.NotWaiting = codes "the thread does not wait"
 
 abbrev pub backwards_text : List ℕ
 backwards_text = codes "the moment would fall"

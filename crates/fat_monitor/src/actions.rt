@@ -60,6 +60,8 @@ pub enum Why {
     Interrupted,
     /// Its time was over.
     Elapsed,
+    /// For no reason that a program can see: a spurious wake-up (JLS SE 8, 17.2.1).
+    Spurious,
 }
 
 /// Where an attached thread stands towards the fat monitors.
@@ -130,6 +132,8 @@ pub enum Action {
     },
     /// Leave the wait set, where the time of the wait is over.
     Expire,
+    /// Leave the wait set by an internal action of the implementation: a spurious wake-up.
+    Spurious,
     /// Take the reply that was granted.
     Collect,
     /// Be attached no longer, where the thread owns no monitor.
@@ -143,7 +147,7 @@ pub enum Answer {
     Reply(Reply),
     /// The thread stands in a line, and has no reply until it is granted one.
     Parked,
-    /// The thread's time was over, and it has no reply until it is granted one.
+    /// The thread left its wait set by itself, and has no reply until it is granted one.
     Quiet,
 }
 
@@ -165,6 +169,8 @@ pub enum ActFault {
     Parked,
     /// The thread does not wait, or has no deadline, or the moment is before it.
     NotDue,
+    /// The thread does not wait.
+    NotWaiting,
 }
 
 impl fmt::Display for ActFault {
@@ -177,6 +183,7 @@ impl fmt::Display for ActFault {
         f.write_str(match self {
             ActFault::Parked => "no reply is granted",
             ActFault::NotDue => "no wait of the thread is over",
+            ActFault::NotWaiting => "the thread does not wait",
         })
     }
 }
@@ -254,6 +261,7 @@ impl fmt::Display for Action {
             Action::Interrupted => "Interrupted",
             Action::IsInterrupted { .. } => "IsInterrupted",
             Action::Expire => "Expire",
+            Action::Spurious => "Spurious",
             Action::Collect => "Collect",
             Action::End => "End",
         })

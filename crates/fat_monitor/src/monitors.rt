@@ -212,8 +212,8 @@ impl Fats {
     }
 
     /// One action of an attached thread, on a bound monitor where the action names one. A thread that
-    /// stands in a line may only expire, which is refused unless its deadline has come, and collect, which
-    /// is refused until it is granted its reply.
+    /// stands in a line may only expire, which is refused unless its deadline has come, wake spuriously, which
+    /// is refused where it does not wait, and collect, which is refused until it is granted its reply.
     ///
     /// A thread stands in an entry line only while another thread owns that monitor.
     pub fn act(&mut self, thread: ThreadId, action: Action) -> Result<Done, ActFault>
@@ -249,6 +249,7 @@ impl Fats {
             Action::Interrupted => Ok(self.test_and_clear(thread)),
             Action::IsInterrupted { target } => Ok(self.is_interrupted(target)),
             Action::Expire => self.expire(thread),
+            Action::Spurious => self.wake(thread),
             Action::Collect => self.collect(thread),
             Action::End => Ok(self.end(thread)),
         }

@@ -33,7 +33,7 @@ fn reply_back(why: Why) -> Reply
 {
     match why {
         Why::Interrupted => Reply::Interrupted,
-        Why::Notified | Why::Elapsed => Reply::WaitOver,
+        Why::Notified | Why::Elapsed | Why::Spurious => Reply::WaitOver,
     }
 }
 

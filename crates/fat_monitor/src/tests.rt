@@ -84,6 +84,12 @@ fn expire(rt: &impl Abort, fats: &mut Fats, thread: ThreadId) -> Result<Done, Ac
     fats.act(thread, Action::Expire)
 }
 
+/// A spurious wake-up of a thread, wherever it stands.
+fn wake(rt: &impl Abort, fats: &mut Fats, thread: ThreadId) -> Result<Done, ActFault> {
+    assert!(rt; fats.post(thread).is_some());
+    fats.act(thread, Action::Spurious)
+}
+
 fn told(answer: Answer, granted: Option<ThreadId>) -> Done {
     Done {
         answer,

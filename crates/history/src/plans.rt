@@ -109,6 +109,9 @@ fn step_of(names: &mut Names, step: &StepLine<'_>) -> Result<Step, Memory>
         StepLine::Expire(thread) => Ok(Step::Expire {
             thread: names.thread(thread)?,
         }),
+        StepLine::Spurious(thread) => Ok(Step::Spurious {
+            thread: names.thread(thread)?,
+        }),
         StepLine::Tick(now) => Ok(Step::Tick { now: *now }),
     }
 }

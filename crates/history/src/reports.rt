@@ -48,6 +48,10 @@ fn put_step(
             let name = names.name_of_thread(thread);
             writeln!(report, "expire {name}")
         }
+        Step::Spurious { thread } => {
+            let name = names.name_of_thread(thread);
+            writeln!(report, "spurious {name}")
+        }
         Step::Tick { now } => writeln!(report, "tick {now}"),
         Step::Go { thread } => {
             let name = names.name_of_thread(thread);

@@ -13,7 +13,7 @@ use Rattle.std.proofs.lemmas.Str.Ascii.{IsAscii-nil, IsAscii-cons}
 use Rattle.history_text.specs.declared.lines.Line.{Line}
 use Rattle.history_text.specs.declared.lines.Line.TheVariants.{World, Object, Step}
 use Rattle.history_text.specs.declared.lines.StepLine.{StepLine}
-use Rattle.history_text.specs.declared.lines.StepLine.TheVariants.{Attach, Begin, Go, Expire, Tick}
+use Rattle.history_text.specs.declared.lines.StepLine.TheVariants.{Attach, Begin, Go, Expire, Spurious, Tick}
 use Rattle.history_text.specs.declared.lines.Call.{Call}
 use Rattle.history_text.specs.declared.lines.Call.TheVariants.{Enter, Exit, Wait, Notify, NotifyAll, Holds, Interrupt, Interrupted, IsInterrupted, End}
 use Rattle.history_text.specs.Words.{IsBelow, is_name, name_from, number_from, signed_from, nanos_from, hex_digit, hex_from, low_text, low_from}
@@ -79,7 +79,8 @@ two_takes v word s e =
     by_cond (bytes_eq v (codes "attach")) _ _ _ _ e (λ is m. thread_takes Attach v (codes "attach") word s (same_word v _ is) (λ _. refl) (λ n h. h) m)
     (λ _ e. by_cond (bytes_eq v (codes "go")) _ _ _ _ e (λ is m. thread_takes Go v (codes "go") word s (same_word v _ is) (λ _. refl) (λ n h. h) m)
     (λ _ e. by_cond (bytes_eq v (codes "expire")) _ _ _ _ e (λ is m. thread_takes Expire v (codes "expire") word s (same_word v _ is) (λ _. refl) (λ n h. h) m)
-    (λ _ e. by_cond (bytes_eq v (codes "tick")) _ _ _ _ e (λ is m. tick_takes v word s (same_word v _ is) m) (λ _ none. none_some s _ none))))
+    (λ _ e. by_cond (bytes_eq v (codes "spurious")) _ _ _ _ e (λ is m. thread_takes Spurious v (codes "spurious") word s (same_word v _ is) (λ _. refl) (λ n h. h) m)
+    (λ _ e. by_cond (bytes_eq v (codes "tick")) _ _ _ _ e (λ is m. tick_takes v word s (same_word v _ is) m) (λ _ none. none_some s _ none)))))
 
 -- a line that is a step
 step_line_takes : (ws : List (List ℕ)) (o : Option StepLine) (l : Line) → ((s : StepLine) → o ≡ Some s → StepFits s × (ws ≡ step_words s)) → option_map Step o ≡ Some l → Fits l × (ws ≡ line_words l)
@@ -261,6 +262,7 @@ words_again (Step (Begin t (IsInterrupted u))) fits = rw (fits.0, fits.1) refl
 words_again (Step (Begin t End)) fits = rw fits.0 refl
 words_again (Step (Go t)) fits = rw fits refl
 words_again (Step (Expire t)) fits = rw fits refl
+words_again (Step (Spurious t)) fits = rw fits refl
 words_again (Step (Tick now)) fits = rw (number_again now fits) refl
 
 call_plain : (call : Call) → CallFits call → ArePlain (call_words call)
@@ -282,6 +284,7 @@ words_plain (Step (Attach t)) fits = (omega arith, (refl, (name_plain t fits, tt
 words_plain (Step (Begin t call)) fits = (omega arith, (refl, (name_plain t fits.0, call_plain call fits.1)))
 words_plain (Step (Go t)) fits = (omega arith, (refl, (name_plain t fits, tt)))
 words_plain (Step (Expire t)) fits = (omega arith, (refl, (name_plain t fits, tt)))
+words_plain (Step (Spurious t)) fits = (omega arith, (refl, (name_plain t fits, tt)))
 words_plain (Step (Tick now)) fits = (omega arith, (refl, (decimal_plain now fits, tt)))
 
 pub line_again : (l : Line) → Fits l → line_at (line_text l) ≡ Some l

@@ -6,7 +6,7 @@ use Rattle.std.specs.Str.{bytes_eq}
 use Rattle.history_text.specs.declared.lines.Line.{Line}
 use Rattle.history_text.specs.declared.lines.Line.TheVariants.{World, Object, Step}
 use Rattle.history_text.specs.declared.lines.StepLine.{StepLine}
-use Rattle.history_text.specs.declared.lines.StepLine.TheVariants.{Attach, Begin, Go, Expire, Tick}
+use Rattle.history_text.specs.declared.lines.StepLine.TheVariants.{Attach, Begin, Go, Expire, Spurious, Tick}
 use Rattle.history_text.specs.declared.lines.Call.{Call}
 use Rattle.history_text.specs.declared.lines.Call.TheVariants.{Enter, Exit, Wait, Notify, NotifyAll, Holds, Interrupt, Interrupted, IsInterrupted, End}
 use Rattle.history_text.specs.Words.{IsBelow, is_name, name_from, number_from, signed_from, nanos_from, low_text, low_from}
@@ -31,6 +31,7 @@ step_words (Attach thread) = codes "attach" ∷ thread ∷ []
 step_words (Begin thread call) = codes "begin" ∷ thread ∷ call_words call
 step_words (Go thread) = codes "go" ∷ thread ∷ []
 step_words (Expire thread) = codes "expire" ∷ thread ∷ []
+step_words (Spurious thread) = codes "spurious" ∷ thread ∷ []
 step_words (Tick now) = codes "tick" ∷ decimal now ∷ []
 
 abbrev pub line_words : Line → List (List ℕ)
@@ -67,6 +68,7 @@ StepFits (Attach thread) = is_name thread ≡ true
 StepFits (Begin thread call) = (is_name thread ≡ true) × CallFits call
 StepFits (Go thread) = is_name thread ≡ true
 StepFits (Expire thread) = is_name thread ≡ true
+StepFits (Spurious thread) = is_name thread ≡ true
 StepFits (Tick now) = now < 2 ^ 64
 
 -- what a line can say
@@ -165,7 +167,8 @@ step_of_two verb word =
     if bytes_eq verb (codes "attach") then option_map Attach (name_from word)
     else (if bytes_eq verb (codes "go") then option_map Go (name_from word)
     else (if bytes_eq verb (codes "expire") then option_map Expire (name_from word)
-    else (if bytes_eq verb (codes "tick") then option_map Tick (number_from word) else None)))
+    else (if bytes_eq verb (codes "spurious") then option_map Spurious (name_from word)
+    else (if bytes_eq verb (codes "tick") then option_map Tick (number_from word) else None))))
 
 abbrev pub world_from : ℕ → ℕ → Option Line
 world_from m k = if nat_le m 8388608 && nat_le 1 k && nat_le k 32767 then Some (World m k) else None

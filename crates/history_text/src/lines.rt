@@ -30,6 +30,8 @@ pub enum StepLine<'a> {
     Begin { thread: Name<'a>, call: Call<'a> },
     Go(Name<'a>),
     Expire(Name<'a>),
+    /// A spurious wake-up of a thread that waits.
+    Spurious(Name<'a>),
     /// The moment, in nanoseconds.
     Tick(u64),
 }

@@ -56,6 +56,7 @@ fn put_step(out: &mut String, step: &StepLine<'_>) -> Result<(), AllocError>
         }
         StepLine::Go(thread) => writeln!(out, "go {thread}"),
         StepLine::Expire(thread) => writeln!(out, "expire {thread}"),
+        StepLine::Spurious(thread) => writeln!(out, "spurious {thread}"),
         StepLine::Tick(now) => writeln!(out, "tick {now}"),
     }
 }

@@ -196,6 +196,7 @@ fn step_of_two<'a>(verb: &str, word: &'a str) -> Option<StepLine<'a>>
         "attach" => Name::from_text(word).map(StepLine::Attach),
         "go" => Name::from_text(word).map(StepLine::Go),
         "expire" => Name::from_text(word).map(StepLine::Expire),
+        "spurious" => Name::from_text(word).map(StepLine::Spurious),
         "tick" => Some(StepLine::Tick(number_of(word)?)),
         _ => None,
     }

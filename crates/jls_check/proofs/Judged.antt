@@ -28,7 +28,7 @@ use Rattle.jls_check.specs.declared.faults.MoveFault.TheVariants.{Broken, Memory
 use Rattle.jls_check.specs.Judging.{IsUnlawful, IsAttach}
 use Rattle.jls_check.specs.Taking.{takes, taken, answered, attach_at, attach, Outcome}
 use Rattle.jls_check.proofs.Guards.{guarded, guarded_not, refused, refused_not, both_true, owner_is, owner_yes, good_time, time_good}
-use Rattle.jls_check.proofs.Judging.{lock_right, lock_only, unlock_right, unlock_only, illegal_right, illegal_only, bad_argument_right, bad_argument_only, early_right, early_only, wait_right, wait_only, test_clear_right, test_clear_only, expire_right, expire_only, relock_right, relock_only, attach_right, attach_only, make_call_right, make_call_only, live_is, is_live, calls, wanted_as, answer}
+use Rattle.jls_check.proofs.Judging.{lock_right, lock_only, unlock_right, unlock_only, illegal_right, illegal_only, bad_argument_right, bad_argument_only, early_right, early_only, wait_right, wait_only, test_clear_right, test_clear_only, expire_right, expire_only, wake_right, wake_only, relock_right, relock_only, attach_right, attach_only, make_call_right, make_call_only, live_is, is_live, calls, wanted_as, answer}
 
 -- a reply is known by its number
 numbered : ℕ → Reply
@@ -179,6 +179,7 @@ module _ (v : MachineState) where
   takes_right (move.Interrupt t) w sound e = interrupt_right v t w e
   takes_right (move.TestClear t) w sound e = test_clear_right v t w e
   takes_right (move.Expire t) w sound e = expire_right v t w e
+  takes_right (move.Spurious t) w sound e = wake_right v t w e
   takes_right (move.Relock t) w sound e = relock_right v t w sound e
   takes_right (move.Ask t) w sound e = ask_right v t w e
   takes_right (move.Refuse t y) w sound e = refuse_right v t y w e
@@ -201,6 +202,7 @@ module _ (v : MachineState) where
   takes_only (move.Interrupt t) s e p = interrupt_only v t s e p
   takes_only (move.TestClear t) s e p = test_clear_only v t s e p
   takes_only (move.Expire t) s e p = expire_only v t s e p
+  takes_only (move.Spurious t) s e p = wake_only v t s e p
   takes_only (move.Relock t) s e p = relock_only v t s e p
   takes_only (move.Ask t) s e p = ask_only v t s e p
   takes_only (move.Refuse t y) s e p = refuse_only v t y s e p

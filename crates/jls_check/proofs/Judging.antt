@@ -21,7 +21,7 @@ use Rattle.jls_check.specs.declared.monitors.Held.{Held}
 use Rattle.jls_check.specs.declared.machine.Wish.{Wish}
 use Rattle.jls_check.specs.LiveThreads.{live_of}
 use Rattle.jls_check.specs.MachineState.{MachineState, state, put, replied, with_held, held_at, thread_of, monitor_of, is_owned_by, owns, unheld, IsSound}
-use Rattle.jls_check.specs.Taking.{wants, wanted_of, wanted, may_be_locked, lock_for, lock, held_by, less_held, unlock_for, unlock, illegal_on, illegal_for, illegal, wish_for, wish, is_good, bad_argument_of, bad_argument, early_of, early, wait_of, wait, test_clear_for, test_clear, attach_at, attach, exists_below, make_call_from, make_call_at, make_call, expire_from, expire_at, expire, relock_from, relock_at, relock}
+use Rattle.jls_check.specs.Taking.{wants, wanted_of, wanted, may_be_locked, lock_for, lock, held_by, less_held, unlock_for, unlock, illegal_on, illegal_for, illegal, wish_for, wish, is_good, bad_argument_of, bad_argument, early_of, early, wait_of, wait, test_clear_for, test_clear, attach_at, attach, exists_below, make_call_from, make_call_at, make_call, expire_from, wake_from, expire_at, wake_at, expire, wake, relock_from, relock_at, relock}
 use Rattle.jls_check.proofs.Guards.{guarded, guarded_not, refused, refused_not, both_true, flipped, good_time, time_good, never, owner_is, owner_yes, owner_not}
 use Rattle.jls_check.proofs.States.{state-put, state-with_held}
 
@@ -291,6 +291,26 @@ module _ (v : MachineState) (t : ThreadId) where
       let due = p.5 in
       let no : v.moment < p.3 = ltb-true v.moment p.3 late in
       omega (arith, due, no)
+
+  pub wake_right : (w : MachineState) → wake v t ≡ Some w → Steps (state v) (move.Spurious t) (state w)
+  wake_right w e = by (live_of v.threads t) refl e
+    where
+      on : (flag : Bool) (d : Doing) → live_of v.threads t ≡ Some (live flag d) → wake_from v t flag d ≡ Some w → Steps (state v) (move.Spurious t) (state w)
+      on flag (Waits o n d) h e =
+          let one = same_Some (put v t flag (Back o n why.Spurious)) w e in
+          (flag, o, n, d, is_live (live flag (Waits o n d)) h, sym (ap state one) ∙ state-put v t flag (Back o n why.Spurious))
+      on flag Idle h e = absurd (cc)
+      on flag (Wants c) h e = absurd (cc)
+      on flag (Back o n w) h e = absurd (cc)
+      on flag (Has r) h e = absurd (cc)
+
+      by : (q : Option Live) → live_of v.threads t ≡ q → wake_at v t q ≡ Some w → Steps (state v) (move.Spurious t) (state w)
+      by None h e = absurd (cc)
+      by (Some x) h e = on x.flag x.act h e
+
+  pub wake_only : (s : State) → wake v t ≡ None → Steps (state v) (move.Spurious t) s → ⊥
+  wake_only s e p =
+      let never : ◌≡◌ {A = Option MachineState} (Some (put v t p.0 (Back p.1 p.2 why.Spurious))) None = ap (wake_at v t) (sym (live_is p.0 (Waits p.1 p.2 p.3) p.4)) ∙ e in cc
 
   pub relock_right : (w : MachineState) → IsSound v → relock v t ≡ Some w → Steps (state v) (move.Relock t) (state w)
   relock_right w sound e = by (live_of v.threads t) refl e

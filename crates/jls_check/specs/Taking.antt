@@ -282,6 +282,20 @@ expire_at v t (Some x) = expire_from v t x.flag x.act
 abbrev pub expire : MachineState → ThreadId → Option MachineState
 expire v t = expire_at v t (live_of v.threads t)
 
+abbrev pub wake_from : MachineState → ThreadId → Bool → Doing → Option MachineState
+wake_from v t flag (Waits o n d) = Some (put v t flag (Back o n why.Spurious))
+wake_from v t flag Idle = None
+wake_from v t flag (Wants c) = None
+wake_from v t flag (Back o n w) = None
+wake_from v t flag (Has r) = None
+
+abbrev pub wake_at : MachineState → ThreadId → Option Live → Option MachineState
+wake_at v t None = None
+wake_at v t (Some x) = wake_from v t x.flag x.act
+
+abbrev pub wake : MachineState → ThreadId → Option MachineState
+wake v t = wake_at v t (live_of v.threads t)
+
 abbrev pub relock_from : MachineState → ThreadId → Bool → Doing → Option MachineState
 relock_from v t flag (Back o n w) =
     if is_some (held_at v o).owner then None else Some (with_held (replied v t (flag_back w flag) (reply_of w)) o (held_by t n))
@@ -363,6 +377,7 @@ takes v (move.NotifyAll t) = notify_all v t
 takes v (move.Interrupt t) = interrupt v t
 takes v (move.TestClear t) = test_clear v t
 takes v (move.Expire t) = expire v t
+takes v (move.Spurious t) = wake v t
 takes v (move.Relock t) = relock v t
 takes v (move.Ask t) = ask v t
 takes v (move.Refuse t why) = refuse v t why

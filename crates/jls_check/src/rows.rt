@@ -301,6 +301,27 @@ impl Machine {
         Ok(())
     }
 
+    pub(crate) fn wake(&mut self, thread: ThreadId) -> Result<(), MoveFault>
+        ensures { record { answer = result; after = self.new } ≡ taken self.old (rows.wake self.old thread) }
+    {
+        let Some(
+            Live {
+                flag,
+                act: Doing::Waits { object, holds, .. },
+            },
+        ) = self.threads.get(thread)
+        else {
+            return Err(MoveFault::Broken);
+        };
+        let back = Doing::Back {
+            object,
+            holds,
+            why: Why::Spurious,
+        };
+        self.put(thread, flag, back);
+        Ok(())
+    }
+
     pub(crate) fn relock(&mut self, thread: ThreadId) -> Result<(), MoveFault>
         ensures { record { answer = result; after = self.new } ≡ taken self.old (rows.relock self.old thread) }
     {
@@ -318,7 +339,7 @@ impl Machine {
         }
         let (flag, reply) = match why {
             Why::Interrupted => (false, Reply::Interrupted),
-            Why::Notified | Why::Elapsed => (flag, Reply::WaitOver),
+            Why::Notified | Why::Elapsed | Why::Spurious => (flag, Reply::WaitOver),
         };
         self.reply(thread, flag, reply);
         self.hold(object, Held::by(thread, holds));

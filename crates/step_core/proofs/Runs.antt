@@ -5,5 +5,5 @@ pub mod ActionShows
 pub mod ActionRuns
 pub mod NotifyRuns
 pub mod InterruptRuns
-pub mod ExpireRuns
+pub mod WaitEndRuns
 pub mod StageRuns

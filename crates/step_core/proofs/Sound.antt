@@ -4,6 +4,6 @@ pub mod Parts
 pub mod Stages
 pub mod Attach
 pub mod End
-pub mod Expire
+pub mod WaitEnds
 pub mod Opening
 pub mod AllSteps

@@ -61,5 +61,7 @@ Changes w (step.Begin t c) Label w' = Same w w'
 Changes w (step.Go t) a w' = GoChanges w t a w'
 Changes w (step.Expire t) (Acted action.Expire answer.Quiet) w' =
     (w'.words ≡ w.words) × (w'.fats ≡ (acted w.fats t action.Expire).after)
+Changes w (step.Spurious t) (Acted action.Spurious answer.Quiet) w' =
+    (w'.words ≡ w.words) × (w'.fats ≡ (acted w.fats t action.Spurious).after)
 Changes w (step.Tick now) Label w' = (w'.words ≡ w.words) × (w'.fats ≡ with_moment w.fats now)
 Changes w s a w' = ⊥

@@ -158,7 +158,7 @@ abbrev pub place_after : Answer → Place
 place_after (answer.Reply r) = Idle
 place_after a = AtPost
 
--- The fat action of a call, which is never refused: only an Expire and a Collect may be.
+-- The fat action of a call, which is never refused: only an Expire, a Spurious and a Collect may be.
 abbrev pub after_told : WorldState → ThreadId → Call → Action → Result Done ActFault → FatState → AfterGo
 after_told w t c a (Ok d) f = fats_changed w f (place_after d.answer) (did_action c a f t d)
 after_told w t c a (Err e) f = place_only w Idle (no_move atomic.Label)

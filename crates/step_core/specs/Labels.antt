@@ -32,6 +32,7 @@ HasLabels (step.Attach t) d = (moves_made d.moves ≡ Attach t ∷ []) × (d.rep
 HasLabels (step.Begin t c) d = (moves_made d.moves ≡ Call t c ∷ []) × (d.reply ≡ None)
 HasLabels (step.Go t) d = EndsWith t (moves_made d.moves) d.reply
 HasLabels (step.Expire t) d = EndsWith t (moves_made d.moves) None × (d.reply ≡ None)
+HasLabels (step.Spurious t) d = EndsWith t (moves_made d.moves) None × (d.reply ≡ None)
 HasLabels (step.Tick now) d = (moves_made d.moves ≡ Time now ∷ []) × (d.reply ≡ None)
 
 -- the return with a reply, if there is one
@@ -46,6 +47,7 @@ labels_for (step.Attach t) (Ok d) = Attach t ∷ []
 labels_for (step.Begin t c) (Ok d) = Call t c ∷ []
 labels_for (step.Go t) (Ok d) = returned_with t d.reply
 labels_for (step.Expire t) (Ok d) = []
+labels_for (step.Spurious t) (Ok d) = []
 labels_for (step.Tick now) (Ok d) = Time now ∷ []
 
 -- the labels of a list of steps, each with whether its growth is granted

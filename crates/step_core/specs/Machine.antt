@@ -133,11 +133,13 @@ abbrev pub reply_of : Why → Reply
 reply_of why.Notified = reply.WaitOver
 reply_of why.Interrupted = reply.Interrupted
 reply_of why.Elapsed = reply.WaitOver
+reply_of why.Spurious = reply.WaitOver
 
 abbrev pub flag_back : Why → Bool → Bool
 flag_back why.Notified flag = flag
 flag_back why.Interrupted flag = false
 flag_back why.Elapsed flag = flag
+flag_back why.Spurious flag = flag
 
 -- the object whose owner alone may make this call
 abbrev pub owner_only : Call → Option ObjectId
@@ -218,6 +220,9 @@ Steps s (move.TestClear t) s' = (flag : Bool) × Calls s t flag call.Interrupted
 Steps s (move.Expire t) s' =
     (flag : Bool) × (o : ObjectId) × (n d : ℕ) × Is s t flag (Waits o n (Some d)) × (d ≤ s.moment)
     × (s' ≡ now_is s t flag (Back o n why.Elapsed))
+Steps s (move.Spurious t) s' =
+    (flag : Bool) × (o : ObjectId) × (n : ℕ) × (d : Option ℕ) × Is s t flag (Waits o n d)
+    × (s' ≡ now_is s t flag (Back o n why.Spurious))
 Steps s (move.Relock t) s' =
     (flag : Bool) × (o : ObjectId) × (n : ℕ) × (w : Why) × Is s t flag (Back o n w) × Unowned s o
     × (s' ≡ with_monitor (with_reply s t (flag_back w flag) (reply_of w)) o (held t n))

@@ -1,7 +1,7 @@
 -- What is written for a fault, and its number.
 use Rattle.std.specs.Prelude.{ℕ, List, codes}
 use Rattle.step_core.specs.declared.steps.Fault.{Fault}
-use Rattle.step_core.specs.declared.steps.Fault.TheVariants.{NoIndex, Memory, Known, NoThread, NoObject, InCall, NotCalling, Parked, NotDue, Backwards}
+use Rattle.step_core.specs.declared.steps.Fault.TheVariants.{NoIndex, Memory, Known, NoThread, NoObject, InCall, NotCalling, Parked, NotDue, Backwards, NotWaiting}
 
 abbrev pub fault_name : Fault → List ℕ
 fault_name NoIndex = codes "NoIndex"
@@ -14,6 +14,7 @@ fault_name NotCalling = codes "NotCalling"
 fault_name Parked = codes "Parked"
 fault_name NotDue = codes "NotDue"
 fault_name Backwards = codes "Backwards"
+fault_name NotWaiting = codes "NotWaiting"
 
 abbrev pub fault_number : Fault → ℕ
 fault_number NoIndex = 1
@@ -26,3 +27,4 @@ fault_number NotCalling = 7
 fault_number Parked = 8
 fault_number NotDue = 9
 fault_number Backwards = 10
+fault_number NotWaiting = 28

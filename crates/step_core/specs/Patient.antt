@@ -72,6 +72,7 @@ abbrev pub IsPatient : WorldState → Step → Did → WorldState → Type 0
 IsPatient w (step.Attach t) d w' = (u : ThreadId) → u.0 ≢ t.0 → left_of w' u ≡ left_of w u
 IsPatient w (step.Begin t c) d w' = (u : ThreadId) → u.0 ≢ t.0 → left_of w' u ≡ left_of w u
 IsPatient w (step.Expire t) d w' = (u : ThreadId) → left_of w' u ≡ left_of w u
+IsPatient w (step.Spurious t) d w' = (u : ThreadId) → left_of w' u ≡ left_of w u
 IsPatient w (step.Tick now) d w' = (u : ThreadId) → left_of w' u ≡ left_of w u
 IsPatient w (step.Go t) d w' = Advances w t d w' × ((u : ThreadId) → u.0 ≢ t.0 → left_of w' u ≡ left_of w u)
 
@@ -82,6 +83,7 @@ goes_of t ((step.Attach u, room) ∷ ss) = goes_of t ss
 goes_of t ((step.Begin u c, room) ∷ ss) = goes_of t ss
 goes_of t ((step.Go u, room) ∷ ss) = if u.0 == t.0 then goes_of t ss + 1 else goes_of t ss
 goes_of t ((step.Expire u, room) ∷ ss) = goes_of t ss
+goes_of t ((step.Spurious u, room) ∷ ss) = goes_of t ss
 goes_of t ((step.Tick now, room) ∷ ss) = goes_of t ss
 
 -- a step is no Go of t, or one that is accepted and neither replies nor parks nor meets another thread
@@ -89,6 +91,7 @@ abbrev pub Lingers : WorldState → ThreadId → (Step × Bool) → Type 0
 Lingers w t (step.Attach u, room) = Unit {0}
 Lingers w t (step.Begin u c, room) = Unit {0}
 Lingers w t (step.Expire u, room) = Unit {0}
+Lingers w t (step.Spurious u, room) = Unit {0}
 Lingers w t (step.Tick now, room) = Unit {0}
 Lingers w t (step.Go u, room) =
     u.0 ≡ t.0 → (d : Did) × ((step_of room w (step.Go u)).answer ≡ Ok d) × (IsSome d.reply → ⊥) × (HasParked d.atomic → ⊥) × (HasMet w u d.atomic → ⊥)

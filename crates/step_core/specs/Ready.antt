@@ -35,9 +35,10 @@ IsReady words f (Bound c won m) = (c.object.0 < length words) × (m ≤ 8388607)
 IsReady words f (Inflated c m) = m < length f.monitors
 IsReady words f (Direct c) = Unit {0}
 
--- the action is a call's own: no Expire, no Collect and no End
+-- the action is a call's own: no Expire, no Spurious, no Collect and no End
 abbrev pub IsOwnAction : Action → Type 0
 IsOwnAction action.Expire = ⊥
+IsOwnAction action.Spurious = ⊥
 IsOwnAction action.Collect = ⊥
 IsOwnAction action.End = ⊥
 IsOwnAction a = Unit {0}

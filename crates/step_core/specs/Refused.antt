@@ -11,7 +11,7 @@ use Rattle.step_core.specs.declared.machine.Doing.TheVariants.{Idle, Waits}
 use Rattle.step_core.specs.declared.steps.Step.{Step}
 use Rattle.step_core.specs.declared.steps.Step.TheVariants as step
 use Rattle.step_core.specs.declared.steps.Fault.{Fault}
-use Rattle.step_core.specs.declared.steps.Fault.TheVariants.{NoIndex, Memory, Known, NoThread, NoObject, InCall, NotCalling, Parked, NotDue, Backwards}
+use Rattle.step_core.specs.declared.steps.Fault.TheVariants.{NoIndex, Memory, Known, NoThread, NoObject, InCall, NotCalling, Parked, NotDue, Backwards, NotWaiting}
 use Rattle.fat_monitor.specs.declared.actions.Cause.{Cause}
 use Rattle.std.specs.Option.{option_map}
 use Rattle.step_core.specs.Machine.{State, Thread, Is, Exists, is_waiting}
@@ -39,6 +39,10 @@ IsParked w t = Stands w.fats.standing.lines t
 abbrev pub IsDue : WorldState → ThreadId → Type 0
 IsDue w t = (flag : Bool) × (o : ObjectId) × (n d : ℕ) × Is (shown w) t flag (Waits o n (Some d)) × (d ≤ (shown w).moment)
 
+-- t waits
+abbrev pub IsWaiting : WorldState → ThreadId → Type 0
+IsWaiting w t = (flag : Bool) × (o : ObjectId) × (n : ℕ) × (d : Option ℕ) × Is (shown w) t flag (Waits o n d)
+
 -- every index is a live thread's
 abbrev pub IsFull : WorldState → Type 0
 IsFull w = (k : ℕ) → k < length w.seats → IsSome (holder_at w.seats k)
@@ -59,6 +63,8 @@ IsRefused w (step.Go t) NotCalling = IsIdle w t
 IsRefused w (step.Go t) Parked = IsLive w t × IsParked w t
 IsRefused w (step.Expire t) NoThread = IsNotLive w t
 IsRefused w (step.Expire t) NotDue = IsLive w t × (IsDue w t → ⊥)
+IsRefused w (step.Spurious t) NoThread = IsNotLive w t
+IsRefused w (step.Spurious t) NotWaiting = IsLive w t × (IsWaiting w t → ⊥)
 IsRefused w (step.Tick now) Backwards = now < (shown w).moment
 IsRefused w s f = ⊥
 

@@ -11,7 +11,7 @@ use Rattle.step_core.specs.declared.machine.Doing.TheVariants.{Idle, Waits}
 use Rattle.step_core.specs.declared.steps.Step.{Step}
 use Rattle.step_core.specs.declared.steps.Step.TheVariants as step
 use Rattle.step_core.specs.declared.steps.Fault.{Fault}
-use Rattle.step_core.specs.declared.steps.Fault.TheVariants.{NoIndex, Memory, Known, NoThread, NoObject, InCall, NotCalling, Parked, NotDue, Backwards}
+use Rattle.step_core.specs.declared.steps.Fault.TheVariants.{NoIndex, Memory, Known, NoThread, NoObject, InCall, NotCalling, Parked, NotDue, Backwards, NotWaiting}
 use Rattle.fat_monitor.specs.declared.actions.Cause.{Cause}
 use Rattle.std.specs.Option.{option_map}
 use Rattle.step_core.specs.Machine.{State, Thread, Is, Exists, is_waiting}

@@ -3,6 +3,7 @@ use Rattle.std.specs.Prelude.{ℕ, Bool, true, false, if◌then◌else◌, nat_l
 use Rattle.lock_word.specs.declared.ThreadId.{ThreadId}
 use Rattle.thread_index.specs.Indices.{seat_of, free_seat}
 use Rattle.fat_monitor.specs.FatState.{FatState, with_thread, with_moment}
+use Rattle.fat_monitor.specs.declared.actions.Action.{Action}
 use Rattle.fat_monitor.specs.declared.actions.Action.TheVariants as action
 use Rattle.fat_monitor.specs.declared.actions.ActFault.{ActFault}
 use Rattle.fat_monitor.specs.declared.actions.Done.{Done}
@@ -118,15 +119,30 @@ abbrev pub after_go : Bool → WorldState → ThreadId → Option ℕ → AfterS
 after_go room w t None = refuse w fault.NoThread
 after_go room w t (Some k) = after_go_at room w k t (place_at w k)
 
--- the wait of a thread is over, or is not due: what the action told and left
-abbrev pub after_expire_as : WorldState → ThreadId → Result Done ActFault → FatState → AfterStep
-after_expire_as w t (Ok d) f =
-    accept (record w { fats = f }) (record { atomic = Acted action.Expire d.answer; moves = Some (move.Expire t) ∷ grant_of f d.granted ∷ None ∷ []; reply = None })
-after_expire_as w t (Err e) f = refuse w fault.NotDue
+-- A wait that ends by itself, and by no other thread: the fat action, the move of the machine, and the fault where
+-- the thread may not make them.
+pub record WaitEnd : Type 0 where
+  pub action : Action
+  pub made : ThreadId → Move
+  pub fault : Fault
 
-abbrev pub after_expire : WorldState → ThreadId → Option ℕ → AfterStep
-after_expire w t None = refuse w fault.NoThread
-after_expire w t (Some k) = after_expire_as w t (acted w.fats t action.Expire).answer (acted w.fats t action.Expire).after
+-- its time is over
+abbrev pub time_over : WaitEnd
+time_over = record { action = action.Expire; made = λ t. move.Expire t; fault = fault.NotDue }
+
+-- a spurious wake-up
+abbrev pub wake_up : WaitEnd
+wake_up = record { action = action.Spurious; made = λ t. move.Spurious t; fault = fault.NotWaiting }
+
+-- the wait of a thread ends so, or may not: what the action told and left
+abbrev pub after_wait_end_as : WaitEnd → WorldState → ThreadId → Result Done ActFault → FatState → AfterStep
+after_wait_end_as x w t (Ok d) f =
+    accept (record w { fats = f }) (record { atomic = Acted x.action d.answer; moves = Some (x.made t) ∷ grant_of f d.granted ∷ None ∷ []; reply = None })
+after_wait_end_as x w t (Err e) f = refuse w x.fault
+
+abbrev pub after_wait_end : WaitEnd → WorldState → ThreadId → Option ℕ → AfterStep
+after_wait_end x w t None = refuse w fault.NoThread
+after_wait_end x w t (Some k) = after_wait_end_as x w t (acted w.fats t x.action).answer (acted w.fats t x.action).after
 
 -- the moment is told; it never falls
 abbrev pub after_tick : WorldState → ℕ → AfterStep
@@ -138,7 +154,8 @@ abbrev pub step_of : Bool → WorldState → Step → AfterStep
 step_of room w (step.Attach t) = after_attach room w t (seat_of w.seats t) (free_seat w.seats)
 step_of room w (step.Begin t c) = after_begin w t c (seat_of w.seats t)
 step_of room w (step.Go t) = after_go room w t (seat_of w.seats t)
-step_of room w (step.Expire t) = after_expire w t (seat_of w.seats t)
+step_of room w (step.Expire t) = after_wait_end time_over w t (seat_of w.seats t)
+step_of room w (step.Spurious t) = after_wait_end wake_up w t (seat_of w.seats t)
 step_of room w (step.Tick now) = after_tick w now
 
 -- the moves that are there

@@ -1,20 +1,22 @@
-//! The steps that are no Go: a thread is attached or begins a call, a wait expires, the moment is told.
+//! The steps that are no Go: a thread is attached or begins a call, a wait ends by itself, the moment is told.
 
-ghost use Rattle.std.specs.Prelude.{◌≡◌, ◌≤◌, List, length, Bool, true, Option, IsSome, is_some, count_by};
+ghost use Rattle.std.specs.Prelude.{◌≡◌, ◌≤◌, List, [], ◌∷◌, length, Bool, true, Option, Some, None, IsSome, is_some, count_by};
 ghost use Rattle.lock_word.specs.declared.ThreadId.{ThreadId};
 ghost use Rattle.lock_word.specs.declared.Word.{Word};
 ghost use Rattle.thread_index.specs.Indices.{seat_of};
 ghost use Rattle.fat_monitor.specs.FatState.{FatState, IsAttached, thread_count};
 ghost use Rattle.fast_path.specs.Calls.{subject_of};
 ghost use Rattle.step_core.specs.Ready.{world_of};
+ghost use Rattle.step_core.specs.Did.{grant_of};
 ghost use Rattle.step_core.specs.Step.{first_place, step_of};
+ghost use Rattle.step_core.specs.declared.steps.Atomic.TheVariants.{Acted};
 ghost use Rattle.step_core.specs.declared.steps.Step.TheVariants as step;
 ghost use Rattle.step_core.specs.declared.places.Place.{Place};
 
 use crate::steps::grant_of;
 use crate::{Atomic, Did, Fault, Move, Place, Stage};
 use fast_path::{Call, Subject};
-use fat_monitor::{Action, AttachFault, Fats};
+use fat_monitor::{Action, AttachFault, Done, Fats};
 use lock_word::{ThreadId, Word};
 use thread_index::{Indices, TakeFault};
 
@@ -109,13 +111,41 @@ pub(crate) fn expire(indices: &Indices, fats: &mut Fats, thread: ThreadId) -> Re
     let Ok(done) = fats.act(thread, action) else {
         return Err(Fault::NotDue);
     };
+    Ok(end_of_wait(fats, action, Move::Expire { thread }, done))
+}
+
+/// Ends the wait of a thread for no reason that a program can see.
+pub(crate) fn wake(indices: &Indices, fats: &mut Fats, thread: ThreadId) -> Result<Did, Fault>
+    requires { IsSome (seat_of indices.now thread) → IsAttached fats.old thread }
+    ensures { (words : List Word) → (places : List Place)
+        → record { answer = result; after = world_of words indices.now places fats.new }
+        ≡ step_of true (world_of words indices.now places fats.old) (step.Spurious thread) }
+{
+    if indices.index_of(thread).is_none() {
+        return Err(Fault::NoThread);
+    }
+    let action = Action::Spurious;
+    let Ok(done) = fats.act(thread, action) else {
+        return Err(Fault::NotWaiting);
+    };
+    Ok(end_of_wait(fats, action, Move::Spurious { thread }, done))
+}
+
+/// What a step did by which a wait ended by itself.
+fn end_of_wait(fats: &Fats, action: Action, made: Move, done: Done) -> Did
+    ensures { result ≡ record {
+        atomic = Acted action done.answer;
+        moves = Some made ∷ grant_of fats.now done.granted ∷ None ∷ [];
+        reply = None;
+    } }
+{
     let granted = grant_of(fats, done.granted);
     let answer = done.answer;
-    Ok(Did {
+    Did {
         atomic: Atomic::Acted { action, answer },
-        moves: [Some(Move::Expire { thread }), granted, None],
+        moves: [Some(made), granted, None],
         reply: None,
-    })
+    }
 }
 
 /// Tells the moment.

@@ -7,7 +7,7 @@ ghost use Rattle.lock_word.specs.declared.ObjectId.{ObjectId};
 ghost use Rattle.fat_monitor.specs.declared.actions.Reply.{Reply};
 ghost use Rattle.fat_monitor.specs.declared.actions.Reply.TheVariants.{WaitOver, Interrupted as Throws};
 ghost use Rattle.fat_monitor.specs.declared.actions.Why.{Why};
-ghost use Rattle.fat_monitor.specs.declared.actions.Why.TheVariants.{Notified, Interrupted, Elapsed};
+ghost use Rattle.fat_monitor.specs.declared.actions.Why.TheVariants.{Notified, Interrupted, Elapsed, Spurious};
 ghost use Rattle.thread_index.specs.Indices.{IsOneToOne};
 ghost use Rattle.fast_path.specs.declared.Call.TheVariants as call;
 ghost use Rattle.step_core.specs.declared.steps.Step.{Step};
@@ -55,10 +55,10 @@ pub fn every_call_is_patient()
 {}
 
 /// A thread that was notified stays so, whatever steps come, until its call has the reply that its wait is
-/// over, and so does one whose time was over; one that an interrupt took out of the wait set stays so until its
+/// over, and so does one whose time was over, or that woke spuriously; one that an interrupt took out of the wait set stays so until its
 /// call has the reply Interrupted; and a reply, however it was given, is kept until the thread's own Go returns
 /// with it.
-#[tactic(auto, using(crate::proofs::Lists::Reached::reached_notified, crate::proofs::Lists::Reached::reached_interrupted, crate::proofs::Lists::Reached::reached_elapsed, crate::proofs::Lists::Reached::reached_kept))]
+#[tactic(auto, using(crate::proofs::Lists::Reached::reached_notified, crate::proofs::Lists::Reached::reached_interrupted, crate::proofs::Lists::Reached::reached_elapsed, crate::proofs::Lists::Reached::reached_spurious, crate::proofs::Lists::Reached::reached_kept))]
 pub fn no_notification_is_lost()
     ensures notified { OfEveryList (λ lows w steps v.
         (u : ThreadId) (o : ObjectId) (n : ℕ) (more : List (Step × Bool))
@@ -74,6 +74,11 @@ pub fn no_notification_is_lost()
         (u : ThreadId) (o : ObjectId) (n : ℕ) (more : List (Step × Bool))
         → IsBack (shown v) u o n Elapsed → NeverReturns v u WaitOver more
         → IsBack (shown (world_after v more)) u o n Elapsed
+        ⊎ HasReply (shown (world_after v more)) u WaitOver) }
+    ensures spurious { OfEveryList (λ lows w steps v.
+        (u : ThreadId) (o : ObjectId) (n : ℕ) (more : List (Step × Bool))
+        → IsBack (shown v) u o n Spurious → NeverReturns v u WaitOver more
+        → IsBack (shown (world_after v more)) u o n Spurious
         ⊎ HasReply (shown (world_after v more)) u WaitOver) }
     ensures kept { OfEveryList (λ lows w steps v.
         (u : ThreadId) (r : Reply) (more : List (Step × Bool))

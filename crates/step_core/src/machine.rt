@@ -91,6 +91,10 @@ pub enum Move {
     Expire {
         thread: ThreadId,
     },
+    /// It leaves the wait set by an internal action of the implementation: a spurious wake-up.
+    Spurious {
+        thread: ThreadId,
+    },
     /// It is back from a wait set, and locks the object as often as before; where an interrupt took it out
     /// of there, the interrupt is forgotten.
     Relock {

@@ -128,6 +128,7 @@ impl World {
             Step::Begin { thread, call } => self.begin(thread, call),
             Step::Go { thread } => self.go(thread),
             Step::Expire { thread } => self.expire(thread),
+            Step::Spurious { thread } => self.wake(thread),
             Step::Tick { now } => self.tick(now),
         }
     }
@@ -170,6 +171,14 @@ impl World {
             ≡ step_of true self.old (step.Expire thread) }
     {
         control::expire(&self.indices, &mut self.fats, thread)
+    }
+
+    fn wake(&mut self, thread: ThreadId) -> Result<Did, Fault>
+        ensures was { IsSound self.old }
+        ensures exact { record { answer = result; after = self.new }
+            ≡ step_of true self.old (step.Spurious thread) }
+    {
+        control::wake(&self.indices, &mut self.fats, thread)
     }
 
     fn tick(&mut self, now: u64) -> Result<Did, Fault>

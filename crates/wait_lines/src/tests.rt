@@ -125,3 +125,14 @@ fn threads_join_and_leave_in_no_order(rt: HostRuntime) -> Result<(), Fail> {
     }
     Ok(())
 }
+
+#[test]
+fn there_is_room_for_every_thread(rt: HostRuntime) -> Result<(), Fail> {
+    let mut lines = Lines::new(rt.alloc());
+    for number in 0..32_767u16 {
+        assert_eq!(rt; lines.reservations(), number);
+        lines.reserve_one()?;
+    }
+    assert_eq!(rt; lines.reservations(), 32_767);
+    Ok(())
+}

@@ -5,10 +5,11 @@ ghost use Rattle.std.specs.Prelude.{true, false, ◌≡◌, ℕ, ◌<◌, length
 ghost use Rattle.lock_word.specs.declared.ThreadId.{ThreadId};
 ghost use Rattle.wait_lines.specs.declared.Role.{Role};
 ghost use Rattle.fat_monitor.specs.declared.actions.Action.{Action};
+ghost use Rattle.fat_monitor.specs.declared.actions.Answer.{Answer};
 ghost use Rattle.fat_monitor.specs.declared.actions.Post.{Post};
 ghost use Rattle.wait_lines.specs.Lines.{key};
 ghost use Rattle.fat_monitor.specs.FatState.{post_at, post_of, IsAttached, owns_one, monitor_at, is_owned_by, first_of, place_of, ComesBack};
-ghost use Rattle.fat_monitor.specs.Acting.{acted, handed_on, granted, removed, served};
+ghost use Rattle.fat_monitor.specs.Acting.{acted, told, handed_on, granted, removed, served};
 
 use super::Fats;
 use crate::replies::{granted_to, is_owner, reply_with, tell, yes_or_no};
@@ -159,8 +160,28 @@ impl Fats {
         if u128::from(self.moment) < deadline {
             return Err(ActFault::NotDue);
         }
-        let granted = self.call_back(thread, Why::Elapsed);
-        Ok(tell(Answer::Quiet, granted, None))
+        Ok(self.end_wait(thread, Why::Elapsed))
+    }
+
+    /// Takes the thread out of the wait set that it stands in, for no reason that a program can see.
+    pub(super) fn wake(&mut self, thread: ThreadId) -> Result<Done, ActFault>
+        ensures { record { answer = result; after = self.new } ≡ acted self.old thread Action.Spurious }
+    {
+        let Some(Post::Waiting { .. }) = self.posts.get(thread) else {
+            return Err(ActFault::NotWaiting);
+        };
+        Ok(self.end_wait(thread, Why::Spurious))
+    }
+
+    /// Ends the wait of a thread by itself, for this reason.
+    fn end_wait(&mut self, thread: ThreadId, why: Why) -> Done
+        requires waits { (m : ℕ) × (n : ℕ) × (d : Option ℕ) × (post_of self.old thread ≡ Some (Post.Waiting m n d)) }
+        ensures { record { answer = Ok result; after = self.new }
+            ≡ told (removed self.old thread why (post_at self.old thread)) Answer.Quiet
+            (served self.old thread (post_at self.old thread)) None }
+    {
+        let granted = self.call_back(thread, why);
+        tell(Answer::Quiet, granted, None)
     }
 
     /// Takes the reply that the thread was granted, if it was granted one.

@@ -1,7 +1,7 @@
 //! The moment, and waits that are over.
 
 use crate::tests::{
-    EIGHT, ENTER, EXIT, SEVEN, WAIT, act, collect, exited, expire, parked, replied, told, world,
+    EIGHT, ENTER, EXIT, SEVEN, WAIT, act, collect, exited, expire, parked, replied, told, wake, world,
 };
 use crate::{ActFault, Action, Answer, Backwards, Post, Reply, Why};
 use std::test::Fail;
@@ -94,6 +94,28 @@ fn only_a_wait_of_a_limit_is_over(rt: HostRuntime) -> Result<(), Fail> {
     assert_eq!(rt;
         format!(in rt.alloc(); "{}", ActFault::NotDue)?.as_str(),
         "no wait of the thread is over"
+    );
+    Ok(())
+}
+
+#[test]
+fn only_a_thread_of_the_wait_set_wakes_spuriously(rt: HostRuntime) -> Result<(), Fail> {
+    let mut fats = world(&rt, rt.alloc(), 2);
+    assert_eq!(rt; wake(&rt, &mut fats, SEVEN), Err(ActFault::NotWaiting));
+    assert_eq!(rt; act(&rt, &mut fats, EIGHT, ENTER), parked(None));
+    assert_eq!(rt; wake(&rt, &mut fats, EIGHT), Err(ActFault::NotWaiting));
+    assert_eq!(rt; act(&rt, &mut fats, SEVEN, WAIT), parked(Some(EIGHT)));
+    assert_eq!(rt; wake(&rt, &mut fats, SEVEN), Ok(told(Answer::Quiet, None)));
+    let back = Post::Back {
+        monitor: 0,
+        holds: 2,
+        why: Why::Spurious,
+    };
+    assert_eq!(rt; fats.post(SEVEN), Some(back));
+    assert_eq!(rt; wake(&rt, &mut fats, SEVEN), Err(ActFault::NotWaiting));
+    assert_eq!(rt;
+        format!(in rt.alloc(); "{}", ActFault::NotWaiting)?.as_str(),
+        "the thread does not wait"
     );
     Ok(())
 }

@@ -1,12 +1,13 @@
 //! The book behind the gate, and the monitors that are published from it.
 ghost use Rattle.std.specs.Prelude.{◌≡◌, ◌<◌, ◌+◌, length, true, false, IfSome};
+ghost use Rattle.std.specs.Bool.{OnTrue};
 ghost use Rattle.header_words.specs.Bindings.{Binds, Covers};
 ghost use Rattle.header_words.specs.Passes.{depth_at, new_passes};
 
 use super::books::{Ledger, Names};
 use crate::{Headers, Kept, OpenFault, Pass};
-use fat_monitor::Receipt;
-use lock_word::{Lock, ObjectId, decode};
+use fat_monitor::{Fats, Receipt};
+use lock_word::{Lock, ObjectId, ThreadId, Word, decode};
 use std::alloc::Global;
 use std::test::Fail;
 use std::thread::{Threads, join};
@@ -33,6 +34,35 @@ fn monitor_of<B: Kept>(
     };
     let book = headers.take(pass)?;
     Some((monitor, book))
+}
+
+// The receipt for monitor 0, which a world of fat monitors binds to the object for two holds of thread 1.
+fn receipt_for_two_holds(alloc: Global) -> Option<Receipt>
+    ensures object { IfSome result (λ r. r.object.0 ≡ 0) }
+    ensures owner { IfSome result (λ r. r.owner.0 ≡ 1) }
+    ensures holds { IfSome result (λ r. r.holds ≡ 2) }
+{
+    let mut fats = Fats::new(alloc, 1);
+    fats.attach(ThreadId(1)).ok()?;
+    fats.bind(OBJECT, ThreadId(1), 2).ok()
+}
+
+// Acquires the object and nests it, so that the pass holds it twice. False where its word is not free.
+fn hold_twice<B: Kept>(headers: &Headers<B>, pass: &mut Pass<B>, object: ObjectId) -> bool
+    requires belongs { pass.old.opening ≡ headers.now }
+    requires object { object.0 < length headers.now.lows }
+    requires free { depth_at pass.old object.0 ≡ 0 }
+    requires without { pass.old.has_gate ≡ false }
+    ensures belongs { pass.new.opening ≡ headers.now }
+    ensures index { pass.new.index ≡ pass.old.index }
+    ensures without { pass.new.has_gate ≡ false }
+    ensures twice { OnTrue result (depth_at pass.new object.0 ≡ 2) }
+{
+    if !headers.acquire(pass, object) {
+        return false;
+    }
+    headers.nest(pass, object);
+    true
 }
 
 // Binds the monitor of the receipt in the book in hand, publishes it, and gives the book back.
@@ -119,7 +149,8 @@ fn add_often(
 // Opens the words of one object for two passes. Where an allocation is refused, the book comes back,
 // and is opened again.
 fn open_for_two(alloc: Global, names: Names) -> Option<(Headers<Names>, Vec<Pass<Names>>)>
-    ensures { IfSome result (λ r. r.1.items ≡ new_passes r.0 1 2) }
+    ensures objects { IfSome result (λ r. length r.0.lows ≡ 1) }
+    ensures passes { IfSome result (λ r. r.1.items ≡ new_passes r.0 1 2) }
 {
     match Headers::open(alloc, &[0xa5], 2, names) {
         Ok(opened) => Some(opened),
@@ -153,6 +184,37 @@ fn the_book_is_taken_by_one_pass_at_a_time(rt: HostRuntime) -> Result<(), Fail> 
     assert_eq!(rt; names.object(0), Some(ObjectId(7)));
     assert_eq!(rt; names.object(1), None);
     headers.give(&mut second, names);
+    Ok(())
+}
+
+#[test]
+fn a_receipt_is_published(rt: HostRuntime) -> Result<(), Fail> {
+    let receipt = receipt_for_two_holds(rt.alloc()).ok_or("a receipt")?;
+    let names = Names::new(rt.alloc());
+    let Some((headers, mut passes)) = open_for_two(rt.alloc(), names) else {
+        panic!(rt; "memory")
+    };
+    let mut second = passes.pop().ok_or("two passes")?;
+    let mut first = passes.pop().ok_or("two passes")?;
+    assert!(rt; hold_twice(&headers, &mut first, OBJECT));
+    let Some(names) = headers.take(&mut first) else {
+        panic!(rt; "the gate was open")
+    };
+    assert!(rt; inflate(&headers, &mut first, names, receipt));
+    assert_eq!(rt; headers.load(&mut first, OBJECT), Word(0x8000_00a5));
+    assert_eq!(rt; first.depth(OBJECT), 0);
+    assert!(rt; !headers.acquire(&mut first, OBJECT));
+    let Some((monitor, names)) = monitor_of(&headers, &mut second, OBJECT) else {
+        panic!(rt; "the gate is open, and the word is fat")
+    };
+    assert_eq!(rt; monitor, 0);
+    assert_eq!(rt; names.object(0), Some(OBJECT));
+    headers.give(&mut second, names);
+    passes.push(first).ok().ok_or("memory")?;
+    passes.push(second).ok().ok_or("memory")?;
+    let (words, names) = headers.close(rt.alloc(), passes).ok().ok_or("closed")?;
+    assert_eq!(rt; words.as_slice(), [Word(0x8000_00a5)].as_slice());
+    assert_eq!(rt; names.object(0), Some(OBJECT));
     Ok(())
 }
 

@@ -21,7 +21,7 @@ use Rattle.fat_monitor.specs.declared.actions.ActFault.{ActFault}
 use Rattle.fat_monitor.specs.declared.actions.Post.{Post}
 use Rattle.fat_monitor.specs.declared.actions.Post.TheVariants.{Out, Entering, Waiting, Back, Granted}
 use Rattle.fat_monitor.specs.FatState.{FatState, IsAttached, with_moment, post_of, post_at, owns_one}
-use Rattle.fat_monitor.specs.Acting.{Outcome as FatOutcome, acted, MayAct, NamesBound, expired as fat_expired}
+use Rattle.fat_monitor.specs.Acting.{Outcome as FatOutcome, acted, MayAct, NamesBound, expired as fat_expired, woken}
 use Rattle.fast_path.specs.declared.calls.Call.{Call}
 use Rattle.fast_path.specs.declared.calls.MonitorCall.{MonitorCall}
 use Rattle.fast_path.specs.declared.calls.InterruptCall.{InterruptCall}
@@ -44,7 +44,7 @@ use Rattle.step_core.specs.Sound.{IsSound, FittingStage}
 use Rattle.step_core.specs.Ready.{IsOwnAction}
 use Rattle.step_core.specs.Did.{one_move, is_wait}
 use Rattle.step_core.specs.Go.{with_go, new_word, after_load, after_take, after_bind, after_publish, after_told, after_act, after_look_as, after_stage, action_on, action_about, entering, bind_cause}
-use Rattle.step_core.specs.Step.{AfterStep, accept, refuse, after_attach, after_begin, after_go, after_expire, after_expire_as, after_tick, step_of}
+use Rattle.step_core.specs.Step.{AfterStep, accept, refuse, after_attach, after_begin, after_go, time_over, wake_up, after_wait_end, after_wait_end_as, after_tick, step_of}
 use Rattle.step_core.specs.Changes.{IsOwn, GoChanges, Changes}
 use Rattle.step_core.proofs.Facts.OneThread.{thin_fits, lock_of-new_word}
 use Rattle.step_core.proofs.Facts.Cases.{ended_as, begin_cases, go_cases}
@@ -174,19 +174,31 @@ module _ (w : WorldState) (sound : IsSound w) (t : ThreadId) where
   attaches false None (Some k) = tt
 
   -- an expiry that is accept answers nothing
-  expires_at : (p : Post) → post_at w.fats t ≡ p → Named w (step.Expire t) (after_expire_as w t (fat_expired w.fats t p).answer (fat_expired w.fats t p).after)
+  expires_at : (p : Post) → post_at w.fats t ≡ p → Named w (step.Expire t) (after_wait_end_as time_over w t (fat_expired w.fats t p).answer (fat_expired w.fats t p).after)
   expires_at Out e = tt
   expires_at (Entering m) e = tt
   expires_at (Waiting m n None) e = tt
   expires_at (Waiting m n (Some d)) e =
-      cond_both (nat_lt w.fats.moment d) _ _ (λ (x : FatOutcome). x ≡ acted w.fats t action.Expire → Named w (step.Expire t) (after_expire_as w t x.answer x.after))
+      cond_both (nat_lt w.fats.moment d) _ _ (λ (x : FatOutcome). x ≡ acted w.fats t action.Expire → Named w (step.Expire t) (after_wait_end_as time_over w t x.answer x.after))
       (λ _ _. tt) (λ _ same. (refl, ap (λ (x : FatOutcome). x.after) same)) (sym (rw e refl))
   expires_at (Back m n y) e = tt
   expires_at (Granted r) e = tt
 
-  expires : (o : Option ℕ) → Named w (step.Expire t) (after_expire w t o)
+  expires : (o : Option ℕ) → Named w (step.Expire t) (after_wait_end time_over w t o)
   expires None = tt
   expires (Some k) = expires_at (post_at w.fats t) refl
+
+  -- and so does a spurious wake-up
+  wakes_at : (p : Post) → post_at w.fats t ≡ p → Named w (step.Spurious t) (after_wait_end_as wake_up w t (woken w.fats t p).answer (woken w.fats t p).after)
+  wakes_at Out e = tt
+  wakes_at (Entering m) e = tt
+  wakes_at (Waiting m n d) e = (refl, rw e refl)
+  wakes_at (Back m n y) e = tt
+  wakes_at (Granted r) e = tt
+
+  wakes : (o : Option ℕ) → Named w (step.Spurious t) (after_wait_end wake_up w t o)
+  wakes None = tt
+  wakes (Some k) = wakes_at (post_at w.fats t) refl
 
 ticks : (w : WorldState) (now : ℕ) → Named w (step.Tick now) (after_tick w now)
 ticks w now =
@@ -199,4 +211,5 @@ step_changes w sound room (step.Attach t) = attaches w sound t room (seat_of w.s
 step_changes w sound room (step.Begin t c) = begins w sound t c
 step_changes w sound room (step.Go t) = goes w sound t room
 step_changes w sound room (step.Expire t) = expires w sound t (seat_of w.seats t)
+step_changes w sound room (step.Spurious t) = wakes w sound t (seat_of w.seats t)
 step_changes w sound room (step.Tick now) = ticks w now

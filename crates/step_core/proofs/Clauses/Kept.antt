@@ -36,7 +36,7 @@ use Rattle.step_core.specs.World.{WorldState, is_own, word_at, lock_at, low_word
 use Rattle.step_core.specs.Sound.{IsSound, FittingStage}
 use Rattle.step_core.specs.Did.{one_move}
 use Rattle.step_core.specs.Go.{AfterGo, with_go, new_word, after_load, after_take, after_store, after_bind, after_publish, after_told, after_act, after_look_as, after_stage, action_on, action_about, entering, bind_cause}
-use Rattle.step_core.specs.Step.{AfterStep, accept, refuse, after_attach, after_begin, after_go, after_expire, after_expire_as, after_tick, step_of}
+use Rattle.step_core.specs.Step.{AfterStep, accept, refuse, after_attach, after_begin, after_go, WaitEnd, time_over, wake_up, after_wait_end, after_wait_end_as, after_tick, step_of}
 use Rattle.step_core.specs.Kept.{Keeps}
 use Rattle.step_core.proofs.Facts.Cases.{ended_as, begin_cases, go_cases}
 use Rattle.step_core.proofs.Facts.OneThread.{within, thin_fits}
@@ -128,13 +128,13 @@ wents w sound t = go_cases w sound t (λ o. Keeps w o.after)
     (λ k seat at stands. same w _ refl)
     (λ k seat r at granted. same w _ refl)
 
-expires_as : (w : WorldState) (t : ThreadId) (r : Result Done ActFault) (f : FatState) → Keeps w (after_expire_as w t r f).after
-expires_as w t (Ok d) f = same w _ refl
-expires_as w t (Err e) f = same w _ refl
+wait_ends_as : (x : WaitEnd) (w : WorldState) (t : ThreadId) (r : Result Done ActFault) (f : FatState) → Keeps w (after_wait_end_as x w t r f).after
+wait_ends_as x w t (Ok d) f = same w _ refl
+wait_ends_as x w t (Err e) f = same w _ refl
 
-expires : (w : WorldState) (t : ThreadId) (o : Option ℕ) → Keeps w (after_expire w t o).after
-expires w t None = same w _ refl
-expires w t (Some k) = expires_as w t (acted w.fats t action.Expire).answer (acted w.fats t action.Expire).after
+wait_ends : (x : WaitEnd) (w : WorldState) (t : ThreadId) (o : Option ℕ) → Keeps w (after_wait_end x w t o).after
+wait_ends x w t None = same w _ refl
+wait_ends x w t (Some k) = wait_ends_as x w t (acted w.fats t x.action).answer (acted w.fats t x.action).after
 
 ticks : (w : WorldState) (now : ℕ) → Keeps w (after_tick w now).after
 ticks w now =
@@ -146,5 +146,6 @@ pub step_keeps : (w : WorldState) → IsSound w → (room : Bool) (s : Step) →
 step_keeps w sound room (step.Attach t) = attaches w room t (seat_of w.seats t) (free_seat w.seats)
 step_keeps w sound room (step.Begin t c) = begins w t c
 step_keeps w sound room (step.Go t) = wents w sound t room
-step_keeps w sound room (step.Expire t) = expires w t (seat_of w.seats t)
+step_keeps w sound room (step.Expire t) = wait_ends time_over w t (seat_of w.seats t)
+step_keeps w sound room (step.Spurious t) = wait_ends wake_up w t (seat_of w.seats t)
 step_keeps w sound room (step.Tick now) = ticks w now

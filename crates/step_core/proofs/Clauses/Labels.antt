@@ -22,7 +22,7 @@ use Rattle.fat_monitor.specs.declared.actions.Post.{Post}
 use Rattle.fat_monitor.specs.declared.actions.Post.TheVariants.{Out, Entering, Waiting, Back, Granted}
 use Rattle.wait_lines.specs.declared.Role.TheVariants.{Waiting as WaitSet}
 use Rattle.fat_monitor.specs.FatState.{FatState, IsProper, monitor_at, first_of, line_of, post_of, post_at, flag_at, flag_of, with_moment, owns_one, is_owned_by}
-use Rattle.fat_monitor.specs.Acting.{Outcome as FatOutcome, acted, by_owner, entered, exited, waited, notified, replied as fat_replied, all_removed, interrupted, asked, are_good, expired as fat_expired, collected}
+use Rattle.fat_monitor.specs.Acting.{Outcome as FatOutcome, acted, by_owner, entered, exited, waited, notified, replied as fat_replied, all_removed, interrupted, asked, are_good, expired as fat_expired, woken, collected}
 use Rattle.fast_path.specs.declared.calls.Call.{Call}
 use Rattle.fast_path.specs.declared.calls.Call.TheVariants as call
 use Rattle.fast_path.specs.declared.Next.{Next}
@@ -43,7 +43,7 @@ use Rattle.step_core.specs.World.{WorldState, lock_at, is_own}
 use Rattle.step_core.specs.Sound.{IsSound}
 use Rattle.step_core.specs.Did.{wakes_all, tests_own, is_wait, move_for, no_move, one_move, move_and_return, return_alone, granting, did_action, grant_of}
 use Rattle.step_core.specs.Go.{load_of, lost_at, won_at, stored_at, stored_reply, after_load, after_take, after_bind, after_publish, after_told, after_act, after_stage, action_on, action_about, entering, bind_cause, after_look_as}
-use Rattle.step_core.specs.Step.{AfterStep, after_attach, after_begin, refuse, after_go, step_of, moves_made, accept, after_expire, after_expire_as, after_tick}
+use Rattle.step_core.specs.Step.{AfterStep, after_attach, after_begin, refuse, after_go, step_of, moves_made, accept, WaitEnd, time_over, wake_up, after_wait_end, after_wait_end_as, after_tick}
 use Rattle.step_core.specs.Labels.{is_label, labels_of, EndsWith, HasLabels}
 use Rattle.step_core.proofs.Facts.ShownStates.{proper_at}
 use Rattle.step_core.proofs.Facts.Cases.{ended_as, begin_cases, go_cases}
@@ -187,6 +187,14 @@ alone f t action.Expire = at (post_at f t)
     at (Entering m) = tt
     at (Back m n w) = tt
     at (Granted r) = tt
+alone f t action.Spurious = at (post_at f t)
+  where
+    at : (p : Post) → AreAlone (woken f t p)
+    at (Waiting m n d) = λ x e. absurd (cc)
+    at Out = tt
+    at (Entering m) = tt
+    at (Back m n w) = tt
+    at (Granted r) = tt
 alone f t action.Collect = at (post_at f t)
   where
     at : (p : Post) → AreAlone (collected f t p)
@@ -273,18 +281,21 @@ attaches false w t None (Some k) = tt
 begins : (w : WorldState) (t : ThreadId) (c : Call) → Labeled (step.Begin t c) (after_begin w t c (seat_of w.seats t))
 begins w t c = begin_cases w t c (Labeled (step.Begin t c)) (λ none. tt) (λ k o seat names past. tt) (λ k seat there busy. tt) (λ k seat there at. (refl, refl))
 
--- a wait that expires has none
-expires_as : (w : WorldState) (t : ThreadId) (r : Result Done ActFault) (f : FatState) → Labeled (step.Expire t) (after_expire_as w t r f)
-expires_as w t (Err e) f = tt
-expires_as w t (Ok d) f = (by_grant d.granted, refl)
-  where
-    by_grant : (g : Option ThreadId) → labels_of (moves_made (Some (move.Expire t) ∷ grant_of f g ∷ None ∷ [])) ≡ []
-    by_grant None = refl
-    by_grant (Some u) = two_labels (move.Expire t) (granting u (post_at f u)) refl (no_grant_label u (post_at f u))
+-- a wait that ends by itself has none
+abbrev Unlabeled : ThreadId → AfterStep → Type 0
+Unlabeled t o = IfOk o.answer (λ d. EndsWith t (moves_made d.moves) None × (d.reply ≡ None))
 
-expires : (w : WorldState) (t : ThreadId) (o : Option ℕ) → Labeled (step.Expire t) (after_expire w t o)
-expires w t None = tt
-expires w t (Some k) = expires_as w t (acted w.fats t action.Expire).answer (acted w.fats t action.Expire).after
+wait_ends_as : (x : WaitEnd) (w : WorldState) (t : ThreadId) (r : Result Done ActFault) (f : FatState) → is_label (x.made t) ≡ false → Unlabeled t (after_wait_end_as x w t r f)
+wait_ends_as x w t (Err e) f plain = tt
+wait_ends_as x w t (Ok d) f plain = (by_grant d.granted, refl)
+  where
+    by_grant : (g : Option ThreadId) → labels_of (moves_made (Some (x.made t) ∷ grant_of f g ∷ None ∷ [])) ≡ []
+    by_grant None = rw plain refl
+    by_grant (Some u) = two_labels (x.made t) (granting u (post_at f u)) plain (no_grant_label u (post_at f u))
+
+wait_ends : (x : WaitEnd) (w : WorldState) (t : ThreadId) (o : Option ℕ) → is_label (x.made t) ≡ false → Unlabeled t (after_wait_end x w t o)
+wait_ends x w t None plain = tt
+wait_ends x w t (Some k) plain = wait_ends_as x w t (acted w.fats t x.action).answer (acted w.fats t x.action).after plain
 
 ticks : (w : WorldState) (now : ℕ) → Labeled (step.Tick now) (after_tick w now)
 ticks w now =
@@ -296,5 +307,6 @@ pub step_labels : (w : WorldState) → IsSound w → (room : Bool) (s : Step) �
 step_labels w sound room (step.Attach t) = attaches room w t (seat_of w.seats t) (free_seat w.seats)
 step_labels w sound room (step.Begin t c) = begins w t c
 step_labels w sound room (step.Go t) = go_labels t (after_go room w t (seat_of w.seats t)).answer (go_shape room w sound t)
-step_labels w sound room (step.Expire t) = expires w t (seat_of w.seats t)
+step_labels w sound room (step.Expire t) = wait_ends time_over w t (seat_of w.seats t) refl
+step_labels w sound room (step.Spurious t) = wait_ends wake_up w t (seat_of w.seats t) refl
 step_labels w sound room (step.Tick now) = ticks w now

@@ -265,9 +265,9 @@ begin_lasts : (s s' : State) (t : ThreadId) (c : Call) (r : Result Did Fault) �
 begin_lasts s s' t c (Ok d) h run = one_lasts s s' (move.Call t c) (λ v r e. cc) (subst (λ ms. Run s ms s') h.0 run) (step.Begin t c) d.reply
 begin_lasts s s' t c (Err f) h run = tt
 
-expire_lasts : (s s' : State) (t : ThreadId) (r : Result Did Fault) → IfOk r (HasLabels (step.Expire t)) → Run s (moves_of r) s' → IfOk r (λ d. Lasts s (step.Expire t) d.reply s')
-expire_lasts s s' t (Ok d) h run = plain_lasts s s' (moves_made d.moves) (step.Expire t) d.reply h.0 run
-expire_lasts s s' t (Err f) h run = tt
+wait_end_lasts : (s s' : State) (did : Step) (t : ThreadId) (r : Result Did Fault) → IfOk r (λ d. EndsWith t (moves_made d.moves) None × (d.reply ≡ None)) → Run s (moves_of r) s' → IfOk r (λ d. Lasts s did d.reply s')
+wait_end_lasts s s' did t (Ok d) h run = plain_lasts s s' (moves_made d.moves) did d.reply h.0 run
+wait_end_lasts s s' did t (Err f) h run = tt
 
 tick_lasts : (s s' : State) (now : ℕ) (r : Result Did Fault) → IfOk r (HasLabels (step.Tick now)) → Run s (moves_of r) s' → IfOk r (λ d. Lasts s (step.Tick now) d.reply s')
 tick_lasts s s' now (Ok d) h run = one_lasts s s' (move.Time now) (λ v r e. cc) (subst (λ ms. Run s ms s') h.0 run) (step.Tick now) d.reply
@@ -287,7 +287,9 @@ step_lasts w sound room (step.Begin t c) =
 step_lasts w sound room (step.Go t) =
     went_lasts w sound (shown (step_of room w (step.Go t)).after) t (step_of room w (step.Go t)).answer (step_labels w sound room (step.Go t)) (step_right w sound room (step.Go t)).1 (step_judged w sound room (step.Go t)).0
 step_lasts w sound room (step.Expire t) =
-    expire_lasts (shown w) (shown (step_of room w (step.Expire t)).after) t (step_of room w (step.Expire t)).answer (step_labels w sound room (step.Expire t)) (step_right w sound room (step.Expire t)).1
+    wait_end_lasts (shown w) (shown (step_of room w (step.Expire t)).after) (step.Expire t) t (step_of room w (step.Expire t)).answer (step_labels w sound room (step.Expire t)) (step_right w sound room (step.Expire t)).1
+step_lasts w sound room (step.Spurious t) =
+    wait_end_lasts (shown w) (shown (step_of room w (step.Spurious t)).after) (step.Spurious t) t (step_of room w (step.Spurious t)).answer (step_labels w sound room (step.Spurious t)) (step_right w sound room (step.Spurious t)).1
 step_lasts w sound room (step.Tick now) =
     tick_lasts (shown w) (shown (step_of room w (step.Tick now)).after) now (step_of room w (step.Tick now)).answer (step_labels w sound room (step.Tick now)) (step_right w sound room (step.Tick now)).1
 

@@ -52,7 +52,7 @@ use Rattle.step_core.specs.Sound.{IsSound}
 use Rattle.step_core.specs.Ready.{IsOwnAction}
 use Rattle.step_core.specs.Did.{is_wait, one_move, move_and_return}
 use Rattle.step_core.specs.Go.{AfterGo, with_go, after_load, after_take, after_bind, after_publish, after_told, after_act, after_look_as, after_stage, action_on, action_about, entering, bind_cause, place_only, fats_changed}
-use Rattle.step_core.specs.Step.{AfterStep, accept, refuse, after_attach, after_begin, with_live, after_go, after_look, step_of, first_place, after_expire, after_expire_as, after_tick}
+use Rattle.step_core.specs.Step.{AfterStep, accept, refuse, after_attach, after_begin, with_live, after_go, after_look, step_of, first_place, WaitEnd, time_over, wake_up, after_wait_end, after_wait_end_as, after_tick}
 use Rattle.step_core.specs.Patient.{left_in, left_at, left_of_seat, left_of, HasMet, HasParked, Advances, IsPatient}
 use Rattle.step_core.specs.declared.steps.Did.{Did}
 use Rattle.step_core.proofs.Facts.Cases.{ended_as, did_return, begin_cases, go_cases}
@@ -102,6 +102,7 @@ done f t (action.IsInterrupted who) own = at (flag_of f who)
     at None = tt
     at (Some flag) = tt
 done f t action.Expire own = absurd own
+done f t action.Spurious own = absurd own
 done f t action.Collect own = absurd own
 done f t action.End own = absurd own
 
@@ -292,12 +293,15 @@ module _ (w : WorldState) (sound : IsSound w) (t : ThreadId) where
       (λ k seat at stands. tt)
       (λ k seat r at granted. (inl refl, keeps w sound k t seat (fats_changed w (with_post w.fats t Out) Idle (did_return t r)) refl))
 
--- a wait that expires, and a moment that is told, touch no place
-expires : (w : WorldState) (t : ThreadId) (o : Option ℕ) → Patient w (step.Expire t) (after_expire w t o)
-expires w t None = tt
-expires w t (Some k) = by_answer (acted w.fats t action.Expire).answer
+-- a wait that ends by itself, and a moment that is told, touch no place
+abbrev TouchesNone : WorldState → AfterStep → Type 0
+TouchesNone w o = IfOk o.answer (λ d. (u : ThreadId) → left_of o.after u ≡ left_of w u)
+
+wait_ends : (x : WaitEnd) (w : WorldState) (t : ThreadId) (o : Option ℕ) → TouchesNone w (after_wait_end x w t o)
+wait_ends x w t None = tt
+wait_ends x w t (Some k) = by_answer (acted w.fats t x.action).answer
   where
-    by_answer : (r : Result Done ActFault) → Patient w (step.Expire t) (after_expire_as w t r (acted w.fats t action.Expire).after)
+    by_answer : (r : Result Done ActFault) → TouchesNone w (after_wait_end_as x w t r (acted w.fats t x.action).after)
     by_answer (Ok d) = λ u. refl
     by_answer (Err e) = tt
 
@@ -311,5 +315,6 @@ pub step_patient : (w : WorldState) → IsSound w → (room : Bool) (s : Step) �
 step_patient w sound room (step.Attach t) = attaches w sound t room (seat_of w.seats t) (free_seat w.seats) refl refl
 step_patient w sound room (step.Begin t c) = begins w sound t c
 step_patient w sound room (step.Go t) = wents w sound t room
-step_patient w sound room (step.Expire t) = expires w t (seat_of w.seats t)
+step_patient w sound room (step.Expire t) = wait_ends time_over w t (seat_of w.seats t)
+step_patient w sound room (step.Spurious t) = wait_ends wake_up w t (seat_of w.seats t)
 step_patient w sound room (step.Tick now) = ticks w now

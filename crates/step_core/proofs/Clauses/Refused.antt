@@ -5,7 +5,7 @@ use Rattle.wait_lines.specs.Lines.{Key, key}
 use Rattle.fat_monitor.specs.declared.actions.Post.{Post}
 use Rattle.fat_monitor.specs.declared.actions.Post.TheVariants.{Out, Entering, Waiting, Back, Granted}
 use Rattle.fat_monitor.specs.FatState.{FatState, monitor_at, post_of, post_at, flag_at, with_moment, place_of, owns_one}
-use Rattle.fat_monitor.specs.Acting.{Outcome as FatOutcome, told, removed, served, not_due, expired as fat_expired}
+use Rattle.fat_monitor.specs.Acting.{Outcome as FatOutcome, told, removed, served, not_due, expired as fat_expired, woken}
 use Rattle.fat_monitor.specs.declared.actions.Why.TheVariants.{Elapsed}
 use Rattle.fat_monitor.specs.declared.actions.Answer.TheVariants.{Quiet}
 use Rattle.step_core.specs.Machine.{Thread, Exists}
@@ -13,7 +13,7 @@ use Rattle.step_core.specs.World.{WorldState, place_at}
 use Rattle.step_core.specs.Shown.{shown, doing_of, act_of}
 use Rattle.step_core.specs.Sound.{IsSound}
 use Rattle.step_core.specs.Did.{one_move}
-use Rattle.step_core.specs.Step.{AfterStep, after_attach, after_begin, after_begin_at, refuse, after_go, step_of, accept, after_expire, after_expire_as, after_tick}
+use Rattle.step_core.specs.Step.{AfterStep, after_attach, after_begin, after_begin_at, refuse, after_go, step_of, accept, time_over, wake_up, after_wait_end, after_wait_end_as, after_tick}
 use Rattle.step_core.specs.Refused.{IsLive, IsNotLive, IsBusy, IsIdle, IsParked, IsRefused, IsAcceptable}
 use Rattle.lock_word.specs.declared.ObjectId.{ObjectId}
 use Rattle.std.specs.Prelude.{zero, suc, ◌≡◌, ◌⊎◌, ℕ, ◌+◌, ◌<◌, ◌≤◌, Bool, true, false, nat_lt, List, [], ◌∷◌, length, Option, Some, None, IsSome, is_some, is_none, MatchResult, OnErr, if◌then◌else◌}
@@ -35,7 +35,7 @@ use Rattle.step_core.specs.declared.steps.Fault.{Fault}
 use Rattle.step_core.specs.declared.steps.Atomic.TheVariants.{Label}
 use Rattle.step_core.specs.declared.machine.Move.TheVariants as move
 use Rattle.step_core.specs.declared.steps.Fault.TheVariants as fault
-use Rattle.step_core.specs.declared.steps.Fault.TheVariants.{NoIndex, Memory, Known, NoThread, NoObject, NotCalling, Parked, NotDue, Backwards}
+use Rattle.step_core.specs.declared.steps.Fault.TheVariants.{NoIndex, Memory, Known, NoThread, NoObject, NotCalling, Parked, NotDue, Backwards, NotWaiting}
 use Rattle.step_core.proofs.Facts.PlaceFacts.{not_waiting, not_idle}
 use Rattle.step_core.proofs.Facts.Cases.{ended_as, begin_cases, go_cases}
 use Rattle.step_core.proofs.Facts.OneThread.{act_out, out_at}
@@ -155,6 +155,7 @@ module _ (w : WorldState) (sound : IsSound w) (t : ThreadId) where
       accepted_only Parked h = absurd h
       accepted_only NotDue h = absurd h
       accepted_only Backwards h = absurd h
+      accepted_only NotWaiting h = absurd h
   attaches false None (Some k) e free = let there = free_found w.seats k free in ((not_live e, (k, there.0, there.1)), refl)
 
   -- each Begin
@@ -180,6 +181,7 @@ module _ (w : WorldState) (sound : IsSound w) (t : ThreadId) where
           accepted_only Parked r = absurd r
           accepted_only NotDue r = absurd r
           accepted_only Backwards r = absurd r
+          accepted_only NotWaiting r = absurd r
 
   -- a Go of a thread that is in a call and stands nowhere is accept
   goes : (k : ℕ) → seat_of w.seats t ≡ Some k → (place_at w k ≡ Idle → ⊥) → (IsParked w t → ⊥) → (f : Fault) → IsRefused w (step.Go t) f → f ≡ Memory
@@ -193,6 +195,7 @@ module _ (w : WorldState) (sound : IsSound w) (t : ThreadId) where
   goes k e h free fault.InCall r = absurd r
   goes k e h free NotDue r = absurd r
   goes k e h free Backwards r = absurd r
+  goes k e h free NotWaiting r = absurd r
 
   -- and so is one at any place but these two
   goes_at : (k : ℕ) → seat_of w.seats t ≡ Some k → (p : Place) → place_at w k ≡ p → (p ≡ Idle → ⊥) → (p ≡ AtPost → ⊥) → IsAcceptable w (step.Go t)
@@ -229,13 +232,13 @@ module _ (w : WorldState) (sound : IsSound w) (t : ThreadId) where
 
   -- a wait expires where it is due, and only there
   expires_at : (k : ℕ) → seat_of w.seats t ≡ Some k → (p : Post) → post_at w.fats t ≡ p
-      → Judged w (step.Expire t) (after_expire_as w t (fat_expired w.fats t p).answer (fat_expired w.fats t p).after)
+      → Judged w (step.Expire t) (after_wait_end_as time_over w t (fat_expired w.fats t p).answer (fat_expired w.fats t p).after)
   expires_at k e Out is = not_due_at k e Out is (λ m n d same late. cc)
   expires_at k e (Entering m) is = not_due_at k e (Entering m) is (λ j n d same late. cc)
   expires_at k e (Waiting m n None) is = not_due_at k e (Waiting m n None) is (λ j x d same late. cc)
   expires_at k e (Waiting m n (Some d)) is =
       cond_both (nat_lt w.fats.moment d) (not_due w.fats) (told (removed w.fats t Elapsed (Waiting m n (Some d))) Quiet (served w.fats t (Waiting m n (Some d))) None)
-      (λ (x : FatOutcome). Judged w (step.Expire t) (after_expire_as w t x.answer x.after))
+      (λ (x : FatOutcome). Judged w (step.Expire t) (after_wait_end_as time_over w t x.answer x.after))
       (λ early. not_due_at k e (Waiting m n (Some d)) is (λ j x y same late. let one = posted_until same in let before = ltb-true w.fats.moment d early in omega arith))
       (λ due. (accepted_only (ltb-false w.fats.moment d due), tt))
     where
@@ -257,12 +260,57 @@ module _ (w : WorldState) (sound : IsSound w) (t : ThreadId) where
       accepted_only due NotCalling r = absurd r
       accepted_only due Parked r = absurd r
       accepted_only due Backwards r = absurd r
+      accepted_only due NotWaiting r = absurd r
   expires_at k e (Back m n y) is = not_due_at k e (Back m n y) is (λ j x d same late. cc)
   expires_at k e (Granted r) is = not_due_at k e (Granted r) is (λ j n d same late. cc)
 
-  expires : (o : Option ℕ) → seat_of w.seats t ≡ o → Judged w (step.Expire t) (after_expire w t o)
+  expires : (o : Option ℕ) → seat_of w.seats t ≡ o → Judged w (step.Expire t) (after_wait_end time_over w t o)
   expires None e = (not_live e, refl)
   expires (Some k) e = expires_at k e (post_at w.fats t) refl
+
+  -- a thread with another post than this one does not wait
+  not_waiting_at : (k : ℕ) → seat_of w.seats t ≡ Some k → (p : Post) → post_at w.fats t ≡ p
+      → ((m n : ℕ) (d : Option ℕ) → p ≡ Waiting m n d → ⊥) → Judged w (step.Spurious t) (refuse w NotWaiting)
+  not_waiting_at k e p is never = ((live k e, λ waits. by_post p (place_at w k) never (ap (λ (x : Post). act_of w.fats x (place_at w k)) (sym is) ∙ shows k e _ waits.4)), refl)
+    where
+      by_post : (p : Post) (q : Place) {o : ObjectId} {n : ℕ} {d : Option ℕ} → ((m n : ℕ) (d : Option ℕ) → p ≡ Waiting m n d → ⊥) → act_of w.fats p q ≡ doing.Waits o n d → ⊥
+      by_post Out q never same = not_waiting q same
+      by_post (Entering m) q never same = absurd (cc)
+      by_post (Waiting m x y) q never same = never m x y refl
+      by_post (Back m x y) q never same = absurd (cc)
+      by_post (Granted r) q never same = absurd (cc)
+
+  -- a wake-up is for a thread that waits, and only for one
+  wakes_at : (k : ℕ) → seat_of w.seats t ≡ Some k → (p : Post) → post_at w.fats t ≡ p
+      → Judged w (step.Spurious t) (after_wait_end_as wake_up w t (woken w.fats t p).answer (woken w.fats t p).after)
+  wakes_at k e Out is = not_waiting_at k e Out is (λ m n d same. cc)
+  wakes_at k e (Entering m) is = not_waiting_at k e (Entering m) is (λ j n d same. cc)
+  wakes_at k e (Waiting m n d) is = (accepted_only, tt)
+    where
+      accepted_only : (f : Fault) → IsRefused w (step.Spurious t) f → f ≡ Memory
+      accepted_only NoThread r = absurd (apart_too k e r)
+      accepted_only NotWaiting r = absurd (r.1 (
+        flag_at w.fats t,
+        (monitor_at w.fats m).object,
+        n,
+        d,
+        rw e (ap (λ (x : Post). Some (record { flag = flag_at w.fats t; act = act_of w.fats x (place_at w k) })) is),
+      ))
+      accepted_only Known r = absurd r
+      accepted_only NoIndex r = absurd r
+      accepted_only Memory r = refl
+      accepted_only NoObject r = absurd r
+      accepted_only fault.InCall r = absurd r
+      accepted_only NotCalling r = absurd r
+      accepted_only Parked r = absurd r
+      accepted_only NotDue r = absurd r
+      accepted_only Backwards r = absurd r
+  wakes_at k e (Back m n y) is = not_waiting_at k e (Back m n y) is (λ j x d same. cc)
+  wakes_at k e (Granted r) is = not_waiting_at k e (Granted r) is (λ j n d same. cc)
+
+  wakes : (o : Option ℕ) → seat_of w.seats t ≡ o → Judged w (step.Spurious t) (after_wait_end wake_up w t o)
+  wakes None e = (not_live e, refl)
+  wakes (Some k) e = wakes_at k e (post_at w.fats t) refl
 
 -- the moment is told where it does not fall
 ticks : (w : WorldState) (now : ℕ) → Judged w (step.Tick now) (after_tick w now)
@@ -281,6 +329,7 @@ ticks w now =
     accepted_only on NotCalling r = absurd r
     accepted_only on Parked r = absurd r
     accepted_only on NotDue r = absurd r
+    accepted_only on NotWaiting r = absurd r
 
 -- Each answer is the right one, and a refuse step changes nothing.
 pub step_judged : (w : WorldState) → IsSound w → (room : Bool) (s : Step) → MatchResult (step_of room w s).answer (λ d. IsAcceptable w s) (λ f. IsRefused w s f) × OnErr (step_of room w s).answer ((step_of room w s).after ≡ w)
@@ -288,4 +337,5 @@ step_judged w sound room (step.Attach t) = attaches w sound t room (seat_of w.se
 step_judged w sound room (step.Begin t c) = begins w sound t c
 step_judged w sound room (step.Go t) = wents w sound t room
 step_judged w sound room (step.Expire t) = expires w sound t (seat_of w.seats t) refl
+step_judged w sound room (step.Spurious t) = wakes w sound t (seat_of w.seats t) refl
 step_judged w sound room (step.Tick now) = ticks w now

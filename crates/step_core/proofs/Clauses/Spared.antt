@@ -20,8 +20,8 @@ use Rattle.step_core.specs.Machine.{State, Thread, Run, Is, Calls, now_is, with_
 use Rattle.step_core.specs.World.{WorldState}
 use Rattle.step_core.specs.Shown.{shown}
 use Rattle.step_core.specs.Sound.{IsSound}
-use Rattle.step_core.specs.Step.{step_of, moves_of}
-use Rattle.step_core.specs.Labels.{HasLabels}
+use Rattle.step_core.specs.Step.{step_of, moves_of, moves_made}
+use Rattle.step_core.specs.Labels.{EndsWith, HasLabels}
 use Rattle.step_core.specs.Spared.{IsSpared, Spares}
 use Rattle.step_core.proofs.Facts.Moves.{now_is-Is}
 use Rattle.step_core.proofs.Sound.AllSteps.{step_right}
@@ -75,9 +75,9 @@ module _ (w w' : WorldState) where
   begin_spares t c (Ok d) h = silent d.reply h.1
   begin_spares t c (Err f) h = tt
 
-  expire_spares : (t : ThreadId) (r : Result Did Fault) → IfOk r (HasLabels (step.Expire t)) → IfOk r (λ d. Spares w d.reply w')
-  expire_spares t (Ok d) h = silent d.reply h.1
-  expire_spares t (Err f) h = tt
+  wait_end_spares : (t : ThreadId) (r : Result Did Fault) → IfOk r (λ d. EndsWith t (moves_made d.moves) None × (d.reply ≡ None)) → IfOk r (λ d. Spares w d.reply w')
+  wait_end_spares t (Ok d) h = silent d.reply h.1
+  wait_end_spares t (Err f) h = tt
 
   tick_spares : (now : ℕ) (r : Result Did Fault) → IfOk r (HasLabels (step.Tick now)) → IfOk r (λ d. Spares w d.reply w')
   tick_spares now (Ok d) h = silent d.reply h.1
@@ -96,6 +96,8 @@ step_spares w sound room (step.Begin t c) =
 step_spares w sound room (step.Go t) =
     go_spares w (step_of room w (step.Go t)).after t (step_of room w (step.Go t)).answer (go_shape room w sound t) (step_right w sound room (step.Go t)).1
 step_spares w sound room (step.Expire t) =
-    expire_spares w (step_of room w (step.Expire t)).after t (step_of room w (step.Expire t)).answer (step_labels w sound room (step.Expire t))
+    wait_end_spares w (step_of room w (step.Expire t)).after t (step_of room w (step.Expire t)).answer (step_labels w sound room (step.Expire t))
+step_spares w sound room (step.Spurious t) =
+    wait_end_spares w (step_of room w (step.Spurious t)).after t (step_of room w (step.Spurious t)).answer (step_labels w sound room (step.Spurious t))
 step_spares w sound room (step.Tick now) =
     tick_spares w (step_of room w (step.Tick now)).after now (step_of room w (step.Tick now)).answer (step_labels w sound room (step.Tick now))

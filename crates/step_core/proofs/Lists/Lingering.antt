@@ -108,6 +108,10 @@ module _ (w : WorldState) (sound : IsSound w) (t : ThreadId) (left : 1 ≤ left_
   expires u room (Err f) e = unmoved (step.Expire u) room (rw e at (step_judged w sound room (step.Expire u)).1)
   expires u room (Ok d) e = kept (step_of room w (step.Expire u)).after ((rw e at (step_patient w sound room (step.Expire u))) t)
 
+  wakes : (u : ThreadId) (room : Bool) (r : Result Did Fault) → (step_of room w (step.Spurious u)).answer ≡ r → LowersBy w t 0 (step_of room w (step.Spurious u)).after
+  wakes u room (Err f) e = unmoved (step.Spurious u) room (rw e at (step_judged w sound room (step.Spurious u)).1)
+  wakes u room (Ok d) e = kept (step_of room w (step.Spurious u)).after ((rw e at (step_patient w sound room (step.Spurious u))) t)
+
   ticks : (now : ℕ) (room : Bool) (r : Result Did Fault) → (step_of room w (step.Tick now)).answer ≡ r → LowersBy w t 0 (step_of room w (step.Tick now)).after
   ticks now room (Err f) e = unmoved (step.Tick now) room (rw e at (step_judged w sound room (step.Tick now)).1)
   ticks now room (Ok d) e = kept (step_of room w (step.Tick now)).after ((rw e at (step_patient w sound room (step.Tick now))) t)
@@ -142,6 +146,9 @@ lingers w sound t [] left all = left
 lingers w sound t ((step.Expire u, room) ∷ ss) left all =
     let one = expires w sound t left u room (step_of room w (step.Expire u)).answer refl in
     let rest = lingers (step_of room w (step.Expire u)).after (step_right w sound room (step.Expire u)).0 t ss one.1 all.1 in omega arith
+lingers w sound t ((step.Spurious u, room) ∷ ss) left all =
+    let one = wakes w sound t left u room (step_of room w (step.Spurious u)).answer refl in
+    let rest = lingers (step_of room w (step.Spurious u)).after (step_right w sound room (step.Spurious u)).0 t ss one.1 all.1 in omega arith
 lingers w sound t ((step.Tick now, room) ∷ ss) left all =
     let one = ticks w sound t left now room (step_of room w (step.Tick now)).answer refl in
     let rest = lingers (step_of room w (step.Tick now)).after (step_right w sound room (step.Tick now)).0 t ss one.1 all.1 in omega arith

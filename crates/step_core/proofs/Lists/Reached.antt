@@ -32,7 +32,7 @@ use Rattle.step_core.proofs.Clauses.Kept.{step_keeps}
 use Rattle.step_core.proofs.Lists.Lingering.{within_four, within_all}
 use Rattle.step_core.proofs.Clauses.Lasting.{all_back, all_replied}
 use Rattle.fat_monitor.specs.declared.actions.Reply.TheVariants.{WaitOver, Interrupted as Throws}
-use Rattle.fat_monitor.specs.declared.actions.Why.TheVariants.{Notified, Interrupted, Elapsed}
+use Rattle.fat_monitor.specs.declared.actions.Why.TheVariants.{Notified, Interrupted, Elapsed, Spurious}
 use Rattle.lock_word.specs.declared.ObjectId.{ObjectId}
 
 -- the labels of one step
@@ -46,6 +46,7 @@ one_labels (step.Attach t) (Ok d) h = ap labels_of h.0
 one_labels (step.Begin t c) (Ok d) h = ap labels_of h.0
 one_labels (step.Go t) (Ok d) h = ends_labels t (moves_made d.moves) d.reply h
 one_labels (step.Expire t) (Ok d) h = h.0
+one_labels (step.Spurious t) (Ok d) h = h.0
 one_labels (step.Tick now) (Ok d) h = ap labels_of h.0
 
 -- and of a list
@@ -111,6 +112,11 @@ module _ (lows : List ℕ) (monitors indices : ℕ) (steps : List (Step × Bool)
       → NeverReturns (reached lows monitors indices steps) u WaitOver more
       → IsBack (shown (world_after (reached lows monitors indices steps) more)) u o n Elapsed ⊎ HasReply (shown (world_after (reached lows monitors indices steps) more)) u WaitOver
   reached_elapsed u o n more over never = all_back (reached lows monitors indices steps) reached_sound u o n Elapsed more over never
+
+  pub reached_spurious : (u : ThreadId) (o : ObjectId) (n : ℕ) (more : List (Step × Bool)) → IsBack (shown (reached lows monitors indices steps)) u o n Spurious
+      → NeverReturns (reached lows monitors indices steps) u WaitOver more
+      → IsBack (shown (world_after (reached lows monitors indices steps) more)) u o n Spurious ⊎ HasReply (shown (world_after (reached lows monitors indices steps) more)) u WaitOver
+  reached_spurious u o n more woken never = all_back (reached lows monitors indices steps) reached_sound u o n Spurious more woken never
 
   pub reached_kept : (u : ThreadId) (r : Reply) (more : List (Step × Bool)) → HasReply (shown (reached lows monitors indices steps)) u r
       → NeverReturns (reached lows monitors indices steps) u r more → HasReply (shown (world_after (reached lows monitors indices steps) more)) u r

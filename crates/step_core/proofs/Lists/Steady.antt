@@ -143,6 +143,8 @@ module _ (s : State) (u : ThreadId) (flag : Bool) (d : Doing) (steady : IsSteady
   one_step (move.TestClear t) s' (f, calls, e) = still s' (move.TestClear t) (rw e (kept t false _ (caller t f call.Interrupted calls)))
   one_step (move.Expire t) s' (f, o, n, over, waits, late, e) =
       still s' (move.Expire t) (rw e (kept t f (Back o n why.Elapsed) (others t f (Waits o n (Some over)) waits (λ no. no))))
+  one_step (move.Spurious t) s' (f, o, n, d, waits, e) =
+      still s' (move.Spurious t) (rw e (kept t f (Back o n why.Spurious) (others t f (Waits o n d) waits (λ no. no))))
   one_step (move.Time now) s' (later, e) = still s' (move.Time now) (rw e is)
   one_step (move.Relock t) s' (f, o, n, w, back, free, e) = relocking t f o n w s' back (rw e refl) (cases_eq u.0 t.0)
   one_step (move.Ask t) s' (f, answer, c, calls, right, e) = still s' (move.Ask t) (rw e (kept t f _ (caller t f c calls)))

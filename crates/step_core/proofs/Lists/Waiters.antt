@@ -123,6 +123,7 @@ never_lost s s' m u o n w one is over = by_case (one_step s u true (Back o n w) 
     by_reason why.Notified h = let x = same_Some _ _ (sym over ∙ h) in let never : false ≡ true = ap (λ (z : Thread). z.flag) x in absurd (cc)
     by_reason why.Interrupted h = let x = same_Some _ _ (sym over ∙ h) in let never : Has reply.WaitOver ≡ Has reply.Interrupted = ap (λ (z : Thread). z.act) x in absurd (cc)
     by_reason why.Elapsed h = let x = same_Some _ _ (sym over ∙ h) in let never : false ≡ true = ap (λ (z : Thread). z.flag) x in absurd (cc)
+    by_reason why.Spurious h = let x = same_Some _ _ (sym over ∙ h) in let never : false ≡ true = ap (λ (z : Thread). z.flag) x in absurd (cc)
 
     by_case : Leaves s' m u true (Back o n w) → ⊥
     by_case (inl stays) =

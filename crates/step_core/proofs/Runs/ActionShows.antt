@@ -18,7 +18,7 @@ use Rattle.fat_monitor.specs.declared.actions.Why.TheVariants as why
 use Rattle.fat_monitor.specs.declared.actions.Post.{Post}
 use Rattle.fat_monitor.specs.declared.actions.Post.TheVariants.{Out, Entering, Waiting, Back, Granted}
 use Rattle.fat_monitor.specs.FatState.{FatState, monitor_at, unbound, is_owned_by, IsHeld, post_of, post_at, flag_at, first_of, with_owner, with_flag}
-use Rattle.fat_monitor.specs.Acting.{Outcome, acted, replied as fat_replied, holds_granted, reply_granted}
+use Rattle.fat_monitor.specs.Acting.{Outcome, acted, replied as fat_replied, holds_granted, reply_granted, reply_back}
 use Rattle.fat_monitor.proofs.Effects.{first_entering}
 use Rattle.fat_monitor.proofs.Flags.{settled_flag, flag-with_flag_same, flag-with_flag_other}
 use Rattle.fast_path.specs.declared.calls.Call.{Call}
@@ -75,6 +75,14 @@ monitors_kept w k g p did same q = at_lock (lock_at w q.0)
 -- the monitor with this owner and these holds
 abbrev pub with_holds : WorldState → ℕ → Option ThreadId → ℕ → fat.Monitor
 with_holds w m x n = record (monitor_at w.fats m) { owner = x; holds = n }
+
+-- a free monitor goes to a thread that comes back from a wait, for each reason
+grant_back : (s : State) (u : ThreadId) (flag : Bool) (o : ObjectId) (m n : ℕ) (y : Why) → Is s u flag (doing.Back o n y) → s.monitor o ≡ free
+    → Steps s (granting u (Granted (reply_back y))) (with_monitor (now_is s u (settled_flag (Back m n y) flag) (doing.Has (reply_back y))) o (held u n))
+grant_back s u flag o m n why.Notified is unowned = grant_relock s u flag o n why.Notified is unowned
+grant_back s u flag o m n why.Interrupted is unowned = grant_relock s u flag o n why.Interrupted is unowned
+grant_back s u flag o m n why.Elapsed is unowned = grant_relock s u flag o n why.Elapsed is unowned
+grant_back s u flag o m n why.Spurious is unowned = grant_relock s u flag o n why.Spurious is unowned
 
 -- an object that shows a fat monitor
 module _ (w : WorldState) (sound : IsSound w) (o : ObjectId) (m : ℕ) (shows : lock_at w o.0 ≡ Fat m) where
@@ -242,32 +250,14 @@ module _ (w : WorldState) (sound : IsSound w) (k : ℕ) (t : ThreadId) (seat : s
     first_granting u first = by_post (first_entering w.fats m u sound.fats first)
       where
         by_why : (n : ℕ) (y : Why) → post_of w.fats u ≡ Some (Back m n y) → Granting u
-        by_why n why.Notified e = record {
-          post = Back m n why.Notified;
+        by_why n y e = record {
+          post = Back m n y;
           is_at = e;
-          act = doing.Back o n why.Notified;
-          acts = λ q. ap (λ (x : ObjectId). doing.Back x n why.Notified) (object_here w sound o m shows);
-          grants = λ s flag is fr. grant_relock s u flag o n why.Notified is fr;
-          apart = stands_apart u (Back m n why.Notified) e (λ h. cc);
-          live = attached_live u (Back m n why.Notified) e;
-        }
-        by_why n why.Interrupted e = record {
-          post = Back m n why.Interrupted;
-          is_at = e;
-          act = doing.Back o n why.Interrupted;
-          acts = λ q. ap (λ (x : ObjectId). doing.Back x n why.Interrupted) (object_here w sound o m shows);
-          grants = λ s flag is fr. grant_relock s u flag o n why.Interrupted is fr;
-          apart = stands_apart u (Back m n why.Interrupted) e (λ h. cc);
-          live = attached_live u (Back m n why.Interrupted) e;
-        }
-        by_why n why.Elapsed e = record {
-          post = Back m n why.Elapsed;
-          is_at = e;
-          act = doing.Back o n why.Elapsed;
-          acts = λ q. ap (λ (x : ObjectId). doing.Back x n why.Elapsed) (object_here w sound o m shows);
-          grants = λ s flag is fr. grant_relock s u flag o n why.Elapsed is fr;
-          apart = stands_apart u (Back m n why.Elapsed) e (λ h. cc);
-          live = attached_live u (Back m n why.Elapsed) e;
+          act = doing.Back o n y;
+          acts = λ q. ap (λ (x : ObjectId). doing.Back x n y) (object_here w sound o m shows);
+          grants = λ s flag is fr. grant_back s u flag o m n y is fr;
+          apart = stands_apart u (Back m n y) e (λ h. cc);
+          live = attached_live u (Back m n y) e;
         }
 
         by_post : (post_of w.fats u ≡ Some (Entering m)) ⊎ ((n : ℕ) × (y : Why) × (post_of w.fats u ≡ Some (Back m n y)) × IsHeld n) → Granting u

@@ -5,12 +5,14 @@ use Rattle.std.proofs.Math.Path.{fun_ext}
 use Rattle.std.proofs.lemmas.Bool.{ne_eqb}
 use Rattle.lock_word.specs.declared.ThreadId.{ThreadId}
 use Rattle.lock_word.specs.declared.ObjectId.{ObjectId}
+use Rattle.fat_monitor.specs.declared.actions.Why.{Why}
 use Rattle.fat_monitor.specs.declared.actions.Why.TheVariants as why
 use Rattle.fat_monitor.specs.declared.actions.Reply.TheVariants as reply
 use Rattle.fast_path.specs.declared.calls.Call.TheVariants as call
 use Rattle.step_core.specs.declared.machine.Doing.TheVariants.{Idle, Waits, Back, Has}
+use Rattle.step_core.specs.declared.machine.Move.{Move}
 use Rattle.step_core.specs.declared.machine.Move.TheVariants as move
-use Rattle.step_core.specs.Machine.{State, Thread, Run, held, with_monitor, Is, now_is, with_reply, Unowned, Calls}
+use Rattle.step_core.specs.Machine.{State, Thread, Run, Steps, held, with_monitor, Is, now_is, with_reply, Unowned, Calls, reply_of, flag_back}
 use Rattle.step_core.proofs.Facts.Moves.{return_row, with_thread-with_thread, now_is-Is, now_is-other}
 
 -- what two threads are after four writes, of which the last two count
@@ -54,21 +56,16 @@ run_stirred s t u mine theirs o n d calls waits unowned apart = (
     owner : State
     owner = with_monitor (now_is back u false (Has reply.Interrupted)) o (held u n)
 
--- the time of t is over
-pub run_elapsed : (s : State) (t : ThreadId) (flag : Bool) (o : ObjectId) (n d : ℕ) → Is s t flag (Waits o n (Some d)) → d ≤ s.moment
-    → Run s (move.Expire t ∷ []) (now_is s t flag (Back o n why.Elapsed))
-run_elapsed s t flag o n d waits due = (now_is s t flag (Back o n why.Elapsed), (flag, o, n, d, waits, due, refl), refl)
-
--- the same, where nobody owns the object
-pub run_elapsed_free : (s : State) (t : ThreadId) (flag : Bool) (o : ObjectId) (n d : ℕ) → Is s t flag (Waits o n (Some d)) → d ≤ s.moment → Unowned s o
-    → Run s (move.Expire t ∷ move.Relock t ∷ []) (with_monitor (now_is s t flag (Has reply.WaitOver)) o (held t n))
-run_elapsed_free s t flag o n d waits due unowned = (
-  now_is s t flag (Back o n why.Elapsed),
-  (flag, o, n, d, waits, due, refl),
+-- t leaves its wait set by this move, and gets the object, which nobody owns
+pub run_back_free : (s : State) (first : Move) (t : ThreadId) (flag : Bool) (o : ObjectId) (n : ℕ) (y : Why) → Steps s first (now_is s t flag (Back o n y)) → Unowned s o
+    → Run s (first ∷ move.Relock t ∷ []) (with_monitor (now_is s t (flag_back y flag) (Has (reply_of y))) o (held t n))
+run_back_free s first t flag o n y leaves unowned = (
+  now_is s t flag (Back o n y),
+  leaves,
   (
-    with_monitor (now_is (now_is s t flag (Back o n why.Elapsed)) t flag (Has reply.WaitOver)) o (held t n),
-    (flag, o, n, why.Elapsed, now_is-Is s t flag (Back o n why.Elapsed), unowned, refl),
+    with_monitor (now_is (now_is s t flag (Back o n y)) t (flag_back y flag) (Has (reply_of y))) o (held t n),
+    (flag, o, n, y, now_is-Is s t flag (Back o n y), unowned, refl),
     ap (λ (x : State). with_monitor x o (held t n))
-        (sym (with_thread-with_thread s t (Some (record { flag = flag; act = Back o n why.Elapsed })) (Some (record { flag = flag; act = Has reply.WaitOver })))),
+        (sym (with_thread-with_thread s t (Some (record { flag = flag; act = Back o n y })) (Some (record { flag = flag_back y flag; act = Has (reply_of y) })))),
   ),
 )

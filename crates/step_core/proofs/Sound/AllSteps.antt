@@ -1,7 +1,7 @@
 -- Each step is a run of the machine and keeps the world sound.
 use Rattle.step_core.proofs.Sound.End.{Right, ended_right}
 use Rattle.step_core.proofs.Sound.Attach.{attached_right}
-use Rattle.step_core.proofs.Sound.Expire.{expired_sound, expired_right, ticked_right}
+use Rattle.step_core.proofs.Sound.WaitEnds.{expired_right, woken_right, ticked_right}
 use Rattle.std.specs.Prelude.{◌≡◌, ℕ, ◌+◌, ◌<◌, Bool, true, if◌then◌else◌, nat_lt, List, [], ◌∷◌, ◌++◌, length, Option, Some, None, Result, ◌≤◌}
 use Rattle.std.specs.Option.{unwrap_or}
 use Rattle.std.proofs.Common.{arith, refl, sym, ◌∙◌, subst, ap}
@@ -36,7 +36,7 @@ use Rattle.step_core.specs.World.{WorldState, place_at, lock_at, is_own}
 use Rattle.step_core.specs.Shown.{shown, doing_of}
 use Rattle.step_core.specs.Sound.{IsSound, Fitting, Agrees}
 use Rattle.step_core.specs.Did.{one_move}
-use Rattle.step_core.specs.Step.{AfterStep, after_attach, after_begin, after_begin_at, after_go, after_expire, after_tick, step_of, moves_of, world_after, moves_after, first_place}
+use Rattle.step_core.specs.Step.{AfterStep, after_attach, after_begin, after_begin_at, after_go, after_wait_end, time_over, wake_up, after_tick, step_of, moves_of, world_after, moves_after, first_place}
 use Rattle.step_core.proofs.Facts.OneThread.{within, is_at, out_at, shown_stays}
 use Rattle.step_core.proofs.Facts.Cases.{did_return, begin_cases, go_cases}
 use Rattle.step_core.proofs.Runs.NotifyRuns.{collect_run}
@@ -125,7 +125,8 @@ pub step_sound : (w : WorldState) → IsSound w → (room : Bool) (s : Step) →
 step_sound w sound room (step.Attach t) = (attached_right w sound t room (seat_of w.seats t) (free_seat w.seats) refl refl).0
 step_sound w sound room (step.Begin t c) = (begun_right w sound t c).0
 step_sound w sound room (step.Go t) = went_sound w sound t room
-step_sound w sound room (step.Expire t) = expired_sound w sound t (seat_of w.seats t) refl
+step_sound w sound room (step.Expire t) = (expired_right w sound t).0
+step_sound w sound room (step.Spurious t) = (woken_right w sound t).0
 step_sound w sound room (step.Tick now) = (ticked_right w sound now).0
 
 -- And it is a run.
@@ -134,6 +135,7 @@ step_right w sound room (step.Attach t) = attached_right w sound t room (seat_of
 step_right w sound room (step.Begin t c) = begun_right w sound t c
 step_right w sound room (step.Go t) = went_right w sound t room
 step_right w sound room (step.Expire t) = expired_right w sound t
+step_right w sound room (step.Spurious t) = woken_right w sound t
 step_right w sound room (step.Tick now) = ticked_right w sound now
 
 -- a run and then a run
@@ -159,8 +161,12 @@ pub begin_kept : (w w' : WorldState) (t : ThreadId) (c : Call) (r : Result Did F
 begin_kept w w' t c r sound e = subst (λ (o : AfterStep). IsSound o.after) (sym e) (step_sound w sound true (step.Begin t c))
 
 pub expire_kept : (w w' : WorldState) (t : ThreadId) (r : Result Did Fault) → IsSound w
-    → ◌≡◌ {A = AfterStep} (record { answer = r; after = w' }) (after_expire w t (seat_of w.seats t)) → IsSound w'
+    → ◌≡◌ {A = AfterStep} (record { answer = r; after = w' }) (after_wait_end time_over w t (seat_of w.seats t)) → IsSound w'
 expire_kept w w' t r sound e = subst (λ (o : AfterStep). IsSound o.after) (sym e) (step_sound w sound true (step.Expire t))
+
+pub wake_kept : (w w' : WorldState) (t : ThreadId) (r : Result Did Fault) → IsSound w
+    → ◌≡◌ {A = AfterStep} (record { answer = r; after = w' }) (after_wait_end wake_up w t (seat_of w.seats t)) → IsSound w'
+wake_kept w w' t r sound e = subst (λ (o : AfterStep). IsSound o.after) (sym e) (step_sound w sound true (step.Spurious t))
 
 pub tick_kept : (w w' : WorldState) (now : ℕ) (r : Result Did Fault) → IsSound w
     → ◌≡◌ {A = AfterStep} (record { answer = r; after = w' }) (after_tick w now) → IsSound w'

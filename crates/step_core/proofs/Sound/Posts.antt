@@ -152,6 +152,7 @@ own_post f t (action.Interrupt u) sound out other = stirred_out f t u (post_of f
 own_post f t action.Interrupted sound out other = out
 own_post f t (action.IsInterrupted u) sound out other = asked_out f t (flag_of f u) out
 own_post f t action.Expire sound out other = rw out tt
+own_post f t action.Spurious sound out other = rw out tt
 own_post f t action.Collect sound out other = rw out tt
 own_post f t action.End sound out other = absurd (other refl)
 

@@ -91,6 +91,7 @@ impl Machine {
             Move::Interrupt { thread } => self.interrupt(thread),
             Move::TestClear { thread } => self.test_clear(thread),
             Move::Expire { thread } => self.expire(thread),
+            Move::Spurious { thread } => self.wake(thread),
             Move::Relock { thread } => self.relock(thread),
             Move::Ask { thread } => self.ask(thread),
             Move::Refuse { thread, cause } => self.refuse(thread, cause),

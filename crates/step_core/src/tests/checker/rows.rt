@@ -191,6 +191,13 @@ impl Machine {
         Some(())
     }
 
+    pub(super) fn wake(&mut self, thread: ThreadId) -> Option<()> {
+        let live = self.live(thread)?;
+        let back = awake(live.doing, None, Why::Spurious)?;
+        self.put(thread, live.flag, back);
+        Some(())
+    }
+
     pub(super) fn relock(&mut self, thread: ThreadId) -> Option<()> {
         let live = self.live(thread)?;
         let Doing::Back { object, holds, why } = live.doing else {
@@ -200,7 +207,9 @@ impl Machine {
             return None;
         }
         match why {
-            Why::Notified | Why::Elapsed => self.answer(thread, live.flag, Reply::WaitOver),
+            Why::Notified | Why::Elapsed | Why::Spurious => {
+                self.answer(thread, live.flag, Reply::WaitOver)
+            }
             Why::Interrupted => self.answer(thread, false, Reply::Interrupted),
         }
         self.give(object, thread, holds);
