@@ -26,6 +26,7 @@ move_again (move.Interrupt t) fits = rw (lt-ltb t.0 (2 ^ 32) fits) refl
 move_again (move.TestClear t) fits = rw (lt-ltb t.0 (2 ^ 32) fits) refl
 move_again (move.Ask t) fits = rw (lt-ltb t.0 (2 ^ 32) fits) refl
 move_again (move.Expire t) fits = rw (lt-ltb t.0 (2 ^ 32) fits) refl
+move_again (move.Spurious t) fits = rw (lt-ltb t.0 (2 ^ 32) fits) refl
 move_again (move.Relock t) fits = rw (lt-ltb t.0 (2 ^ 32) fits) refl
 move_again (move.End t) fits = rw (lt-ltb t.0 (2 ^ 32) fits) refl
 move_again (move.Call t (call.Enter o)) fits = rw (lt-ltb t.0 (2 ^ 32) fits.0, lt-ltb o.0 (2 ^ 32) fits.1) refl

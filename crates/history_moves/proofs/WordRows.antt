@@ -31,7 +31,7 @@ abbrev pub PlainRow : List ℕ → (ThreadId → Move) → Type 0
 PlainRow name made = (t : ThreadId) → (members_of_move (made t) ≡ plain_members name t) × (t.0 < 2 ^ 32 → Fits (made t))
 
 pub plain_rows : AllRows PlainRow plain_moves
-plain_rows = ((λ t. (refl, λ h. h)), ((λ t. (refl, λ h. h)), ((λ t. (refl, λ h. h)), ((λ t. (refl, λ h. h)), ((λ t. (refl, λ h. h)), ((λ t. (refl, λ h. h)), ((λ t. (refl, λ h. h)), ((λ t. (refl, λ h. h)), ((λ t. (refl, λ h. h)), ((λ t. (refl, λ h. h)), ((λ t. (refl, λ h. h)), ((λ t. (refl, λ h. h)), ((λ t. (refl, λ h. h)), ((λ t. (refl, λ h. h)), tt))))))))))))))
+plain_rows = ((λ t. (refl, λ h. h)), ((λ t. (refl, λ h. h)), ((λ t. (refl, λ h. h)), ((λ t. (refl, λ h. h)), ((λ t. (refl, λ h. h)), ((λ t. (refl, λ h. h)), ((λ t. (refl, λ h. h)), ((λ t. (refl, λ h. h)), ((λ t. (refl, λ h. h)), ((λ t. (refl, λ h. h)), ((λ t. (refl, λ h. h)), ((λ t. (refl, λ h. h)), ((λ t. (refl, λ h. h)), ((λ t. (refl, λ h. h)), ((λ t. (refl, λ h. h)), tt)))))))))))))))
 
 abbrev pub ObjectRow : List ℕ → (ObjectId → CallData) → Type 0
 ObjectRow verb made = (o : ObjectId) (t : ThreadId) → (call_members (made o) t ≡ object_members verb o t) × (o.0 < 2 ^ 32 → CallFits (made o))

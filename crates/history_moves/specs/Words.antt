@@ -35,6 +35,7 @@ plain_moves =
     ∷ record { name = codes "TestClear"; made = λ t. move.TestClear t }
     ∷ record { name = codes "Ask"; made = λ t. move.Ask t }
     ∷ record { name = codes "Expire"; made = λ t. move.Expire t }
+    ∷ record { name = codes "Spurious"; made = λ t. move.Spurious t }
     ∷ record { name = codes "Relock"; made = λ t. move.Relock t }
     ∷ record { name = codes "End"; made = λ t. move.End t }
     ∷ []

@@ -51,17 +51,11 @@ pub(crate) fn object_at(value: &Value) -> Option<ObjectId>
     Some(ObjectId(number_at(value, "object")?))
 }
 
-/// A number of 64 bits that may be negative. Where it is not, it is a whole number as any other, so that
-/// `-0` is none.
+/// A number of 64 bits that may be negative.
 pub(crate) fn signed_at(value: &Value, key: &str) -> Option<i64>
     ensures { result ≡ signed_at key.now (view value.now) }
 {
-    let number = value.get(key).and_then(Value::as_i64)?;
-    if number < 0 || whole_at(value, key).is_some() {
-        Some(number)
-    } else {
-        None
-    }
+    value.get(key).and_then(Value::as_i64)
 }
 
 fn small_signed(number: i64) -> Option<i32>

@@ -104,6 +104,7 @@ pub(crate) fn plain_named(name: &str, thread: ThreadId) -> Option<Move>
         "TestClear" => Some(Move::TestClear { thread }),
         "Ask" => Some(Move::Ask { thread }),
         "Expire" => Some(Move::Expire { thread }),
+        "Spurious" => Some(Move::Spurious { thread }),
         "Relock" => Some(Move::Relock { thread }),
         "End" => Some(Move::End { thread }),
         _ => None,

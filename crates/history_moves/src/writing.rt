@@ -164,6 +164,7 @@ fn write_made(alloc: Global, made: Move) -> Result<Value, AllocError>
         Move::TestClear { thread } => write_plain(alloc, "TestClear", thread),
         Move::Ask { thread } => write_plain(alloc, "Ask", thread),
         Move::Expire { thread } => write_plain(alloc, "Expire", thread),
+        Move::Spurious { thread } => write_plain(alloc, "Spurious", thread),
         Move::Relock { thread } => write_plain(alloc, "Relock", thread),
         Move::End { thread } => write_plain(alloc, "End", thread),
         Move::Call { thread, call } => write_call(alloc, call, thread),

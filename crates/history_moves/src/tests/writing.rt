@@ -90,11 +90,13 @@ fn choices_causes_and_moments(rt: HostRuntime) -> Result<(), Fail> {
             reply: Reply::Refused(Cause::TooDeep),
         },
     )?;
+    let woken = move_line(rt.alloc(), &Move::Spurious { thread: THREAD })?;
     let late = move_line(rt.alloc(), &Move::Time { now: u64::MAX })?;
     assert!(rt; nobody.as_str() == r#"{"chosen":null,"move":"Notify","thread":0}"#);
     assert!(rt;
         refused.as_str() == r#"{"cause":"TooDeep","move":"Return","reply":"Refused","thread":0}"#
     );
+    assert!(rt; woken.as_str() == r#"{"move":"Spurious","thread":0}"#);
     assert!(rt; late.as_str() == r#"{"move":"Time","now":18446744073709551615}"#);
     Ok(())
 }
