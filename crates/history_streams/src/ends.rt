@@ -1,5 +1,4 @@
-//! Where a script comes from and where its report goes: readers and writers that tell whether they
-//! have failed.
+//! Where bytes come from and where they go: readers and writers that tell whether they have failed.
 
 ghost use Rattle.std.specs.Prelude.{◌≡◌, ◌+◌, ◌<◌, ◌≤◌, ◌^◌, ℕ, List, Option, length, take, IsTrue, MatchOption, Some, None, false};
 ghost use Rattle.std.specs.Io.KnownBytes.{Keeps, Appends, Consumes, IsAtEnd};
@@ -17,10 +16,13 @@ pub trait Source {
     ghost given: { Self → ℕ };
 
     /// Fills the front of a chunk with the next bytes and says how many: 0 at the end, None where the
-    /// source fails.
+    /// source fails, which takes none of the bytes that are left.
     fn fill(&mut self, chunk: &mut [u8]) -> Option<usize>
         requires { given self.old + length chunk.old < 2 ^ 64 }
-        ensures cases { MatchOption result (has_failed self.new) (λ n. (n ≤ length chunk.new)
+        ensures cases { MatchOption result
+            (has_failed self.new × Keeps (left self.old) (left self.new)
+                × (given self.new ≡ given self.old))
+            (λ n. (n ≤ length chunk.new)
             × (given self.new ≡ given self.old + n)
             × Consumes (left self.old) (left self.new) (take n chunk.new)
             × (n ≡ 0 → 0 < length chunk.new → IsAtEnd (left self.new))

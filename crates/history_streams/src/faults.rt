@@ -1,25 +1,31 @@
-//! Why a script was not played to its end.
+//! Why a script was not played, or a history not checked, to its end.
 
 ghost use Rattle.std.specs.Prelude.{◌≡◌};
-ghost use Rattle.history_text.specs.declared.faults.FileFault.TheVariants.{Memory as OutOfMemory};
+ghost use Rattle.history_streams.specs.declared.faults.FileFault.TheVariants.{Memory as OutOfMemory};
 
 use lock_word::Memory;
 use std::alloc::{AllocError, AllocFailed};
 use thiserror::Error;
 
-/// Why a script was not played to its end.
+/// Why a script was not played, or a history not checked, to its end. Lines are numbered from 1.
 #[derive(Clone, Copy, PartialEq, Eq, Debug, Error)]
 pub enum FileFault {
-    /// The line with this number, from 1, is the first that breaks a rule.
+    /// The line with this number is the first of a script that breaks a rule.
     #[error("bad line {0}")]
     BadLine(u64),
-    /// The script could not be read, or has more bytes than a script may have.
+    /// The line with this number is the first of a history that is no line of one.
+    #[error("bad move {0}")]
+    BadMove(u64),
+    /// The move on the line with this number is the first that is not lawful.
+    #[error("broken at {0}")]
+    Broken(u64),
+    /// The bytes could not be read, or are more than a script or a history may have.
     #[error("read failed")]
     Read,
-    /// The report could not be written whole.
+    /// The output could not be written whole.
     #[error("write failed")]
     Write,
-    /// The system refused the memory that the script, the world or the report needs.
+    /// The system refused memory.
     #[error("out of memory")]
     Memory,
 }
