@@ -3,6 +3,7 @@ use Rattle.std.proofs.Common.{refl, ◌≡◌, ℕ, zero, suc, ◌+◌, ◌<◌,
 use Rattle.std.specs.List.{list_all, list_any}
 use Rattle.std.proofs.lemmas.Bool.{and_parts, not-true, ltb-true}
 use Rattle.std.proofs.lemmas.List.{take_more}
+use Rattle.lock_word.specs.declared.Split.{Split}
 use Rattle.history_text.specs.declared.lines.Line.{Line}
 use Rattle.history_text.specs.declared.lines.Line.TheVariants.{World, Object, Step}
 use Rattle.history_text.specs.Lines.{Continues, may_follow, is_object, is_object_named}
@@ -16,20 +17,20 @@ follows_at (l ∷ ls) earlier zero d c within = subst (λ (e : List Line). may_f
 follows_at (l ∷ ls) earlier (suc i) d c within =
     subst (λ (e : List Line). may_follow e (get_or ls i d) ≡ true) (append_assoc earlier (l ∷ []) (take i ls)) (follows_at ls (earlier ++ l ∷ []) i d c.2 (omega (arith, within)))
 
-may_take : (m k : ℕ) (more : List Line) (l : Line) → may_follow (World m k ∷ more) l ≡ true → MayTake (object_names more) l
-may_take m k more (World n j) follows = tt
-may_take m k more (Object name low) follows =
+may_take : (m k : ℕ) (s : Split) (more : List Line) (l : Line) → may_follow (World m k s ∷ more) l ≡ true → MayTake (object_names more) l
+may_take m k s more (World n j r) follows = tt
+may_take m k s more (Object name low) follows =
     let parts = and_parts (list_all is_object more && not (list_any (is_object_named name) more)) _ follows in
     let new = and_parts (list_all is_object more) _ parts.0 in
     (any_declared name more ∙ not-true _ new.1, subst (λ (n : ℕ). n < 65535) (sym (as_many more new.0)) (ltb-true (length more) 65535 parts.1))
-may_take m k more (Step step) follows = tt
+may_take m k s more (Step step) follows = tt
 
 may_take_at : (ls : List Line) (i : ℕ) (d : Line) → FollowsWorld ls → i < length ls → MayTake (object_names (take i ls)) (get_or ls i d)
-may_take_at ls i d f within = may_take f.0 f.1 (take i ls) (get_or ls i d) (follows_at ls (World f.0 f.1 ∷ []) i d f.2 within)
+may_take_at ls i d f within = may_take f.0 f.1 f.2 (take i ls) (get_or ls i d) (follows_at ls (World f.0 f.1 f.2 ∷ []) i d f.3 within)
 
 names_at : (ls : List Line) (i : ℕ) (d : Line) → FollowsWorld ls → i < length ls → with_object (object_names (take i ls)) (get_or ls i d) ≡ object_names (take (i + 1) ls)
 names_at ls i d f within =
-    names_more (World f.0 f.1) (take i ls) (get_or ls i d) (follows_at ls (World f.0 f.1 ∷ []) i d f.2 within) ∙ ap object_names (sym (take_more ls i d within))
+    names_more (World f.0 f.1 f.2) (take i ls) (get_or ls i d) (follows_at ls (World f.0 f.1 f.2 ∷ []) i d f.3 within) ∙ ap object_names (sym (take_more ls i d within))
 
 -- the next line, with the names of the lines before it
 pub line_may_be_taken : (ls : List Line) (i : ℕ) (x : Line) (names : List (List ℕ)) → FollowsWorld ls → i < length ls → x ≡ get_or ls i x → names ≡ object_names (take i ls) → MayTake names x
@@ -42,15 +43,15 @@ names_next ls i x names new f within is same e =
     e ∙ ap (λ (n : List (List ℕ)). with_object n x) same ∙ ap (λ (l : Line). with_object (object_names (take i ls)) l) is ∙ names_at ls i x f within
 
 one_low : (low : ℕ) (lows : List ℕ) (l : Line) → (low ∷ with_low lows l) ≡ with_low (low ∷ lows) l
-one_low low lows (World m k) = refl
+one_low low lows (World m k s) = refl
 one_low low lows (Object n j) = refl
 one_low low lows (Step step) = refl
 
 lows_append : (ls : List Line) (l : Line) → low_bytes (ls ++ l ∷ []) ≡ with_low (low_bytes ls) l
-lows_append [] (World m k) = refl
+lows_append [] (World m k s) = refl
 lows_append [] (Object n j) = refl
 lows_append [] (Step step) = refl
-lows_append (World m k ∷ ls) l = lows_append ls l
+lows_append (World m k s ∷ ls) l = lows_append ls l
 lows_append (Object n j ∷ ls) l = ap (λ (lows : List ℕ). j ∷ lows) (lows_append ls l) ∙ one_low j (low_bytes ls) l
 lows_append (Step step ∷ ls) l = lows_append ls l
 

@@ -1,6 +1,7 @@
 //! What a script plays: the world that it makes, and its steps, with numbers for names.
 
 ghost use Rattle.std.specs.Prelude.{◌≡◌, ◌<◌, ◌≤◌, ◌++◌, ◌∷◌, [], false, length, vec_len, OnOk, IfOk};
+ghost use Rattle.lock_word.specs.Layout.{greatest_index};
 ghost use Rattle.history_text.specs.Lines.{IsScript};
 ghost use Rattle.history_text.specs.Noted.{object_names, with_object};
 ghost use Rattle.history.specs.Calls.{call_in, names_with};
@@ -10,7 +11,7 @@ ghost use Rattle.history.specs.Numbering.{FollowsWorld, IsWorldWith, MayTake, lo
 use crate::names::Names;
 use fast_path::Call;
 use history_text::{Line, Name, StepLine};
-use lock_word::Memory;
+use lock_word::{Memory, Split};
 use std::alloc::Global;
 use step_core::Step;
 
@@ -20,29 +21,32 @@ pub struct Plan {
     pub names: Names,
     pub monitors: u32,
     pub indices: u16,
+    pub split: Split,
     /// The low byte of each object.
     pub lows: Vec<u8>,
     pub steps: Vec<Step>,
     ghost monitors_fit: { monitors ≤ 8388608 },
     ghost has_indices: { 1 ≤ indices },
-    ghost indices_fit: { indices ≤ 32767 },
+    ghost indices_fit: { indices ≤ greatest_index split },
     ghost objects_fit: { vec_len lows ≤ 65535 },
     ghost objects_are_named: { length names.objects ≡ vec_len lows },
 }
 
 impl Plan {
     /// A world without objects and steps.
-    fn new(alloc: Global, monitors: u32, indices: u16) -> Plan
+    fn new(alloc: Global, monitors: u32, indices: u16, split: Split) -> Plan
         requires monitors { monitors ≤ 8388608 }
         requires some { 1 ≤ indices }
-        requires few { indices ≤ 32767 }
-        ensures world { (result.monitors ≡ monitors) × (result.indices ≡ indices) }
+        requires few { indices ≤ greatest_index split }
+        ensures world { (result.monitors ≡ monitors) × (result.indices ≡ indices)
+            × (result.split ≡ split) }
         ensures none { (result.names.objects ≡ []) × (result.lows.items ≡ []) }
     {
         Plan {
             names: Names::new(alloc),
             monitors,
             indices,
+            split,
             lows: Vec::new(alloc),
             steps: Vec::new(alloc),
         }
@@ -55,7 +59,7 @@ impl Plan {
             ≡ with_object self.old.names.objects line.now) }
         ensures lows { OnOk result (self.new.lows.items ≡ with_low self.old.lows.items line.now) }
         ensures world { (self.new.monitors ≡ self.old.monitors)
-            × (self.new.indices ≡ self.old.indices) }
+            × (self.new.indices ≡ self.old.indices) × (self.new.split ≡ self.old.split) }
     {
         match line {
             Line::World { .. } => Ok(()),
@@ -71,7 +75,7 @@ impl Plan {
             ≡ self.old.names.objects ++ name.now ∷ []) }
         ensures lows { OnOk result (self.new.lows.items ≡ self.old.lows.items ++ low ∷ []) }
         ensures world { (self.new.monitors ≡ self.old.monitors)
-            × (self.new.indices ≡ self.old.indices) }
+            × (self.new.indices ≡ self.old.indices) × (self.new.split ≡ self.old.split) }
     {
         self.lows.reserve(1)?;
         self.names.declare(name)?;
@@ -83,7 +87,7 @@ impl Plan {
         ensures objects { OnOk result (self.new.names.objects ≡ self.old.names.objects) }
         ensures lows { OnOk result (self.new.lows.items ≡ self.old.lows.items) }
         ensures world { (self.new.monitors ≡ self.old.monitors)
-            × (self.new.indices ≡ self.old.indices) }
+            × (self.new.indices ≡ self.old.indices) × (self.new.split ≡ self.old.split) }
     {
         let step = step_of(&mut self.names, step)?;
         self.steps.push(step)?;
@@ -153,7 +157,7 @@ fn take_lines(plan: &mut Plan, lines: &[Line<'_>]) -> Result<(), Memory>
     ensures objects { OnOk result (plan.new.names.objects ≡ object_names lines.now) }
     ensures lows { OnOk result (plan.new.lows.items ≡ low_bytes lines.now) }
     ensures world { OnOk result ((plan.new.monitors ≡ plan.old.monitors)
-        × (plan.new.indices ≡ plan.old.indices)) }
+        × (plan.new.indices ≡ plan.old.indices) × (plan.new.split ≡ plan.old.split)) }
 {
     'lines: for line in lines {
         plan.take_line(line)?;
@@ -164,17 +168,22 @@ fn take_lines(plan: &mut Plan, lines: &[Line<'_>]) -> Result<(), Memory>
 /// What the lines of a script play, with numbers for their names.
 pub fn plan_of(alloc: Global, lines: &[Line<'_>]) -> Result<Plan, Memory>
     requires { IsScript lines.now }
-    ensures world { IfOk result (λ plan. IsWorldWith plan.monitors plan.indices lines.now) }
+    ensures world { IfOk result (λ plan. IsWorldWith plan.monitors plan.indices plan.split lines.now) }
     ensures objects { IfOk result (λ plan. plan.names.objects ≡ object_names lines.now) }
     ensures lows { IfOk result (λ plan. plan.lows.items ≡ low_bytes lines.now) }
 {
     let [first, rest @ ..] = lines else {
         unreachable!()
     };
-    let Line::World { monitors, indices } = first else {
+    let Line::World {
+        monitors,
+        indices,
+        split,
+    } = first
+    else {
         unreachable!()
     };
-    let mut plan = Plan::new(alloc, *monitors, *indices);
+    let mut plan = Plan::new(alloc, *monitors, *indices, *split);
     take_lines(&mut plan, rest)?;
     Ok(plan)
 }

@@ -3,14 +3,14 @@
 use crate::names::Names;
 use crate::plans::Plan;
 use fat_monitor::Answer;
-use lock_word::{Memory, ObjectId, Split, ThreadId};
+use lock_word::{Memory, ObjectId, ThreadId};
 use std::alloc::{AllocError, Global};
 use std::fmt::Write;
 use step_core::{Atomic, Did, Doing, Fault, Step, World};
 
 /// Plays a script and writes its report: a line for each step, then a line for each object.
 pub fn report_of(alloc: Global, plan: &Plan) -> Result<String, Memory> {
-    let mut world = World::new(alloc, &plan.lows, plan.monitors, plan.indices, Split::Wide)?;
+    let mut world = World::new(alloc, &plan.lows, plan.monitors, plan.indices, plan.split)?;
     let mut report = String::new(alloc);
     for step in &plan.steps {
         let answer = world.step(*step);

@@ -10,6 +10,9 @@ use Rattle.std.proofs.lemmas.Option.{cond_some}
 use Rattle.std.proofs.lemmas.List.Splits.{join_with_byte-slice_split}
 use Rattle.std.proofs.lemmas.Str.{IsUtf8-from_ascii}
 use Rattle.std.proofs.lemmas.Str.Ascii.{IsAscii-nil, IsAscii-cons}
+use Rattle.lock_word.specs.declared.Split.{Split}
+use Rattle.lock_word.specs.declared.Split.TheVariants.{Wide, Deep}
+use Rattle.lock_word.specs.Layout.{greatest_index}
 use Rattle.history_text.specs.declared.lines.Line.{Line}
 use Rattle.history_text.specs.declared.lines.Line.TheVariants.{World, Object, Step}
 use Rattle.history_text.specs.declared.lines.StepLine.{StepLine}
@@ -17,7 +20,7 @@ use Rattle.history_text.specs.declared.lines.StepLine.TheVariants.{Attach, Begin
 use Rattle.history_text.specs.declared.lines.Call.{Call}
 use Rattle.history_text.specs.declared.lines.Call.TheVariants.{Enter, Exit, Wait, Notify, NotifyAll, Holds, Interrupt, Interrupted, IsInterrupted, End}
 use Rattle.history_text.specs.Words.{IsBelow, is_name, name_from, number_from, signed_from, nanos_from, hex_digit, hex_from, low_text, low_from}
-use Rattle.history_text.specs.Lines.{line_at, line_from, step_of_two, line_of_three, world_from, wait_from, call_alone, call_naming, call_timed, call_with, begin_from, words_of, line_words, step_words, call_words, line_text, Fits, StepFits, CallFits}
+use Rattle.history_text.specs.Lines.{line_at, line_from, step_of_two, line_of_three, line_of_four, world_from, world_of, split_words, wait_from, call_alone, call_naming, call_timed, call_with, begin_from, words_of, line_words, step_words, call_words, line_text, Fits, StepFits, CallFits}
 use Rattle.history_text.proofs.Choices.{by_cond, bound, mapped, none_some, some_same, same_word}
 use Rattle.history_text.proofs.Numerals.{number_takes, number_again}
 use Rattle.history_text.proofs.Signed.{signed_takes, signed_again, signed_plain, nanos_takes, nanos_again, nanos_plain}
@@ -88,20 +91,20 @@ step_line_takes ws o l takes e =
     let made = mapped Step o l e in
     subst (λ (l : Line). Fits l × (ws ≡ line_words l)) made.2 (takes made.0 made.1)
 
-world_said : (v a b : List ℕ) (m k : ℕ) → v ≡ codes "world" → a ≡ decimal m → b ≡ decimal k → (nat_le m 8388608 && nat_le 1 k && nat_le k 32767) ≡ true
-    → Fits (World m k) × ((v ∷ a ∷ b ∷ []) ≡ line_words (World m k))
-world_said v a b m k verb first second tests =
+world_said : (split : Split) (v a b : List ℕ) (more : List (List ℕ)) (m k : ℕ) → v ≡ codes "world" → a ≡ decimal m → b ≡ decimal k → more ≡ split_words split
+    → (nat_le m 8388608 && nat_le 1 k && nat_le k (greatest_index split)) ≡ true → Fits (World m k split) × ((v ∷ a ∷ b ∷ more) ≡ line_words (World m k split))
+world_said split v a b more m k verb first second last tests =
     let upper = and_parts (nat_le m 8388608 && nat_le 1 k) _ tests in
     let lower = and_parts (nat_le m 8388608) _ upper.0 in
-    ((leb-true m 8388608 lower.0, leb-true 1 k lower.1, leb-true k 32767 upper.1), rw (verb, first, second) refl)
+    ((leb-true m 8388608 lower.0, leb-true 1 k lower.1, leb-true k (greatest_index split) upper.1), rw (verb, first, second, last) refl)
 
-world_takes : (v a b : List ℕ) (l : Line) → v ≡ codes "world" → option_and_then (λ m. option_and_then (world_from m) (number_from b)) (number_from a) ≡ Some l
-    → Fits l × ((v ∷ a ∷ b ∷ []) ≡ line_words l)
-world_takes v a b l verb e =
+world_takes : (split : Split) (v a b : List ℕ) (more : List (List ℕ)) (l : Line) → v ≡ codes "world" → more ≡ split_words split → world_of split a b ≡ Some l
+    → Fits l × ((v ∷ a ∷ b ∷ more) ≡ line_words l)
+world_takes split v a b more l verb last e =
     let m = bound _ (number_from a) l e in
-    let k = bound (world_from m.0) (number_from b) l m.2 in
-    let t = cond_some (nat_le m.0 8388608 && nat_le 1 k.0 && nat_le k.0 32767) (World m.0 k.0) l k.2 in
-    subst (λ (l : Line). Fits l × ((v ∷ a ∷ b ∷ []) ≡ line_words l)) t.1 (world_said v a b m.0 k.0 verb (number_takes a m.0 m.1).0 (number_takes b k.0 k.1).0 t.0)
+    let k = bound (world_from split m.0) (number_from b) l m.2 in
+    let t = cond_some (nat_le m.0 8388608 && nat_le 1 k.0 && nat_le k.0 (greatest_index split)) (World m.0 k.0 split) l k.2 in
+    subst (λ (l : Line). Fits l × ((v ∷ a ∷ b ∷ more) ≡ line_words l)) t.1 (world_said split v a b more m.0 k.0 verb (number_takes a m.0 m.1).0 (number_takes b k.0 k.1).0 last t.0)
 
 object_said : (v a b n : List ℕ) (low : ℕ) → v ≡ codes "object" → a ≡ n → is_name n ≡ true → b ≡ low_text low → low < 256 → Fits (Object n low) × ((v ∷ a ∷ b ∷ []) ≡ line_words (Object n low))
 object_said v a b n low verb first is second small = ((is, small), rw (verb, first, second) refl)
@@ -189,15 +192,22 @@ begin_line_takes v a ws o l takes e = step_line_takes (v ∷ a ∷ ws) (begin_fr
 
 three_takes : (v a b : List ℕ) (l : Line) → line_of_three v a b ≡ Some l → Fits l × ((v ∷ a ∷ b ∷ []) ≡ line_words l)
 three_takes v a b l e =
-    by_cond (bytes_eq v (codes "world")) _ _ _ _ e (λ is m. world_takes v a b l (same_word v _ is) m)
+    by_cond (bytes_eq v (codes "world")) _ _ _ _ e (λ is m. world_takes Wide v a b [] l (same_word v _ is) refl m)
     (λ _ e. by_cond (bytes_eq v (codes "object")) _ _ _ _ e (λ is m. object_takes v a b l (same_word v _ is) m) (λ _ e. begin_line_takes v a (b ∷ []) (call_alone b) l (alone_takes b) e))
+
+four_takes : (v a b c : List ℕ) (l : Line) → line_of_four v a b c ≡ Some l → Fits l × ((v ∷ a ∷ b ∷ c ∷ []) ≡ line_words l)
+four_takes v a b c l e =
+    by_cond (bytes_eq v (codes "world")) _ _ _ _ e
+    (λ is m. by_cond (bytes_eq c (codes "deep")) _ _ _ _ m
+    (λ deep m. world_takes Deep v a b (c ∷ []) l (same_word v _ is) (ap (λ (w : List ℕ). w ∷ []) (same_word c _ deep)) m) (λ _ none. none_some l _ none))
+    (λ _ e. begin_line_takes v a (b ∷ c ∷ []) (call_naming b c) l (naming_takes b c) e)
 
 words_take : (ws : List (List ℕ)) (l : Line) → line_from ws ≡ Some l → Fits l × (ws ≡ line_words l)
 words_take [] l e = none_some l _ e
 words_take (v ∷ []) l e = none_some l _ e
 words_take (v ∷ a ∷ []) l e = step_line_takes (v ∷ a ∷ []) (step_of_two v a) l (two_takes v a) e
 words_take (v ∷ a ∷ b ∷ []) l e = three_takes v a b l e
-words_take (v ∷ a ∷ b ∷ c ∷ []) l e = begin_line_takes v a (b ∷ c ∷ []) (call_naming b c) l (naming_takes b c) e
+words_take (v ∷ a ∷ b ∷ c ∷ []) l e = four_takes v a b c l e
 words_take (v ∷ a ∷ b ∷ c ∷ d ∷ []) l e = none_some l _ e
 words_take (v ∷ a ∷ b ∷ c ∷ d ∷ f ∷ []) l e = begin_line_takes v a (b ∷ c ∷ d ∷ f ∷ []) (call_timed b c d f) l (timed_takes b c d f) e
 words_take (v ∷ a ∷ b ∷ c ∷ d ∷ f ∷ g ∷ more) l e = none_some l _ e
@@ -244,10 +254,14 @@ low_again n small =
     rw (hex_again (n / 16) first, hex_again (n % 16) second, whole) refl
 
 words_again : (l : Line) → Fits l → line_from (line_words l) ≡ Some l
-words_again (World m k) fits =
+words_again (World m k Wide) fits =
     let one : m < 2 ^ 64 = omega (arith, fits.0) in
     let two : k < 2 ^ 64 = omega (arith, fits.2) in
     rw (number_again m one, number_again k two, le-leb m 8388608 fits.0, le-leb 1 k fits.1, le-leb k 32767 fits.2) refl
+words_again (World m k Deep) fits =
+    let one : m < 2 ^ 64 = omega (arith, fits.0) in
+    let two : k < 2 ^ 64 = omega (arith, fits.2) in
+    rw (number_again m one, number_again k two, le-leb m 8388608 fits.0, le-leb 1 k fits.1, le-leb k 2047 fits.2) refl
 words_again (Object name low) fits = rw (fits.0, low_again low fits.1) refl
 words_again (Step (Attach t)) fits = rw fits refl
 words_again (Step (Begin t (Enter o))) fits = rw (fits.0, fits.1) refl
@@ -278,7 +292,8 @@ call_plain (IsInterrupted u) fits = (refl, (name_plain u fits, tt))
 call_plain End fits = (refl, tt)
 
 pub words_plain : (l : Line) → Fits l → (0 < length (line_words l)) × ArePlain (line_words l)
-words_plain (World m k) fits = (omega arith, (refl, (decimal_plain m (omega (arith, fits.0)), (decimal_plain k (omega (arith, fits.2)), tt))))
+words_plain (World m k Wide) fits = (omega arith, (refl, (decimal_plain m (omega (arith, fits.0)), (decimal_plain k (omega (arith, fits.2)), tt))))
+words_plain (World m k Deep) fits = (omega arith, (refl, (decimal_plain m (omega (arith, fits.0)), (decimal_plain k (omega (arith, fits.2)), (refl, tt)))))
 words_plain (Object name low) fits = (omega arith, (refl, (name_plain name fits.0, (low_plain low fits.1, tt))))
 words_plain (Step (Attach t)) fits = (omega arith, (refl, (name_plain t fits, tt)))
 words_plain (Step (Begin t call)) fits = (omega arith, (refl, (name_plain t fits.0, call_plain call fits.1)))

@@ -10,13 +10,13 @@ use Rattle.history_text.specs.Noted.{object_names, IsNoted, may_follow_by, with_
 
 pub any_declared : (name : List ℕ) (ls : List Line) → list_any (bytes_eq name) (object_names ls) ≡ list_any (is_object_named name) ls
 any_declared name [] = refl
-any_declared name (World m k ∷ ls) = any_declared name ls
+any_declared name (World m k split ∷ ls) = any_declared name ls
 any_declared name (Object n low ∷ ls) = ap (λ (b : Bool). bytes_eq name n || b) (any_declared name ls)
 any_declared name (Step step ∷ ls) = any_declared name ls
 
 pub as_many : (ls : List Line) → list_all is_object ls ≡ true → length (object_names ls) ≡ length ls
 as_many [] h = refl
-as_many (World m k ∷ ls) h = absurd (cc)
+as_many (World m k split ∷ ls) h = absurd (cc)
 as_many (Object n low ∷ ls) h = ap suc (as_many ls h)
 as_many (Step step ∷ ls) h = absurd (cc)
 
@@ -33,10 +33,10 @@ nil_is [] = refl
 nil_is (l ∷ ls) = ne_eqb (length (l ∷ ls)) 0 (λ e. omega (arith, e))
 
 by_note : (ls : List Line) (l : Line) → may_follow_by (is_nil ls) (list_all is_object (drop 1 ls)) (object_names (drop 1 ls)) l ≡ may_follow ls l
-by_note [] (World m k) = refl
+by_note [] (World m k split) = refl
 by_note [] (Object n low) = refl
 by_note [] (Step step) = refl
-by_note (x ∷ ls) (World m k) = refl
+by_note (x ∷ ls) (World m k split) = refl
 by_note (x ∷ ls) (Object n low) =
     count_under (list_all is_object ls) (not (list_any (bytes_eq n) (object_names ls))) (length (object_names ls)) (length ls) (as_many ls)
     ∙ ap (λ (b : Bool). list_all is_object ls && not b && nat_lt (length ls) 65535) (any_declared n ls)
@@ -73,13 +73,13 @@ all-append (x ∷ ls) l = ap (λ (b : Bool). is_object x && b) (all-append ls l)
 
 names_append : (ls : List Line) (l : Line) → object_names (ls ++ l ∷ []) ≡ object_names ls ++ object_names (l ∷ [])
 names_append [] l = refl
-names_append (World m k ∷ ls) l = names_append ls l
+names_append (World m k split ∷ ls) l = names_append ls l
 names_append (Object n low ∷ ls) l = ap (λ (ns : List (List ℕ)). n ∷ ns) (names_append ls l)
 names_append (Step step ∷ ls) l = names_append ls l
 
 -- a line that may stand after these
 pub names_more : (x : Line) (ls : List Line) (l : Line) → may_follow (x ∷ ls) l ≡ true → with_object (object_names ls) l ≡ object_names (ls ++ l ∷ [])
-names_more x ls (World m k) follows = absurd (cc)
+names_more x ls (World m k split) follows = absurd (cc)
 names_more x ls (Object n low) follows =
     let parts = and_parts (list_all is_object ls && not (list_any (is_object_named n) ls)) _ follows in
     let new = any_declared n ls ∙ not-true _ (and_parts (list_all is_object ls) _ parts.0).1 in
@@ -87,7 +87,7 @@ names_more x ls (Object n low) follows =
 names_more x ls (Step step) follows = sym (append-nil (object_names ls)) ∙ sym (names_append ls (Step step))
 
 noted_first : (declaring : Bool) (names : List (List ℕ)) (l : Line) → IsNoted [] declaring names → may_follow [] l ≡ true → IsNoted (l ∷ []) (declaring && (true || is_object l)) (with_object names l)
-noted_first declaring names (World m k) noted follows = record { objects = ap (λ (b : Bool). b && true) noted.objects; declared = noted.declared }
+noted_first declaring names (World m k split) noted follows = record { objects = ap (λ (b : Bool). b && true) noted.objects; declared = noted.declared }
 noted_first declaring names (Object n low) noted follows = absurd (cc)
 noted_first declaring names (Step step) noted follows = absurd (cc)
 

@@ -3,6 +3,9 @@ use Rattle.std.specs.Prelude.{◌≡◌, ◌⊎◌, ℕ, ◌+◌, ◌<◌, ◌�
 use Rattle.std.specs.Fmt.{signed_decimal}
 use Rattle.std.specs.List.{join_with_byte, slice_split, list_all, list_any}
 use Rattle.std.specs.Str.{bytes_eq}
+use Rattle.lock_word.specs.declared.Split.{Split}
+use Rattle.lock_word.specs.declared.Split.TheVariants.{Wide, Deep}
+use Rattle.lock_word.specs.Layout.{greatest_index}
 use Rattle.history_text.specs.declared.lines.Line.{Line}
 use Rattle.history_text.specs.declared.lines.Line.TheVariants.{World, Object, Step}
 use Rattle.history_text.specs.declared.lines.StepLine.{StepLine}
@@ -34,8 +37,13 @@ step_words (Expire thread) = codes "expire" ∷ thread ∷ []
 step_words (Spurious thread) = codes "spurious" ∷ thread ∷ []
 step_words (Tick now) = codes "tick" ∷ decimal now ∷ []
 
+-- the wide split is not named
+abbrev pub split_words : Split → List (List ℕ)
+split_words Wide = []
+split_words Deep = codes "deep" ∷ []
+
 abbrev pub line_words : Line → List (List ℕ)
-line_words (World monitors indices) = codes "world" ∷ decimal monitors ∷ decimal indices ∷ []
+line_words (World monitors indices split) = codes "world" ∷ decimal monitors ∷ decimal indices ∷ split_words split
 line_words (Object name low) = codes "object" ∷ name ∷ low_text low ∷ []
 line_words (Step step) = step_words step
 
@@ -73,28 +81,28 @@ StepFits (Tick now) = now < 2 ^ 64
 
 -- what a line can say
 abbrev pub Fits : Line → Type 0
-Fits (World monitors indices) = (monitors ≤ 8388608) × (1 ≤ indices) × (indices ≤ 32767)
+Fits (World monitors indices split) = (monitors ≤ 8388608) × (1 ≤ indices) × (indices ≤ greatest_index split)
 Fits (Object name low) = (is_name name ≡ true) × (low < 256)
 Fits (Step step) = StepFits step
 
 abbrev pub is_world : Line → Bool
-is_world (World monitors indices) = true
+is_world (World monitors indices split) = true
 is_world (Object name low) = false
 is_world (Step step) = false
 
 abbrev pub is_object : Line → Bool
-is_object (World monitors indices) = false
+is_object (World monitors indices split) = false
 is_object (Object name low) = true
 is_object (Step step) = false
 
 abbrev pub is_object_named : List ℕ → Line → Bool
-is_object_named n (World monitors indices) = false
+is_object_named n (World monitors indices split) = false
 is_object_named n (Object name low) = bytes_eq n name
 is_object_named n (Step step) = false
 
 -- after the first line and these: an object stands directly after them, and has a new name
 abbrev pub may_stand : List Line → Line → Bool
-may_stand more (World monitors indices) = false
+may_stand more (World monitors indices split) = false
 may_stand more (Object name low) =
     list_all is_object more && not (list_any (is_object_named name) more)
     && nat_lt (length more) 65535
@@ -170,23 +178,34 @@ step_of_two verb word =
     else (if bytes_eq verb (codes "spurious") then option_map Spurious (name_from word)
     else (if bytes_eq verb (codes "tick") then option_map Tick (number_from word) else None))))
 
-abbrev pub world_from : ℕ → ℕ → Option Line
-world_from m k = if nat_le m 8388608 && nat_le 1 k && nat_le k 32767 then Some (World m k) else None
+abbrev pub world_from : Split → ℕ → ℕ → Option Line
+world_from split m k =
+    if nat_le m 8388608 && nat_le 1 k && nat_le k (greatest_index split) then Some (World m k split) else None
+
+abbrev pub world_of : Split → List ℕ → List ℕ → Option Line
+world_of split monitors indices =
+    option_and_then (λ m. option_and_then (world_from split m) (number_from indices)) (number_from monitors)
 
 abbrev pub line_of_three : List ℕ → List ℕ → List ℕ → Option Line
 line_of_three verb a b =
     if bytes_eq verb (codes "world")
-    then option_and_then (λ m. option_and_then (world_from m) (number_from b)) (number_from a)
+    then world_of Wide a b
     else (if bytes_eq verb (codes "object")
     then option_and_then (λ name. option_map (Object name) (low_from b)) (name_from a)
     else option_map Step (begin_from verb a (call_alone b)))
+
+abbrev pub line_of_four : List ℕ → List ℕ → List ℕ → List ℕ → Option Line
+line_of_four verb a b c =
+    if bytes_eq verb (codes "world")
+    then (if bytes_eq c (codes "deep") then world_of Deep a b else None)
+    else option_map Step (begin_from verb a (call_naming b c))
 
 abbrev pub line_from : List (List ℕ) → Option Line
 line_from [] = None
 line_from (v ∷ []) = None
 line_from (v ∷ a ∷ []) = option_map Step (step_of_two v a)
 line_from (v ∷ a ∷ b ∷ []) = line_of_three v a b
-line_from (v ∷ a ∷ b ∷ c ∷ []) = option_map Step (begin_from v a (call_naming b c))
+line_from (v ∷ a ∷ b ∷ c ∷ []) = line_of_four v a b c
 line_from (v ∷ a ∷ b ∷ c ∷ d ∷ []) = None
 line_from (v ∷ a ∷ b ∷ c ∷ d ∷ e ∷ []) = option_map Step (begin_from v a (call_timed b c d e))
 line_from (v ∷ a ∷ b ∷ c ∷ d ∷ e ∷ f ∷ more) = None

@@ -10,7 +10,7 @@ use Rattle.history_text.specs.Names.{with_name}
 -- the names of the objects that are declared
 abbrev pub object_names : List Line → List (List ℕ)
 object_names [] = []
-object_names (World m k ∷ ls) = object_names ls
+object_names (World m k split ∷ ls) = object_names ls
 object_names (Object name low ∷ ls) = name ∷ object_names ls
 object_names (Step step ∷ ls) = object_names ls
 
@@ -20,12 +20,12 @@ pub record IsNoted (ls : List Line) (declaring : Bool) (names : List (List ℕ))
   pub declared : names ≡ object_names (drop 1 ls)
 
 abbrev pub may_follow_by : Bool → Bool → List (List ℕ) → Line → Bool
-may_follow_by first declaring names (World m k) = first
+may_follow_by first declaring names (World m k split) = first
 may_follow_by first declaring names (Object name low) =
     not first && declaring && not (list_any (bytes_eq name) names) && nat_lt (length names) 65535
 may_follow_by first declaring names (Step step) = not first
 
 abbrev pub with_object : List (List ℕ) → Line → List (List ℕ)
-with_object names (World m k) = names
+with_object names (World m k split) = names
 with_object names (Object name low) = with_name names name
 with_object names (Step step) = names

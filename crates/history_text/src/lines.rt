@@ -1,6 +1,7 @@
 //! The lines of a script, as they are written.
 
 use crate::names::Name;
+use lock_word::Split;
 
 /// A call, as a `begin` line has it.
 #[derive(Debug, Drop)]
@@ -39,8 +40,13 @@ pub enum StepLine<'a> {
 /// A line of a script.
 #[derive(Debug, Drop)]
 pub enum Line<'a> {
-    /// The most fat monitors, 0 to 8,388,608, and the most live threads, 1 to 32,767.
-    World { monitors: u32, indices: u16 },
+    /// The most fat monitors, 0 to 8,388,608; the most live threads, 1 to the greatest index of the split;
+    /// and the split of the header words.
+    World {
+        monitors: u32,
+        indices: u16,
+        split: Split,
+    },
     /// An object and the low byte of its word.
     Object { name: Name<'a>, low: u8 },
     Step(StepLine<'a>),

@@ -6,6 +6,7 @@ ghost use Rattle.history_text.specs.Words.{hex_digit};
 ghost use Rattle.history_text.specs.Lines.{call_words, line_text, script_text, step_words};
 
 use crate::lines::{Call, Line, StepLine};
+use lock_word::Split;
 use std::alloc::{AllocError, Global};
 use std::fmt::Write;
 
@@ -67,7 +68,16 @@ fn put_line(out: &mut String, line: &Line<'_>) -> Result<(), AllocError>
         ≡ string_bytes out.old ++ (line_text line.now ++ 10 ∷ [])) }
 {
     match line {
-        Line::World { monitors, indices } => writeln!(out, "world {monitors} {indices}"),
+        Line::World {
+            monitors,
+            indices,
+            split: Split::Wide,
+        } => writeln!(out, "world {monitors} {indices}"),
+        Line::World {
+            monitors,
+            indices,
+            split: Split::Deep,
+        } => writeln!(out, "world {monitors} {indices} deep"),
         Line::Object { name, low } => {
             let high = hex_char(*low / 16);
             let low = hex_char(*low % 16);

@@ -5,10 +5,11 @@ ghost use Rattle.std.specs.List.{list_all};
 ghost use Rattle.std.specs.Char.{is_ascii_digit};
 ghost use Rattle.history_text.specs.declared.lines.Line.TheVariants.{Object, Step};
 ghost use Rattle.history_text.specs.Words.{is_numeral, signed_from, nanos_from, number_from, name_from, hex_from, low_from};
-ghost use Rattle.history_text.specs.Lines.{begin_from, call_alone, call_naming, call_with, call_timed, wait_from, world_from, step_of_two, line_of_three, line_from, words_of, line_at};
+ghost use Rattle.history_text.specs.Lines.{begin_from, call_alone, call_naming, call_with, call_timed, wait_from, world_of, step_of_two, line_of_three, line_of_four, line_from, words_of, line_at};
 
 use crate::lines::{Call, Line, StepLine};
 use crate::names::Name;
+use lock_word::Split;
 use std::alloc::{AllocError, Global};
 use std::str;
 
@@ -107,19 +108,19 @@ fn nanos_of(word: &str) -> Option<i32>
     }
 }
 
-fn world_of<'a>(monitors: &str, indices: &str) -> Option<Line<'a>>
-    ensures { result
-        ≡ option_and_then (λ m. option_and_then (world_from m) (number_from indices.now))
-        (number_from monitors.now) }
+fn world_of<'a>(split: Split, monitors: &str, indices: &str) -> Option<Line<'a>>
+    ensures { result ≡ world_of split monitors.now indices.now }
 {
     let monitors = number_of(monitors)?;
     let indices = number_of(indices)?;
-    if monitors > 8_388_608 || indices < 1 || indices > 32_767 {
+    let most = u64::from(split.greatest_index());
+    if monitors > 8_388_608 || indices < 1 || indices > most {
         return None;
     }
     Some(Line::World {
         monitors: monitors as u32,
         indices: indices as u16,
+        split,
     })
 }
 
@@ -216,12 +217,29 @@ fn line_of_three<'a>(verb: &str, first: &'a str, second: &'a str) -> Option<Line
     ensures { result ≡ line_of_three verb.now first.now second.now }
 {
     if verb == "world" {
-        return world_of(first, second);
+        return world_of(Split::Wide, first, second);
     }
     if verb == "object" {
         return object_of(first, second);
     }
     begin_of(verb, first, call_alone(second))
+}
+
+fn line_of_four<'a>(
+    verb: &str,
+    first: &'a str,
+    second: &'a str,
+    third: &'a str,
+) -> Option<Line<'a>>
+    ensures { result ≡ line_of_four verb.now first.now second.now third.now }
+{
+    if verb == "world" {
+        if third == "deep" {
+            return world_of(Split::Deep, first, second);
+        }
+        return None;
+    }
+    begin_of(verb, first, call_naming(second, third))
 }
 
 fn line_of_words<'a>(words: &[&'a str]) -> Option<Line<'a>>
@@ -230,7 +248,7 @@ fn line_of_words<'a>(words: &[&'a str]) -> Option<Line<'a>>
     match words {
         [verb, word] => step_of_two(verb, word).map(Line::Step),
         [verb, first, second] => line_of_three(verb, first, second),
-        [verb, thread, call, name] => begin_of(verb, thread, call_naming(call, name)),
+        [verb, first, second, third] => line_of_four(verb, first, second, third),
         [verb, thread, call, name, millis, nanos] => {
             begin_of(verb, thread, call_timed(call, name, millis, nanos))
         }

@@ -12,5 +12,5 @@ lines-preserved c = record {
       c.lines.invariant.objects c.in_ok-take_line.ensures.objects;
   lows = lows_next c.args.lines.now c.lines.line-index c.line-item.result c.lines.plan.lows.items c.take_line.new.self.lows.items c.lines-test.true c.line-item.is c.lines.invariant.lows
       c.in_ok-take_line.ensures.lows;
-  world = (c.take_line.ensures.world.0 ∙ c.lines.invariant.world.0, c.take_line.ensures.world.1 ∙ c.lines.invariant.world.1);
+  world = (c.take_line.ensures.world.0 ∙ c.lines.invariant.world.0, c.take_line.ensures.world.1 ∙ c.lines.invariant.world.1, c.take_line.ensures.world.2 ∙ c.lines.invariant.world.2);
 }

@@ -7,5 +7,5 @@ abbrev pub invariant-lines : goal.invariant-lines
 invariant-lines l = record {
   objects : l.plan.names.objects ≡ object_names (take l.line-index l.lines);
   lows : l.plan.lows.items ≡ low_bytes (take l.line-index l.lines);
-  world : (l.plan.monitors ≡ l.fn.plan.monitors) × (l.plan.indices ≡ l.fn.plan.indices);
+  world : (l.plan.monitors ≡ l.fn.plan.monitors) × (l.plan.indices ≡ l.fn.plan.indices) × (l.plan.split ≡ l.fn.plan.split);
 }
