@@ -54,7 +54,11 @@ fn a_wait_and_a_notify_call_for_this(rt: HostRuntime) {
         (NOTIFY_ALL, fat, Next::Fat(9)),
     ];
     for (call, lock, next) in rows {
-        assert_eq!(rt; decide(Split::Wide, call, lock, 2), next, "{call:?} {lock:?}");
+        assert_eq!(rt;
+            decide(Split::Wide, call, lock, 2),
+            next,
+            "{call:?} {lock:?}"
+        );
         assert_eq!(rt; call.object(), Some(ObjectId(3)));
     }
 }
@@ -81,10 +85,18 @@ fn a_loaded_lock_calls_for_this(rt: HostRuntime) {
         (HOLDS, fat, Next::Fat(9)),
     ];
     for (call, lock, next) in rows {
-        assert_eq!(rt; decide(Split::Wide, call, lock, 2), next, "{call:?} {lock:?}");
+        assert_eq!(rt;
+            decide(Split::Wide, call, lock, 2),
+            next,
+            "{call:?} {lock:?}"
+        );
     }
     for (count, next) in [(255, Next::Store(thin(2, 256))), (4_095, Next::Bind)] {
-        assert_eq!(rt; decide(Split::Deep, ENTER, thin(2, count), 2), next, "{count}");
+        assert_eq!(rt;
+            decide(Split::Deep, ENTER, thin(2, count), 2),
+            next,
+            "{count}"
+        );
     }
     assert_eq!(rt; ENTER.object(), Some(ObjectId(3)));
     assert_eq!(rt; HOLDS.object(), Some(ObjectId(3)));

@@ -48,6 +48,9 @@ pub enum Line<'a> {
         split: Split,
     },
     /// An object and the low byte of its word.
-    Object { name: Name<'a>, low: u8 },
+    Object {
+        name: Name<'a>,
+        low: u8,
+    },
     Step(StepLine<'a>),
 }

@@ -225,12 +225,7 @@ fn line_of_three<'a>(verb: &str, first: &'a str, second: &'a str) -> Option<Line
     begin_of(verb, first, call_alone(second))
 }
 
-fn line_of_four<'a>(
-    verb: &str,
-    first: &'a str,
-    second: &'a str,
-    third: &'a str,
-) -> Option<Line<'a>>
+fn line_of_four<'a>(verb: &str, first: &'a str, second: &'a str, third: &'a str) -> Option<Line<'a>>
     ensures { result ≡ line_of_four verb.now first.now second.now third.now }
 {
     if verb == "world" {

@@ -27,7 +27,11 @@ fn words_and_their_locks(rt: HostRuntime) {
         (0x0000_00A5, Lock::Free, 0xA5),
     ];
     for (bits, lock, low) in rows {
-        assert_eq!(rt; decode(Split::Wide, Word(bits)), Some((lock, low)), "{bits:08X}");
+        assert_eq!(rt;
+            decode(Split::Wide, Word(bits)),
+            Some((lock, low)),
+            "{bits:08X}"
+        );
     }
     assert_eq!(rt;
         encode(
@@ -47,7 +51,10 @@ fn words_and_their_locks(rt: HostRuntime) {
     assert_eq!(rt; encode(Split::Wide, Lock::Free, 0xA5), Word(0x0000_00A5));
     let word = with_lock(Split::Wide, Word(0x0001_01A5), Lock::Fat { monitor: 9 });
     assert_eq!(rt; word, Word(0x8000_09A5));
-    assert_eq!(rt; lock_of(Split::Wide, Word(0x8000_09A5)), Lock::Fat { monitor: 9 });
+    assert_eq!(rt;
+        lock_of(Split::Wide, Word(0x8000_09A5)),
+        Lock::Fat { monitor: 9 }
+    );
 }
 
 #[test]
@@ -82,7 +89,11 @@ fn deep_words_and_their_locks(rt: HostRuntime) {
         (0x0000_00A5, Lock::Free, 0xA5),
     ];
     for (bits, lock, low) in rows {
-        assert_eq!(rt; decode(Split::Deep, Word(bits)), Some((lock, low)), "{bits:08X}");
+        assert_eq!(rt;
+            decode(Split::Deep, Word(bits)),
+            Some((lock, low)),
+            "{bits:08X}"
+        );
         assert_eq!(rt; with_lock(Split::Deep, Word(low), lock), Word(bits));
     }
     assert_eq!(rt; decode(Split::Deep, Word(0x0001_0000)), None);

@@ -8,15 +8,30 @@ use std::fmt::Write;
 pub struct Draft {
     pub script: String,
     pub report: String,
+    // The word of the object that x holds once.
+    held_once: u32,
 }
 
 impl Draft {
     /// A world with these many monitors and four indices, one object, and the thread x.
     pub fn new(alloc: Global, monitors: u32) -> Result<Draft, AllocError> {
+        let world = format!(in alloc; "world {monitors} 4\n")?;
+        Draft::in_world(alloc, world, 0x0001_00A5)
+    }
+
+    /// The same in the deep split.
+    pub fn deep(alloc: Global, monitors: u32) -> Result<Draft, AllocError> {
+        let world = format!(in alloc; "world {monitors} 4 deep\n")?;
+        Draft::in_world(alloc, world, 0x0010_00A5)
+    }
+
+    fn in_world(alloc: Global, world: String, held_once: u32) -> Result<Draft, AllocError> {
         let mut draft = Draft {
-            script: format!(in alloc; "world {monitors} 4\nobject a A5\n")?,
+            script: world,
             report: String::new(alloc),
+            held_once,
         };
+        draft.script.push_str("object a A5\n")?;
         draft.add("attach x", "attach x index 1")?;
         Ok(draft)
     }
@@ -43,10 +58,10 @@ impl Draft {
         Ok(())
     }
 
-    /// Adds so many enters by x of the free object, which are 256 at most: an exchange of the free
+    /// Adds so many enters by x of the free object, as a thin word counts at most: an exchange of the free
     /// word, and then a store for each further one.
     pub fn enter_thinly(&mut self, times: u32) -> Result<(), AllocError> {
-        let mut word = 0x0001_00A5u32;
+        let mut word = self.held_once;
         for enter in 0..times {
             self.add("begin x enter a", "begin x")?;
             self.script.push_str("go x\ngo x\n")?;

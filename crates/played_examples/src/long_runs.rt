@@ -41,6 +41,8 @@ pub fn play<R: Print + AllocGlobal>(rt: &R) -> io::Result<bool> {
             enter_257_without_monitors(alloc)?,
         ),
         ("enter_65536", enter_65536(alloc)?),
+        ("enter_4096_deep", enter_4096_deep(alloc)?),
+        ("enter_4097_deep", enter_4097_deep(alloc)?),
         (
             "interrupt_while_inflating",
             interrupt_while_inflating(alloc)?,
@@ -104,6 +106,29 @@ fn enter_65536(alloc: Global) -> Result<Draft, AllocError> {
         ("go x", "go x act Enter = Refused TooDeep"),
     ])?;
     draft.end("object a 800000A5 owner x holds 65535 waiting -")?;
+    Ok(draft)
+}
+
+/// As many enters as a deep word counts.
+fn enter_4096_deep(alloc: Global) -> Result<Draft, AllocError> {
+    let mut draft = Draft::deep(alloc, 4)?;
+    draft.enter_thinly(4_096)?;
+    draft.end("object a 001FFFA5 owner x holds 4096 waiting -")?;
+    Ok(draft)
+}
+
+/// One more inflates the monitor.
+fn enter_4097_deep(alloc: Global) -> Result<Draft, AllocError> {
+    let mut draft = Draft::deep(alloc, 4)?;
+    draft.enter_thinly(4_096)?;
+    draft.add_all(&[
+        ("begin x enter a", "begin x"),
+        ("go x", "go x load a 001FFFA5"),
+        ("go x", "go x bind a 0"),
+        ("go x", "go x store a 001FFFA5 800000A5"),
+        ("go x", "go x act Enter = Entered"),
+    ])?;
+    draft.end("object a 800000A5 owner x holds 4097 waiting -")?;
     Ok(draft)
 }
 
