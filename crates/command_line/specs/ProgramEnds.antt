@@ -2,7 +2,7 @@
 use Rattle.std.specs.Prelude.{ℕ}
 use Rattle.clap.specs.declared.error.kind.ErrorKind.{ErrorKind}
 use Rattle.clap.specs.declared.error.kind.ErrorKind.TheVariants.{InvalidValue, UnknownArgument, InvalidSubcommand, NoEquals, ValueValidation, TooManyValues, TooFewValues, WrongNumberOfValues, ArgumentConflict, MissingRequiredArgument, MissingSubcommand, DisplayHelp, DisplayHelpOnMissingArgumentOrSubcommand, DisplayVersion, Io, Format, OutOfMemory}
-use Rattle.history_text.specs.declared.faults.FileFault.TheVariants.{Memory}
+use Rattle.history_streams.specs.declared.faults.FileFault.TheVariants.{Memory}
 use Rattle.command_line.specs.declared.ends.ProgramEnd.{ProgramEnd}
 use Rattle.command_line.specs.declared.ends.ProgramEnd.TheVariants.{Done, Shown, Failed, Misused}
 

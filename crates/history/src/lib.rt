@@ -3,13 +3,12 @@
 //! `docs/FORMATS.md` has the forms of both.
 #![tactic(auto)]
 
-mod ends;
 mod names;
 mod plans;
 mod reports;
 mod running;
 
-pub use ends::{ReaderSource, Sink, Source, WriterSink};
-pub use history_text::{FileFault, Script, print_script, read_script};
+pub use history_streams::{FileFault, ReaderSource, Sink, Source, WriterSink};
+pub use history_text::{Script, print_script, read_script};
 pub use names::Names;
 pub use running::run;

@@ -4,12 +4,12 @@ ghost use Rattle.std.specs.Prelude.{◌≡◌, ◌+◌, ◌<◌, ◌≤◌, ◌�
 ghost use Rattle.std.specs.Io.KnownBytes.{Keeps, Appends};
 ghost use Rattle.history_text.specs.Lines.{IsFirstBad};
 ghost use Rattle.history_text.specs.Scripts.{IsReasonFor, IsScriptText};
-ghost use Rattle.history_text.specs.declared.faults.FileFault.TheVariants.{BadLine, Read as ReadFault, Write as WriteFault, Memory};
+ghost use Rattle.history_streams.specs.declared.faults.FileFault.TheVariants.{BadLine, Read as ReadFault, Write as WriteFault, Memory};
 
-use crate::ends::{Sink, Source};
 use crate::plans::{Plan, plan_of};
 use crate::reports::report_of;
-use history_text::{FileFault, MOST_BYTES, read_script};
+use history_streams::{FileFault, Sink, Source, write_out};
+use history_text::{MOST_BYTES, read_script};
 use std::alloc::Global;
 
 /// How many bytes are read at once.
@@ -79,23 +79,4 @@ fn read_all<S: Source>(alloc: Global, source: &mut S) -> Result<Vec<u8>, FileFau
         bytes.extend_from_slice(front)?;
     }
     Err(FileFault::Read)
-}
-
-/// Hands all the bytes to a sink, in as many pieces as it takes them.
-fn write_out<W: Sink>(sink: &mut W, bytes: &[u8]) -> Result<(), FileFault>
-    ensures ok { OnOk result (Appends (W.holds sink.old) (W.holds sink.new) bytes.now) }
-    ensures whole { OnOk result (W.has_failed sink.new → W.has_failed sink.old) }
-    ensures prefix { OnErr result ((n : ℕ)
-        × Appends (W.holds sink.old) (W.holds sink.new) (take n bytes.now)) }
-    ensures fault { IfErr result (λ e. (e ≡ WriteFault) × W.has_failed sink.new) }
-{
-    let mut rest = bytes;
-    'writing: while !rest.is_empty() {
-        let Some(count) = sink.put(rest) else {
-            return Err(FileFault::Write);
-        };
-        let (_, after) = rest.split_at(count);
-        rest = after;
-    }
-    Ok(())
 }

@@ -8,8 +8,8 @@ use Rattle.std.proofs.lemmas.List.Sums.{fails_before_first}
 use Rattle.std.proofs.lemmas.List.{take_more}
 use Rattle.history_text.specs.declared.lines.Line.{Line}
 use Rattle.history_text.specs.Lines.{line_at, next_from, lines_from, may_follow, parts_of, line_text, script_text, Fits, Continues, IsScript, IsFirstBad}
-use Rattle.history_text.specs.declared.faults.FileFault.{FileFault}
-use Rattle.history_text.specs.declared.faults.FileFault.TheVariants as faults
+use Rattle.history_streams.specs.declared.faults.FileFault.{FileFault}
+use Rattle.history_streams.specs.declared.faults.FileFault.TheVariants as faults
 use Rattle.history_text.specs.Scripts.{Fails, IsReasonFor}
 use Rattle.history_text.proofs.Choices.{by_cond}
 use Rattle.history_text.proofs.LineLaws.{line_takes, line_again, line_printable}
@@ -256,6 +256,8 @@ fails_only e bs ls is same h = subst (Fails e) (ap (λ (l : List ℕ). lines_fro
 
 pub is_reason : (e : FileFault) (bs : List ℕ) → length bs ≤ 16777216 → Fails e (lines_from [] (parts_of bs)) → IsReasonFor bs e
 is_reason (faults.BadLine n) bs few h = (few, lines_bad bs n h)
+is_reason (faults.BadMove n) bs few h = absurd h
+is_reason (faults.Broken n) bs few h = absurd h
 is_reason faults.Read bs few h = absurd h
 is_reason faults.Write bs few h = h
 is_reason faults.Memory bs few h = tt

@@ -5,7 +5,6 @@
 //! exactly where the bytes are their text, and else the first line that breaks a rule.
 #![tactic(auto)]
 
-mod faults;
 mod lines;
 mod names;
 mod numbering;
@@ -13,7 +12,7 @@ mod printing;
 mod reading;
 mod scripts;
 
-pub use faults::FileFault;
+pub use history_streams::FileFault;
 pub use lines::{Call, Line, StepLine};
 pub use names::Name;
 pub use scripts::{MOST_BYTES, Script, one_fault, print_script, read_script};

@@ -8,12 +8,12 @@ ghost use Rattle.history_text.specs.Lines.{is_object, may_follow, next_from, lin
 ghost use Rattle.history_text.specs.Noted.{IsNoted, may_follow_by, with_object};
 ghost use Rattle.history_text.specs.Scripts.{Gives, IsReasonFor};
 
-use crate::faults::FileFault;
 use crate::lines::Line;
 use crate::names::Name;
 use crate::numbering::number_of_name;
 use crate::printing::print_lines;
 use crate::reading::line_of;
+use history_streams::FileFault;
 use indexmap::IndexSet;
 use std::alloc::{AllocError, Global};
 use std::marker::Model;

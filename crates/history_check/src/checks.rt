@@ -1,0 +1,166 @@
+//! A check of a history, which is fed with its bytes.
+
+ghost use Rattle.std.specs.Prelude.{◌≡◌, ◌<◌, ◌≤◌, ◌+◌, ◌^◌, ◌++◌, ◌∷◌, ◌⊎◌, ◌==◌, [], ℕ, List, length, position, IfErr, OnOk, IfSome, option_map, MatchOption, MatchResult};
+ghost use Rattle.history_streams.specs.declared.faults.FileFault.TheVariants.{BadMove, Memory};
+ghost use Rattle.step_core.specs.declared.machine.Move.{Move as MoveData};
+ghost use Rattle.history_check.specs.Behind.{state_of};
+ghost use Rattle.history_check.specs.Histories.{NoFeed, Follows, Refuses, Stands, IsRunOf, IsFaultOf};
+
+use history_moves::{line_first, line_move};
+use history_streams::FileFault;
+use jls_check::{Machine, MoveFault};
+use std::alloc::Global;
+
+/// The most bytes of a line, with its line feed.
+const LINE: usize = 4096;
+
+/// A history as far as it came: its whole lines were right, and of one more line the front is here.
+#[derive(Drop)]
+pub(crate) struct Check {
+    alloc: Global,
+    // None before the first line.
+    machine: Option<Machine>,
+    // The whole lines.
+    count: u64,
+    line: Vec<u8>,
+}
+
+impl Check {
+    /// A check of nothing yet.
+    pub(crate) fn new(alloc: Global) -> Check
+        ensures { Stands [] result.count (option_map state_of result.machine) result.line.items }
+    {
+        Check {
+            alloc,
+            machine: None,
+            count: 0,
+            line: Vec::new(alloc),
+        }
+    }
+
+    /// Goes on with the next bytes.
+    pub(crate) fn feed(&mut self, bytes: &[u8]) -> Result<(), FileFault>
+        requires { self.old.count + length bytes.now + 1 < 2 ^ 64 }
+        ensures told { (came : List ℕ)
+            → Stands came self.old.count (option_map state_of self.old.machine) self.old.line.items
+            → MatchResult result
+            (λ _. Stands (came ++ bytes.now) self.new.count
+            (option_map state_of self.new.machine) self.new.line.items)
+            (λ e. IsFaultOf (came ++ bytes.now) ⊥ ⊥ e) }
+        ensures counted { OnOk result (self.new.count ≤ self.old.count + length bytes.now) }
+    {
+        let mut rest = bytes;
+        'pieces: while let Some((piece, after)) = cut_line(rest) {
+            self.add(piece)?;
+            self.end_line()?;
+            rest = after;
+        }
+        self.add(rest)
+    }
+
+    /// The number of moves, where no more bytes come.
+    pub(crate) fn finish(&self) -> Result<u64, FileFault>
+        requires { self.now.count + 1 < 2 ^ 64 }
+        ensures told { (came : List ℕ)
+            → Stands came self.now.count (option_map state_of self.now.machine) self.now.line.items
+            → MatchResult result
+            (λ n. (ms : List MoveData) × IsRunOf came ms × (n ≡ length ms))
+            (λ e. IsFaultOf came Unit ⊥ e) }
+    {
+        if !self.line.is_empty() {
+            return Err(FileFault::BadMove(self.count + 1));
+        }
+        if self.machine.is_none() {
+            return Err(FileFault::BadMove(self.count + 1));
+        }
+        Ok(self.count.saturating_sub(1))
+    }
+
+    /// Adds bytes with no line feed to the line.
+    fn add(&mut self, piece: &[u8]) -> Result<(), FileFault>
+        requires { self.old.count + 1 < 2 ^ 64 }
+        ensures ok { OnOk result ((self.new.line.items ≡ self.old.line.items ++ piece.now)
+            × (self.new.count ≡ self.old.count)
+            × (option_map state_of self.new.machine ≡ option_map state_of self.old.machine)) }
+        ensures small { OnOk result (length self.old.line.items + length piece.now < LINE) }
+        ensures fault { IfErr result (λ e. (e ≡ Memory)
+            ⊎ ((e ≡ BadMove (self.old.count + 1))
+            × (LINE ≤ length self.old.line.items + length piece.now))) }
+    {
+        if piece.len() >= LINE || self.line.len() + piece.len() >= LINE {
+            return Err(FileFault::BadMove(self.count + 1));
+        }
+        self.line.extend_from_slice(piece)?;
+        Ok(())
+    }
+
+    /// Ends the line.
+    fn end_line(&mut self) -> Result<(), FileFault>
+        requires { self.old.count + 1 < 2 ^ 64 }
+        ensures ok { OnOk result
+            (Follows (option_map state_of self.old.machine) self.old.line.items
+            (option_map state_of self.new.machine)
+            × (self.new.count ≡ self.old.count + 1) × (self.new.line.items ≡ [])) }
+        ensures fault { IfErr result (Refuses (option_map state_of self.old.machine)
+            self.old.line.items (self.old.count + 1)) }
+    {
+        judge(self.alloc, &mut self.machine, &self.line, self.count + 1)?;
+        self.line.clear();
+        self.count += 1;
+        Ok(())
+    }
+}
+
+/// Gives a whole line to the machine.
+#[tactic(auto, unfolding(crate::specs::Behind::state_of))]
+fn judge(
+    alloc: Global,
+    machine: &mut Option<Machine>,
+    line: &[u8],
+    number: u64,
+) -> Result<(), FileFault>
+    ensures ok { OnOk result (Follows (option_map state_of machine.old) line.now
+        (option_map state_of machine.new)) }
+    ensures fault { IfErr result (Refuses (option_map state_of machine.old) line.now number) }
+{
+    match machine {
+        None => {
+            let Some(objects) = line_first(alloc, line)? else {
+                return Err(FileFault::BadMove(number));
+            };
+            *machine = Some(Machine::new(alloc, u32::from(objects))?);
+            Ok(())
+        }
+        Some(machine) => {
+            let Some(made) = line_move(alloc, line)? else {
+                return Err(FileFault::BadMove(number));
+            };
+            match machine.take(made) {
+                Ok(()) => Ok(()),
+                Err(MoveFault::Broken) => Err(FileFault::Broken(number)),
+                Err(MoveFault::Memory) => Err(FileFault::Memory),
+            }
+        }
+    }
+}
+
+/// The bytes before the first line feed, and those behind it.
+fn cut_line(bytes: &[u8]) -> Option<(&[u8], &[u8])>
+    ensures parts { MatchOption result (NoFeed bytes.now)
+        (λ cut. NoFeed cut.0.now × (bytes.now ≡ cut.0.now ++ (10 ∷ cut.1.now))) }
+{
+    match line_end(bytes) {
+        None => None,
+        Some(end) => {
+            let (line, _) = bytes.split_at(end);
+            let (_, rest) = bytes.split_at(end + 1);
+            Some((line, rest))
+        }
+    }
+}
+
+fn line_end(bytes: &[u8]) -> Option<usize>
+    ensures { result ≡ position (λ b. b == 10) bytes.now }
+{
+    bytes.iter().position(|byte| *byte == b'\n')
+}

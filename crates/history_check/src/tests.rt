@@ -1,0 +1,35 @@
+mod histories;
+mod readers;
+
+use crate::{FileFault, ReaderSource, WriterSink, replay};
+use std::alloc::Global;
+use std::io::Read;
+
+/// A thread is attached and enters an object.
+const ENTERS: &[u8] = b"{\"objects\":1}
+{\"move\":\"Attach\",\"thread\":0}
+{\"call\":\"Enter\",\"move\":\"Call\",\"object\":0,\"thread\":0}
+{\"move\":\"Lock\",\"thread\":0}
+{\"move\":\"Return\",\"reply\":\"Entered\",\"thread\":0}
+";
+
+/// The same, but it locks twice: line 5 is not lawful, and line 7 is no line of a history.
+const LOCKS_TWICE: &[u8] = b"{\"objects\":1}
+{\"move\":\"Attach\",\"thread\":0}
+{\"call\":\"Enter\",\"move\":\"Call\",\"object\":0,\"thread\":0}
+{\"move\":\"Lock\",\"thread\":0}
+{\"move\":\"Lock\",\"thread\":0}
+{\"move\":\"Return\",\"reply\":\"Entered\",\"thread\":0}
+{\"move\":\"Unlock\"}
+";
+
+/// What is written of a history, or why nothing is.
+fn check_of<R: Read + Drop>(alloc: Global, reader: R) -> Result<Vec<u8>, FileFault> {
+    let mut sink = WriterSink::new(Vec::new(alloc));
+    replay(alloc, &mut ReaderSource::new(reader), &mut sink)?;
+    Ok(sink.into_inner())
+}
+
+fn fault_of<R: Read + Drop>(alloc: Global, reader: R) -> Option<FileFault> {
+    check_of(alloc, reader).err()
+}

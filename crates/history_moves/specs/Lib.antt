@@ -1,0 +1,5 @@
+pub mod Moves
+pub mod Members
+pub mod Words
+pub mod Reading
+pub mod Lines

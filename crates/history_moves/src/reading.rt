@@ -1,0 +1,187 @@
+//! Reading moves.
+
+ghost use Rattle.std.specs.Prelude.{◌≡◌, ℕ, option_and_then, IfSome, IfNone};
+ghost use Rattle.serde_json.specs.Data.{Data};
+ghost use Rattle.serde_json.specs.View.{view};
+ghost use Rattle.step_core.specs.declared.machine.Move.{Move as MoveData};
+ghost use Rattle.history_moves.specs.Moves.{IsFirstData, IsMoveData};
+ghost use Rattle.history_moves.specs.Members.{IsOrderedData};
+ghost use Rattle.history_moves.specs.Reading.{cause_at, wait_call, is_targeted, call_of, call_from, reply_from, refused_from, thread_move, move_named, move_from, first_from};
+
+use crate::members::{
+    chosen_at, count_in, nanos_at, object_at, signed_at, text_at, thread_number, whole_at,
+};
+use crate::words::{
+    bare_call_named, cause_named, object_call_named, plain_named, reply_named, target_call_named,
+};
+use fast_path::Call;
+use fat_monitor::{Cause, Reply};
+use lock_word::ThreadId;
+use serde_json::Value;
+use step_core::Move;
+
+/// The most objects that a history has.
+const MOST_OBJECTS: u64 = 65_535;
+
+fn cause_at(value: &Value) -> Option<Cause>
+    ensures { result ≡ cause_at (view value.now) }
+{
+    cause_named(text_at(value, "cause")?)
+}
+
+fn is_targeted(verb: &str) -> bool
+    ensures { result ≡ is_targeted verb.now }
+{
+    verb == "Interrupt" || verb == "IsInterrupted"
+}
+
+fn wait_call(value: &Value) -> Option<Call>
+    ensures { result ≡ wait_call (view value.now) }
+{
+    let object = object_at(value)?;
+    let millis = signed_at(value, "millis")?;
+    let nanos = nanos_at(value)?;
+    Some(Call::Wait {
+        object,
+        millis,
+        nanos,
+    })
+}
+
+/// The call with this name in a move of so many members.
+fn call_of(count: usize, value: &Value, verb: &str) -> Option<Call>
+    ensures { result ≡ call_of count (view value.now) verb.now }
+{
+    if count == 3 {
+        return bare_call_named(verb);
+    }
+    if count == 4 && is_targeted(verb) {
+        return target_call_named(verb, thread_number(value, "target")?);
+    }
+    if count == 4 {
+        return object_call_named(verb, object_at(value)?);
+    }
+    if count == 6 && verb == "Wait" {
+        return wait_call(value);
+    }
+    None
+}
+
+fn call_from(count: usize, value: &Value, thread: ThreadId) -> Option<Move>
+    ensures { result ≡ call_from count (view value.now) thread }
+{
+    let verb = text_at(value, "call")?;
+    let call = call_of(count, value, verb)?;
+    Some(Move::Call { thread, call })
+}
+
+fn reply_from(value: &Value, thread: ThreadId) -> Option<Move>
+    ensures { result ≡ reply_from (view value.now) thread }
+{
+    let reply = reply_named(text_at(value, "reply")?)?;
+    Some(Move::Return { thread, reply })
+}
+
+fn refused_from(value: &Value, thread: ThreadId) -> Option<Move>
+    ensures { result ≡ refused_from (view value.now) thread }
+{
+    let word = text_at(value, "reply")?;
+    if word != "Refused" {
+        return None;
+    }
+    let cause = cause_at(value)?;
+    Some(Move::Return {
+        thread,
+        reply: Reply::Refused(cause),
+    })
+}
+
+/// The move of a thread with this name and so many members.
+fn thread_move(count: usize, value: &Value, name: &str, thread: ThreadId) -> Option<Move>
+    ensures { result ≡ thread_move count (view value.now) name.now thread }
+{
+    if count == 2 {
+        return plain_named(name, thread);
+    }
+    if name == "Call" {
+        return call_from(count, value, thread);
+    }
+    if count == 3 && name == "Return" {
+        return reply_from(value, thread);
+    }
+    if count == 4 && name == "Return" {
+        return refused_from(value, thread);
+    }
+    if count == 3 && name == "Notify" {
+        let chosen = chosen_at(value)?;
+        return Some(Move::Notify { thread, chosen });
+    }
+    if count == 3 && name == "Refuse" {
+        let cause = cause_at(value)?;
+        return Some(Move::Refuse { thread, cause });
+    }
+    None
+}
+
+fn move_named(count: usize, value: &Value, name: &str) -> Option<Move>
+    ensures { result ≡ move_named count (view value.now) name.now }
+{
+    if count == 2 && name == "Time" {
+        let now = whole_at(value, "now")?;
+        return Some(Move::Time { now });
+    }
+    thread_move(count, value, name, thread_number(value, "thread")?)
+}
+
+#[tactic(auto, unfolding(crate::specs::Reading::move_from))]
+fn found_move(value: &Value) -> Option<Move>
+    ensures found { result ≡ move_from (view value.now) }
+    ensures ordered { IfSome result (λ _. IsOrderedData (view value.now)) }
+{
+    let count = count_in(value)?;
+    let name = text_at(value, "move")?;
+    move_named(count, value, name)
+}
+
+/// The move that a value is. A value is one exactly where it is the object that [`write_move`] makes
+/// of that move: no member more or less, and each in its range.
+///
+/// [`write_move`]: crate::write_move
+pub fn read_move(value: &Value) -> Option<Move>
+    ensures found { IfSome result (IsMoveData (view value.now)) }
+    ensures none { IfNone result ((m : MoveData) → IsMoveData (view value.now) m → ⊥) }
+{
+    found_move(value)
+}
+
+#[tactic(auto, unfolding(crate::specs::Reading::first_from))]
+fn found_first(value: &Value) -> Option<u16>
+    ensures found { result ≡ first_from (view value.now) }
+    ensures ordered { IfSome result (λ _. IsOrderedData (view value.now)) }
+{
+    let count = count_in(value)?;
+    if count != 1 {
+        return None;
+    }
+    let objects = whole_at(value, "objects")?;
+    if objects <= MOST_OBJECTS {
+        Some(objects as u16)
+    } else {
+        None
+    }
+}
+
+/// The number of objects that a value tells.
+pub(crate) fn read_first(value: &Value) -> Option<u16>
+    ensures found { IfSome result (IsFirstData (view value.now)) }
+    ensures none { IfNone result ((n : ℕ) → IsFirstData (view value.now) n → ⊥) }
+{
+    found_first(value)
+}
+
+/// A value is one move at most, and tells one number of objects at most. So a move that is written is
+/// read back.
+pub fn each_value_is_one_move()
+    ensures moves { (d : Data) (m n : MoveData) → IsMoveData d m → IsMoveData d n → m ≡ n }
+    ensures objects { (d : Data) (m n : ℕ) → IsFirstData d m → IsFirstData d n → m ≡ n }
+{}
