@@ -1,8 +1,8 @@
-use Rattle.std.proofs.Common.{arith, subst, sym, ap, refl, Some, IsSome}
+use Rattle.std.proofs.Common.{arith, subst, sym, Some, IsSome}
 use Rattle.std.proofs.lemmas.Option.{same_Some}
 use Rattle.lock_word.specs.declared.ThreadId.{ThreadId}
 use Rattle.fat_monitor.specs.FatState.{post_of}
-use Rattle.fat_monitor.specs.Fats.{fat_state_in, AreSeated, AreCounted}
+use Rattle.fat_monitor.specs.Fats.{fat_state_in, AreSeated}
 use Rattle.fat_monitor.specs.Slots.{Posted}
 use Rattle.fat_monitor.proofs.Soundness.{IsSound-bound_with}
 use Rattle.fat_monitor.proofs.OwnedCounts.{AreCounted-bound, few_owned}

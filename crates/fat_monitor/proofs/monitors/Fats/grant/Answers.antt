@@ -13,7 +13,7 @@ use Rattle.fat_monitor.proofs.SoundSteps.{place_bound}
 use Rattle.fat_monitor.proofs.SoundGrants.{granted_flags, IsSound-granted}
 use Rattle.fat_monitor.proofs.Steps.{placed, flags_cleared, flags_kept, granted_as}
 use Rattle.fat_monitor.specs.Slots.{Posted, handed_over}
-use Rattle.fat_monitor.specs.Fats.{AreSeated, AreCounted}
+use Rattle.fat_monitor.specs.Fats.{AreSeated}
 use Rattle.std.specs.FinMap as map
 use Rattle.fat_monitor.specs.declared.actions.Post.TheVariants.{Granted}
 use Rattle.wait_lines.specs.Lines.{NodeMap}

@@ -1,4 +1,3 @@
-use Rattle.std.proofs.Common.{arith}
 use Rattle.fat_monitor.specs.Fats.{fat_state_in}
 use Rattle.fat_monitor.proofs.SoundSteps.{IsSound-spare}
 use Rattle.fat_monitor.proofs.monitors.Fats.reserve_monitors.Goals as goal

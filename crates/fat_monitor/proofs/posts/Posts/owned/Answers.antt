@@ -1,4 +1,4 @@
-use Rattle.std.proofs.Common.{sym, ap, ◌∙◌, Option, ℕ, is_some}
+use Rattle.std.proofs.Common.{sym, ap, Option, ℕ, is_some}
 use Rattle.std.specs.Option.{unwrap_or}
 use Rattle.fat_monitor.specs.declared.actions.Post.TheVariants.{Out}
 use Rattle.fat_monitor.proofs.PostMaps.{value-values_of, no_value-values_of, valued}
