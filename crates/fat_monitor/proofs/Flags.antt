@@ -13,6 +13,7 @@ use Rattle.wait_lines.specs.declared.Role.TheVariants.{Waiting as WaitSet}
 use Rattle.fat_monitor.specs.declared.actions.Why.{Why}
 use Rattle.fat_monitor.specs.FatState.{FatState, IsSound, monitor_at, post_at, line_of, flag_at, with_flag}
 use Rattle.fat_monitor.specs.Acting.{settled, all_removed}
+use Rattle.fat_monitor.proofs.SoundGrants.{settled-is}
 use Rattle.fat_monitor.proofs.WaitSets.{queued, all_queued, wait_set-queued}
 use Rattle.fat_monitor.proofs.PostMaps.{get-insert_by}
 
@@ -57,24 +58,10 @@ flag-settled_other f u v (Back m n Spurious) other = refl
 flag-settled_other f u v (Granted r) other = refl
 
 pub threads-settled : (f : FatState) (u : ThreadId) (p : Post) → (settled f u p).threads ≡ f.threads
-threads-settled f u Out = refl
-threads-settled f u (Entering m) = refl
-threads-settled f u (Waiting m n d) = refl
-threads-settled f u (Back m n Notified) = refl
-threads-settled f u (Back m n Interrupted) = refl
-threads-settled f u (Back m n Elapsed) = refl
-threads-settled f u (Back m n Spurious) = refl
-threads-settled f u (Granted r) = refl
+threads-settled f u p = ap (λ (g : FatState). g.threads) (settled-is f u p)
 
 pub standing-settled : (f : FatState) (u : ThreadId) (p : Post) → (settled f u p).standing ≡ f.standing
-standing-settled f u Out = refl
-standing-settled f u (Entering m) = refl
-standing-settled f u (Waiting m n d) = refl
-standing-settled f u (Back m n Notified) = refl
-standing-settled f u (Back m n Interrupted) = refl
-standing-settled f u (Back m n Elapsed) = refl
-standing-settled f u (Back m n Spurious) = refl
-standing-settled f u (Granted r) = refl
+standing-settled f u p = ap (λ (g : FatState). g.standing) (settled-is f u p)
 
 -- a notifyAll of a monitor with an owner changes no flag
 flags-queued : (f : FatState) (u : ThreadId) (w : Why) (p : Post) → (queued f u w p).flags ≡ f.flags

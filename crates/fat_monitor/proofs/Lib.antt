@@ -12,3 +12,4 @@ pub mod Effects
 pub mod Steps
 pub mod Removals
 pub mod Seats
+pub mod OwnedCounts

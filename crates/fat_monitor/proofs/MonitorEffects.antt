@@ -15,6 +15,7 @@ use Rattle.fat_monitor.specs.declared.actions.Action.{Action}
 use Rattle.fat_monitor.specs.declared.actions.Action.TheVariants as action
 use Rattle.fat_monitor.specs.declared.monitors.Monitor.{Monitor}
 use Rattle.fat_monitor.specs.FatState.{FatState, IsSound, monitor_at, unbound, post_of, post_at, line_of, first_of, with_owner, with_post, with_flag, without_thread, flag_at, flag_of, is_owned_by, owns_one}
+use Rattle.fat_monitor.proofs.SoundGrants.{settled-is}
 use Rattle.fat_monitor.proofs.WaitSets.{wait_set-queued, monitors-all_queued}
 use Rattle.fat_monitor.specs.Acting.{Outcome, acted, entered, exited, waited, notified, collected, are_good, handed_on, all_removed, parked, removed, sent_back, granted, settled, interrupted, asked, expired, woken, holds_granted}
 
@@ -89,36 +90,15 @@ KeepsMonitors-with_owner f m o n = (
   refl,
 )
 
--- a wait that is settled changes the flag of its thread alone
+-- a wait that is settled keeps the monitors
 pub monitors-settled : (f : FatState) (u : ThreadId) (p : Post) → (settled f u p).monitors ≡ f.monitors
-monitors-settled f u Out = refl
-monitors-settled f u (Entering m) = refl
-monitors-settled f u (Waiting m n d) = refl
-monitors-settled f u (Back m n Notified) = refl
-monitors-settled f u (Back m n Interrupted) = refl
-monitors-settled f u (Back m n Elapsed) = refl
-monitors-settled f u (Back m n Spurious) = refl
-monitors-settled f u (Granted r) = refl
+monitors-settled f u p = ap (λ (g : FatState). g.monitors) (settled-is f u p)
 
 pub limit-settled : (f : FatState) (u : ThreadId) (p : Post) → (settled f u p).limit ≡ f.limit
-limit-settled f u Out = refl
-limit-settled f u (Entering m) = refl
-limit-settled f u (Waiting m n d) = refl
-limit-settled f u (Back m n Notified) = refl
-limit-settled f u (Back m n Interrupted) = refl
-limit-settled f u (Back m n Elapsed) = refl
-limit-settled f u (Back m n Spurious) = refl
-limit-settled f u (Granted r) = refl
+limit-settled f u p = ap (λ (g : FatState). g.limit) (settled-is f u p)
 
 pub moment-settled : (f : FatState) (u : ThreadId) (p : Post) → (settled f u p).moment ≡ f.moment
-moment-settled f u Out = refl
-moment-settled f u (Entering m) = refl
-moment-settled f u (Waiting m n d) = refl
-moment-settled f u (Back m n Notified) = refl
-moment-settled f u (Back m n Interrupted) = refl
-moment-settled f u (Back m n Elapsed) = refl
-moment-settled f u (Back m n Spurious) = refl
-moment-settled f u (Granted r) = refl
+moment-settled f u p = ap (λ (g : FatState). g.moment) (settled-is f u p)
 
 KeepsMonitors-granted : (f : FatState) (m : ℕ) (u : ThreadId) (p : Post) (r : Role) → KeepsMonitors f (Some m) (granted f m u p r)
 KeepsMonitors-granted f m u p r =

@@ -132,8 +132,13 @@ module _ (s s' : Slab Record) (ks ks' : List (ℕ × ℕ)) (t key : ℕ) (new : 
   values_of-put read none =
       same_map nat_cmp_total nat_cmp-IsAntisymmetric (values_of read none s' ks') (map.insert (values_of read none s ks) t (read new)) (λ q. value_at read none q (cases_eq q t))
 
-  pub posted_in-put : posted_in s' ks' ≡ record { posts = map.insert (posted_in s ks).posts t new.post; nodes = map.insert (posted_in s ks).nodes t new.node.0; flags = map.insert (posted_in s ks).flags t new.flag }
-  posted_in-put = rw (values_of-put (λ r. r.post) Out, values_of-put (λ r. r.node.0) 0, values_of-put (λ r. r.flag) false) refl
+  pub posted_in-put : posted_in s' ks' ≡ record {
+    posts = map.insert (posted_in s ks).posts t new.post;
+    nodes = map.insert (posted_in s ks).nodes t new.node.0;
+    flags = map.insert (posted_in s ks).flags t new.flag;
+    owned = map.insert (posted_in s ks).owned t new.owned;
+  }
+  posted_in-put = rw (values_of-put (λ r. r.post) Out, values_of-put (λ r. r.node.0) 0, values_of-put (λ r. r.flag) false, values_of-put (λ r. r.owned) 0) refl
 
   leads_at : new.thread.0 ≡ t → (q k : ℕ) → (q ≡ t) ⊎ (q ≡ t → ⊥) → lookup (nat_eq q) ks' ≡ Some k → (r : Record) × (get s' k ≡ Some r) × (r.thread.0 ≡ q)
   leads_at of_t q k (inl same) e =
@@ -193,8 +198,13 @@ module _ (s s' : Slab Record) (ks ks' : List (ℕ × ℕ)) (t key : ℕ)
   values_of-drop read none =
       same_map nat_cmp_total nat_cmp-IsAntisymmetric (values_of read none s' ks') (map.remove (values_of read none s ks) t) (λ q. value_after read none q (cases_eq q t))
 
-  pub posted_in-drop : posted_in s' ks' ≡ record { posts = map.remove (posted_in s ks).posts t; nodes = map.remove (posted_in s ks).nodes t; flags = map.remove (posted_in s ks).flags t }
-  posted_in-drop = rw (values_of-drop (λ r. r.post) Out, values_of-drop (λ r. r.node.0) 0, values_of-drop (λ r. r.flag) false) refl
+  pub posted_in-drop : posted_in s' ks' ≡ record {
+    posts = map.remove (posted_in s ks).posts t;
+    nodes = map.remove (posted_in s ks).nodes t;
+    flags = map.remove (posted_in s ks).flags t;
+    owned = map.remove (posted_in s ks).owned t;
+  }
+  posted_in-drop = rw (values_of-drop (λ r. r.post) Out, values_of-drop (λ r. r.node.0) 0, values_of-drop (λ r. r.flag) false, values_of-drop (λ r. r.owned) 0) refl
 
   leads_after : (q k : ℕ) → (q ≡ t) ⊎ (q ≡ t → ⊥) → lookup (nat_eq q) ks' ≡ Some k → (r : Record) × (get s' k ≡ Some r) × (r.thread.0 ≡ q)
   leads_after q k (inl same) e = let never : None ≡ Some k = rw (led q, eq-eqb t q (sym same)) at e in absurd (cc)
@@ -255,15 +265,22 @@ module _ (s s' : Slab Record) (ks : List (ℕ × ℕ)) (t key : ℕ) (old new : 
   values_of-kept read none same =
       values_of-write read none ∙ insert_same (values_of read none s ks) t (read new) (value-values_of read none s ks t key old found there ∙ ap (λ x. Some x) (sym same))
 
-  pub posted_in-set : new.flag ≡ old.flag → new.node ≡ old.node → posted_in s' ks ≡ record (posted_in s ks) { posts = map.insert (posted_in s ks).posts t new.post }
-  posted_in-set same at = rw (values_of-write (λ r. r.post) Out, values_of-kept (λ r. r.node.0) 0 (ap (λ (n : Node). n.0) at), values_of-kept (λ r. r.flag) false same) refl
+  -- a write of a record, by what it changes
+  kept_node : new.node ≡ old.node → values_of (λ r. r.node.0) 0 s' ks ≡ values_of (λ r. r.node.0) 0 s ks
+  kept_node same = values_of-kept (λ r. r.node.0) 0 (ap (λ (n : Node). n.0) same)
 
-  pub posted_in-park : new.flag ≡ old.flag
+  pub posted_in-set : new.flag ≡ old.flag → new.node ≡ old.node → new.owned ≡ old.owned → posted_in s' ks ≡ record (posted_in s ks) { posts = map.insert (posted_in s ks).posts t new.post }
+  posted_in-set same at own = rw (values_of-write (λ r. r.post) Out, kept_node at, values_of-kept (λ r. r.flag) false same, values_of-kept (λ r. r.owned) 0 own) refl
+
+  pub posted_in-park : new.flag ≡ old.flag → new.owned ≡ old.owned
       → posted_in s' ks ≡ record (posted_in s ks) { posts = map.insert (posted_in s ks).posts t new.post; nodes = map.insert (posted_in s ks).nodes t new.node.0 }
-  posted_in-park same = rw (values_of-write (λ r. r.post) Out, values_of-write (λ r. r.node.0) 0, values_of-kept (λ r. r.flag) false same) refl
+  posted_in-park same own = rw (values_of-write (λ r. r.post) Out, values_of-write (λ r. r.node.0) 0, values_of-kept (λ r. r.flag) false same, values_of-kept (λ r. r.owned) 0 own) refl
 
-  pub posted_in-set_flag : new.post ≡ old.post → new.node ≡ old.node → posted_in s' ks ≡ record (posted_in s ks) { flags = map.insert (posted_in s ks).flags t new.flag }
-  posted_in-set_flag same at = rw (values_of-kept (λ r. r.post) Out same, values_of-kept (λ r. r.node.0) 0 (ap (λ (n : Node). n.0) at), values_of-write (λ r. r.flag) false) refl
+  pub posted_in-set_flag : new.post ≡ old.post → new.node ≡ old.node → new.owned ≡ old.owned → posted_in s' ks ≡ record (posted_in s ks) { flags = map.insert (posted_in s ks).flags t new.flag }
+  posted_in-set_flag same at own = rw (values_of-kept (λ r. r.post) Out same, kept_node at, values_of-write (λ r. r.flag) false, values_of-kept (λ r. r.owned) 0 own) refl
+
+  pub posted_in-set_owned : new.post ≡ old.post → new.node ≡ old.node → new.flag ≡ old.flag → posted_in s' ks ≡ record (posted_in s ks) { owned = map.insert (posted_in s ks).owned t new.owned }
+  posted_in-set_owned same at flagged = rw (values_of-kept (λ r. r.post) Out same, kept_node at, values_of-kept (λ r. r.flag) false flagged, values_of-write (λ r. r.owned) 0) refl
 
   -- the record stays its thread's
   of_thread : new.thread ≡ old.thread → new.thread.0 ≡ t

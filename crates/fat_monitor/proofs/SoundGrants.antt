@@ -59,15 +59,20 @@ granted_with f m u p r flags = record f {
   standing = record f.standing { lines = left f.standing.lines u m r };
 }
 
+-- a wait that is settled changes the flag of its thread alone
+pub settled-is : (f : FatState) (u : ThreadId) (p : Post) → settled f u p ≡ record f { flags = granted_flags f u p }
+settled-is f u Out = refl
+settled-is f u (Entering m) = refl
+settled-is f u (Waiting m n d) = refl
+settled-is f u (Back m n why.Notified) = refl
+settled-is f u (Back m n why.Interrupted) = refl
+settled-is f u (Back m n why.Elapsed) = refl
+settled-is f u (Back m n why.Spurious) = refl
+settled-is f u (Granted r) = refl
+
 pub granted-is : (f : FatState) (m : ℕ) (u : ThreadId) (p : Post) (r : Role) → granted f m u p r ≡ granted_with f m u p r (granted_flags f u p)
-granted-is f m u Out r = refl
-granted-is f m u (Entering k) r = refl
-granted-is f m u (Waiting k n d) r = refl
-granted-is f m u (Back k n why.Notified) r = refl
-granted-is f m u (Back k n why.Interrupted) r = refl
-granted-is f m u (Back k n why.Elapsed) r = refl
-granted-is f m u (Back k n why.Spurious) r = refl
-granted-is f m u (Granted x) r = refl
+granted-is f m u p r =
+    ap (λ (g : FatState). with_lines (with_post (with_owner g m (Some u) (holds_granted p)) u (Granted (reply_granted p))) (left f.standing.lines u m r)) (settled-is f u p)
 
 -- a thread that stands in a line leaves it and owns the monitor
 pub IsSound-granted : (f : FatState) (m : ℕ) (u : ThreadId) (p q : Post) (r : Role) → IsSound f → post_of f u ≡ Some q → place_of q ≡ Some (key m r) → ComesBack p → IsSound (granted f m u p r)

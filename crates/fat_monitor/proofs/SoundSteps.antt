@@ -109,13 +109,13 @@ room_for_one f t p sound here none =
 
 -- ---- steps
 
--- interrupt flags and the moment are free of all that fat states keep
-pub IsSound-flags : (f : FatState) (flags : map.FinMap nat_cmp Bool) → IsSound f → IsSound (record f { flags = flags })
-IsSound-flags f flags sound = record {
+-- interrupt flags, the moment, and the room for binds to come are free of all that fat states keep
+IsSound-beside : (f : FatState) (flags : map.FinMap nat_cmp Bool) (moment spare : ℕ) → IsSound f → IsSound (record f { flags = flags; moment = moment; spare = spare })
+IsSound-beside f flags moment spare sound = record {
   few = sound.few;
   limit = sound.limit;
   fair = sound.fair;
-  proper = λ t p e. IsProper-kept f (record f { flags = flags }) p (omega arith) (sound.proper t p e);
+  proper = λ t p e. IsProper-kept f (record f { flags = flags; moment = moment; spare = spare }) p (omega arith) (sound.proper t p e);
   posted = sound.posted;
   standing = sound.standing;
   behind = sound.behind;
@@ -125,20 +125,14 @@ IsSound-flags f flags sound = record {
   orderly = sound.orderly;
 }
 
+pub IsSound-flags : (f : FatState) (flags : map.FinMap nat_cmp Bool) → IsSound f → IsSound (record f { flags = flags })
+IsSound-flags f flags sound = IsSound-beside f flags f.moment f.spare sound
+
 pub IsSound-moment : (f : FatState) (moment : ℕ) → IsSound f → IsSound (record f { moment = moment })
-IsSound-moment f moment sound = record {
-  few = sound.few;
-  limit = sound.limit;
-  fair = sound.fair;
-  proper = λ t p e. IsProper-kept f (record f { moment = moment }) p (omega arith) (sound.proper t p e);
-  posted = sound.posted;
-  standing = sound.standing;
-  behind = sound.behind;
-  apart = sound.apart;
-  room = sound.room;
-  counted = sound.counted;
-  orderly = sound.orderly;
-}
+IsSound-moment f moment sound = IsSound-beside f f.flags moment f.spare sound
+
+pub IsSound-spare : (f : FatState) (spare : ℕ) → IsSound f → IsSound (record f { spare = spare })
+IsSound-spare f spare sound = IsSound-beside f f.flags f.moment spare sound
 
 -- every post is proper after a proper one was written
 pub proper_after : (f g : FatState) (t : ThreadId) (q : Post) → IsSound f → length f.monitors ≤ length g.monitors → g.threads ≡ map.insert f.threads t.0 q → IsProper f q

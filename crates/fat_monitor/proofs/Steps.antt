@@ -63,7 +63,7 @@ room_crowded threads reservations e = rw (eq-eqb threads reservations e) refl
 pub room_left : (threads reservations : ℕ) → (threads ≡ reservations → ⊥) → room_for threads reservations ≡ reservations
 room_left threads reservations e = rw (ne_eqb threads reservations e) refl
 
-pub attached_as : {nodes : map.FinMap nat_cmp ℕ} (f : FatState) (t : ThreadId) (posts : Posted) (new_lines : LinesState) → posts ≡ record { posts = map.insert f.threads t.0 Out; nodes = nodes; flags = map.insert f.flags t.0 false }
+pub attached_as : {nodes owned : map.FinMap nat_cmp ℕ} (f : FatState) (t : ThreadId) (posts : Posted) (new_lines : LinesState) → posts ≡ record { posts = map.insert f.threads t.0 Out; nodes = nodes; flags = map.insert f.flags t.0 false; owned = owned }
     → new_lines.lines ≡ f.standing.lines → new_lines.reservations ≡ room_for (thread_count f) f.standing.reservations
     → record f { threads = posts.posts; flags = posts.flags; standing = standing new_lines } ≡ with_thread f t
 attached_as f t posts new_lines e lines room =
@@ -82,20 +82,20 @@ pub attached_still : (f : FatState) (t u : ThreadId) → IsSome (map.get f.threa
 attached_still f t u h = rw (get-insert_by f.threads t.0 Out u.0) (still_some (u.0 == t.0) Out (map.get f.threads u.0) h)
 
 -- a thread joined a line
-pub parked_as : {nodes : map.FinMap nat_cmp ℕ} (f : FatState) (t : ThreadId) (p : Post) (m : ℕ) (r : Role) (posts : Posted) (new_lines : LinesState) → posts ≡ record { posts = map.insert f.threads t.0 p; nodes = nodes; flags = f.flags }
+pub parked_as : {nodes owned : map.FinMap nat_cmp ℕ} (f : FatState) (t : ThreadId) (p : Post) (m : ℕ) (r : Role) (posts : Posted) (new_lines : LinesState) → posts ≡ record { posts = map.insert f.threads t.0 p; nodes = nodes; flags = f.flags; owned = owned }
     → new_lines.lines ≡ joined f.standing.lines t m r → new_lines.reservations ≡ f.standing.reservations
     → record f { threads = posts.posts; flags = posts.flags; standing = standing new_lines } ≡ parked f t p m r
 parked_as f t p m r posts new_lines e lines kept = rw (e, same_standing f.standing new_lines _ lines kept) refl
 
 -- the flag of a thread was written
-pub flagged_as : {nodes : map.FinMap nat_cmp ℕ} (f : FatState) (t : ThreadId) (flag : Bool) (posts : Posted) → posts ≡ record { posts = f.threads; nodes = nodes; flags = map.insert f.flags t.0 flag }
+pub flagged_as : {nodes owned : map.FinMap nat_cmp ℕ} (f : FatState) (t : ThreadId) (flag : Bool) (posts : Posted) → posts ≡ record { posts = f.threads; nodes = nodes; flags = map.insert f.flags t.0 flag; owned = owned }
     → record f { threads = posts.posts; flags = posts.flags } ≡ with_flag f t flag
 flagged_as f t flag posts e = rw e refl
 
 -- a thread that stood in a line was granted its monitor
-pub granted_as : {nodes : map.FinMap nat_cmp ℕ} (f : FatState) (m : ℕ) (u : ThreadId) (p : Post) (r : Role) (old new : Monitor) (grant : ℕ × Reply) (between posts : Posted) (new_lines : LinesState)
+pub granted_as : {nodes owned : map.FinMap nat_cmp ℕ} (f : FatState) (m : ℕ) (u : ThreadId) (p : Post) (r : Role) (old new : Monitor) (grant : ℕ × Reply) (between posts : Posted) (new_lines : LinesState)
     → m < length f.monitors → old ≡ slice_index_or f.monitors m old → new ≡ record old { owner = Some u; holds = grant.0 }
-    → grant ≡ (holds_granted p, reply_granted p) → between ≡ record { posts = f.threads; nodes = nodes; flags = granted_flags f u p }
+    → grant ≡ (holds_granted p, reply_granted p) → between ≡ record { posts = f.threads; nodes = nodes; flags = granted_flags f u p; owned = owned }
     → posts ≡ record between { posts = map.insert between.posts u.0 (Granted grant.1) }
     → new_lines.lines ≡ left f.standing.lines u m r → new_lines.reservations ≡ f.standing.reservations
     → record f { monitors = slice_set f.monitors m new; threads = posts.posts; flags = posts.flags; standing = standing new_lines } ≡ granted f m u p r
@@ -125,8 +125,8 @@ flags_kept f u (Back m n why.Spurious) e = refl
 flags_kept f u (Granted r) e = refl
 
 -- a thread of a wait set was sent to the entry line
-pub queued_as : {nodes : map.FinMap nat_cmp ℕ} (f : FatState) (u : ThreadId) (w : Why) (m n : ℕ) (d : Option ℕ) (posts : Posted) (between new_lines : LinesState)
-    → posts ≡ record { posts = map.insert f.threads u.0 (Back m n w); nodes = nodes; flags = f.flags } → between.lines ≡ left f.standing.lines u m WaitSet → between.reservations ≡ f.standing.reservations
+pub queued_as : {nodes owned : map.FinMap nat_cmp ℕ} (f : FatState) (u : ThreadId) (w : Why) (m n : ℕ) (d : Option ℕ) (posts : Posted) (between new_lines : LinesState)
+    → posts ≡ record { posts = map.insert f.threads u.0 (Back m n w); nodes = nodes; flags = f.flags; owned = owned } → between.lines ≡ left f.standing.lines u m WaitSet → between.reservations ≡ f.standing.reservations
     → new_lines.lines ≡ joined between.lines u m Entry → new_lines.reservations ≡ between.reservations
     → record f { threads = posts.posts; flags = posts.flags; standing = standing new_lines } ≡ queued f u w (Waiting m n d)
 queued_as f u w m n d posts between new_lines e lines kept more kept_too =

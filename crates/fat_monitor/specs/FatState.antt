@@ -1,5 +1,5 @@
 -- The fat monitors, the attached threads, and the lines in which threads stand.
-use Rattle.std.specs.Prelude.{◌≡◌, ◌≢◌, ◌⊎◌, ℕ, ◌+◌, ◌<◌, ◌≤◌, ◌↔◌, Bool, true, false, if◌then◌else◌, ◌==◌, nat_lt, List, [], ◌∷◌, ◌++◌, length, count_by, slice_index_or, slice_get, slice_set, Option, Some, None, IsSome}
+use Rattle.std.specs.Prelude.{◌≡◌, ◌≢◌, ◌⊎◌, ℕ, ◌+◌, ◌-◌, max, ◌<◌, ◌≤◌, ◌↔◌, Bool, true, false, if◌then◌else◌, ◌==◌, nat_lt, List, [], ◌∷◌, ◌++◌, length, count_by, slice_index_or, slice_get, slice_set, Option, Some, None, IsSome}
 use Rattle.std.specs.Option.{option_map, unwrap_or}
 use Rattle.std.specs.List.{list_any}
 use Rattle.std.specs.Ordering.{nat_cmp}
@@ -17,8 +17,8 @@ use Rattle.fat_monitor.specs.declared.actions.Post.TheVariants.{Out, Entering, W
 use Rattle.fat_monitor.specs.declared.monitors.Monitor.{Monitor}
 
 -- the bound monitors, by number; the post and the interrupt flag of each attached thread, by the thread's
--- number; who stands in which line, with the room that there is for it; the moment, in nanoseconds; and how
--- many monitors there may be
+-- number; who stands in which line, with the room that there is for it; the moment, in nanoseconds; how many
+-- monitors there may be; and how many binds to come have their room already
 pub record FatState : Type 0 where
   pub monitors : List Monitor
   pub threads : map.FinMap nat_cmp Post
@@ -26,10 +26,11 @@ pub record FatState : Type 0 where
   pub standing : Standing
   pub moment : ℕ
   pub limit : ℕ
+  pub spare : ℕ
 
 -- no monitor is bound, no thread is attached, and the moment is 0
 abbrev pub opened : ℕ → FatState
-opened limit = record { monitors = []; threads = map.empty; flags = map.empty; standing = nobody; moment = 0; limit = limit }
+opened limit = record { monitors = []; threads = map.empty; flags = map.empty; standing = nobody; moment = 0; limit = limit; spare = 0 }
 
 -- what an unbound monitor reads as
 abbrev pub unbound : Monitor
@@ -112,9 +113,14 @@ with_thread f t = record f {
 abbrev pub without_thread : FatState → ThreadId → FatState
 without_thread f t = record f { threads = map.remove f.threads t.0; flags = map.remove f.flags t.0 }
 
--- the same, with one monitor more: it has this object, owner and holds
+-- the same, with one monitor more: it has this object, owner and holds. It takes the room that one bind had, if
+-- one had
 abbrev pub bound_with : FatState → ObjectId → ThreadId → ℕ → FatState
-bound_with f o t n = record f { monitors = f.monitors ++ (record { object = o; owner = Some t; holds = n }) ∷ [] }
+bound_with f o t n = record f { monitors = f.monitors ++ (record { object = o; owner = Some t; holds = n }) ∷ []; spare = f.spare - 1 }
+
+-- the same, with room for at least as many binds as this
+abbrev pub with_spare : FatState → ℕ → FatState
+with_spare f n = record f { spare = max f.spare n }
 
 -- why a bind is refused: memory is only asked for where there is a monitor left
 abbrev pub refusal : FatState → Cause

@@ -1,5 +1,6 @@
 -- The records of attached threads: what slots and keys show.
-use Rattle.std.specs.Prelude.{◌≡◌, ℕ, Bool, false, List, Option, Some, None, nat_eq, map as list_map}
+use Rattle.std.specs.Prelude.{◌≡◌, ℕ, ◌+◌, ◌-◌, Bool, false, List, Option, Some, None, nat_eq, map as list_map}
+use Rattle.std.specs.Option.{unwrap_or}
 use Rattle.std.specs.Map.{lookup}
 use Rattle.std.specs.Ordering.{nat_cmp}
 use Rattle.std.specs.FinMap as map
@@ -9,14 +10,16 @@ use Rattle.fat_monitor.specs.declared.actions.Post.{Post}
 use Rattle.fat_monitor.specs.declared.actions.Post.TheVariants.{Out}
 use Rattle.fat_monitor.specs.declared.posts.Record.{Record}
 
--- the posts, the nodes and the interrupt flags of the attached threads, by the thread's number
+-- the posts, the nodes and the interrupt flags of the attached threads, and how many monitors each owns, by the
+-- thread's number
 pub record Posted : Type 0 where
   pub posts : map.FinMap nat_cmp Post
   pub nodes : map.FinMap nat_cmp ℕ
   pub flags : map.FinMap nat_cmp Bool
+  pub owned : map.FinMap nat_cmp ℕ
 
 abbrev pub nobody_posted : Posted
-nobody_posted = record { posts = map.empty; nodes = map.empty; flags = map.empty }
+nobody_posted = record { posts = map.empty; nodes = map.empty; flags = map.empty; owned = map.empty }
 
 -- the same, with one thread more, which is out and not interrupted, and without a thread
 abbrev pub with_thread_posted : Posted → ThreadId → Posted
@@ -24,14 +27,32 @@ with_thread_posted p t = record {
   posts = map.insert p.posts t.0 Out;
   nodes = map.insert p.nodes t.0 0;
   flags = map.insert p.flags t.0 false;
+  owned = map.insert p.owned t.0 0;
 }
 
 abbrev pub without_thread_posted : Posted → ThreadId → Posted
-without_thread_posted p t = record { posts = map.remove p.posts t.0; nodes = map.remove p.nodes t.0; flags = map.remove p.flags t.0 }
+without_thread_posted p t = record { posts = map.remove p.posts t.0; nodes = map.remove p.nodes t.0; flags = map.remove p.flags t.0; owned = map.remove p.owned t.0 }
 
 -- the same, with this post of a thread, which stands at this node
 abbrev pub with_parked : Posted → ThreadId → Post → ℕ → Posted
 with_parked p t post n = record p { posts = map.insert p.posts t.0 post; nodes = map.insert p.nodes t.0 n }
+
+-- how many monitors a thread owns, by these counts; none where it is not attached
+abbrev pub count_of : map.FinMap nat_cmp ℕ → ThreadId → ℕ
+count_of counts t = unwrap_or (map.get counts t.0) 0
+
+-- the counts with one monitor less of this owner, if there is one, and with one more
+abbrev pub one_less : map.FinMap nat_cmp ℕ → Option ThreadId → map.FinMap nat_cmp ℕ
+one_less counts None = counts
+one_less counts (Some t) = map.insert counts t.0 (count_of counts t - 1)
+
+abbrev pub one_more : map.FinMap nat_cmp ℕ → Option ThreadId → map.FinMap nat_cmp ℕ
+one_more counts None = counts
+one_more counts (Some t) = map.insert counts t.0 (count_of counts t + 1)
+
+-- the counts after a monitor went from one owner to another
+abbrev pub handed_over : map.FinMap nat_cmp ℕ → Option ThreadId → Option ThreadId → map.FinMap nat_cmp ℕ
+handed_over counts from to = one_more (one_less counts from) to
 
 -- what is read of the record in a slot, or this where there is none
 abbrev pub value_in : {X : Type 0} → (Record → X) → X → Option Record → X
@@ -47,6 +68,7 @@ posted_in records keys = record {
   posts = values_of (λ r. r.post) Out records keys;
   nodes = values_of (λ r. r.node.0) 0 records keys;
   flags = values_of (λ r. r.flag) false records keys;
+  owned = values_of (λ r. r.owned) 0 records keys;
 }
 
 -- each key leads to the record of its thread

@@ -4,8 +4,9 @@ ghost use Rattle.std.specs.Prelude.{false, ◌≡◌, ◌-◌, ◌<◌, ◌≤�
 ghost use Rattle.std.specs.FinMap as map;
 ghost use Rattle.lock_word.specs.declared.ThreadId.{ThreadId};
 ghost use Rattle.fat_monitor.specs.declared.actions.Action.{Action};
+ghost use Rattle.fat_monitor.specs.declared.actions.Cause.{Cause};
 ghost use Rattle.fat_monitor.specs.declared.actions.Post.{Post};
-ghost use Rattle.fat_monitor.specs.FatState.{FatState, IsSound, opened, post_of, flag_of, IsAttached, thread_count, with_thread, without_thread, with_moment, bound_with, refusal, owns_one, monitor_at, object_at, StandBehindOwners};
+ghost use Rattle.fat_monitor.specs.FatState.{FatState, IsSound, opened, post_of, flag_of, IsAttached, thread_count, with_thread, without_thread, with_moment, with_spare, bound_with, refusal, owns_one, monitor_at, object_at, StandBehindOwners};
 ghost use Rattle.fat_monitor.specs.Acting.{acted, NamesBound, MayAct};
 
 mod acts;
@@ -13,7 +14,7 @@ mod acts;
 use crate::posts::Posts;
 use crate::replies::{reply_with, yes_or_no};
 use crate::{ActFault, Action, Cause, Done, Post, Receipt};
-use lock_word::{ObjectId, ThreadId};
+use lock_word::{Memory, ObjectId, ThreadId};
 use std::alloc::Global;
 use std::error::Error;
 use std::fmt;
@@ -90,6 +91,8 @@ pub struct Fats {
     // In nanoseconds.
     moment: u64,
     limit: u32,
+    // How many binds to come have their room already.
+    spare: u32,
 }
 
 impl Model for Fats {
@@ -122,6 +125,7 @@ impl Fats {
             lines: Lines::new(alloc),
             moment: 0,
             limit,
+            spare: 0,
         }
     }
 
@@ -169,7 +173,30 @@ impl Fats {
         self.posts.remove(thread);
     }
 
-    /// Binds the next monitor to an object that its owner holds this often.
+    /// Makes room for at least this many binds to come, so that none of them is refused for want of memory.
+    /// `Err` comes only where there was less room, and the system refused the memory for more.
+    pub fn reserve_monitors(&mut self, binds: u32) -> Result<(), Memory>
+        ensures ok { OnOk result (self.new ≡ with_spare self.old binds) }
+        ensures less { OnErr result (self.old.spare < binds) }
+        ensures err { OnErr result (self.new ≡ self.old) }
+        ensures sound { IsSound self.new }
+    {
+        if self.spare < binds {
+            self.monitors.reserve(binds as usize)?;
+            self.spare = binds;
+        }
+        Ok(())
+    }
+
+    /// How many binds to come have their room already, and are not refused for want of memory.
+    pub fn spare(&self) -> u32
+        ensures { result ≡ self.now.spare }
+    {
+        self.spare
+    }
+
+    /// Binds the next monitor to an object that its owner holds this often. It asks for memory only where no
+    /// bind has its room already.
     pub fn bind(&mut self, object: ObjectId, owner: ThreadId, holds: u16) -> Result<Receipt, Cause>
         requires attached { IsAttached self.old owner }
         requires low { 1 ≤ holds }
@@ -178,6 +205,7 @@ impl Fats {
         ensures bound { OnOk result (self.new ≡ bound_with self.old object owner holds) }
         ensures room { OnOk result (length self.old.monitors < self.old.limit) }
         ensures cause { IfErr result (λ c. c ≡ refusal self.old) }
+        ensures memory { IsErrOf result Cause.Memory → self.old.spare ≡ 0 }
         ensures err { OnErr result (self.new ≡ self.old) }
         ensures sound { IsSound self.new }
     {
@@ -190,10 +218,12 @@ impl Fats {
             owner: Some(owner),
             holds,
         };
-        match self.monitors.push(monitor) {
-            Ok(()) => Ok(Receipt::new(object, owner, holds, number as u32)),
-            Err(_) => Err(Cause::Memory),
-        }
+        let Ok(()) = self.monitors.push(monitor) else {
+            return Err(Cause::Memory);
+        };
+        self.spare = self.spare.saturating_sub(1);
+        self.posts.hand_over(None, Some(owner));
+        Ok(Receipt::new(object, owner, holds, number as u32))
     }
 
     /// Tells the moment, in nanoseconds, which never falls.

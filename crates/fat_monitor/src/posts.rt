@@ -1,10 +1,11 @@
 //! The attached threads: where each stands, and whether it is interrupted.
 
-ghost use Rattle.std.specs.Prelude.{◌≡◌, ◌↔◌, OnOk, OnErr, IsErrOf, IsSome, Some, None, false};
+ghost use Rattle.std.specs.Prelude.{◌≡◌, ◌<◌, ◌↔◌, OnOk, OnErr, IsErrOf, IsSome, Some, None, false};
 ghost use Rattle.std.specs.Option.{unwrap_or};
 ghost use Rattle.std.specs.FinMap as map;
+ghost use Rattle.lock_word.specs.declared.ThreadId.{ThreadId};
 ghost use Rattle.fat_monitor.specs.declared.actions.Post.{Post};
-ghost use Rattle.fat_monitor.specs.Slots.{nobody_posted, with_thread_posted, without_thread_posted, with_parked};
+ghost use Rattle.fat_monitor.specs.Slots.{nobody_posted, with_thread_posted, without_thread_posted, with_parked, count_of, one_less, one_more, handed_over};
 
 use crate::{AttachFault, Post};
 use lock_word::ThreadId;
@@ -23,9 +24,11 @@ struct Record {
     node: Node,
     // The interrupt flag (JLS SE 8, 17.2.3).
     flag: bool,
+    // How many monitors the thread owns.
+    owned: u32,
 }
 
-/// The post, the node and the interrupt flag of each attached thread.
+/// The post, the node and the interrupt flag of each attached thread, and how many monitors it owns.
 #[derive(Drop)]
 pub(crate) struct Posts {
     records: Slab<Record>,
@@ -87,12 +90,27 @@ impl Posts {
         }
     }
 
-    /// Attaches a thread, which stands [`Out`](Post::Out) and is not interrupted.
+    /// How many monitors a thread owns; 0 where it is not attached.
+    pub(crate) fn owned(&self, thread: ThreadId) -> u32
+        ensures count { result ≡ count_of self.now.owned thread }
+        ensures attached { 0 < result → IsSome (map.get self.now.posts thread.0) }
+    {
+        let Some(key) = self.keys.get(&thread.0) else {
+            return 0;
+        };
+        match self.records.get(*key) {
+            Some(record) => record.owned,
+            None => unreachable!(),
+        }
+    }
+
+    /// Attaches a thread, which stands [`Out`](Post::Out), is not interrupted, and owns no monitor.
     pub(crate) fn add(&mut self, thread: ThreadId) -> Result<(), AttachFault>
         ensures ok { OnOk result (self.new ≡ with_thread_posted self.old thread) }
         ensures fresh { OnOk result (map.get self.old.posts thread.0 ≡ None) }
         ensures nodeless { OnOk result (map.get self.old.nodes thread.0 ≡ None) }
         ensures flagless { OnOk result (map.get self.old.flags thread.0 ≡ None) }
+        ensures uncounted { OnOk result (map.get self.old.owned thread.0 ≡ None) }
         ensures known { IsErrOf result AttachFault.Known ↔ IsSome (map.get self.old.posts thread.0) }
         ensures err { OnErr result (self.new ≡ self.old) }
     {
@@ -111,6 +129,7 @@ impl Posts {
             post: Post::Out,
             node: Node(0),
             flag: false,
+            owned: 0,
         };
         let _ = self.records.insert_reserved(record);
         Ok(())
@@ -160,6 +179,7 @@ impl Posts {
             post,
             node,
             flag: record.flag,
+            owned: record.owned,
         };
     }
 
@@ -175,6 +195,52 @@ impl Posts {
             unreachable!();
         };
         record.flag = flag;
+    }
+
+    /// Counts a monitor that goes from one owner to another: one less for the thread that owned it, and one
+    /// more for the thread that owns it now.
+    pub(crate) fn hand_over(&mut self, from: Option<ThreadId>, to: Option<ThreadId>)
+        requires owned { (t : ThreadId) → from ≡ Some t → 0 < count_of self.old.owned t }
+        requires attached { (t : ThreadId) → to ≡ Some t → IsSome (map.get self.old.posts t.0) }
+        requires few { (t : ThreadId) → to ≡ Some t → count_of self.old.owned t < 4294967295 }
+        ensures { self.new ≡ record self.old { owned = handed_over self.old.owned from to } }
+    {
+        self.count_one_less(from);
+        self.count_one_more(to);
+    }
+
+    fn count_one_less(&mut self, owner: Option<ThreadId>)
+        requires { (t : ThreadId) → owner ≡ Some t → 0 < count_of self.old.owned t }
+        ensures { self.new ≡ record self.old { owned = one_less self.old.owned owner } }
+    {
+        if let Some(thread) = owner {
+            let count = self.owned(thread);
+            self.set_owned(thread, count - 1);
+        }
+    }
+
+    fn count_one_more(&mut self, owner: Option<ThreadId>)
+        requires attached { (t : ThreadId) → owner ≡ Some t → IsSome (map.get self.old.posts t.0) }
+        requires few { (t : ThreadId) → owner ≡ Some t → count_of self.old.owned t < 4294967295 }
+        ensures { self.new ≡ record self.old { owned = one_more self.old.owned owner } }
+    {
+        if let Some(thread) = owner {
+            let count = self.owned(thread);
+            self.set_owned(thread, count + 1);
+        }
+    }
+
+    fn set_owned(&mut self, thread: ThreadId, count: u32)
+        requires { IsSome (map.get self.old.posts thread.0) }
+        ensures { self.new ≡ record self.old { owned = map.insert self.old.owned thread.0 count } }
+    {
+        let Some(key) = self.keys.get(&thread.0) else {
+            unreachable!();
+        };
+        let Some(record) = self.records.get_mut(*key) else {
+            unreachable!();
+        };
+        record.owned = count;
     }
 
     /// Drops an attached thread.

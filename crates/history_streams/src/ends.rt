@@ -21,7 +21,7 @@ pub trait Source {
         requires { given self.old + length chunk.old < 2 ^ 64 }
         ensures cases { MatchOption result
             (has_failed self.new × Keeps (left self.old) (left self.new)
-                × (given self.new ≡ given self.old))
+            × (given self.new ≡ given self.old))
             (λ n. (n ≤ length chunk.new)
             × (given self.new ≡ given self.old + n)
             × Consumes (left self.old) (left self.new) (take n chunk.new)

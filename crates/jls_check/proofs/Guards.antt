@@ -6,7 +6,7 @@ use lib.Signed.{le_z_yes}
 use Rattle.std.proofs.lemmas.Option.{same_Some}
 use Rattle.lock_word.specs.declared.ThreadId.{ThreadId}
 use Rattle.step_core.specs.Machine.{AreGood}
-use Rattle.jls_check.specs.MachineState.{is_owned_by}
+use Rattle.jls_check.specs.Monitors.{is_owned_by}
 use Rattle.jls_check.specs.Taking.{is_good}
 
 -- ---- what a guard says

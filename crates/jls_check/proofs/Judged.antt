@@ -68,6 +68,10 @@ has_it (Wants c) r e = absurd (cc)
 has_it (Waits o n d) r e = absurd (cc)
 has_it (Back o n w) r e = absurd (cc)
 
+-- who has the reply Ended has ended
+pub has_ended : (x : Live) (r : Reply) → true ≡ has_reply x.act r → r ≡ reply.Ended → Some x ≡ Some (record { flag = x.flag; act = Has reply.Ended })
+has_ended x r e same = ap (λ (d : Doing). let y : Live = record { flag = x.flag; act = d } in Some y) (has_it x.act r (sym e) ∙ ap (λ (q : Reply). Has q) same)
+
 module _ (v : MachineState) (t : ThreadId) where
   returned : (r : Reply) (flag : Bool) (w : MachineState) → Is (state v) t flag (Has r) → after_return v t flag r ≡ w → Steps (state v) (move.Return t r) (state w)
   returned reply.Ended flag w h e = (flag, h, sym (ap state e) ∙ state-without v t)
@@ -119,7 +123,7 @@ module _ (v : MachineState) (t : ThreadId) where
   may (call.Interrupt u) cause.NoThread e = gone u e
   may (call.IsInterrupted u) cause.NoThread e = gone u e
   may call.End cause.StillOwner e =
-      let r = one_owned v t v.monitors e in
+      let r = one_owned v t v.objects e in
       let o : ObjectId = record { 0 = r.0 } in
       (o, owner_is (held_at v o).owner t r.1)
   may c y e = absurd (cc)
@@ -132,7 +136,7 @@ module _ (v : MachineState) (t : ThreadId) where
   must (call.Wait o millis nanos) cause.Memory h = both_true (owns v t o) (is_good millis nanos) (owner_yes (held_at v o).owner t h.0) (time_good millis nanos h.1)
   must (call.Interrupt u) cause.NoThread h = absent u h
   must (call.IsInterrupted u) cause.NoThread h = absent u h
-  must call.End cause.StillOwner h = owned_one v t v.monitors h.0.0 (owner_yes (held_at v h.0).owner t h.1)
+  must call.End cause.StillOwner h = owned_one v t v.objects h.0.0 (owner_yes (held_at v h.0).owner t h.1)
   must c y h = absurd h
 
   refuse_right : (y : Cause) (w : MachineState) → refuse v t y ≡ Some w → Steps (state v) (move.Refuse t y) (state w)
@@ -175,7 +179,7 @@ module _ (v : MachineState) where
   takes_right (move.Wait t) w sound e = wait_right v t w sound e
   takes_right (move.Notify t (Some u)) w sound e = notify_right v t u w e
   takes_right (move.Notify t None) w sound e = notify_nobody_right v t w e
-  takes_right (move.NotifyAll t) w sound e = notify_all_right v t w e
+  takes_right (move.NotifyAll t) w sound e = notify_all_right v t w sound e
   takes_right (move.Interrupt t) w sound e = interrupt_right v t w e
   takes_right (move.TestClear t) w sound e = test_clear_right v t w e
   takes_right (move.Expire t) w sound e = expire_right v t w e

@@ -20,7 +20,8 @@ use Rattle.jls_check.specs.declared.threads.Live.{Live}
 use Rattle.jls_check.specs.declared.monitors.Held.{Held}
 use Rattle.jls_check.specs.declared.machine.Wish.{Wish}
 use Rattle.jls_check.specs.LiveThreads.{live_of}
-use Rattle.jls_check.specs.MachineState.{MachineState, state, put, replied, with_held, held_at, thread_of, monitor_of, is_owned_by, owns, unheld, IsSound}
+use Rattle.jls_check.specs.Monitors.{unheld, is_owned_by}
+use Rattle.jls_check.specs.MachineState.{MachineState, state, put, replied, with_held, held_at, thread_of, monitor_of, owns, IsSound}
 use Rattle.jls_check.specs.Taking.{wants, wanted_of, wanted, may_be_locked, lock_for, lock, held_by, less_held, unlock_for, unlock, illegal_on, illegal_for, illegal, wish_for, wish, is_good, bad_argument_of, bad_argument, early_of, early, wait_of, wait, test_clear_for, test_clear, attach_at, attach, exists_below, make_call_from, make_call_at, make_call, expire_from, wake_from, expire_at, wake_at, expire, wake, relock_from, relock_at, relock}
 use Rattle.jls_check.proofs.Guards.{guarded, guarded_not, refused, refused_not, both_true, flipped, good_time, time_good, never, owner_is, owner_yes, owner_not}
 use Rattle.jls_check.proofs.States.{state-put, state-with_held}
@@ -62,19 +63,19 @@ module _ (v : MachineState) (t : ThreadId) where
   pub wanted_as : (flag : Bool) (c : Call) → Calls (state v) t flag c → wanted v t ≡ Some (flag, c)
   wanted_as flag c e = ap wanted_of (live_is flag (Wants c) e)
 
-  pub there : IsSound v → (flag : Bool) (c : Call) → wanted v t ≡ Some (flag, c) → Exists (length v.monitors) c
-  there sound flag c e = sound t (live flag (Wants c)) (live_is flag (Wants c) (calls flag c e))
+  pub there : IsSound v → (flag : Bool) (c : Call) → wanted v t ≡ Some (flag, c) → Exists (length v.objects) c
+  there sound flag c e = sound.exist t (live flag (Wants c)) (live_is flag (Wants c) (calls flag c e))
 
   -- ---- what a row leaves
 
   pub answer : (flag : Bool) (r : Reply) (w : MachineState) → replied v t flag r ≡ w → state w ≡ with_reply (state v) t flag r
   answer flag r w e = sym (ap state e) ∙ state-put v t flag (Has r)
 
-  pub changed : (flag : Bool) (act : Doing) (o : ObjectId) (h : Held) (w : MachineState) → o.0 < length v.monitors → with_held (put v t flag act) o h ≡ w
+  pub changed : (flag : Bool) (act : Doing) (o : ObjectId) (h : Held) (w : MachineState) → o.0 < length v.objects → put (with_held v o h) t flag act ≡ w
       → state w ≡ with_monitor (now_is (state v) t flag act) o (monitor_of h)
   changed flag act o h w exists e =
-      sym (ap state e) ∙ state-with_held (put v t flag act) o h exists
-      ∙ ap (λ (s : State). with_monitor s o (monitor_of h)) (state-put v t flag act)
+      sym (ap state e) ∙ state-put (with_held v o h) t flag act
+      ∙ ap (λ (s : State). now_is s t flag act) (state-with_held v o h exists)
 
   -- ---- locks
 
@@ -92,7 +93,7 @@ module _ (v : MachineState) (t : ThreadId) where
       by : (q : Option (Bool × Call)) → wanted v t ≡ q → lock_for v t q ≡ Some w → Steps (state v) (move.Lock t) (state w)
       by None h e = absurd (cc)
       by (Some (flag, call.Enter o)) h e =
-          let g = guarded (may_be_locked (held_at v o) t) (with_held (replied v t flag reply.Entered) o (held_by t ((held_at v o).count + 1))) w e in
+          let g = guarded (may_be_locked (held_at v o) t) (replied (with_held v o (held_by t ((held_at v o).count + 1))) t flag reply.Entered) w e in
           let m = and_parts (not (is_some (held_at v o).owner) || is_owned_by (held_at v o).owner t) (nat_lt (held_at v o).count 65535) g.0 in (
             flag,
             o,
@@ -105,7 +106,7 @@ module _ (v : MachineState) (t : ThreadId) where
 
   pub lock_only : (s : State) → lock v t ≡ None → Steps (state v) (move.Lock t) s → ⊥
   lock_only s e p =
-      refused (may_be_locked (held_at v p.1) t) (with_held (replied v t p.0 reply.Entered) p.1 (held_by t ((held_at v p.1).count + 1)))
+      refused (may_be_locked (held_at v p.1) t) (replied (with_held v p.1 (held_by t ((held_at v p.1).count + 1))) t p.0 reply.Entered)
       (ap (lock_for v t) (sym (wanted_as p.0 (call.Enter p.1) p.2)) ∙ e)
       (lock_free (held_at v p.1) p.3 p.4)
 
@@ -126,7 +127,7 @@ module _ (v : MachineState) (t : ThreadId) where
       by None h e = absurd (cc)
       by (Some (flag, call.Exit o)) h e =
           let n = (held_at v o).count in
-          let g = guarded (owns v t o && nat_lt 0 n) (with_held (replied v t flag reply.Exited) o (less_held t n)) w e in
+          let g = guarded (owns v t o && nat_lt 0 n) (replied (with_held v o (less_held t n)) t flag reply.Exited) w e in
           let m = and_parts (owns v t o) (nat_lt 0 n) g.0 in
           let some : 0 < n = ltb-true 0 n m.1 in
           let same : n ≡ n - 1 + 1 = omega (arith, some) in
@@ -145,7 +146,7 @@ module _ (v : MachineState) (t : ThreadId) where
   unlock_only s e p =
       let n = (held_at v p.1).count in
       let count : n ≡ p.2 + 1 = ap (λ (x : Monitor). x.count) p.4 in
-      refused (owns v t p.1 && nat_lt 0 n) (with_held (replied v t p.0 reply.Exited) p.1 (less_held t n))
+      refused (owns v t p.1 && nat_lt 0 n) (replied (with_held v p.1 (less_held t n)) t p.0 reply.Exited)
       (ap (unlock_for v t) (sym (wanted_as p.0 (call.Exit p.1) p.3)) ∙ e)
       (both_true (owns v t p.1) (nat_lt 0 n) (owner_yes (held_at v p.1).owner t (ap (λ (x : Monitor). x.owner) p.4)) (lt-ltb 0 n (omega (arith, count))))
 
@@ -171,15 +172,15 @@ module _ (v : MachineState) (t : ThreadId) where
   -- ---- waits
 
   wish_is : (w : Wish) → IsSound v → wish v t ≡ Some w
-      → Calls (state v) t w.flag (call.Wait w.object w.millis w.nanos) × OwnedBy (state v) w.object t × (w.object.0 < length v.monitors)
+      → Calls (state v) t w.flag (call.Wait w.object w.millis w.nanos) × OwnedBy (state v) w.object t × (w.object.0 < length v.objects)
   wish_is w sound e = by (wanted v t) refl e
     where
       by : (q : Option (Bool × Call)) → wanted v t ≡ q → wish_for v t q ≡ Some w
-          → Calls (state v) t w.flag (call.Wait w.object w.millis w.nanos) × OwnedBy (state v) w.object t × (w.object.0 < length v.monitors)
+          → Calls (state v) t w.flag (call.Wait w.object w.millis w.nanos) × OwnedBy (state v) w.object t × (w.object.0 < length v.objects)
       by None h e = absurd (cc)
       by (Some (flag, call.Wait o millis nanos)) h e =
           let g = guarded (owns v t o) (record { flag = flag; object = o; millis = millis; nanos = nanos }) w e in
-          subst (λ (x : Wish). Calls (state v) t x.flag (call.Wait x.object x.millis x.nanos) × OwnedBy (state v) x.object t × (x.object.0 < length v.monitors)) g.1
+          subst (λ (x : Wish). Calls (state v) t x.flag (call.Wait x.object x.millis x.nanos) × OwnedBy (state v) x.object t × (x.object.0 < length v.objects)) g.1
           (calls flag (call.Wait o millis nanos) h, owner_is (held_at v o).owner t g.0, there sound flag (call.Wait o millis nanos) h)
       by (Some (flag, c)) h e = absurd (cc)
 
@@ -234,7 +235,7 @@ module _ (v : MachineState) (t : ThreadId) where
       by None h e = absurd (cc)
       by (Some x) h e =
           let act = Waits x.object (held_at v x.object).count (over_at v.moment x.millis x.nanos) in
-          let g = guarded (is_good x.millis x.nanos && not x.flag) (with_held (put v t false act) x.object unheld) w e in
+          let g = guarded (is_good x.millis x.nanos && not x.flag) (put (with_held v x.object unheld) t false act) w e in
           let m = and_parts (is_good x.millis x.nanos) (not x.flag) g.0 in
           let k = wish_is x sound h in (
             x.object,
@@ -248,7 +249,7 @@ module _ (v : MachineState) (t : ThreadId) where
 
   pub wait_only : (s : State) → wait v t ≡ None → Steps (state v) (move.Wait t) s → ⊥
   wait_only s e p =
-      refused (is_good p.1 p.2 && not false) (with_held (put v t false (Waits p.0 (held_at v p.0).count (over_at v.moment p.1 p.2))) p.0 unheld)
+      refused (is_good p.1 p.2 && not false) (put (with_held v p.0 unheld) t false (Waits p.0 (held_at v p.0).count (over_at v.moment p.1 p.2)))
       (ap (wait_of v t) (sym (wish_as false p.0 p.1 p.2 p.3 p.4)) ∙ e)
       (both_true (is_good p.1 p.2) true (time_good p.1 p.2 p.5) refl)
 
@@ -321,14 +322,14 @@ module _ (v : MachineState) (t : ThreadId) where
 
       on : (flag : Bool) (d : Doing) → live_of v.threads t ≡ Some (live flag d) → relock_from v t flag d ≡ Some w → Steps (state v) (move.Relock t) (state w)
       on flag (Back o n y) h e =
-          let g = guarded_not (is_some (held_at v o).owner) (with_held (replied v t (flag_back y flag) (reply_of y)) o (held_by t n)) w e in (
+          let g = guarded_not (is_some (held_at v o).owner) (replied (with_held v o (held_by t n)) t (flag_back y flag) (reply_of y)) w e in (
             flag,
             o,
             n,
             y,
             is_live (live flag (Back o n y)) h,
             unowned (held_at v o).owner g.0,
-            changed (flag_back y flag) (Has (reply_of y)) o (held_by t n) w (sound t (live flag (Back o n y)) h) g.1,
+            changed (flag_back y flag) (Has (reply_of y)) o (held_by t n) w (sound.exist t (live flag (Back o n y)) h) g.1,
           )
       on flag Idle h e = absurd (cc)
       on flag (Wants c) h e = absurd (cc)
@@ -341,7 +342,7 @@ module _ (v : MachineState) (t : ThreadId) where
 
   pub relock_only : (s : State) → relock v t ≡ None → Steps (state v) (move.Relock t) s → ⊥
   relock_only s e p =
-      let taken = refused_not (is_some (held_at v p.1).owner) (with_held (replied v t (flag_back p.3 p.0) (reply_of p.3)) p.1 (held_by t p.2))
+      let taken = refused_not (is_some (held_at v p.1).owner) (replied (with_held v p.1 (held_by t p.2)) t (flag_back p.3 p.0) (reply_of p.3))
       (ap (relock_at v t) (sym (live_is p.0 (Back p.1 p.2 p.3) p.4)) ∙ e) in
       never (is_some (held_at v p.1).owner) taken (ap (λ (o : Option ThreadId). is_some o) p.5)
 
@@ -361,26 +362,26 @@ module _ (v : MachineState) (t : ThreadId) where
       by None e h = cc
       by (Some x) e h = cc
 
-  names : (c : Call) → exists_below (length v.monitors) (object_of c) ≡ true → Exists (length v.monitors) c
+  names : (c : Call) → exists_below (length v.objects) (object_of c) ≡ true → Exists (length v.objects) c
   names c e = by (object_of c) e
     where
-      by : (o : Option ObjectId) → exists_below (length v.monitors) o ≡ true → MatchOption o (Unit {0}) (λ p. p.0 < length v.monitors)
+      by : (o : Option ObjectId) → exists_below (length v.objects) o ≡ true → MatchOption o (Unit {0}) (λ p. p.0 < length v.objects)
       by None e = tt
-      by (Some o) e = ltb-true o.0 (length v.monitors) e
+      by (Some o) e = ltb-true o.0 (length v.objects) e
 
-  named : (c : Call) → Exists (length v.monitors) c → exists_below (length v.monitors) (object_of c) ≡ true
+  named : (c : Call) → Exists (length v.objects) c → exists_below (length v.objects) (object_of c) ≡ true
   named c e = by (object_of c) e
     where
-      by : (o : Option ObjectId) → MatchOption o (Unit {0}) (λ p. p.0 < length v.monitors) → exists_below (length v.monitors) o ≡ true
+      by : (o : Option ObjectId) → MatchOption o (Unit {0}) (λ p. p.0 < length v.objects) → exists_below (length v.objects) o ≡ true
       by None e = refl
-      by (Some o) e = lt-ltb o.0 (length v.monitors) e
+      by (Some o) e = lt-ltb o.0 (length v.objects) e
 
   pub make_call_right : (c : Call) (w : MachineState) → make_call v t c ≡ Some w → Steps (state v) (move.Call t c) (state w)
   make_call_right c w e = by (live_of v.threads t) refl e
     where
       on : (flag : Bool) (d : Doing) → live_of v.threads t ≡ Some (live flag d) → make_call_from v t c flag d ≡ Some w → Steps (state v) (move.Call t c) (state w)
       on flag Idle h e =
-          let g = guarded (exists_below (length v.monitors) (object_of c)) (put v t flag (Wants c)) w e in
+          let g = guarded (exists_below (length v.objects) (object_of c)) (put v t flag (Wants c)) w e in
           (flag, is_live (live flag Idle) h, names c g.0, sym (ap state g.1) ∙ state-put v t flag (Wants c))
       on flag (Wants d) h e = absurd (cc)
       on flag (Waits o n d) h e = absurd (cc)
@@ -393,4 +394,4 @@ module _ (v : MachineState) (t : ThreadId) where
 
   pub make_call_only : (c : Call) (s : State) → make_call v t c ≡ None → Steps (state v) (move.Call t c) s → ⊥
   make_call_only c s e p =
-      refused (exists_below (length v.monitors) (object_of c)) (put v t p.0 (Wants c)) (ap (make_call_at v t c) (sym (live_is p.0 Idle p.1)) ∙ e) (named c p.2)
+      refused (exists_below (length v.objects) (object_of c)) (put v t p.0 (Wants c)) (ap (make_call_at v t c) (sym (live_is p.0 Idle p.1)) ∙ e) (named c p.2)

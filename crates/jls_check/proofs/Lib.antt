@@ -1,5 +1,9 @@
 pub mod LiveMaps
+pub mod Counts
+pub mod Kept
 pub mod States
+pub mod Soundness
+pub mod AllBack
 pub mod Guards
 pub mod Judging
 pub mod Replying

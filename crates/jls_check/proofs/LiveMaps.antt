@@ -8,19 +8,19 @@ use Rattle.std.specs.Cmp.{unsigned_tied, nat_cmp_total}
 use Rattle.std.specs.FinMap as map
 use Rattle.std.specs.FinMap.{get-from_entries, same_map, nat_cmp-IsAntisymmetric}
 use Rattle.std.specs.FinMap.Entries.{find}
-use Rattle.std.proofs.Common.{refl, ap, sym, ◌∙◌, inl, inr}
+use Rattle.std.proofs.Common.{refl, ap, sym, ◌∙◌, inl, inr, subst}
 use Rattle.std.proofs.lemmas.Bool.{cases_eq, ne_eqb}
 use Rattle.std.proofs.lemmas.Map.Made.{lookup-map_values}
-use Rattle.std.specs.FinMap.{get-entries, get-from_sorted, entries-from_sorted}
+use Rattle.std.specs.FinMap.{get-entries, get-from_sorted, entries-from_sorted, entries_sorted, len-entries}
 use Rattle.std.specs.FinMap.Entries.{is_sorted, below_all}
 use Rattle.std.specs.List.{AllByRecursion}
 use Rattle.std.specs.List.Sorted.{IsStrictlySortedBy}
 use Rattle.std.specs.Map.{keys_of}
 use Rattle.std.specs.Ordering.{is_lt}
 use Rattle.std.specs.declared.cmp.Ordering.TheVariants.{Less}
-use Rattle.std.specs.Prelude.{T, ◌&&◌}
+use Rattle.std.specs.Prelude.{T, ◌&&◌, length}
 use Rattle.lock_word.specs.declared.ObjectId.{ObjectId}
-use Rattle.jls_check.specs.declared.threads.Live.{Live}
+use Rattle.jls_check.specs.declared.threads.ThreadRecord.{ThreadRecord}
 use Rattle.jls_check.specs.LiveThreads.{LiveThreads, notified, all_back}
 use Rattle.fat_monitor.proofs.PostMaps.{get-insert_by, get-remove_by}
 
@@ -76,12 +76,30 @@ get-all_back l o q =
     get_mapped (notified o) (map.entries l) q
     ∙ ap (option_map (notified o)) (sym (find-lookup q (map.entries l)) ∙ sym (get-entries l q))
 
-pub shown_all_back : (es kept : List (ℕ × Live)) (o : ObjectId) → kept ≡ list_map (λ e. (e.0, notified o e.1)) es → shown_map kept ≡ all_back (shown_map es) o
+pub shown_all_back : (es kept : List (ℕ × ThreadRecord)) (o : ObjectId) → kept ≡ list_map (λ e. (e.0, notified o e.1)) es → shown_map kept ≡ all_back (shown_map es) o
 shown_all_back es kept o e = same_map nat_cmp_total nat_cmp-IsAntisymmetric _ _ (λ q.
     ap (λ ks. map.get (shown_map ks) q) e ∙ get_mapped (notified o) es q
     ∙ ap (option_map (notified o)) (sym (get_shown es q)) ∙ sym (get-all_back (shown_map es) o q))
 
 -- ---- in order
+
+mapped_below : {X : Type 0} (f : X → X) (k : ℕ) (es : List (ℕ × X)) → below_all nat_cmp k (list_map (λ e. (e.0, f e.1)) es) ≡ below_all nat_cmp k es
+mapped_below f k [] = refl
+mapped_below f k (e ∷ es) = ap (λ b. is_lt (nat_cmp k e.0) && b) (mapped_below f k es)
+
+-- values that are written anew leave the keys in order
+mapped_sorted : {X : Type 0} (f : X → X) (es : List (ℕ × X)) → is_sorted nat_cmp (list_map (λ e. (e.0, f e.1)) es) ≡ is_sorted nat_cmp es
+mapped_sorted f [] = refl
+mapped_sorted f (e ∷ es) =
+    ap (λ b. b && is_sorted nat_cmp (list_map (λ x. (x.0, f x.1)) es)) (mapped_below f e.0 es)
+    ∙ ap (λ b. below_all nat_cmp e.0 es && b) (mapped_sorted f es)
+
+-- a map shows the entries that it has
+entries_shown : {X : Type 0} (es : List (ℕ × X)) → T (is_sorted nat_cmp es) → map.entries (shown_map es) ≡ es
+entries_shown es ordered =
+    ap map.entries (same_map nat_cmp_total nat_cmp-IsAntisymmetric (shown_map es) (map.from_sorted es) (λ q.
+    get-from_entries nat_cmp_total es q ∙ sym (get-from_sorted nat_cmp es q ordered)))
+    ∙ entries-from_sorted nat_cmp es ordered
 
 first_below : (b c : Bool) → b ≡ true → T c → T (b && c)
 first_below true c e h = h
@@ -100,9 +118,10 @@ sorted (e ∷ es) h = both (below_all nat_cmp e.0 es) (is_sorted nat_cmp es) (be
     both true c p q = q
     both false c p q = absurd p
 
--- a map shows the entries that it has
-pub entries_shown : {X : Type 0} (es : List (ℕ × X)) → IsStrictlySortedBy nat_cmp (keys_of es) → map.entries (shown_map es) ≡ es
-entries_shown es ordered =
-    ap map.entries (same_map nat_cmp_total nat_cmp-IsAntisymmetric (shown_map es) (map.from_sorted es) (λ q.
-    get-from_entries nat_cmp_total es q ∙ sym (get-from_sorted nat_cmp es q (sorted es ordered))))
-    ∙ entries-from_sorted nat_cmp es (sorted es ordered)
+-- and has as many
+pub len_shown : {X : Type 0} (es : List (ℕ × X)) → IsStrictlySortedBy nat_cmp (keys_of es) → map.len (shown_map es) ≡ length es
+len_shown es ordered = len-entries (shown_map es) ∙ ap length (entries_shown es (sorted es ordered))
+
+pub entries-all_back : (l : LiveThreads) (o : ObjectId) → map.entries (all_back l o) ≡ list_map (λ e. (e.0, notified o e.1)) (map.entries l)
+entries-all_back l o =
+    entries_shown (list_map (λ e. (e.0, notified o e.1)) (map.entries l)) (subst T (sym (mapped_sorted (notified o) (map.entries l))) (entries_sorted l))

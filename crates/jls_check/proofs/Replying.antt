@@ -1,17 +1,10 @@
 -- The same for notifications, interrupts, questions, refusals, ends and returns.
-use Rattle.std.specs.Prelude.{◌≡◌, ◌⊎◌, ℕ, Bool, true, false, not, ◌&&◌, ◌||◌, if◌then◌else◌, ◌==◌, List, [], ◌∷◌, zero, suc, get_or, cond, T, Option, Some, None}
+use Rattle.std.specs.Prelude.{◌≡◌, ℕ, Bool, true, false, not, ◌&&◌, ◌||◌, if◌then◌else◌, ◌==◌, List, [], ◌∷◌, zero, suc, get_or, Option, Some, None}
 use Rattle.std.specs.Option.{option_map}
-use Rattle.std.specs.List.{list_any}
-use Rattle.std.specs.Map.{values_of}
-use Rattle.std.specs.Ordering.{nat_cmp, is_eq, is_lt}
-use Rattle.std.specs.declared.cmp.Ordering.{Ordering}
-use Rattle.std.specs.declared.cmp.Ordering.TheVariants.{Less, Equal, Greater}
-use Rattle.std.specs.Cmp.{unsigned_tied}
 use Rattle.std.specs.FinMap as map
 use Rattle.std.specs.FinMap.{get-entries, entries_sorted}
-use Rattle.std.specs.FinMap.Entries.{find, is_sorted, below_all}
-use Rattle.std.proofs.Common.{refl, ap, sym, ◌∙◌, inl, inr, subst}
-use Rattle.std.proofs.lemmas.Bool.{and_parts, cases_eq, eqb-true, eq-eqb, ne_eqb}
+use Rattle.std.proofs.Common.{refl, ap, sym, ◌∙◌, subst}
+use Rattle.std.proofs.lemmas.Bool.{and_parts, eqb-true, eq-eqb}
 use Rattle.std.proofs.lemmas.Option.{same_Some}
 use Rattle.lock_word.specs.declared.ThreadId.{ThreadId}
 use Rattle.lock_word.specs.declared.ObjectId.{ObjectId}
@@ -25,11 +18,15 @@ use Rattle.step_core.specs.declared.machine.Move.TheVariants as move
 use Rattle.step_core.specs.Machine.{State, Thread, Steps, Is, Calls, now_is, with_reply, OwnedBy, NobodyWaits, IsAnswer, waits_on, after_interrupt, yes_or_no}
 use Rattle.step_core.proofs.Facts.Moves.{one_object}
 use Rattle.jls_check.specs.declared.threads.Live.{Live}
-use Rattle.jls_check.specs.declared.monitors.Held.{Held}
-use Rattle.jls_check.specs.LiveThreads.{live_of, some_waits, all_back}
-use Rattle.jls_check.specs.MachineState.{MachineState, state, put, replied, held_at, thread_of, is_owned_by, owns, unheld}
-use Rattle.jls_check.specs.Taking.{wanted, notify_from, notify_at, notify_for, notify, notify_nobody_for, notify_nobody, notify_all_for, notify_all, interrupt_at, interrupt_for, interrupt, ask_at, ask_for, ask, owns_one, end_for, end}
-use Rattle.jls_check.proofs.States.{state-put, state-all_back}
+use Rattle.jls_check.specs.declared.threads.ThreadRecord.{ThreadRecord}
+use Rattle.jls_check.specs.declared.monitors.ObjectRecord.{ObjectRecord}
+use Rattle.jls_check.specs.LiveThreads.{live_in, live_of, does_wait, some_waits}
+use Rattle.jls_check.specs.Monitors.{untouched, is_owned_by, owns_one}
+use Rattle.jls_check.specs.MachineState.{MachineState, state, put, replied, held_at, thread_of, owns, IsSound}
+use Rattle.jls_check.specs.Taking.{wanted, notify_from, notify_at, notify_for, notify, notify_nobody_for, notify_nobody, notify_all_for, notify_all, interrupt_at, interrupt_for, interrupt, ask_at, ask_for, ask, end_for, end, all_left}
+use Rattle.jls_check.proofs.Counts.{none_passes, one_passes}
+use Rattle.jls_check.proofs.States.{state-put}
+use Rattle.jls_check.proofs.AllBack.{state-all_left}
 use Rattle.jls_check.proofs.Guards.{guarded, guarded_not, refused, refused_not, both_true, flipped, never, owner_is, owner_yes}
 use Rattle.jls_check.proofs.Judging.{live, live_is, is_live, calls, wanted_as, answer}
 
@@ -43,69 +40,26 @@ refused_by false x e h = absurd (cc)
 
 -- ---- who waits
 
--- where none of the values passes, none that is found does
-none_passes : (p : Live → Bool) (q : ℕ) (es : List (ℕ × Live)) (x : Live) → list_any p (values_of es) ≡ false → find nat_cmp q es ≡ Some x → p x ≡ false
-none_passes p q [] x none found = absurd (cc)
-none_passes p q (e ∷ es) x none found = by (none_passes p q es x) (is_eq (nat_cmp q e.0)) found
-  where
-    head : (a b : Bool) → (a || b) ≡ false → (a ≡ false) × (b ≡ false)
-    head true b e = absurd (cc)
-    head false b e = (refl, e)
-
-    by : (list_any p (values_of es) ≡ false → find nat_cmp q es ≡ Some x → p x ≡ false) → (b : Bool) → cond b (Some e.1) (find nat_cmp q es) ≡ Some x → p x ≡ false
-    by rest true found = ap p (sym (same_Some e.1 x found)) ∙ (head (p e.1) (list_any p (values_of es)) none).0
-    by rest false found = rest (head (p e.1) (list_any p (values_of es)) none).1 found
-
--- a number below all numbers of a list is not found there
-unmet : (k : ℕ) (es : List (ℕ × Live)) → T (below_all nat_cmp k es) → find nat_cmp k es ≡ None
-unmet k [] h = refl
-unmet k (e ∷ es) h = by (unmet k es) (nat_cmp k e.0) h
-  where
-    by : (T (below_all nat_cmp k es) → find nat_cmp k es ≡ None) → (r : Ordering) → T (is_lt r && below_all nat_cmp k es) → cond (is_eq r) (Some e.1) (find nat_cmp k es) ≡ None
-    by rest Less h = rest h
-    by rest Equal h = absurd h
-    by rest Greater h = absurd h
-
--- where one of the values passes, it is found
-one_passes : (p : Live → Bool) (es : List (ℕ × Live)) → T (is_sorted nat_cmp es) → list_any p (values_of es) ≡ true
-    → (q : ℕ) × (x : Live) × (find nat_cmp q es ≡ Some x) × (p x ≡ true)
-one_passes p [] sorted some = absurd (cc)
-one_passes p (e ∷ es) sorted some = by (one_passes p es) (p e.1) refl some
-  where
-    parts : (a b : Bool) → T (a && b) → T a × T b
-    parts true b h = (tt, h)
-    parts false b h = absurd h
-
-    self : is_eq (nat_cmp e.0 e.0) ≡ true
-    self = unsigned_tied e.0 e.0 ∙ eq-eqb e.0 e.0 refl
-
-    order : T (below_all nat_cmp e.0 es) × T (is_sorted nat_cmp es)
-    order = parts (below_all nat_cmp e.0 es) (is_sorted nat_cmp es) sorted
-
-    past : (q : ℕ) (x : Live) → find nat_cmp q es ≡ Some x → (q ≡ e.0) ⊎ (q ≡ e.0 → ⊥) → find nat_cmp q (e ∷ es) ≡ Some x
-    past q x found (inl same) = let none : find nat_cmp q es ≡ None = rw (same) (unmet e.0 es order.0) in absurd (cc)
-    past q x found (inr other) = ap (λ b. cond b (Some e.1) (find nat_cmp q es)) (unsigned_tied q e.0 ∙ ne_eqb q e.0 other) ∙ found
-
-    by : (T (is_sorted nat_cmp es) → list_any p (values_of es) ≡ true → (q : ℕ) × (x : Live) × (find nat_cmp q es ≡ Some x) × (p x ≡ true))
-        → (b : Bool) → p e.1 ≡ b → (b || list_any p (values_of es)) ≡ true → (q : ℕ) × (x : Live) × (find nat_cmp q (e ∷ es) ≡ Some x) × (p x ≡ true)
-    by rest true h some = (e.0, e.1, ap (λ b. cond b (Some e.1) (find nat_cmp e.0 es)) self, h)
-    by rest false h some = let r = rest order.1 some in (r.0, r.1, past r.0 r.1 r.2 (cases_eq r.0 e.0), r.3)
-
 waits_here : (p o : ObjectId) → p.0 ≡ o.0 → p ≡ o
 waits_here p o e = one_object p o e
 
 module _ (v : MachineState) where
   nobody : (o : ObjectId) → some_waits v.threads o ≡ false → NobodyWaits (state v) o
-  nobody o none u flag n d h =
-      let found = sym (get-entries v.threads u.0) ∙ live_is v u flag (Waits o n d) h in
-      never (o.0 == o.0) (eq-eqb o.0 o.0 refl) (none_passes (λ x. waits_on x.act o) u.0 (map.entries v.threads) (live flag (Waits o n d)) none found)
+  nobody o none u flag n d h = by (map.get v.threads u.0) refl (live_is v u flag (Waits o n d) h)
+    where
+      by : (y : Option ThreadRecord) → map.get v.threads u.0 ≡ y → live_in y ≡ Some (live flag (Waits o n d)) → ⊥
+      by None k e = cc
+      by (Some r) k e =
+          let out = none_passes (does_wait o) u.0 (map.entries v.threads) r none (sym (get-entries v.threads u.0) ∙ k) in
+          let there : does_wait o r ≡ true = ap (λ (x : Live). waits_on x.act o) (same_Some r.live (live flag (Waits o n d)) e) ∙ eq-eqb o.0 o.0 refl in
+          never (does_wait o r) there out
 
   somebody : (o : ObjectId) → some_waits v.threads o ≡ true → NobodyWaits (state v) o → ⊥
   somebody o some none =
-      let r = one_passes (λ x. waits_on x.act o) (map.entries v.threads) (entries_sorted v.threads) some in
-      by r.0 r.1.flag r.1.act (get-entries v.threads r.0 ∙ r.2) r.3
+      let r = one_passes (does_wait o) (map.entries v.threads) (entries_sorted v.threads) some in
+      by r.0 r.1.live.flag r.1.live.act (ap live_in (get-entries v.threads r.0 ∙ r.2)) r.3
     where
-      by : (q : ℕ) (flag : Bool) (d : Doing) → map.get v.threads q ≡ Some (live flag d) → waits_on d o ≡ true → ⊥
+      by : (q : ℕ) (flag : Bool) (d : Doing) → live_in (map.get v.threads q) ≡ Some (live flag d) → waits_on d o ≡ true → ⊥
       by q flag (Waits p n d) h e =
           let u : ThreadId = record { 0 = q } in
           none u flag n d (subst (λ (x : ObjectId). Is (state v) u flag (Waits x n d)) (waits_here p o (eqb-true p.0 o.0 e)) (is_live v u (live flag (Waits p n d)) h))
@@ -180,25 +134,24 @@ module _ (v : MachineState) (t : ThreadId) where
       by true h = absurd (somebody v p.1 h p.4)
       by false h = refl
 
-  pub notify_all_right : (w : MachineState) → notify_all v t ≡ Some w → Steps (state v) (move.NotifyAll t) (state w)
-  notify_all_right w e = by (wanted v t) refl e
+  pub notify_all_right : (w : MachineState) → IsSound v → notify_all v t ≡ Some w → Steps (state v) (move.NotifyAll t) (state w)
+  notify_all_right w sound e = by (wanted v t) refl e
     where
       by : (q : Option (Bool × Call)) → wanted v t ≡ q → notify_all_for v t q ≡ Some w → Steps (state v) (move.NotifyAll t) (state w)
       by None h e = absurd (cc)
       by (Some (flag, call.NotifyAll o)) h e =
-          let back : MachineState = record v { threads = all_back v.threads o } in
-          let g = guarded (owns v t o) (replied back t flag reply.Notified) w e in (
+          let g = guarded (owns v t o) (replied (all_left v o) t flag reply.Notified) w e in (
             flag,
             o,
             calls v t flag (call.NotifyAll o) h,
             owner_is (held_at v o).owner t g.0,
-            sym (ap state g.1) ∙ state-put back t flag (Has reply.Notified) ∙ ap (λ (s : State). with_reply s t flag reply.Notified) (state-all_back v o),
+            sym (ap state g.1) ∙ state-put (all_left v o) t flag (Has reply.Notified) ∙ ap (λ (s : State). with_reply s t flag reply.Notified) (state-all_left v o sound),
           )
       by (Some (flag, c)) h e = absurd (cc)
 
   pub notify_all_only : (s : State) → notify_all v t ≡ None → Steps (state v) (move.NotifyAll t) s → ⊥
   notify_all_only s e p =
-      refused (owns v t p.1) (replied (record v { threads = all_back v.threads p.1 }) t p.0 reply.Notified)
+      refused (owns v t p.1) (replied (all_left v p.1) t p.0 reply.Notified)
       (ap (notify_all_for v t) (sym (wanted_as v t p.0 (call.NotifyAll p.1) p.2)) ∙ e) (owner_yes (held_at v p.1).owner t p.3)
 
   -- ---- interrupts
@@ -269,19 +222,19 @@ module _ (v : MachineState) (t : ThreadId) where
       by (call.IsInterrupted u) e h = at (live_of v.threads u) e h.0 h.1
       by c e h = h
 
-  pub one_owned : (hs : List Held) → owns_one hs t ≡ true → (k : ℕ) × (is_owned_by (get_or hs k unheld).owner t ≡ true)
+  pub one_owned : (hs : List ObjectRecord) → owns_one hs t ≡ true → (k : ℕ) × (is_owned_by (get_or hs k untouched).held.owner t ≡ true)
   one_owned [] e = absurd (cc)
-  one_owned (h ∷ hs) e = by (one_owned hs) (is_owned_by h.owner t) refl e
+  one_owned (h ∷ hs) e = by (one_owned hs) (is_owned_by h.held.owner t) refl e
     where
-      by : (owns_one hs t ≡ true → (k : ℕ) × (is_owned_by (get_or hs k unheld).owner t ≡ true)) → (b : Bool) → is_owned_by h.owner t ≡ b → (b || owns_one hs t) ≡ true
-          → (k : ℕ) × (is_owned_by (get_or (h ∷ hs) k unheld).owner t ≡ true)
+      by : (owns_one hs t ≡ true → (k : ℕ) × (is_owned_by (get_or hs k untouched).held.owner t ≡ true)) → (b : Bool) → is_owned_by h.held.owner t ≡ b → (b || owns_one hs t) ≡ true
+          → (k : ℕ) × (is_owned_by (get_or (h ∷ hs) k untouched).held.owner t ≡ true)
       by rest true i e = (zero, i)
       by rest false i e = let r = rest e in (suc r.0, r.1)
 
-  pub owned_one : (hs : List Held) (k : ℕ) → is_owned_by (get_or hs k unheld).owner t ≡ true → owns_one hs t ≡ true
+  pub owned_one : (hs : List ObjectRecord) (k : ℕ) → is_owned_by (get_or hs k untouched).held.owner t ≡ true → owns_one hs t ≡ true
   owned_one [] k e = absurd (cc)
   owned_one (h ∷ hs) zero e = rw (e) refl
-  owned_one (h ∷ hs) (suc k) e = ap (λ b. is_owned_by h.owner t || b) (owned_one hs k e) ∙ by (is_owned_by h.owner t)
+  owned_one (h ∷ hs) (suc k) e = ap (λ b. is_owned_by h.held.owner t || b) (owned_one hs k e) ∙ by (is_owned_by h.held.owner t)
     where
       by : (b : Bool) → (b || true) ≡ true
       by true = refl
@@ -293,12 +246,12 @@ module _ (v : MachineState) (t : ThreadId) where
       by : (q : Option (Bool × Call)) → wanted v t ≡ q → end_for v t q ≡ Some w → Steps (state v) (move.End t) (state w)
       by None h e = absurd (cc)
       by (Some (flag, call.End)) h e =
-          let g = guarded_not (owns_one v.monitors t) (replied v t flag reply.Ended) w e in
-          (flag, calls v t flag call.End h, (λ o own. never (owns_one v.monitors t) (owned_one v.monitors o.0 (owner_yes (held_at v o).owner t own)) g.0), answer v t flag reply.Ended w g.1)
+          let g = guarded_not (owns_one v.objects t) (replied v t flag reply.Ended) w e in
+          (flag, calls v t flag call.End h, (λ o own. never (owns_one v.objects t) (owned_one v.objects o.0 (owner_yes (held_at v o).owner t own)) g.0), answer v t flag reply.Ended w g.1)
       by (Some (flag, c)) h e = absurd (cc)
 
   pub end_only : (s : State) → end v t ≡ None → Steps (state v) (move.End t) s → ⊥
   end_only s e p =
-      let r = one_owned v.monitors (refused_not (owns_one v.monitors t) (replied v t p.0 reply.Ended) (ap (end_for v t) (sym (wanted_as v t p.0 call.End p.1)) ∙ e)) in
+      let r = one_owned v.objects (refused_not (owns_one v.objects t) (replied v t p.0 reply.Ended) (ap (end_for v t) (sym (wanted_as v t p.0 call.End p.1)) ∙ e)) in
       let o : ObjectId = record { 0 = r.0 } in
       p.2 o (owner_is (held_at v o).owner t r.1)

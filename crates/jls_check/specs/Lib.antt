@@ -1,5 +1,7 @@
 pub mod LiveThreads
+pub mod Monitors
 pub mod MachineState
 pub mod View
 pub mod Taking
 pub mod Judging
+pub mod Texts

@@ -1,6 +1,5 @@
 -- What each move leaves of what a checker knows; None where the move is not lawful.
-use Rattle.std.specs.Prelude.{ℕ, ◌+◌, ◌-◌, Bool, true, false, not, ◌&&◌, ◌||◌, if◌then◌else◌, ◌==◌, nat_lt, List, length, ℤ, pos, int_le, Option, Some, None, is_some, Result, Ok, Err}
-use Rattle.std.specs.List.{list_any}
+use Rattle.std.specs.Prelude.{ℕ, ◌+◌, ◌-◌, Bool, true, false, not, ◌&&◌, ◌||◌, if◌then◌else◌, ◌==◌, nat_lt, length, ℤ, pos, int_le, Option, Some, None, is_some, Result, Ok, Err}
 use Rattle.lock_word.specs.declared.ThreadId.{ThreadId}
 use Rattle.lock_word.specs.declared.ObjectId.{ObjectId}
 use Rattle.fat_monitor.specs.declared.actions.Cause.{Cause}
@@ -22,7 +21,8 @@ use Rattle.jls_check.specs.declared.machine.Wish.{Wish}
 use Rattle.jls_check.specs.declared.faults.MoveFault.{MoveFault}
 use Rattle.jls_check.specs.declared.faults.MoveFault.TheVariants.{Broken, Memory}
 use Rattle.jls_check.specs.LiveThreads.{live_of, without_live, some_waits, all_back}
-use Rattle.jls_check.specs.MachineState.{MachineState, unheld, held_at, put, replied, with_held, is_owned_by, owns}
+use Rattle.jls_check.specs.Monitors.{unheld, waiting_in, with_waiting, is_owned_by, owns_one}
+use Rattle.jls_check.specs.MachineState.{MachineState, held_at, put, replied, with_held, owns}
 
 -- an answer, and what is known then
 pub record Outcome : Type 0 where
@@ -67,7 +67,7 @@ exists_below n None = true
 exists_below n (Some o) = nat_lt o.0 n
 
 abbrev pub make_call_from : MachineState → ThreadId → Call → Bool → Doing → Option MachineState
-make_call_from v t c flag Idle = if exists_below (length v.monitors) (object_of c) then Some (put v t flag (Wants c)) else None
+make_call_from v t c flag Idle = if exists_below (length v.objects) (object_of c) then Some (put v t flag (Wants c)) else None
 make_call_from v t c flag (Wants d) = None
 make_call_from v t c flag (Waits o n d) = None
 make_call_from v t c flag (Back o n w) = None
@@ -129,7 +129,7 @@ held_by t n = record { owner = Some t; count = n }
 abbrev pub lock_for : MachineState → ThreadId → Option (Bool × Call) → Option MachineState
 lock_for v t None = None
 lock_for v t (Some (flag, call.Enter o)) =
-    if may_be_locked (held_at v o) t then Some (with_held (replied v t flag reply.Entered) o (held_by t ((held_at v o).count + 1)))
+    if may_be_locked (held_at v o) t then Some (replied (with_held v o (held_by t ((held_at v o).count + 1))) t flag reply.Entered)
     else None
 lock_for v t (Some (flag, c)) = None
 
@@ -143,7 +143,7 @@ less_held t n = if n == 1 then unheld else held_by t (n - 1)
 abbrev pub unlock_for : MachineState → ThreadId → Option (Bool × Call) → Option MachineState
 unlock_for v t None = None
 unlock_for v t (Some (flag, call.Exit o)) =
-    if owns v t o && nat_lt 0 (held_at v o).count then Some (with_held (replied v t flag reply.Exited) o (less_held t (held_at v o).count))
+    if owns v t o && nat_lt 0 (held_at v o).count then Some (replied (with_held v o (less_held t (held_at v o).count)) t flag reply.Exited)
     else None
 unlock_for v t (Some (flag, c)) = None
 
@@ -195,7 +195,7 @@ abbrev pub wait_of : MachineState → ThreadId → Option Wish → Option Machin
 wait_of v t None = None
 wait_of v t (Some w) =
     if is_good w.millis w.nanos && not w.flag
-    then Some (with_held (put v t false (Waits w.object (held_at v w.object).count (over_at v.moment w.millis w.nanos))) w.object unheld)
+    then Some (put (with_held v w.object unheld) t false (Waits w.object (held_at v w.object).count (over_at v.moment w.millis w.nanos)))
     else None
 
 abbrev pub wait : MachineState → ThreadId → Option MachineState
@@ -233,10 +233,15 @@ notify_nobody_for v t (Some (flag, c)) = None
 abbrev pub notify_nobody : MachineState → ThreadId → Option MachineState
 notify_nobody v t = notify_nobody_for v t (wanted v t)
 
+-- the wait set of o is empty; the threads are looked at only where some wait
+abbrev pub all_left : MachineState → ObjectId → MachineState
+all_left v o =
+    if waiting_in v.objects o == 0 then v else record v { threads = all_back v.threads o; objects = with_waiting v.objects o 0 }
+
 abbrev pub notify_all_for : MachineState → ThreadId → Option (Bool × Call) → Option MachineState
 notify_all_for v t None = None
 notify_all_for v t (Some (flag, call.NotifyAll o)) =
-    if owns v t o then Some (replied (record v { threads = all_back v.threads o }) t flag reply.Notified) else None
+    if owns v t o then Some (replied (all_left v o) t flag reply.Notified) else None
 notify_all_for v t (Some (flag, c)) = None
 
 abbrev pub notify_all : MachineState → ThreadId → Option MachineState
@@ -298,7 +303,7 @@ wake v t = wake_at v t (live_of v.threads t)
 
 abbrev pub relock_from : MachineState → ThreadId → Bool → Doing → Option MachineState
 relock_from v t flag (Back o n w) =
-    if is_some (held_at v o).owner then None else Some (with_held (replied v t (flag_back w flag) (reply_of w)) o (held_by t n))
+    if is_some (held_at v o).owner then None else Some (replied (with_held v o (held_by t n)) t (flag_back w flag) (reply_of w))
 relock_from v t flag Idle = None
 relock_from v t flag (Wants c) = None
 relock_from v t flag (Waits o n d) = None
@@ -326,10 +331,6 @@ ask_for v t (Some (flag, c)) = None
 abbrev pub ask : MachineState → ThreadId → Option MachineState
 ask v t = ask_for v t (wanted v t)
 
--- whether t owns an object
-abbrev pub owns_one : List Held → ThreadId → Bool
-owns_one monitors t = list_any (λ (h : Held). is_owned_by h.owner t) monitors
-
 abbrev pub may_refuse : MachineState → ThreadId → Call → Cause → Bool
 may_refuse v t (call.Enter o) cause.NoMonitor = owns v t o
 may_refuse v t (call.Enter o) cause.Memory = owns v t o
@@ -338,7 +339,7 @@ may_refuse v t (call.Wait o millis nanos) cause.NoMonitor = owns v t o && is_goo
 may_refuse v t (call.Wait o millis nanos) cause.Memory = owns v t o && is_good millis nanos
 may_refuse v t (call.Interrupt u) cause.NoThread = not (is_some (live_of v.threads u))
 may_refuse v t (call.IsInterrupted u) cause.NoThread = not (is_some (live_of v.threads u))
-may_refuse v t call.End cause.StillOwner = owns_one v.monitors t
+may_refuse v t call.End cause.StillOwner = owns_one v.objects t
 may_refuse v t c why = false
 
 abbrev pub refuse_for : MachineState → ThreadId → Cause → Option (Bool × Call) → Option MachineState
@@ -350,7 +351,7 @@ refuse v t why = refuse_for v t why (wanted v t)
 
 abbrev pub end_for : MachineState → ThreadId → Option (Bool × Call) → Option MachineState
 end_for v t None = None
-end_for v t (Some (flag, call.End)) = if owns_one v.monitors t then None else Some (replied v t flag reply.Ended)
+end_for v t (Some (flag, call.End)) = if owns_one v.objects t then None else Some (replied v t flag reply.Ended)
 end_for v t (Some (flag, c)) = None
 
 abbrev pub end : MachineState → ThreadId → Option MachineState

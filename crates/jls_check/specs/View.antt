@@ -3,4 +3,4 @@ use Rattle.jls_check.specs.declared.machine.Machine.TheInside.{Inside}
 use Rattle.jls_check.specs.MachineState.{MachineState}
 
 abbrev pub machine_in : Inside → MachineState
-machine_in a = record { threads = a.threads; monitors = a.monitors.items; moment = a.moment }
+machine_in a = record { threads = a.threads; objects = a.objects.items; moment = a.moment }

@@ -1,10 +1,10 @@
 //! Why a move was not taken.
 
-use std::error::Error;
 use std::fmt;
+use thiserror::Error;
 
 /// Why a move was not taken. The state is then as it was.
-#[derive(Clone, Copy, PartialEq, Eq, Hash, Debug)]
+#[derive(Clone, Copy, PartialEq, Eq, Hash, Debug, Error)]
 pub enum MoveFault {
     /// The move is not lawful now.
     Broken,
@@ -13,6 +13,11 @@ pub enum MoveFault {
 }
 
 impl fmt::Display for MoveFault {
+    ghost use Rattle.std.specs.Prelude.{Some};
+    ghost use Rattle.jls_check.specs.Texts.{fault_text};
+
+    ghost output = { λ x. Some (fault_text x) };
+
     fn fmt<W: fmt::Write>(&self, f: &mut fmt::Formatter<W>) -> fmt::Result {
         f.write_str(match self {
             MoveFault::Broken => "the move is not lawful",
@@ -20,5 +25,3 @@ impl fmt::Display for MoveFault {
         })
     }
 }
-
-impl Error for MoveFault {}

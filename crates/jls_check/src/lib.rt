@@ -6,6 +6,7 @@
 #![tactic(auto)]
 
 mod acts;
+mod changes;
 mod faults;
 mod machine;
 mod monitors;
@@ -13,6 +14,7 @@ mod rows;
 #[cfg(test)]
 mod tests;
 mod threads;
+mod waits;
 
 pub use faults::MoveFault;
 pub use machine::Machine;

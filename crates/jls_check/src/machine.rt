@@ -1,8 +1,9 @@
 //! The machine behind some moves.
 
-ghost use Rattle.std.specs.Prelude.{◌≡◌, ◌↔◌, OnOk, OnErr, IsErrOf, IfOk, IsSome, Bool, true, length};
+ghost use Rattle.std.specs.Prelude.{◌≡◌, ◌↔◌, OnOk, OnErr, IsErrOf, IfOk, IsSome, Bool, true, not, length};
 ghost use Rattle.step_core.specs.Machine.{opening, over_at, Steps};
-ghost use Rattle.jls_check.specs.LiveThreads.{live_of};
+ghost use Rattle.jls_check.specs.LiveThreads.{live_of, some_waits};
+ghost use Rattle.jls_check.specs.Monitors.{kept_at, waiting_in, owns_one};
 ghost use Rattle.jls_check.specs.MachineState.{state, held_at, owns, IsSound};
 ghost use Rattle.jls_check.specs.Judging.{IsUnlawful, IsAttach};
 ghost use Rattle.jls_check.specs.declared.faults.MoveFault.TheVariants.{Broken, Memory as NoMemory};
@@ -10,7 +11,7 @@ ghost use Rattle.fast_path.specs.Calls.{object_of};
 ghost use Rattle.jls_check.specs.Taking.{answered, wanted, wish, is_good, exists_below, may_refuse};
 
 use crate::MoveFault;
-use crate::monitors::{Held, UNHELD, owns_one};
+use crate::monitors::{Held, ObjectRecord, UNTOUCHED};
 use crate::threads::Threads;
 use fast_path::Call;
 use fat_monitor::Cause;
@@ -33,7 +34,7 @@ pub(crate) struct Wish {
 pub struct Machine {
     pub(crate) threads: Threads,
     // By object.
-    pub(crate) monitors: Vec<Held>,
+    pub(crate) objects: Vec<ObjectRecord>,
     // In nanoseconds.
     pub(crate) moment: u64,
 }
@@ -62,7 +63,7 @@ impl Machine {
     {
         Ok(Machine {
             threads: Threads::new(alloc),
-            monitors: vec![in alloc; UNHELD; objects as usize]?,
+            objects: vec![in alloc; UNTOUCHED; objects as usize]?,
             moment: 0,
         })
     }
@@ -127,13 +128,45 @@ impl Machine {
         }
     }
 
+    /// What is kept of an object, where one that does not exist is untouched.
+    fn kept(&self, object: ObjectId) -> ObjectRecord
+        ensures { result ≡ kept_at self.now.objects object }
+    {
+        match self.objects.get(object.0 as usize) {
+            Some(kept) => *kept,
+            None => UNTOUCHED,
+        }
+    }
+
     pub(crate) fn held(&self, object: ObjectId) -> Held
         ensures { result ≡ held_at self.now object }
     {
-        match self.monitors.get(object.0 as usize) {
-            Some(held) => *held,
-            None => UNHELD,
-        }
+        self.kept(object).held
+    }
+
+    /// How many threads wait on the object.
+    pub(crate) fn waiting(&self, object: ObjectId) -> u64
+        ensures { result ≡ waiting_in self.now.objects object }
+    {
+        self.kept(object).waiting
+    }
+
+    /// Whether nobody waits on the object.
+    pub(crate) fn nobody_waits(&self, object: ObjectId) -> bool
+        ensures { result ≡ not (some_waits self.now.threads object) }
+    {
+        // A use of a field, by which the counts are known to be those of the state.
+        let _ = &self.moment;
+        self.waiting(object) == 0
+    }
+
+    /// Whether the thread owns an object.
+    pub(crate) fn owns_one(&self, thread: ThreadId) -> bool
+        ensures { result ≡ owns_one self.now.objects thread }
+    {
+        // As above.
+        let _ = &self.moment;
+        self.threads.owned(thread) != 0
     }
 
     pub(crate) fn owns(&self, thread: ThreadId, object: ObjectId) -> bool
@@ -173,10 +206,10 @@ impl Machine {
 
     /// Whether the object that a call names, if it names one, exists.
     pub(crate) fn names_an_object(&self, call: Call) -> bool
-        ensures { result ≡ exists_below (length self.now.monitors) (object_of call) }
+        ensures { result ≡ exists_below (length self.now.objects) (object_of call) }
     {
         match call.object() {
-            Some(object) => (object.0 as usize) < self.monitors.len(),
+            Some(object) => (object.0 as usize) < self.objects.len(),
             None => true,
         }
     }
@@ -201,7 +234,7 @@ impl Machine {
             (Call::Interrupt(target) | Call::IsInterrupted(target), Cause::NoThread) => {
                 self.threads.get(target).is_none()
             }
-            (Call::End, Cause::StillOwner) => owns_one(&self.monitors, thread),
+            (Call::End, Cause::StillOwner) => self.owns_one(thread),
             _ => false,
         }
     }

@@ -1,10 +1,13 @@
-//! The monitor of each object.
+//! What is kept of each object: its monitor, and how many threads wait on it.
 
-ghost use Rattle.std.specs.Prelude.{◌≡◌, ◌≤◌};
-ghost use Rattle.jls_check.specs.MachineState.{is_owned_by};
-ghost use Rattle.jls_check.specs.Taking.{may_be_locked, less_held, held_by, owns_one};
+ghost use Rattle.std.specs.Prelude.{◌≡◌, ◌≤◌, MatchOption};
+ghost use Rattle.jls_check.specs.Monitors.{is_owned_by, joined, HasWaiter, HasRoom};
+ghost use Rattle.jls_check.specs.MachineState.{left_by};
+ghost use Rattle.jls_check.specs.Taking.{may_be_locked, less_held, held_by};
 
+use crate::threads::Live;
 use lock_word::ThreadId;
+use step_core::Doing;
 
 /// The monitor of an object: who owns it, and how many times it is locked (JLS SE 8, 17.1).
 #[derive(Clone, Copy, PartialEq, Eq, Debug)]
@@ -13,10 +16,24 @@ pub(crate) struct Held {
     pub(crate) count: u16,
 }
 
+/// What is kept of an object.
+#[derive(Clone, Copy, PartialEq, Eq, Debug)]
+pub(crate) struct ObjectRecord {
+    pub(crate) held: Held,
+    // How many threads are in its wait set (JLS SE 8, 17.2).
+    pub(crate) waiting: u64,
+}
+
 /// Nobody owns the monitor.
 pub(crate) const UNHELD: Held = Held {
     owner: None,
     count: 0,
+};
+
+/// Nobody owns the monitor, and nobody waits.
+pub(crate) const UNTOUCHED: ObjectRecord = ObjectRecord {
+    held: UNHELD,
+    waiting: 0,
 };
 
 impl Held {
@@ -59,9 +76,23 @@ impl Held {
     }
 }
 
-/// Whether the thread owns one of these monitors. This looks at each of them.
-pub(crate) fn owns_one(monitors: &[Held], thread: ThreadId) -> bool
-    ensures { result ≡ owns_one monitors.now thread }
+/// A thread did this, if it was live, and does that from now on: it leaves the wait set that it was in, and joins the
+/// one that it goes into.
+pub(crate) fn count_waits(objects: &mut [ObjectRecord], was: Option<Live>, act: Doing)
+    requires waited { MatchOption was (Unit {0}) (λ x. HasWaiter objects.old x.act) }
+    requires room { HasRoom (left_by objects.old was) act }
+    ensures { objects.new ≡ joined (left_by objects.old was) act }
 {
-    monitors.iter().any(|held| held.is_owned_by(thread))
+    if let Some(
+        Live {
+            act: Doing::Waits { object, .. },
+            ..
+        },
+    ) = was
+    {
+        objects[object.0 as usize].waiting -= 1;
+    }
+    if let Doing::Waits { object, .. } = act {
+        objects[object.0 as usize].waiting += 1;
+    }
 }

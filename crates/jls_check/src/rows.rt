@@ -1,49 +1,20 @@
-//! The rows of the machine: a function for each kind of move.
+//! The rows of the machine, but those of waits: a function for each kind of move.
 
-ghost use Rattle.std.specs.Prelude.{◌≡◌, Bool, IsSome, length};
-ghost use Rattle.step_core.specs.Machine.{ActExists};
-ghost use Rattle.jls_check.specs.LiveThreads.{live_of};
-ghost use Rattle.jls_check.specs.MachineState.{put, replied, with_held};
+ghost use Rattle.std.specs.Prelude.{◌≡◌, Bool};
 ghost use Rattle.jls_check.specs.Taking as rows;
 ghost use Rattle.jls_check.specs.Taking.{taken, attached};
 
 use crate::MoveFault;
-use crate::acts::{after_interrupt, has, owner_only, yes_or_no};
-use crate::machine::{Machine, is_good, over_at};
-use crate::monitors::{Held, UNHELD, owns_one};
+use crate::acts::{has, owner_only, yes_or_no};
+use crate::machine::Machine;
+use crate::monitors::Held;
 use crate::threads::Live;
 use fast_path::Call;
-use fat_monitor::{Cause, Reply, Why};
-use lock_word::{ObjectId, ThreadId};
+use fat_monitor::{Cause, Reply};
+use lock_word::ThreadId;
 use step_core::Doing;
 
 impl Machine {
-    /// Writes the flag of a live thread, and what it is doing.
-    fn put(&mut self, thread: ThreadId, flag: bool, act: Doing)
-        requires live { IsSome (live_of self.old.threads thread) }
-        requires there { ActExists (length self.old.monitors) act }
-        ensures { self.new ≡ put self.old thread flag act }
-    {
-        self.threads.set(thread, Live { flag, act });
-    }
-
-    /// The call of a live thread has this reply.
-    fn reply(&mut self, thread: ThreadId, flag: bool, reply: Reply)
-        requires { IsSome (live_of self.old.threads thread) }
-        ensures { self.new ≡ replied self.old thread flag reply }
-    {
-        self.put(thread, flag, Doing::Has(reply));
-    }
-
-    /// Writes who owns an object, and how often it is locked.
-    fn hold(&mut self, object: ObjectId, held: Held)
-        ensures { self.new ≡ with_held self.old object held }
-    {
-        if let Some(place) = self.monitors.get_mut(object.0 as usize) {
-            *place = held;
-        }
-    }
-
     pub(crate) fn attach(&mut self, thread: ThreadId) -> Result<(), MoveFault>
         ensures { (room : Bool) × (record { answer = result; after = self.new } ≡ attached room self.old thread) }
     {
@@ -105,8 +76,8 @@ impl Machine {
         if !held.may_be_locked(thread) {
             return Err(MoveFault::Broken);
         }
-        self.reply(thread, flag, Reply::Entered);
         self.hold(object, Held::by(thread, held.count + 1));
+        self.reply(thread, flag, Reply::Entered);
         Ok(())
     }
 
@@ -120,8 +91,8 @@ impl Machine {
         if !held.is_owned_by(thread) || held.count == 0 {
             return Err(MoveFault::Broken);
         }
-        self.reply(thread, flag, Reply::Exited);
         self.hold(object, held.less(thread));
+        self.reply(thread, flag, Reply::Exited);
         Ok(())
     }
 
@@ -141,128 +112,6 @@ impl Machine {
         Ok(())
     }
 
-    pub(crate) fn bad_argument(&mut self, thread: ThreadId) -> Result<(), MoveFault>
-        ensures { record { answer = result; after = self.new } ≡ taken self.old (rows.bad_argument self.old thread) }
-    {
-        let Some(wish) = self.wish(thread) else {
-            return Err(MoveFault::Broken);
-        };
-        if is_good(wish.millis, wish.nanos) {
-            return Err(MoveFault::Broken);
-        }
-        self.reply(thread, wish.flag, Reply::IllegalArgument);
-        Ok(())
-    }
-
-    pub(crate) fn early(&mut self, thread: ThreadId) -> Result<(), MoveFault>
-        ensures { record { answer = result; after = self.new } ≡ taken self.old (rows.early self.old thread) }
-    {
-        let Some(wish) = self.wish(thread) else {
-            return Err(MoveFault::Broken);
-        };
-        if !is_good(wish.millis, wish.nanos) || !wish.flag {
-            return Err(MoveFault::Broken);
-        }
-        self.reply(thread, false, Reply::Interrupted);
-        Ok(())
-    }
-
-    pub(crate) fn wait(&mut self, thread: ThreadId) -> Result<(), MoveFault>
-        ensures { record { answer = result; after = self.new } ≡ taken self.old (rows.wait self.old thread) }
-    {
-        let Some(wish) = self.wish(thread) else {
-            return Err(MoveFault::Broken);
-        };
-        if !is_good(wish.millis, wish.nanos) || wish.flag {
-            return Err(MoveFault::Broken);
-        }
-        let object = wish.object;
-        let waits = Doing::Waits {
-            object,
-            holds: self.held(object).count,
-            deadline: over_at(self.moment, wish.millis, wish.nanos),
-        };
-        self.put(thread, false, waits);
-        self.hold(object, UNHELD);
-        Ok(())
-    }
-
-    pub(crate) fn notify(&mut self, thread: ThreadId, chosen: ThreadId) -> Result<(), MoveFault>
-        ensures { record { answer = result; after = self.new } ≡ taken self.old (rows.notify self.old thread chosen) }
-    {
-        let Some((flag, Call::Notify(object))) = self.wanted(thread) else {
-            return Err(MoveFault::Broken);
-        };
-        if !self.owns(thread, object) {
-            return Err(MoveFault::Broken);
-        }
-        let Some(
-            Live {
-                flag: other,
-                act: Doing::Waits {
-                    object: place,
-                    holds,
-                    ..
-                },
-            },
-        ) = self.threads.get(chosen)
-        else {
-            return Err(MoveFault::Broken);
-        };
-        if place.0 != object.0 {
-            return Err(MoveFault::Broken);
-        }
-        let back = Doing::Back {
-            object: place,
-            holds,
-            why: Why::Notified,
-        };
-        self.reply(thread, flag, Reply::Notified);
-        self.put(chosen, other, back);
-        Ok(())
-    }
-
-    pub(crate) fn notify_nobody(&mut self, thread: ThreadId) -> Result<(), MoveFault>
-        ensures { record { answer = result; after = self.new } ≡ taken self.old (rows.notify_nobody self.old thread) }
-    {
-        let Some((flag, Call::Notify(object))) = self.wanted(thread) else {
-            return Err(MoveFault::Broken);
-        };
-        if !self.owns(thread, object) || self.threads.some_waits(object) {
-            return Err(MoveFault::Broken);
-        }
-        self.reply(thread, flag, Reply::Notified);
-        Ok(())
-    }
-
-    pub(crate) fn notify_all(&mut self, thread: ThreadId) -> Result<(), MoveFault>
-        ensures { record { answer = result; after = self.new } ≡ taken self.old (rows.notify_all self.old thread) }
-    {
-        let Some((flag, Call::NotifyAll(object))) = self.wanted(thread) else {
-            return Err(MoveFault::Broken);
-        };
-        if !self.owns(thread, object) {
-            return Err(MoveFault::Broken);
-        }
-        self.threads.notify_all(object);
-        self.reply(thread, flag, Reply::Notified);
-        Ok(())
-    }
-
-    pub(crate) fn interrupt(&mut self, thread: ThreadId) -> Result<(), MoveFault>
-        ensures { record { answer = result; after = self.new } ≡ taken self.old (rows.interrupt self.old thread) }
-    {
-        let Some((flag, Call::Interrupt(target))) = self.wanted(thread) else {
-            return Err(MoveFault::Broken);
-        };
-        let Some(live) = self.threads.get(target) else {
-            return Err(MoveFault::Broken);
-        };
-        self.put(target, true, after_interrupt(live.act));
-        self.reply(thread, thread.0 == target.0 || flag, Reply::Done);
-        Ok(())
-    }
-
     pub(crate) fn test_clear(&mut self, thread: ThreadId) -> Result<(), MoveFault>
         ensures { record { answer = result; after = self.new } ≡ taken self.old (rows.test_clear self.old thread) }
     {
@@ -270,79 +119,6 @@ impl Machine {
             return Err(MoveFault::Broken);
         };
         self.reply(thread, false, yes_or_no(flag));
-        Ok(())
-    }
-
-    pub(crate) fn expire(&mut self, thread: ThreadId) -> Result<(), MoveFault>
-        ensures { record { answer = result; after = self.new } ≡ taken self.old (rows.expire self.old thread) }
-    {
-        let Some(
-            Live {
-                flag,
-                act: Doing::Waits {
-                    object,
-                    holds,
-                    deadline: Some(deadline),
-                },
-            },
-        ) = self.threads.get(thread)
-        else {
-            return Err(MoveFault::Broken);
-        };
-        if u128::from(self.moment) < deadline {
-            return Err(MoveFault::Broken);
-        }
-        let back = Doing::Back {
-            object,
-            holds,
-            why: Why::Elapsed,
-        };
-        self.put(thread, flag, back);
-        Ok(())
-    }
-
-    pub(crate) fn wake(&mut self, thread: ThreadId) -> Result<(), MoveFault>
-        ensures { record { answer = result; after = self.new } ≡ taken self.old (rows.wake self.old thread) }
-    {
-        let Some(
-            Live {
-                flag,
-                act: Doing::Waits { object, holds, .. },
-            },
-        ) = self.threads.get(thread)
-        else {
-            return Err(MoveFault::Broken);
-        };
-        let back = Doing::Back {
-            object,
-            holds,
-            why: Why::Spurious,
-        };
-        self.put(thread, flag, back);
-        Ok(())
-    }
-
-    pub(crate) fn relock(&mut self, thread: ThreadId) -> Result<(), MoveFault>
-        ensures { record { answer = result; after = self.new } ≡ taken self.old (rows.relock self.old thread) }
-    {
-        let Some(
-            Live {
-                flag,
-                act: Doing::Back { object, holds, why },
-            },
-        ) = self.threads.get(thread)
-        else {
-            return Err(MoveFault::Broken);
-        };
-        if self.held(object).owner.is_some() {
-            return Err(MoveFault::Broken);
-        }
-        let (flag, reply) = match why {
-            Why::Interrupted => (false, Reply::Interrupted),
-            Why::Notified | Why::Elapsed | Why::Spurious => (flag, Reply::WaitOver),
-        };
-        self.reply(thread, flag, reply);
-        self.hold(object, Held::by(thread, holds));
         Ok(())
     }
 
@@ -380,9 +156,11 @@ impl Machine {
         let Some((flag, Call::End)) = self.wanted(thread) else {
             return Err(MoveFault::Broken);
         };
-        if owns_one(&self.monitors, thread) {
+        if self.owns_one(thread) {
             return Err(MoveFault::Broken);
         }
+        // A use of a field, by which the counts are known to be those of the state.
+        let _ = &self.moment;
         self.reply(thread, flag, Reply::Ended);
         Ok(())
     }

@@ -1,13 +1,9 @@
 //! The live threads, by their numbers.
 
-ghost use Rattle.std.specs.Prelude.{◌≡◌, IsSome, OnOk, OnErr};
+ghost use Rattle.std.specs.Prelude.{◌≡◌, ◌+◌, ◌≤◌, ◌<◌, ◌^◌, IsSome, Some, OnOk, OnErr, MatchOption};
 ghost use Rattle.std.specs.FinMap as map;
-ghost use Rattle.std.specs.BTreeMap.{values, IsOrdered};
-ghost use Rattle.std.specs.List.{list_any};
-ghost use Rattle.std.specs.Ordering.{nat_cmp};
-ghost use Rattle.jls_check.specs.declared.threads.Live.{Live};
-ghost use Rattle.step_core.specs.Machine.{waits_on, after_notify_all};
-ghost use Rattle.jls_check.specs.LiveThreads.{live_of, with_live, without_live, some_waits, all_back};
+ghost use Rattle.step_core.specs.Machine.{after_notify_all};
+ghost use Rattle.jls_check.specs.LiveThreads.{live_of, owned_of, with_live, without_live, lost, gained, all_back};
 
 use fat_monitor::Why;
 use lock_word::{Memory, ObjectId, ThreadId};
@@ -23,10 +19,18 @@ pub(crate) struct Live {
     pub(crate) act: Doing,
 }
 
+/// What is kept of a live thread.
+#[derive(Clone, Copy, PartialEq, Eq, Debug)]
+pub(crate) struct ThreadRecord {
+    pub(crate) live: Live,
+    // How many objects it owns.
+    pub(crate) owned: u64,
+}
+
 /// The live threads, in the order of their numbers.
 #[derive(Drop)]
 pub(crate) struct Threads {
-    by_number: BTreeMap<u32, Live>,
+    by_number: BTreeMap<u32, ThreadRecord>,
 }
 
 impl Model for Threads {
@@ -50,18 +54,54 @@ impl Threads {
         }
     }
 
-    pub(crate) fn get(&self, thread: ThreadId) -> Option<Live>
-        ensures { result ≡ live_of self.now thread }
+    fn kept(&self, thread: ThreadId) -> Option<ThreadRecord>
+        ensures { result ≡ map.get self.now thread.0 }
     {
         self.by_number.get(&thread.0).copied()
     }
 
-    /// Makes a thread live, or writes anew what a live one does.
+    /// Writes what is kept of a live thread.
+    fn write(&mut self, thread: ThreadId, kept: ThreadRecord)
+        requires { IsSome (map.get self.old thread.0) }
+        ensures { self.new ≡ map.insert self.old thread.0 kept }
+    {
+        let Ok(_) = self.by_number.insert(thread.0, kept) else {
+            unreachable!();
+        };
+    }
+
+    /// How many threads are live.
+    pub(crate) fn count(&self) -> usize
+        ensures count { result ≡ map.len self.now }
+        ensures small { result < 2 ^ 63 }
+    {
+        self.by_number.len()
+    }
+
+    pub(crate) fn get(&self, thread: ThreadId) -> Option<Live>
+        ensures { result ≡ live_of self.now thread }
+    {
+        Some(self.kept(thread)?.live)
+    }
+
+    /// How many objects a thread owns; none, if it is not live.
+    pub(crate) fn owned(&self, thread: ThreadId) -> u64
+        ensures { result ≡ owned_of self.now thread }
+    {
+        match self.kept(thread) {
+            Some(kept) => kept.owned,
+            None => 0,
+        }
+    }
+
+    /// Makes a thread live, which is not. It owns nothing.
     pub(crate) fn add(&mut self, thread: ThreadId, live: Live) -> Result<(), Memory>
+        requires { live_of self.old thread ≡ None }
         ensures ok { OnOk result (self.new ≡ with_live self.old thread live) }
         ensures err { OnErr result (self.new ≡ self.old) }
     {
-        self.by_number.insert(thread.0, live)?;
+        self.by_number
+            .insert(thread.0, ThreadRecord { live, owned: 0 })?;
         Ok(())
     }
 
@@ -70,9 +110,34 @@ impl Threads {
         requires { IsSome (live_of self.old thread) }
         ensures { self.new ≡ with_live self.old thread live }
     {
-        let Ok(_) = self.by_number.insert(thread.0, live) else {
-            unreachable!();
+        let owned = self.owned(thread);
+        self.write(thread, ThreadRecord { live, owned });
+    }
+
+    /// This thread, if there is one, owns one object less.
+    pub(crate) fn lose(&mut self, owner: Option<ThreadId>)
+        requires { MatchOption owner (Unit {0}) (λ t. 1 ≤ owned_of self.old t) }
+        ensures { self.new ≡ lost self.old owner }
+    {
+        let Some(thread) = owner else { return };
+        let Some(kept) = self.kept(thread) else {
+            return;
         };
+        let owned = kept.owned - 1;
+        self.write(thread, ThreadRecord { owned, ..kept });
+    }
+
+    /// This thread, if there is one, owns one object more.
+    pub(crate) fn gain(&mut self, owner: Option<ThreadId>)
+        requires { MatchOption owner (Unit {0}) (λ t. owned_of self.old t < 2 ^ 32) }
+        ensures { self.new ≡ gained self.old owner }
+    {
+        let Some(thread) = owner else { return };
+        let Some(kept) = self.kept(thread) else {
+            return;
+        };
+        let owned = kept.owned + 1;
+        self.write(thread, ThreadRecord { owned, ..kept });
     }
 
     pub(crate) fn remove(&mut self, thread: ThreadId)
@@ -81,39 +146,14 @@ impl Threads {
         self.by_number.remove(&thread.0);
     }
 
-    /// Whether a thread waits on the object. This looks at every live thread.
-    pub(crate) fn some_waits(&self, object: ObjectId) -> bool
-        ensures { result ≡ some_waits self.now object }
-    {
-        one_waits(&self.by_number, object)
-    }
-
-    /// Every thread that waits on the object is back, notified.
+    /// Every thread that waits on the object is back, notified. This looks at every live thread.
     pub(crate) fn notify_all(&mut self, object: ObjectId)
         ensures { self.new ≡ all_back self.old object }
     {
-        self.by_number.retain(|_, live| {
-            live.act = after_notify_all(live.act, object);
+        self.by_number.retain(|_, record| {
+            record.live.act = after_notify_all(record.live.act, object);
             true
         });
-    }
-}
-
-/// Whether one of these threads waits on the object.
-fn one_waits(by_number: &BTreeMap<u32, Live>, object: ObjectId) -> bool
-    ensures waits { result ≡ list_any (λ (x : Live). waits_on x.act object) (values by_number.now) }
-    ensures ordered { IsOrdered nat_cmp by_number.now }
-{
-    by_number.values().any(|live| waits_on(live.act, object))
-}
-
-/// Whether a thread that does this is in the wait set of the object.
-fn waits_on(act: Doing, object: ObjectId) -> bool
-    ensures { result ≡ waits_on act object }
-{
-    match act {
-        Doing::Waits { object: place, .. } => place.0 == object.0,
-        _ => false,
     }
 }
 

@@ -134,9 +134,9 @@ pub(crate) fn wake(indices: &Indices, fats: &mut Fats, thread: ThreadId) -> Resu
 /// What a step did by which a wait ended by itself.
 fn end_of_wait(fats: &Fats, action: Action, made: Move, done: Done) -> Did
     ensures { result ≡ record {
-        atomic = Acted action done.answer;
-        moves = Some made ∷ grant_of fats.now done.granted ∷ None ∷ [];
-        reply = None;
+      atomic = Acted action done.answer;
+      moves = Some made ∷ grant_of fats.now done.granted ∷ None ∷ [];
+      reply = None;
     } }
 {
     let granted = grant_of(fats, done.granted);

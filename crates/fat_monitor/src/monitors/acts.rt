@@ -26,6 +26,7 @@ impl Fats {
     {
         let Some(owner) = self.owner(monitor) else {
             self.monitors[monitor as usize].give(Some(thread), 1);
+            self.posts.hand_over(None, Some(thread));
             return reply_with(Reply::Entered);
         };
         if owner.0 != thread.0 {
@@ -215,7 +216,9 @@ impl Fats {
         ensures after { self.new ≡ handed_on self.old monitor (first_of self.old monitor Role.Entry) }
     {
         let Some(next) = self.lines.first(monitor, Role::Entry) else {
+            let owner = self.owner(monitor);
             self.monitors[monitor as usize].give(None, 0);
+            self.posts.hand_over(owner, None);
             return None;
         };
         let post = self.posts.get(next).unwrap_or(Post::Out);
@@ -231,9 +234,11 @@ impl Fats {
         requires comes { ComesBack post }
         ensures { (r : Role) → place_of (post_at self.old thread) ≡ Some (key monitor r) → self.new ≡ granted self.old monitor thread post r }
     {
+        let owner = self.owner(monitor);
         self.lines.leave_at(self.posts.node(thread));
         let (holds, reply) = granted_to(post);
         self.monitors[monitor as usize].give(Some(thread), holds);
+        self.posts.hand_over(owner, Some(thread));
         if let Reply::Interrupted = reply {
             self.posts.set_flag(thread, false);
         }
@@ -265,13 +270,11 @@ impl Fats {
         None
     }
 
-    /// Whether a thread owns a monitor. This looks at every bound monitor.
+    /// Whether a thread owns a monitor.
     fn owns_one(&self, thread: ThreadId) -> bool
         ensures { result ≡ owns_one self.now.monitors thread }
     {
-        self.monitors
-            .iter()
-            .any(|monitor| is_owner(monitor.owner, thread))
+        self.posts.owned(thread) > 0
     }
 
     /// Whether this thread owns this monitor.

@@ -33,6 +33,20 @@ fn a_bind_keeps_object_owner_and_holds(rt: HostRuntime) -> Result<(), Fail> {
 }
 
 #[test]
+fn a_million_monitors_are_bound(rt: HostRuntime) -> Result<(), Fail> {
+    let mut fats = Fats::new(rt.alloc(), 1_000_000);
+    attach(&rt, &mut fats, SEVEN);
+    for number in 0..1_000_000 {
+        assert!(rt; fats.post(SEVEN).is_some());
+        let receipt = fats.bind(OBJECT, SEVEN, 1).ok().ok_or("memory")?;
+        assert_eq!(rt; receipt.monitor(), number);
+    }
+    assert!(rt; fats.post(SEVEN).is_some());
+    assert_eq!(rt; fats.bind(OBJECT, SEVEN, 1).err(), Some(Cause::NoMonitor));
+    Ok(())
+}
+
+#[test]
 fn monitors_are_numbered_in_order_of_binding(rt: HostRuntime) -> Result<(), Fail> {
     let mut fats = Fats::new(rt.alloc(), 3);
     attach(&rt, &mut fats, SEVEN);
@@ -49,6 +63,19 @@ fn monitors_are_numbered_in_order_of_binding(rt: HostRuntime) -> Result<(), Fail
     assert_eq!(rt; fats.object(0), Some(ObjectId(9)));
     assert_eq!(rt; fats.object(1), Some(ObjectId(4)));
     assert_eq!(rt; fats.holds(1), 256);
+    Ok(())
+}
+
+#[test]
+fn a_bind_takes_room_that_was_reserved(rt: HostRuntime) -> Result<(), Fail> {
+    let mut fats = Fats::new(rt.alloc(), 1);
+    attach(&rt, &mut fats, SEVEN);
+    assert_eq!(rt; fats.spare(), 0);
+    assert_eq!(rt; fats.reserve_monitors(1), Ok(()));
+    assert_eq!(rt; fats.reserve_monitors(0), Ok(()));
+    assert_eq!(rt; fats.spare(), 1);
+    assert!(rt; fats.bind(OBJECT, SEVEN, 3).is_ok());
+    assert_eq!(rt; fats.spare(), 0);
     Ok(())
 }
 

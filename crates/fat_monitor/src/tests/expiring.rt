@@ -1,7 +1,8 @@
 //! The moment, and waits that are over.
 
 use crate::tests::{
-    EIGHT, ENTER, EXIT, SEVEN, WAIT, act, collect, exited, expire, parked, replied, told, wake, world,
+    EIGHT, ENTER, EXIT, SEVEN, WAIT, act, collect, exited, expire, parked, replied, told, wake,
+    world,
 };
 use crate::{ActFault, Action, Answer, Backwards, Post, Reply, Why};
 use std::test::Fail;

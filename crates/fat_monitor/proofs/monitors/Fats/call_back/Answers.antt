@@ -9,7 +9,7 @@ use Rattle.fat_monitor.proofs.Soundness.{IsSound-removed}
 use Rattle.fat_monitor.proofs.Steps.{queued_as}
 use Rattle.fat_monitor.proofs.WaitSets.{removed-behind}
 use Rattle.fat_monitor.specs.Slots.{Posted}
-use Rattle.fat_monitor.specs.Fats.{AreSeated}
+use Rattle.fat_monitor.specs.Fats.{AreSeated, AreCounted}
 use Rattle.std.specs.FinMap as map
 use Rattle.wait_lines.specs.Lines.{NodeMap}
 use Rattle.fat_monitor.proofs.Seats.{AreSeated-moved, stands_at}
@@ -66,6 +66,8 @@ invariant_of-self c =
           subst (λ (m : NodeMap). AreSeated c.park.new.self.posts c.park.new.self.nodes m)
           (sym (c.join-node.ensures.node ∙ ap (λ (m : NodeMap). map.insert m c.args.thread.0 c.join-node.result.0) (c.leave_at.ensures.nodes c.args.thread here)))
           (subst (λ (p : Posted). AreSeated p.posts p.nodes (map.insert (map.remove c.self.inside.lines.nodes c.args.thread.0) c.args.thread.0 c.join-node.result.0)) (sym c.park.ensures) (AreSeated-moved _ _ _ c.self.invariant.seated c.args.thread _ c.join-node.result.0));
+      counted = subst (λ (p : Posted). AreCounted c.self.inside.monitors.items p.owned) (sym c.park.ensures) c.self.invariant.counted;
+      reserved = c.self.invariant.reserved;
     }
 
 pub leave_at-requires : goal.leave_at-requires

@@ -8,9 +8,10 @@ use Rattle.fat_monitor.specs.Slots.{Posted}
 use Rattle.fat_monitor.proofs.PostMaps.{get-insert_by, remove_insert}
 use Rattle.fat_monitor.proofs.Soundness.{IsSound-with_thread}
 use Rattle.fat_monitor.proofs.Steps.{attached_as, of_ok, of_err, room_crowded, room_left, attached_itself, attached_still}
-use Rattle.fat_monitor.specs.Fats.{AreSeated}
+use Rattle.fat_monitor.specs.Fats.{AreSeated, AreCounted}
 use Rattle.wait_lines.specs.Lines.{NodeMap}
 use Rattle.fat_monitor.proofs.Seats.{AreSeated-added}
+use Rattle.fat_monitor.proofs.OwnedCounts.{AreCounted-added}
 use Rattle.fat_monitor.proofs.monitors.Fats.enroll.Goals.{else-crowded-via-then-crowded+else-is_err, else-crowded-via-else-crowded}
 use Rattle.fat_monitor.proofs.monitors.Fats.enroll.Goals as goal
 
@@ -21,7 +22,7 @@ remove-requires c = rw (c.in_ok-add.ensures.ok, get-insert_by c.self.inside.post
 posts_back : (c : goal.After-remove) → c.remove.new.self ≡ c.self.inside.posts
 posts_back c =
     c.remove.ensures
-    ∙ rw (c.in_ok-add.ensures.ok, remove_insert c.self.inside.posts.posts c.args.thread.0 Out c.in_ok-add.ensures.fresh, remove_insert c.self.inside.posts.nodes c.args.thread.0 0 c.in_ok-add.ensures.nodeless, remove_insert c.self.inside.posts.flags c.args.thread.0 false c.in_ok-add.ensures.flagless) refl
+    ∙ rw (c.in_ok-add.ensures.ok, remove_insert c.self.inside.posts.posts c.args.thread.0 Out c.in_ok-add.ensures.fresh, remove_insert c.self.inside.posts.nodes c.args.thread.0 0 c.in_ok-add.ensures.nodeless, remove_insert c.self.inside.posts.flags c.args.thread.0 false c.in_ok-add.ensures.flagless, remove_insert c.self.inside.posts.owned c.args.thread.0 0 c.in_ok-add.ensures.uncounted) refl
 
 lines_back : (c : goal.After-remove) → c.reserve_one.new.self ≡ c.self.inside.lines
 lines_back c = of_err c.reserve_one.result _ c.if-is_err.ensures.value c.reserve_one.ensures.err
@@ -32,6 +33,8 @@ invariant_of-self-then-is_err c =
       sound =
           rw (posts_back c, lines_back c) c.self.invariant.sound;
       seated = rw (posts_back c, lines_back c) c.self.invariant.seated;
+      counted = rw (posts_back c) c.self.invariant.counted;
+      reserved = c.self.invariant.reserved;
     }
 
 pub returns-then-is_err-clause-err : goal.returns-then-is_err-clause-err
@@ -51,6 +54,9 @@ invariant_of-self-else-is_err c =
           rw (after) (IsSound-with_thread f c.args.thread c.self.invariant.sound c.in_ok-add.ensures.fresh (rw (← c.self.view_is) at c.requires));
       seated = subst (λ (m : NodeMap). AreSeated c.add.new.self.posts c.add.new.self.nodes m) (sym c.reserve_one.ensures.nodes)
           (subst (λ (p : Posted). AreSeated p.posts p.nodes c.self.inside.lines.nodes) (sym c.in_ok-add.ensures.ok) (AreSeated-added _ _ _ c.self.invariant.seated c.args.thread 0));
+      counted = subst (λ (p : Posted). AreCounted c.self.inside.monitors.items p.owned) (sym c.in_ok-add.ensures.ok)
+          (AreCounted-added c.self.inside.monitors.items c.self.inside.posts.owned c.args.thread c.self.invariant.counted c.in_ok-add.ensures.uncounted);
+      reserved = c.self.invariant.reserved;
     }
 
 pub invariant_of-self-else-crowded : goal.invariant_of-self-else-crowded
@@ -62,6 +68,9 @@ invariant_of-self-else-crowded c =
           let after = attached_as f c.args.thread c.add.new.self c.self.inside.lines c.in_ok-add.ensures.ok refl (sym (room_left (thread_count f) f.standing.reservations left)) in
           rw (after) (IsSound-with_thread f c.args.thread c.self.invariant.sound c.in_ok-add.ensures.fresh (rw (← c.self.view_is) at c.requires));
       seated = subst (λ (p : Posted). AreSeated p.posts p.nodes c.self.inside.lines.nodes) (sym c.in_ok-add.ensures.ok) (AreSeated-added _ _ _ c.self.invariant.seated c.args.thread 0);
+      counted = subst (λ (p : Posted). AreCounted c.self.inside.monitors.items p.owned) (sym c.in_ok-add.ensures.ok)
+          (AreCounted-added c.self.inside.monitors.items c.self.inside.posts.owned c.args.thread c.self.invariant.counted c.in_ok-add.ensures.uncounted);
+      reserved = c.self.invariant.reserved;
     }
 
 -- the thread has its post

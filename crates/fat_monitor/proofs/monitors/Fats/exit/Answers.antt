@@ -1,9 +1,11 @@
-use Rattle.std.proofs.Common.{◌-◌, Some, Ok, subst}
+use Rattle.std.proofs.Common.{◌-◌, ◌∙◌, Some, Ok, subst, sym, ap}
 use Rattle.std.proofs.lemmas.Bool.{lt-ltb}
 use Rattle.fat_monitor.specs.declared.actions.Action.TheVariants.{Exit}
 use Rattle.fat_monitor.specs.FatState.{FatState, IsSound}
 use Rattle.fat_monitor.specs.Fats.{fat_state_in}
 use Rattle.fat_monitor.proofs.Steps.{written, replied_at, sound_after}
+use Rattle.fat_monitor.specs.declared.monitors.Monitor.{Monitor}
+use Rattle.fat_monitor.proofs.OwnedCounts.{AreCounted-kept, owner_is}
 use Rattle.fat_monitor.proofs.monitors.Fats.exit.Goals as goal
 
 pub returns-then-not-is_owner : goal.returns-then-not-is_owner
@@ -23,4 +25,8 @@ invariant_of-self c =
           sound_after c.args.self.now _ c.args.thread (Exit c.args.monitor) (Ok c.reply_with-then-holds-gt1.result)
           (subst (λ (f : FatState). IsSound f) c.self.view_is c.self.invariant.sound) c.requires.out c.requires.bound (returns-then-holds-gt1 c);
       seated = c.self.invariant.seated;
+      counted =
+          AreCounted-kept c.self.inside.monitors.items c.self.inside.posts.owned c.args.monitor c.give.new.self c.self.invariant.counted (rw (← c.self.view_is) at c.requires.bound)
+          (ap (λ (b : Monitor). b.owner) c.give.ensures ∙ sym (owner_is _ c.args.thread (rw (← c.self.view_is) at (sym c.if-not-is_owner.ensures))));
+      reserved = c.self.invariant.reserved;
     }

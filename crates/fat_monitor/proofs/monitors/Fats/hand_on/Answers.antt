@@ -7,6 +7,10 @@ use Rattle.fat_monitor.specs.Acting.{granted}
 use Rattle.fat_monitor.specs.Fats.{fat_state_in}
 use Rattle.fat_monitor.proofs.Soundness.{IsSound-handed_on, post_at-is, comes_back}
 use Rattle.fat_monitor.proofs.Steps.{written}
+use Rattle.fat_monitor.specs.declared.monitors.Monitor.{Monitor}
+use Rattle.fat_monitor.specs.Slots.{Posted}
+use Rattle.fat_monitor.specs.Fats.{AreSeated}
+use Rattle.fat_monitor.proofs.OwnedCounts.{counted_as, one_owned}
 use Rattle.fat_monitor.proofs.monitors.Fats.hand_on.Goals as goal
 
 pub invariant_of-self : goal.invariant_of-self
@@ -16,9 +20,17 @@ invariant_of-self c =
           let bound = rw (← c.self.view_is) at c.requires in
           let after = written (fat_state_in c.self.inside) c.args.monitor c.index_mut.result.now c.give.new.self None 0 bound c.index_mut.ensures.value c.give.ensures in
           let kept = rw (← c.in_default.ensures.first) at (IsSound-handed_on (fat_state_in c.self.inside) c.args.monitor c.self.invariant.sound bound) in
-          rw (after) kept;
-      seated = c.self.invariant.seated;
+          rw (c.hand_over.ensures, after) kept;
+      seated = subst (λ (p : Posted). AreSeated p.posts p.nodes c.self.inside.lines.nodes) (sym c.hand_over.ensures) c.self.invariant.seated;
+      counted =
+          counted_as c.self.inside.monitors.items c.self.inside.posts.owned c.hand_over.new.self.owned c.args.monitor c.give.new.self c.owner-owner.result None c.self.invariant.counted
+          (rw (← c.self.view_is) at c.requires) (sym (rw (← c.self.view_is) at c.owner-owner.ensures)) (ap (λ (b : Monitor). b.owner) c.give.ensures) (ap (λ (p : Posted). p.owned) c.hand_over.ensures);
+      reserved = c.self.invariant.reserved;
     }
+
+pub hand_over-requires-clause-owned : goal.hand_over-requires-clause-owned
+hand_over-requires-clause-owned c t e =
+    one_owned c.self.inside.monitors.items c.self.inside.posts.owned c.args.monitor t c.self.invariant.counted (rw (← c.self.view_is) at c.requires) (sym (rw (← c.self.view_is) at c.owner-owner.ensures) ∙ e)
 
 pub grant-requires-clause-stands : goal.grant-requires-clause-stands
 grant-requires-clause-stands c =

@@ -3,7 +3,7 @@ use Rattle.fat_monitor.specs.Fats.{fat_state_in}
 use Rattle.fat_monitor.proofs.SoundSteps.{IsSound-flags}
 use Rattle.fat_monitor.proofs.Steps.{flagged_as, replied_at, interrupted_outside}
 use Rattle.fat_monitor.specs.Slots.{Posted}
-use Rattle.fat_monitor.specs.Fats.{AreSeated}
+use Rattle.fat_monitor.specs.Fats.{AreSeated, AreCounted}
 use Rattle.fat_monitor.proofs.monitors.Fats.interrupt.Goals as goal
 
 pub returns-in_default : goal.returns-in_default
@@ -16,6 +16,8 @@ invariant_of-self c =
           let f = fat_state_in c.self.inside in
           rw (flagged_as f c.args.target true c.set_flag.new.self c.set_flag.ensures) (IsSound-flags f _ c.self.invariant.sound);
       seated = subst (λ (p : Posted). AreSeated p.posts p.nodes c.self.inside.lines.nodes) (sym c.set_flag.ensures) c.self.invariant.seated;
+      counted = subst (λ (p : Posted). AreCounted c.self.inside.monitors.items p.owned) (sym c.set_flag.ensures) c.self.invariant.counted;
+      reserved = c.self.invariant.reserved;
     }
 
 pub invariant_of-self-2 : goal.invariant_of-self-2
@@ -25,6 +27,8 @@ invariant_of-self-2 c =
           let f = fat_state_in c.self.inside in
           rw (flagged_as f c.args.target true c.set_flag.new.self c.set_flag.ensures) (IsSound-flags f _ c.self.invariant.sound);
       seated = subst (λ (p : Posted). AreSeated p.posts p.nodes c.self.inside.lines.nodes) (sym c.set_flag.ensures) c.self.invariant.seated;
+      counted = subst (λ (p : Posted). AreCounted c.self.inside.monitors.items p.owned) (sym c.set_flag.ensures) c.self.invariant.counted;
+      reserved = c.self.invariant.reserved;
     }
 
 pub returns-in_default-post : goal.returns-in_default-post

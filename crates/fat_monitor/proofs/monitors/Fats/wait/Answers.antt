@@ -16,7 +16,7 @@ use Rattle.fat_monitor.proofs.Soundness.{stands_nowhere, room_to_join, out-hande
 use Rattle.fat_monitor.proofs.Steps.{monitor_read, parked_as, flagged_as, replied_at, told_at, sound_after}
 use Rattle.std.specs.FinMap as map
 use Rattle.fat_monitor.specs.Slots.{Posted}
-use Rattle.fat_monitor.specs.Fats.{AreSeated}
+use Rattle.fat_monitor.specs.Fats.{AreSeated, AreCounted}
 use Rattle.wait_lines.specs.Lines.{NodeMap}
 use Rattle.fat_monitor.proofs.Seats.{AreSeated-joined}
 use Rattle.fat_monitor.proofs.monitors.Fats.wait.Goals as goal
@@ -36,6 +36,8 @@ invariant_of-self c =
           let f = fat_state_in c.self.inside in
           rw (flagged_as f c.args.thread false c.set_flag.new.self c.set_flag.ensures) (IsSound-flags f _ c.self.invariant.sound);
       seated = subst (λ (p : Posted). AreSeated p.posts p.nodes c.self.inside.lines.nodes) (sym c.set_flag.ensures) c.self.invariant.seated;
+      counted = subst (λ (p : Posted). AreCounted c.self.inside.monitors.items p.owned) (sym c.set_flag.ensures) c.self.invariant.counted;
+      reserved = c.self.invariant.reserved;
     }
 
 pub returns-then-flag : goal.returns-then-flag
@@ -99,4 +101,6 @@ invariant_of-self-2 c =
           (subst (λ (f : FatState). IsSound f) c.self.view_is c.self.invariant.sound) c.requires.out c.requires.bound (returns c);
       seated = subst (λ (m : NodeMap). AreSeated c.park.new.self.posts c.park.new.self.nodes m) (sym c.join-node.ensures.node)
           (subst (λ (p : Posted). AreSeated p.posts p.nodes (map.insert c.self-2.inside.lines.nodes c.args.thread.0 c.join-node.result.0)) (sym c.park.ensures) (AreSeated-joined _ _ _ c.self-2.invariant.seated c.args.thread _ c.join-node.result.0));
+      counted = subst (λ (p : Posted). AreCounted c.self-2.inside.monitors.items p.owned) (sym c.park.ensures) c.self-2.invariant.counted;
+      reserved = c.self-2.invariant.reserved;
     }

@@ -26,7 +26,7 @@ led c =
 
 pub invariant_of-self-2 : goal.invariant_of-self-2
 invariant_of-self-2 c =
-    let new : Record = record { thread = c.args.thread; post = Out; node = record { 0 = 0 }; flag = false } in
+    let new : Record = record { thread = c.args.thread; post = Out; node = record { 0 = 0 }; flag = false; owned = 0 } in
     let keys = c.self.inside.keys.entries in (
       LeadToRecords-put c.reserve.new.self c.insert_reserved.new.self keys c.insert.new.self.entries c.args.thread.0 c.insert_reserved.result new
           (rw (c.in-Ok.ensures.rest_kept) c.self.invariant.0) c.insert_reserved.ensures.was_vacant c.insert_reserved.ensures.updates (led c) refl,
@@ -38,7 +38,7 @@ pub returns-clause-ok : goal.returns-clause-ok
 returns-clause-ok c =
     rw (← c.self.view_is) (
     posted_in-put c.reserve.new.self c.insert_reserved.new.self c.self.inside.keys.entries c.insert.new.self.entries c.args.thread.0 c.insert_reserved.result
-    (record { thread = c.args.thread; post = Out; node = record { 0 = 0 }; flag = false })
+    (record { thread = c.args.thread; post = Out; node = record { 0 = 0 }; flag = false; owned = 0 })
     (rw (c.in-Ok.ensures.rest_kept) c.self.invariant.0) c.insert_reserved.ensures.was_vacant c.insert_reserved.ensures.updates (led c)
     ∙ rw (c.in-Ok.ensures.rest_kept) refl)
 
@@ -47,6 +47,9 @@ returns-clause-fresh c = rw (← c.self.view_is) (unvalued (λ r. r.post) Out c.
 
 pub returns-clause-flagless : goal.returns-clause-flagless
 returns-clause-flagless c = rw (← c.self.view_is) (unvalued (λ r. r.flag) false c.self.inside.records c.self.inside.keys.entries c.args.thread.0 (sym c.contains_key.ensures ∙ c.if-contains_key.false))
+
+pub returns-clause-uncounted : goal.returns-clause-uncounted
+returns-clause-uncounted c = rw (← c.self.view_is) (unvalued (λ r. r.owned) 0 c.self.inside.records c.self.inside.keys.entries c.args.thread.0 (sym c.contains_key.ensures ∙ c.if-contains_key.false))
 
 pub returns-clause-nodeless : goal.returns-clause-nodeless
 returns-clause-nodeless c = rw (← c.self.view_is) (unvalued (λ r. r.node.0) 0 c.self.inside.records c.self.inside.keys.entries c.args.thread.0 (sym c.contains_key.ensures ∙ c.if-contains_key.false))

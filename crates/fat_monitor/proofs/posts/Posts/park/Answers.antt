@@ -21,4 +21,4 @@ returns c =
     let found = sym c.in-Some.ensures.value in
     let slot = Updates-with_value c.self.inside.records c.in-Some.key.now c.in-Some-get_mut.record.now (record c.in-Some-get_mut.record.now { post = c.args.post; node = c.args.node }) there in
     rw (← c.self.view_is) (
-    posted_in-park c.self.inside.records _ c.self.inside.keys.entries c.args.thread.0 c.in-Some.key.now c.in-Some-get_mut.record.now _ c.self.invariant.0 c.self.invariant.1 found there slot refl)
+    posted_in-park c.self.inside.records _ c.self.inside.keys.entries c.args.thread.0 c.in-Some.key.now c.in-Some-get_mut.record.now _ c.self.invariant.0 c.self.invariant.1 found there slot refl refl)

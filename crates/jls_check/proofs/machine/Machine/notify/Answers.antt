@@ -1,7 +1,6 @@
-use Rattle.std.proofs.Common.{is_some, ap, sym}
-use Rattle.jls_check.proofs.States.{live-with_live}
+use Rattle.std.proofs.Common.{ap, sym, ◌∙◌, is_some}
+use Rattle.jls_check.proofs.Soundness.{lives_put}
 use Rattle.jls_check.proofs.machine.Machine.notify.Goals as goal
 
 pub put-requires-clause-live : goal.put-requires-clause-live
-put-requires-clause-live c =
-    rw (c.reply.ensures, ← c.self.view_is) (live-with_live c.self.inside.threads c.args.thread c.args.chosen _ (ap is_some (sym c.in-Some-Waits.ensures)))
+put-requires-clause-live c = lives_put c.args.self.now c.reply.new.self c.args.thread _ _ c.args.chosen c.reply.ensures (rw (← c.self.view_is) (ap is_some (sym c.get.ensures ∙ c.in-Some-Waits.is)))

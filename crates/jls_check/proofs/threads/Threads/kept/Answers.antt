@@ -1,6 +1,6 @@
 use Rattle.std.proofs.Common.{sym, ◌∙◌}
 use Rattle.jls_check.proofs.LiveMaps.{get_shown}
-use Rattle.jls_check.proofs.threads.Threads.get.Goals as goal
+use Rattle.jls_check.proofs.threads.Threads.kept.Goals as goal
 
 pub returns : goal.returns
 returns c =

@@ -1,0 +1,7 @@
+use Rattle.std.proofs.Common.{refl}
+use Rattle.jls_check.proofs.Soundness.{lives_held}
+use Rattle.jls_check.proofs.machine.Machine.unlock.Goals as goal
+
+pub reply-requires-clause-live : goal.reply-requires-clause-live
+reply-requires-clause-live c =
+    lives_held c.args.self.now c.hold.new.self c.in-Some-default-Exit.object _ c.args.thread c.hold.ensures (c.in-Some-default-Exit.ensures.live refl)
