@@ -1,1 +1,2 @@
 pub mod ProgramEnds
+pub mod Tasks

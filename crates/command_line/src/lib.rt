@@ -8,5 +8,5 @@ mod orders;
 mod serving;
 
 pub use ends::{ProgramEnd, end_for};
-pub use orders::{Order, read_words};
+pub use orders::{Order, Task, read_words};
 pub use serving::{serve, serve_words};

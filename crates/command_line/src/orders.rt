@@ -1,5 +1,8 @@
 //! What the words of the command line order.
 
+ghost use Rattle.std.specs.Prelude.{◌≡◌};
+ghost use Rattle.command_line.specs.Tasks.{task_of_run};
+
 use clap::{Arg, ArgAction, Command, Error};
 use std::alloc::Global;
 
@@ -8,33 +11,76 @@ const VERSION: &str = "0.1.0";
 
 /// What the program is to do.
 #[derive(Clone, Copy, PartialEq, Eq, Debug)]
-pub enum Order<'a> {
-    /// Run the script in this file, or the one on standard input.
-    Run { file: Option<&'a str> },
+pub enum Task {
+    /// Play a script, and write its report.
+    Run,
+    /// Play a script, and write its history.
+    Moves,
+    /// Check a history, and write how many moves it has.
+    Check,
+}
+
+/// What the program is to do, and with what.
+#[derive(Clone, Copy, PartialEq, Eq, Debug)]
+pub struct Order<'a> {
+    pub task: Task,
+    /// The file to read; standard input where there is none.
+    pub file: Option<&'a str>,
 }
 
 /// The order that the words behind the program's name give.
 ///
 /// A request for help or for the version is an `Err` too: the error knows its text.
 pub fn read_words<'a>(alloc: Global, words: &'a [String]) -> Result<Order<'a>, Error> {
-    let file = Arg::new(alloc, "file")
+    let script = Arg::new(alloc, "file")
         .value_name("FILE")
         .action(ArgAction::Set)
         .help("The script; standard input where it is left out");
+    let moves = Arg::new(alloc, "moves")
+        .long("moves")
+        .action(ArgAction::SetTrue)
+        .help("Prints the moves of the abstract machine and no report");
+    let history = Arg::new(alloc, "file")
+        .value_name("FILE")
+        .action(ArgAction::Set)
+        .help("The history; standard input where it is left out");
     let run = Command::new(alloc, "run")
-        .about("Plays a script and prints its report")
-        .arg(file)?;
+        .about("Plays a script and prints its report, or its history")
+        .arg(moves)?
+        .arg(script)?;
+    let check = Command::new(alloc, "check")
+        .about("Checks whether a history is a run of the abstract machine")
+        .arg(history)?;
     let program = Command::new(alloc, "thinmon")
         .about("Java monitors on thin locks, one atomic step at a time")
         .version(VERSION)
         .no_binary_name(true)
         .subcommand_required(true)
         .bin_name("thinmon")?
-        .subcommand(run)?;
+        .subcommand(run)?
+        .subcommand(check)?;
     let matches = program.try_get_matches_from(words)?;
-    let file = match matches.subcommand_matches("run") {
-        Some(run) => run.get_str("file"),
-        None => None,
-    };
-    Ok(Order::Run { file })
+    if let Some(check) = matches.subcommand_matches("check") {
+        return Ok(Order {
+            task: Task::Check,
+            file: check.get_str("file"),
+        });
+    }
+    match matches.subcommand_matches("run") {
+        Some(run) => Ok(Order {
+            task: task_of_run(run.get_flag("moves")),
+            file: run.get_str("file"),
+        }),
+        None => Ok(Order {
+            task: Task::Run,
+            file: None,
+        }),
+    }
+}
+
+/// What a run writes: the moves alone, or a report.
+fn task_of_run(moves: bool) -> Task
+    ensures { result ≡ task_of_run moves }
+{
+    if moves { Task::Moves } else { Task::Run }
 }

@@ -1,12 +1,14 @@
 //! Does what the words of the command line order, over files and streams.
 
-ghost use Rattle.std.specs.Prelude.{◌≡◌};
+ghost use Rattle.std.specs.Prelude.{◌≡◌, OnOk};
 ghost use Rattle.clap.specs.Values.{kind_of};
 ghost use Rattle.command_line.specs.ProgramEnds.{end_for};
+ghost use Rattle.command_line.specs.Tasks.{IsDone};
 
 use crate::ends::{ProgramEnd, end_for};
-use crate::orders::{Order, read_words};
-use history::{FileFault, ReaderSource, WriterSink, run};
+use crate::orders::{Order, Task, read_words};
+use history::{FileFault, ReaderSource, Sink, Source, WriterSink, moves, replay, run};
+use std::alloc::Global;
 use std::process::ExitCode;
 use std::rt::{Env, Files};
 use std::{env, fs, io};
@@ -36,7 +38,7 @@ where
     R: Files + Input + Print + Eprint + AllocGlobal,
 {
     match read_words(rt.alloc(), words) {
-        Ok(Order::Run { file }) => match run_file(rt, file) {
+        Ok(order) => match carry_out(rt, order) {
             Ok(()) => ProgramEnd::Done,
             Err(fault) => tell_fault(rt, fault),
         },
@@ -72,18 +74,44 @@ fn answer(rt: &(impl Print + Eprint), error: &clap::Error) -> ProgramEnd
     end
 }
 
-/// Runs the script in a file, or the one on standard input.
-fn run_file<R>(rt: &R, file: Option<&str>) -> Result<(), FileFault>
+/// Carries an order out on its file, or on standard input.
+fn carry_out<R>(rt: &R, order: Order<'_>) -> Result<(), FileFault>
 where
     R: Files + Input + Print + AllocGlobal,
 {
     let mut sink = WriterSink::new(io::writer(rt));
-    match file {
+    match order.file {
         Some(path) => {
             let file = fs::open(rt, path).map_err(|error| fault_of_opening(&error))?;
-            run(rt.alloc(), &mut ReaderSource::new(file), &mut sink)
+            do_task(
+                rt.alloc(),
+                order.task,
+                &mut ReaderSource::new(file),
+                &mut sink,
+            )
         }
-        None => run(rt.alloc(), &mut ReaderSource::new(rt.reader()), &mut sink),
+        None => {
+            let mut source = ReaderSource::new(rt.reader());
+            do_task(rt.alloc(), order.task, &mut source, &mut sink)
+        }
+    }
+}
+
+/// Does a task on what a source gives.
+fn do_task<S: Source, W: Sink>(
+    alloc: Global,
+    task: Task,
+    source: &mut S,
+    sink: &mut W,
+) -> Result<(), FileFault>
+    requires { S.given source.old ≡ 0 }
+    ensures { OnOk result (IsDone task (S.left source.old) (S.left source.new)
+        (S.given source.new) (W.holds sink.old) (W.holds sink.new)) }
+{
+    match task {
+        Task::Run => run(alloc, source, sink),
+        Task::Moves => moves(alloc, source, sink),
+        Task::Check => replay(alloc, source, sink),
     }
 }
 

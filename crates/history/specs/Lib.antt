@@ -1,3 +1,5 @@
 pub mod Calls
 pub mod NameLists
 pub mod Numbering
+pub mod Histories
+pub mod Plans

@@ -3,11 +3,14 @@
 //! `docs/FORMATS.md` has the forms of both.
 #![tactic(auto)]
 
+mod histories;
 mod names;
 mod plans;
 mod reports;
 mod running;
 
+pub use histories::moves;
+pub use history_check::{one_answer, replay};
 pub use history_streams::{FileFault, ReaderSource, Sink, Source, WriterSink};
 pub use history_text::{Script, print_script, read_script};
 pub use names::Names;

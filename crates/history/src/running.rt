@@ -1,9 +1,10 @@
-//! Running a script: from a reader's bytes to a writer's.
+//! Running a script: from a reader's bytes to a writer's report.
 
 ghost use Rattle.std.specs.Prelude.{◌≡◌, ◌+◌, ◌<◌, ◌≤◌, ◌⊎◌, ℕ, List, length, take, IsErrOf, IfSome, OnOk, OnErr, IfOk, IfErr, Err};
 ghost use Rattle.std.specs.Io.KnownBytes.{Keeps, Appends};
 ghost use Rattle.history_text.specs.Lines.{IsFirstBad};
 ghost use Rattle.history_text.specs.Scripts.{IsReasonFor, IsScriptText};
+ghost use Rattle.history.specs.Plans.{IsPlanOf};
 ghost use Rattle.history_streams.specs.declared.faults.FileFault.TheVariants.{BadLine, Read as ReadFault, Write as WriteFault, Memory};
 
 use crate::plans::{Plan, plan_of};
@@ -48,8 +49,9 @@ pub fn run<S: Source, W: Sink>(alloc: Global, source: &mut S, sink: &mut W) -> R
 }
 
 /// What the script plays that some bytes are the text of.
-fn plan_in(alloc: Global, bytes: &[u8]) -> Result<Plan, FileFault>
+pub(crate) fn plan_in(alloc: Global, bytes: &[u8]) -> Result<Plan, FileFault>
     ensures a_script { OnOk result (IsScriptText bytes.now) }
+    ensures a_plan { IfOk result (λ plan. IsPlanOf plan bytes.now) }
     ensures fault { IfErr result (IsReasonFor bytes.now) }
 {
     let script = read_script(alloc, bytes)?;
@@ -58,7 +60,7 @@ fn plan_in(alloc: Global, bytes: &[u8]) -> Result<Plan, FileFault>
 }
 
 /// Reads a source to its end, which must come within the bytes that a script may have.
-fn read_all<S: Source>(alloc: Global, source: &mut S) -> Result<Vec<u8>, FileFault>
+pub(crate) fn read_all<S: Source>(alloc: Global, source: &mut S) -> Result<Vec<u8>, FileFault>
     requires { S.given source.old ≡ 0 }
     ensures all { IfOk result (λ bytes. IfSome (S.left source.old) (λ input. bytes.items ≡ input)) }
     ensures few { IfOk result (λ bytes. length bytes.items ≤ MOST_BYTES) }

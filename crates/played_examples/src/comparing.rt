@@ -2,8 +2,8 @@
 
 ghost use Rattle.std.specs.Prelude.{◌≡◌, ◌↔◌, IsNone};
 
-use history::{FileFault, ReaderSource, WriterSink, print_script, read_script, run};
-use std::alloc::Global;
+use history::{FileFault, ReaderSource, WriterSink, moves, print_script, read_script, replay, run};
+use std::alloc::{AllocError, Global};
 use std::fmt::{Display, Formatter, Write};
 use std::{fmt, io, str};
 
@@ -70,6 +70,50 @@ fn is_printed_again(alloc: Global, script: &[u8]) -> Result<bool, FileFault> {
     Ok(text.as_bytes() == script)
 }
 
+/// The history of a script, or why it has none.
+fn history_of(alloc: Global, script: &[u8]) -> Result<Vec<u8>, FileFault> {
+    let mut sink = WriterSink::new(Vec::new(alloc));
+    moves(alloc, &mut ReaderSource::new(script), &mut sink)?;
+    Ok(sink.into_inner())
+}
+
+/// What is said of a history.
+fn check(alloc: Global, history: &[u8]) -> Result<(), FileFault> {
+    let mut sink = WriterSink::new(Vec::new(alloc));
+    replay(alloc, &mut ReaderSource::new(history), &mut sink)
+}
+
+/// A history with its first Lock twice, and the number of the second one's line.
+fn lock_twice(alloc: Global, history: &str) -> Result<Option<(String, u64)>, AllocError> {
+    let mut twice = String::new(alloc);
+    let mut number = 0u64;
+    let mut second = None;
+    for line in history.split_inclusive('\n') {
+        twice.push_str(line)?;
+        number = number.saturating_add(1);
+        if second.is_none() && line.starts_with("{\"move\":\"Lock\",") {
+            twice.push_str(line)?;
+            second = Some(number.saturating_add(1));
+        }
+    }
+    Ok(second.map(|number| (twice, number)))
+}
+
+/// Whether the history of a script is a run, and is not lawful from where its first Lock is twice.
+fn has_a_run(alloc: Global, script: &[u8]) -> Result<bool, FileFault> {
+    let history = history_of(alloc, script)?;
+    check(alloc, &history)?;
+    let Ok(history) = str::from_utf8(&history) else {
+        return Ok(false);
+    };
+    match lock_twice(alloc, history)? {
+        Some((twice, second)) => {
+            Ok(check(alloc, twice.as_bytes()) == Err(FileFault::Broken(second)))
+        }
+        None => Ok(true),
+    }
+}
+
 /// Plays a script, and prints whether its report is the wanted one.
 pub fn compare<R>(rt: &R, name: &str, script: &[u8], wanted: &str) -> io::Result<bool>
 where
@@ -88,6 +132,10 @@ where
     };
     if !is_printed_again(rt.alloc(), script).unwrap_or(false) {
         println!(rt; "{name}: its script is printed otherwise")?;
+        return Ok(false);
+    }
+    if !has_a_run(rt.alloc(), script).unwrap_or(false) {
+        println!(rt; "{name}: its history is checked otherwise")?;
         return Ok(false);
     }
     match first_difference(report, wanted) {

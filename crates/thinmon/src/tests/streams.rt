@@ -1,6 +1,6 @@
 //! What no script shows: readers and writers that fail, and want of memory.
 
-use history::{FileFault, ReaderSource, WriterSink, run};
+use history::{FileFault, ReaderSource, WriterSink, moves, replay, run};
 use std::alloc::Global;
 use std::io;
 use std::io::{ErrorKind, Read, Write};
@@ -10,6 +10,13 @@ const SCRIPT: &[u8] = b"world 4 4\nobject a A5\nattach x\nbegin x enter a\ngo x\
 
 const REPORT: &[u8] =
     b"attach x index 1\nbegin x\ngo x load a 000000A5\ngo x won a 000000A5 000100A5 = Entered\nobject a 000100A5 owner x holds 1 waiting -\n";
+
+const HISTORY: &[u8] = b"{\"objects\":1}
+{\"move\":\"Attach\",\"thread\":0}
+{\"call\":\"Enter\",\"move\":\"Call\",\"object\":0,\"thread\":0}
+{\"move\":\"Lock\",\"thread\":0}
+{\"move\":\"Return\",\"reply\":\"Entered\",\"thread\":0}
+";
 
 /// Gives some bytes, so many at a time, and then fails or ends.
 #[derive(Drop)]
@@ -136,6 +143,14 @@ fn play(alloc: Global) -> Result<Vec<u8>, FileFault> {
     Ok(sink.into_inner())
 }
 
+#[test]
+fn the_moves_of_a_script(rt: HostRuntime) -> Result<(), Fail> {
+    let mut sink = WriterSink::new(Vec::new(rt.alloc()));
+    moves(rt.alloc(), &mut ReaderSource::new(SCRIPT), &mut sink)?;
+    assert!(rt; sink.into_inner().as_slice() == HISTORY);
+    Ok(())
+}
+
 /// Run with each allocation refused in turn, this meets every refusal of its script.
 #[test]
 fn a_refused_run_succeeds_when_tried_again(rt: HostRuntime) -> Result<(), Fail> {
@@ -148,10 +163,30 @@ fn a_refused_run_succeeds_when_tried_again(rt: HostRuntime) -> Result<(), Fail> 
     Ok(())
 }
 
+fn check(alloc: Global) -> Result<Vec<u8>, FileFault> {
+    let mut sink = WriterSink::new(Vec::new(alloc));
+    replay(alloc, &mut ReaderSource::new(HISTORY), &mut sink)?;
+    Ok(sink.into_inner())
+}
+
+/// The same of a check.
+#[test]
+fn a_refused_check_succeeds_when_tried_again(rt: HostRuntime) -> Result<(), Fail> {
+    match check(rt.alloc()) {
+        Ok(text) => assert_eq!(rt; text.as_slice(), b"run of 4 moves\n".as_slice()),
+        Err(fault) => assert!(rt; fault == FileFault::Memory || fault == FileFault::Write),
+    }
+    let text = check(rt.alloc())?;
+    assert_eq!(rt; text.as_slice(), b"run of 4 moves\n".as_slice());
+    Ok(())
+}
+
 #[test]
 fn texts_of_faults(rt: HostRuntime) -> Result<(), Fail> {
     let faults = [
         (FileFault::BadLine(7), "bad line 7"),
+        (FileFault::BadMove(7), "bad move 7"),
+        (FileFault::Broken(5), "broken at 5"),
         (FileFault::Read, "read failed"),
         (FileFault::Write, "write failed"),
         (FileFault::Memory, "out of memory"),

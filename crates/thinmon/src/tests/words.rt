@@ -1,6 +1,6 @@
 //! The words of the command line, behind the program's name.
 
-use command_line::{Order, end_for, read_words};
+use command_line::{Order, Task, end_for, read_words};
 use std::alloc::{AllocError, Global};
 use std::test::Fail;
 
@@ -15,16 +15,22 @@ fn words_of(alloc: Global, line: &str) -> Result<Vec<String>, AllocError> {
 #[test]
 fn orders(rt: HostRuntime) -> Result<(), Fail> {
     let rows = [
-        ("run", None),
-        ("run x.script", Some("x.script")),
-        ("run -", Some("-")),
-        ("run run", Some("run")),
-        ("run -- --moves", Some("--moves")),
+        ("run", Task::Run, None),
+        ("run x.script", Task::Run, Some("x.script")),
+        ("run -", Task::Run, Some("-")),
+        ("run check", Task::Run, Some("check")),
+        ("run -- --moves", Task::Run, Some("--moves")),
+        ("run --moves", Task::Moves, None),
+        ("run --moves x.script", Task::Moves, Some("x.script")),
+        ("run x.script --moves", Task::Moves, Some("x.script")),
+        ("check", Task::Check, None),
+        ("check x.history", Task::Check, Some("x.history")),
+        ("check run", Task::Check, Some("run")),
     ];
-    for (line, file) in rows {
+    for (line, task, file) in rows {
         let words = words_of(rt.alloc(), line)?;
         match read_words(rt.alloc(), &words) {
-            Ok(Order::Run { file: found }) => assert_eq!(rt; found, file, "{line}"),
+            Ok(order) => assert_eq!(rt; order, Order { task, file }, "{line}"),
             Err(_) => assert!(rt; false, "{line}"),
         }
     }
@@ -38,7 +44,11 @@ fn no_orders(rt: HostRuntime) -> Result<(), Fail> {
         ("walk", 2),
         ("thinmon run", 2),
         ("run a b", 2),
-        ("run --moves", 2),
+        ("run --moves --moves", 2),
+        ("run --moves a b", 2),
+        ("run --moves=yes", 2),
+        ("check a b", 2),
+        ("check --moves", 2),
         ("run --version", 2),
         ("--moves run", 2),
         ("help walk", 2),

@@ -1,0 +1,28 @@
+-- What was done where a task was carried out.
+use Rattle.std.specs.Prelude.{ℕ, List, Option, IfSome, Bool, true, false}
+use Rattle.std.specs.Io.KnownBytes.{Appends}
+use Rattle.history_text.specs.Scripts.{IsScriptText}
+use Rattle.history_check.specs.Histories.{run_text}
+use Rattle.history_check.specs.Replays.{IsWhole}
+use Rattle.history.specs.Histories.{IsHistoryOf}
+use Rattle.history.specs.Plans.{IsPlanOf}
+use Rattle.history.specs.declared.plans.Plan.{Plan}
+use Rattle.command_line.specs.declared.orders.Task.{Task}
+use Rattle.command_line.specs.declared.orders.Task.TheVariants.{Run, Moves, Check}
+
+-- Of the bytes that were left before and after, how many were given, and those that are held before and
+-- after: a script was read, and a report written; or its history; or a history was read whose moves are a
+-- run, and their number written.
+abbrev pub IsDone : Task → Option (List ℕ) → Option (List ℕ) → ℕ → Option (List ℕ) → Option (List ℕ)
+    → Type 0
+IsDone Run left rest given held holds =
+    IfSome left IsScriptText × (report : List ℕ) × Appends held holds report
+IsDone Moves left rest given held holds =
+    (plan : Plan) × IfSome left (IsPlanOf plan) × (history : List ℕ) × IsHistoryOf plan history
+    × Appends held holds history
+IsDone Check left rest given held holds =
+    (count : ℕ) × IsWhole left rest given count × Appends held holds (run_text count)
+
+abbrev pub task_of_run : Bool → Task
+task_of_run true = Moves
+task_of_run false = Run

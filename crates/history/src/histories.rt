@@ -1,0 +1,142 @@
+//! Histories: the moves that the steps of a script hand out.
+
+ghost use Rattle.std.specs.Prelude.{◌≡◌, ◌≤◌, ◌<◌, ◌⊎◌, ◌++◌, ◌∷◌, [], ℕ, List, Err, IfErr, IfOk, IfSome, IsErrOf, OnOk, length, string_bytes, take};
+ghost use Rattle.std.specs.Io.KnownBytes.{Keeps, Appends};
+ghost use Rattle.history_text.specs.Lines.{IsFirstBad};
+ghost use Rattle.history_streams.specs.declared.faults.FileFault.TheVariants.{BadLine, Read as ReadFault, Write as WriteFault};
+ghost use Rattle.step_core.specs.Step.{moves_made, moves_of};
+ghost use Rattle.step_core.specs.declared.steps.Fault.TheVariants.{Memory as OutOfMemory};
+ghost use Rattle.history.specs.Plans.{IsPlanOf};
+ghost use Rattle.history.specs.declared.plans.Plan.{Plan as PlanData};
+ghost use Rattle.history.specs.Histories.{IsHistoryOf, Tells, moves_text, objects_text};
+
+use crate::plans::Plan;
+use crate::running::{plan_in, read_all};
+use history_moves::{first_line, move_line};
+use history_streams::{FileFault, Sink, Source, write_out};
+use history_text::MOST_BYTES;
+use lock_word::Memory;
+use std::alloc::Global;
+use std::fmt::Write;
+use step_core::{Did, Fault, Move, Step, World};
+
+/// Reads a script to its end, plays it, and writes its history: how many objects there are, and a line
+/// for each move that its steps hand out.
+///
+/// The whole script is read and played before the first byte of the history is written.
+pub fn moves<S: Source, W: Sink>(
+    alloc: Global,
+    source: &mut S,
+    sink: &mut W,
+) -> Result<(), FileFault>
+    requires { S.given source.old ≡ 0 }
+    // At Ok, neither end has failed in the call, the bytes were the text of a script within its limit, and
+    // the whole of its history was written.
+    ensures written { OnOk result ((plan : PlanData) × IfSome (S.left source.old) (IsPlanOf plan)
+        × (history : List ℕ) × IsHistoryOf plan history
+        × Appends (W.holds sink.old) (W.holds sink.new) history) }
+    ensures read_whole { OnOk result (S.has_failed source.new → S.has_failed source.old) }
+    ensures written_whole { OnOk result (W.has_failed sink.new → W.has_failed sink.old) }
+    ensures within { OnOk result (IfSome (S.left source.old) (λ input. length input ≤ MOST_BYTES)) }
+
+    // Else a fault tells its cause, and only where writing failed was something written: the front of
+    // the history.
+    ensures bad_line { (line : ℕ) → result ≡ Err (BadLine line)
+        → IfSome (S.left source.old) (λ input. IsFirstBad input line) }
+    ensures read { IsErrOf result ReadFault
+        → S.has_failed source.new ⊎ MOST_BYTES < S.given source.new }
+    ensures write { IsErrOf result WriteFault → W.has_failed sink.new }
+    ensures cut { IsErrOf result WriteFault → (plan : PlanData)
+        × IfSome (S.left source.old) (IsPlanOf plan)
+        × (history : List ℕ) × IsHistoryOf plan history
+        × (n : ℕ) × Appends (W.holds sink.old) (W.holds sink.new) (take n history) }
+    ensures unwritten { IfErr result (λ fault.
+        (fault ≡ WriteFault) ⊎ Keeps (W.holds sink.old) (W.holds sink.new)) }
+{
+    let bytes = read_all(alloc, source)?;
+    let plan = plan_in(alloc, &bytes)?;
+    let history = history_of(alloc, &plan)?;
+    write_out(sink, history.as_bytes())
+}
+
+/// Plays a script and writes its history: how many objects there are, and then a line for each move
+/// that its steps hand out.
+fn history_of(alloc: Global, plan: &Plan) -> Result<String, Memory>
+    ensures { IfOk result (λ history. IsHistoryOf plan.now (string_bytes history)) }
+{
+    let mut world = World::new(alloc, &plan.lows, plan.monitors, plan.indices)?;
+    let mut history = opening_text(alloc, plan.lows.len() as u16)?;
+    tell_steps(alloc, &mut world, &plan.steps, &mut history)?;
+    Ok(history)
+}
+
+/// The first line of a history, with its line feed.
+#[tactic(auto, unfolding(crate::specs::Histories::objects_text))]
+fn opening_text(alloc: Global, objects: u16) -> Result<String, Memory>
+    ensures { IfOk result (λ text. string_bytes text ≡ objects_text objects) }
+{
+    let line = first_line(alloc, objects)?;
+    Ok(format!(in alloc; "{line}\n")?)
+}
+
+/// Does steps, and writes the moves that each hands out.
+fn tell_steps(
+    alloc: Global,
+    world: &mut World,
+    steps: &[Step],
+    history: &mut String,
+) -> Result<(), Memory>
+    ensures { OnOk result (Tells world.old steps.now world.new
+        (string_bytes history.old) (string_bytes history.new)) }
+{
+    'steps: for step in steps {
+        let answer = world.step(*step);
+        put_answer(alloc, history, answer)?;
+    }
+    Ok(())
+}
+
+/// Writes the moves of an answer, unless it is want of memory.
+fn put_answer(alloc: Global, history: &mut String, answer: Result<Did, Fault>) -> Result<(), Memory>
+    ensures told { OnOk result (string_bytes history.new
+        ≡ string_bytes history.old ++ moves_text (moves_of answer)) }
+    ensures memory { OnOk result (answer ≡ Err OutOfMemory → ⊥) }
+{
+    match answer {
+        Ok(did) => put_moves(alloc, history, &did.moves),
+        Err(Fault::Memory) => Err(Memory),
+        Err(_) => Ok(()),
+    }
+}
+
+/// Writes the moves that are there.
+fn put_moves(alloc: Global, history: &mut String, moves: &[Option<Move>]) -> Result<(), Memory>
+    ensures { OnOk result (string_bytes history.new
+        ≡ string_bytes history.old ++ moves_text (moves_made moves.now)) }
+{
+    'moves: for made in moves {
+        put_made(alloc, history, made)?;
+    }
+    Ok(())
+}
+
+/// Writes a move, if it is there.
+fn put_made(alloc: Global, history: &mut String, made: &Option<Move>) -> Result<(), Memory>
+    ensures { OnOk result (string_bytes history.new
+        ≡ string_bytes history.old ++ moves_text (moves_made (made.now ∷ []))) }
+{
+    match made {
+        Some(made) => put_move(alloc, history, made),
+        None => Ok(()),
+    }
+}
+
+#[tactic(auto, unfolding(crate::specs::Histories::move_text))]
+fn put_move(alloc: Global, history: &mut String, made: &Move) -> Result<(), Memory>
+    ensures { OnOk result (string_bytes history.new
+        ≡ string_bytes history.old ++ moves_text (made.now ∷ [])) }
+{
+    let line = move_line(alloc, made)?;
+    writeln!(history, "{line}")?;
+    Ok(())
+}
