@@ -104,10 +104,10 @@ told_from_first plan v old new steps began opens same t = record {
       (subst (λ (x : WorldState). Run (shown (first_world plan)) (moves_after (first_world plan) t.done) (shown x)) t.leads t.run);
 }
 
-pub told_all : (plan : Plan) (lows : List ℕ) (w v : WorldState) (old new : List ℕ) (steps : List Step) → lows ≡ plan.lows.items → w ≡ opening_world lows plan.monitors plan.indices
+pub told_all : (plan : Plan) (lows : List ℕ) (w v : WorldState) (old new : List ℕ) (steps : List Step) → lows ≡ plan.lows.items → w ≡ opening_world lows plan.monitors plan.indices plan.split
     → shown w ≡ opening (length lows) → old ≡ objects_text (length plan.lows.items) → steps ≡ plan.steps.items → Tells w steps v old new → IsHistoryOf plan new
 told_all plan lows w v old new steps same opened opens began these t =
-    let there : w ≡ first_world plan = opened ∙ ap (λ (l : List ℕ). opening_world l plan.monitors plan.indices) same in
+    let there : w ≡ first_world plan = opened ∙ ap (λ (l : List ℕ). opening_world l plan.monitors plan.indices plan.split) same in
     told_from_first plan v old new steps began (sym (ap shown there) ∙ opens ∙ ap (λ (l : List ℕ). opening (length l)) same) these (subst (λ (x : WorldState). Tells x steps v old new) there t)
 
 plan_of_left : (left : Option (List ℕ)) (plan : Plan) (read bytes : List ℕ) → IfSome left (λ input. read ≡ input) → bytes ≡ read → IsPlanOf plan bytes → IfSome left (IsPlanOf plan)

@@ -49,7 +49,7 @@ pub record Tells (w : WorldState) (steps : List Step) (v : WorldState) (old new 
 -- ---- the history of a script
 
 abbrev pub first_world : Plan → WorldState
-first_world plan = opening_world plan.lows.items plan.monitors plan.indices
+first_world plan = opening_world plan.lows.items plan.monitors plan.indices plan.split
 
 -- The text is the number of the objects and the moves that the steps hand out, which are a run of the
 -- machine.

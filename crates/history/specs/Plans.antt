@@ -11,6 +11,6 @@ pub record IsPlanOf (plan : Plan) (bytes : List ℕ) : Type 0 where
   pub lines : List Line
   pub script : IsScript lines
   pub text : bytes ≡ script_text lines
-  pub world : IsWorldWith plan.monitors plan.indices lines
+  pub world : IsWorldWith plan.monitors plan.indices plan.split lines
   pub objects : plan.names.objects ≡ object_names lines
   pub lows : plan.lows.items ≡ low_bytes lines

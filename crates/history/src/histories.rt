@@ -64,7 +64,7 @@ pub fn moves<S: Source, W: Sink>(
 fn history_of(alloc: Global, plan: &Plan) -> Result<String, Memory>
     ensures { IfOk result (λ history. IsHistoryOf plan.now (string_bytes history)) }
 {
-    let mut world = World::new(alloc, &plan.lows, plan.monitors, plan.indices)?;
+    let mut world = World::new(alloc, &plan.lows, plan.monitors, plan.indices, plan.split)?;
     let mut history = opening_text(alloc, plan.lows.len() as u16)?;
     tell_steps(alloc, &mut world, &plan.steps, &mut history)?;
     Ok(history)

@@ -94,7 +94,10 @@ fn deep_words_and_their_locks(rt: HostRuntime) {
             Some((lock, low)),
             "{bits:08X}"
         );
-        assert_eq!(rt; with_lock(Split::Deep, Word(low), lock), Word(bits));
+        assert_eq!(rt;
+            with_lock(Split::Deep, Word(u32::from(low)), lock),
+            Word(bits)
+        );
     }
     assert_eq!(rt; decode(Split::Deep, Word(0x0001_0000)), None);
 }
