@@ -1,4 +1,5 @@
 pub mod PostMaps
+pub mod Counts
 pub mod SoundCounts
 pub mod SoundSteps
 pub mod SoundOwners

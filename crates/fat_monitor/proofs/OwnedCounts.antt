@@ -1,18 +1,19 @@
 -- How many monitors a thread owns, and the count that is kept of it.
-use Rattle.std.specs.Prelude.{◌≡◌, ◌⊎◌, ℕ, ◌+◌, ◌-◌, ◌<◌, ◌≤◌, ◌==◌, Bool, true, false, cond, ◌||◌, nat_lt, List, [], ◌∷◌, ◌++◌, length, slice_index_or, slice_set, Option, Some, None}
+use Rattle.std.specs.Prelude.{◌≡◌, ◌⊎◌, ℕ, ◌+◌, ◌-◌, ◌<◌, ◌≤◌, ◌==◌, Bool, true, false, not, cond, List, [], ◌∷◌, ◌++◌, length, slice_index_or, slice_set, Option, Some, None}
 use Rattle.std.specs.Option.{unwrap_or}
 use Rattle.std.specs.Ordering.{nat_cmp}
 use Rattle.std.specs.FinMap as map
 use Rattle.std.specs.FinMap.{get-empty}
 use Rattle.std.proofs.Common.{refl, sym, ap, ◌∙◌, inl, inr, arith}
-use Rattle.std.proofs.lemmas.Bool.{cases_eq, eq-eqb, ne_eqb, eqb-true, ltb-false, lt-ltb}
-use Rattle.std.proofs.lemmas.List.Sums.{sum_by-cons, sum_by-set, sum_by_push, count_by-le-length}
+use Rattle.std.proofs.lemmas.Bool.{cases_eq, eq-eqb, ne_eqb, eqb-true}
+use Rattle.std.proofs.lemmas.List.Sums.{sum_by-set, sum_by_push, count_by-le-length}
 use Rattle.lock_word.specs.declared.ThreadId.{ThreadId}
 use Rattle.wait_lines.proofs.ThreadLemmas.{same_thread}
 use Rattle.fat_monitor.specs.declared.monitors.Monitor.{Monitor}
 use Rattle.fat_monitor.specs.FatState.{FatState, IsSound, unbound, is_owned_by, owns_one}
 use Rattle.fat_monitor.specs.Slots.{count_of, one_less, one_more, handed_over}
 use Rattle.fat_monitor.specs.Fats.{owned_count, AreCounted}
+use Rattle.fat_monitor.proofs.Counts.{count-set, count-has, count-none}
 use Rattle.fat_monitor.proofs.PostMaps.{get-insert_by, get-remove_by}
 
 abbrev Counts : Type 0
@@ -65,15 +66,9 @@ owned_count-owner ms m t low = let without : owned_count (slice_set ms m unbound
 pub owned_count-few : (ms : List Monitor) (t : ThreadId) → owned_count ms t ≤ length ms
 owned_count-few ms t = count_by-le-length (λ (b : Monitor). is_owned_by b.owner t) ms
 
--- a thread owns one exactly where it owns more than none
-pub owns_one-count : (ms : List Monitor) (t : ThreadId) → owns_one ms t ≡ nat_lt 0 (owned_count ms t)
-owns_one-count [] t = refl
-owns_one-count (b ∷ bs) t =
-    at (is_owned_by b.owner t) (owns_one-count bs t) ∙ ap (λ n. nat_lt 0 n) (sym (sum_by-cons (λ (x : Monitor). share x.owner t) b bs))
-  where
-    at : (own : Bool) → owns_one bs t ≡ nat_lt 0 (owned_count bs t) → (own || owns_one bs t) ≡ nat_lt 0 (cond own 1 0 + owned_count bs t)
-    at true again = sym (lt-ltb 0 (1 + owned_count bs t) (omega arith))
-    at false again = again ∙ ap (λ n. nat_lt 0 n) (omega arith)
+-- a thread owns one exactly where it does not own none
+pub owns_one-count : (ms : List Monitor) (t : ThreadId) → (owned_count ms t == 0) ≡ not (owns_one ms t)
+owns_one-count ms t = count-none (λ (b : Monitor). is_owned_by b.owner t) ms
 
 -- ---- the counts stay right
 
@@ -97,10 +92,7 @@ AreCounted-handed_over ms counts m b counted low t =
 pub AreCounted-kept : (ms : List Monitor) (counts : Counts) (m : ℕ) (b : Monitor) → AreCounted ms counts → m < length ms → b.owner ≡ (slice_index_or ms m unbound).owner
     → AreCounted (slice_set ms m b) counts
 AreCounted-kept ms counts m b counted low same t =
-    let was = counted t in
-    let written = owned_count-set ms m b t low in
-    let alike : share b.owner t ≡ share (slice_index_or ms m unbound).owner t = ap (λ (o : Option ThreadId). share o t) same in
-    omega arith
+    counted t ∙ sym (count-set (λ (x : Monitor). is_owned_by x.owner t) ms m b unbound (ap (λ (o : Option ThreadId). is_owned_by o t) same) low)
 
 -- one monitor more is bound
 pub AreCounted-bound : (ms : List Monitor) (counts : Counts) (b : Monitor) → AreCounted ms counts → AreCounted (ms ++ b ∷ []) (handed_over counts None b.owner)
@@ -122,12 +114,9 @@ AreCounted-added ms counts u counted fresh t = count-written counts u t 0 ∙ at
 pub AreCounted-removed : (ms : List Monitor) (counts : Counts) (u : ThreadId) → AreCounted ms counts → owns_one ms u ≡ false → AreCounted ms (map.remove counts u.0)
 AreCounted-removed ms counts u counted none t = at (cases_eq u.0 t.0)
   where
-    no_more : (n : ℕ) → nat_lt 0 n ≡ false → n ≡ 0
-    no_more n e = let le : n ≤ 0 = ltb-false 0 n e in omega arith
-
     at : (u.0 ≡ t.0) ⊎ (u.0 ≡ t.0 → ⊥) → count_of (map.remove counts u.0) t ≡ owned_count ms t
     at (inl same) =
-        let zero : owned_count ms u ≡ 0 = no_more (owned_count ms u) (sym (owns_one-count ms u) ∙ none) in
+        let zero : owned_count ms u ≡ 0 = eqb-true (owned_count ms u) 0 (owns_one-count ms u ∙ ap not none) in
         rw (get-remove_by counts u.0 t.0, eq-eqb t.0 u.0 (sym same)) (sym zero ∙ ap (λ x. owned_count ms x) (same_thread t u same))
     at (inr other) = rw (get-remove_by counts u.0 t.0, ne_eqb t.0 u.0 (λ e. other (sym e))) (counted t)
 
@@ -137,8 +126,8 @@ AreCounted-removed ms counts u counted none t = at (cases_eq u.0 t.0)
 pub one_owned : (ms : List Monitor) (counts : Counts) (m : ℕ) (t : ThreadId) → AreCounted ms counts → m < length ms → (slice_index_or ms m unbound).owner ≡ Some t → 0 < count_of counts t
 one_owned ms counts m t counted low owned =
     let was = counted t in
-    let least = owned_count-owner ms m t low in
-    let one : share (slice_index_or ms m unbound).owner t ≡ 1 = rw (owned, eq-eqb t.0 t.0 refl) refl in
+    let own : is_owned_by (slice_index_or ms m unbound).owner t ≡ true = rw (owned) (eq-eqb t.0 t.0 refl) in
+    let least = count-has (λ (b : Monitor). is_owned_by b.owner t) ms m unbound low refl own in
     omega arith
 
 -- no count comes near its end

@@ -19,10 +19,11 @@ use Rattle.fat_monitor.specs.declared.actions.Post.{Post}
 use Rattle.fat_monitor.specs.declared.actions.Post.TheVariants.{Out, Entering, Waiting, Granted}
 use Rattle.fat_monitor.specs.declared.actions.Reply.{Reply}
 use Rattle.fat_monitor.specs.declared.monitors.Monitor.{Monitor}
-use Rattle.fat_monitor.specs.FatState.{FatState, IsSound, IsFair, IsHeld, unbound, opened, monitor_at, post_of, post_at, thread_count, line_of, first_of, with_owner, with_post, with_thread, without_thread, bound_with, place_of, stand_count, StandBehindOwners}
+use Rattle.fat_monitor.specs.FatState.{FatState, IsSound, IsFair, IsHeld, unbound, opened, monitor_at, post_of, post_at, thread_count, line_of, first_of, with_owner, with_post, with_thread, without_thread, bound_with, place_of, stands, stand_count, StandBehindOwners}
 use Rattle.fat_monitor.specs.Acting.{parked}
 use Rattle.fat_monitor.proofs.PostMaps.{get-remove_by}
-use Rattle.fat_monitor.proofs.SoundCounts.{stand_count-empty, stand_count-insert, stand_count-remove, len-insert_new, len-remove_le}
+use Rattle.fat_monitor.proofs.Counts.{count-empty, count-insert, count-remove}
+use Rattle.fat_monitor.proofs.SoundCounts.{len-insert_new, len-remove_le}
 use Rattle.fat_monitor.proofs.SoundSteps.{get-written_other, written_cases, no_place, IsProper-kept, standing_bound, nowhere, room_for_one, proper_after, IsSound-with_post, IsSound-parked, IsSound-with_owner}
 
 -- ---- facts of a sound state
@@ -84,7 +85,7 @@ IsSound-opened limit h = record {
   behind = λ t m stands_in. absurd (nobody_stands t m Entry stands_in);
   apart = λ t m r stands_in. absurd (nobody_stands t m r stands_in);
   room = let none = len-empty nat_cmp Post in omega arith;
-  counted = total_count-empty ∙ sym stand_count-empty;
+  counted = total_count-empty ∙ sym (count-empty stands);
   orderly = IsOrderly-nobody;
 }
 
@@ -107,7 +108,7 @@ IsSound-with_thread f t sound fresh few = record {
   apart = sound.apart;
   room = let more = len-insert_new f.threads t.0 Out fresh in let enough = room_enough (thread_count f) f.standing.reservations _ refl sound.room in omega arith;
   counted =
-      let seats = stand_count-insert f.threads t.0 Out in let none : stand_count (map.insert f.threads t.0 Out) + 0 ≡ stand_count f.threads + 0 = rw fresh at seats in
+      let seats = count-insert stands f.threads t.0 Out in let none : stand_count (map.insert f.threads t.0 Out) + 0 ≡ stand_count f.threads + 0 = rw fresh at seats in
       let counted = sound.counted in
       omega arith;
   orderly = orderly (thread_count f == f.standing.reservations) refl;
@@ -139,7 +140,7 @@ IsSound-without_thread f t sound out = record {
   apart = sound.apart;
   room = let less = len-remove_le f.threads t.0 in let room = sound.room in omega arith;
   counted =
-      let seats : stand_count (map.remove f.threads t.0) + 0 ≡ stand_count f.threads = rw out at (stand_count-remove f.threads t.0) in let counted = sound.counted in omega arith;
+      let seats : stand_count (map.remove f.threads t.0) + 0 ≡ stand_count f.threads = count-remove stands f.threads t.0 Out out in let counted = sound.counted in omega arith;
   orderly = sound.orderly;
 }
   where

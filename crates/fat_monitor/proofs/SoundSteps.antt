@@ -17,7 +17,8 @@ use Rattle.fat_monitor.specs.declared.monitors.Monitor.{Monitor}
 use Rattle.fat_monitor.specs.FatState.{FatState, IsSound, IsProper, IsFair, unbound, monitor_at, post_of, with_owner, with_post, with_lines, place_of, stands, stand_count}
 use Rattle.fat_monitor.specs.Acting.{parked}
 use Rattle.fat_monitor.proofs.PostMaps.{get-insert_by}
-use Rattle.fat_monitor.proofs.SoundCounts.{stand_count-insert, stand_count-less, len-insert_same}
+use Rattle.fat_monitor.proofs.Counts.{count-insert}
+use Rattle.fat_monitor.proofs.SoundCounts.{stand_count-less, len-insert_same}
 
 -- ---- posts
 
@@ -146,7 +147,7 @@ proper_after f g t q sound more same proper u p e = at (written_cases f.threads 
 -- how many threads stand in lines after a post was written
 seats_after : (f : FatState) (t : ThreadId) (p q : Post) (a b : Bool) → post_of f t ≡ Some p → stands p ≡ a → stands q ≡ b
     → stand_count (map.insert f.threads t.0 q) + cond a 1 0 ≡ stand_count f.threads + cond b 1 0
-seats_after f t p q a b here was is = rw (here, was, is) at (stand_count-insert f.threads t.0 q)
+seats_after f t p q a b here was is = rw (here, was, is) at (count-insert stands f.threads t.0 q)
 
 -- a thread outside of lines changes its post, and stays outside
 pub IsSound-with_post : (f : FatState) (t : ThreadId) (p q : Post) → IsSound f → post_of f t ≡ Some p → place_of p ≡ None → IsProper f q → place_of q ≡ None

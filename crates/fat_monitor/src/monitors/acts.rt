@@ -274,7 +274,7 @@ impl Fats {
     fn owns_one(&self, thread: ThreadId) -> bool
         ensures { result ≡ owns_one self.now.monitors thread }
     {
-        self.posts.owned(thread) > 0
+        self.posts.owned(thread) != 0
     }
 
     /// Whether this thread owns this monitor.
