@@ -1,6 +1,7 @@
 pub mod Facts
 pub mod Runs
 pub mod Sound
+pub mod Relaying
 pub mod Clauses
 pub mod Lists
 pub mod CodeOfGo

@@ -55,4 +55,4 @@ pub use lock_word::{Lock, Memory, ObjectId, Split, ThreadId, Word, decode};
 pub use machine::{Doing, Move};
 pub use places::{Place, Stage};
 pub use steps::{Atomic, Did, Fault, Step};
-pub use worlds::World;
+pub use worlds::{RelayoutFault, World};

@@ -19,10 +19,13 @@ ghost use Rattle.step_core.specs.Patient.{IsPatient};
 ghost use Rattle.step_core.specs.Lasting.{Lasts};
 ghost use Rattle.step_core.specs.Kept.{Keeps};
 
+mod relayout;
+
 use crate::{Did, Doing, Fault, Place, Stage, Step, control, going};
 use fast_path::Call;
 use fat_monitor::{Fats, Post, Reply};
 use lock_word::{Lock, Memory, ObjectId, Split, ThreadId, Word, lock_of};
+pub use relayout::RelayoutFault;
 use std::alloc::Global;
 use std::marker::Model;
 use thread_index::Indices;

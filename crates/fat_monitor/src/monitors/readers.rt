@@ -67,6 +67,13 @@ impl Fats {
         self.monitors.len() as u32
     }
 
+    /// How many monitors can be bound in all.
+    pub fn limit(&self) -> u32
+        ensures { result ≡ self.now.limit }
+    {
+        self.limit
+    }
+
     /// How many binds to come have their room already, and are not refused for want of memory.
     pub fn spare(&self) -> u32
         ensures { result ≡ self.now.spare }

@@ -32,7 +32,7 @@ use Rattle.step_core.proofs.Facts.PlaceFacts.{agrees_kept, fitting_kept, bound_k
 
 module _ (w : WorldState) (sound : IsSound w) where
   -- who shows a thin lock is live
-  thin_owner : (q j n : ℕ) → lock_at w q ≡ Thin (j + 1) n → IsSome (holder_at w.seats j)
+  pub thin_owner : (q j n : ℕ) → lock_at w q ≡ Thin (j + 1) n → IsSome (holder_at w.seats j)
   thin_owner q j n e =
       let stands : MayShow w q (Thin (j + 1) n) = rw e at (stands_at w sound q) in
       let here : j + 1 - 1 ≡ j = omega arith in
