@@ -59,7 +59,10 @@ replied v t flag r = put v t flag (Has r)
 abbrev pub with_held : MachineState → ObjectId → Held → MachineState
 with_held v o h =
     if nat_lt o.0 (length v.objects)
-    then record v { threads = gained (lost v.threads (held_at v o).owner) h.owner; objects = with_monitor_held v.objects o h }
+    then record v {
+      threads = gained (lost v.threads (held_at v o).owner) h.owner;
+      objects = with_monitor_held v.objects o h;
+    }
     else v
 
 abbrev pub owns : MachineState → ThreadId → ObjectId → Bool
@@ -76,7 +79,8 @@ pub record IsSound (v : MachineState) : Type 0 where
   -- every object that a live thread's act names exists
   pub exist : (t : ThreadId) (x : Live) → live_of v.threads t ≡ Some x → ActExists (length v.objects) x.act
   -- a thread that has ended owns nothing
-  pub ended : (t : ThreadId) (flag : Bool) → live_of v.threads t ≡ Some (record { flag = flag; act = Has Ended }) → owned_of v.threads t ≡ 0
+  pub ended : (t : ThreadId) (flag : Bool) → live_of v.threads t ≡ Some (record { flag = flag; act = Has Ended })
+      → owned_of v.threads t ≡ 0
   -- of each object, how many threads are in its wait set
   pub waiting : (o : ObjectId) → waiting_in v.objects o ≡ waiting_count v.threads o
   -- of each thread, how many objects it owns

@@ -1,5 +1,6 @@
 -- What a checker keeps of each object: its monitor, and how many threads wait on it.
-use Rattle.std.specs.Prelude.{ℕ, ◌+◌, ◌-◌, ◌^◌, ◌<◌, ◌==◌, Bool, false, List, length, slice_index_or, slice_set, Option, Some, None, count_by}
+use Rattle.std.specs.Prelude.{ℕ, ◌+◌, ◌-◌, ◌^◌, ◌<◌, ◌==◌, Bool, false, Option, Some, None}
+use Rattle.std.specs.Prelude.{List, length, slice_index_or, slice_set, count_by}
 use Rattle.std.specs.List.{list_any}
 use Rattle.lock_word.specs.declared.ThreadId.{ThreadId}
 use Rattle.lock_word.specs.declared.ObjectId.{ObjectId}

@@ -1,5 +1,6 @@
 -- What each move leaves of what a checker knows; None where the move is not lawful.
-use Rattle.std.specs.Prelude.{ℕ, ◌+◌, ◌-◌, Bool, true, false, not, ◌&&◌, ◌||◌, if◌then◌else◌, ◌==◌, nat_lt, length, ℤ, pos, int_le, Option, Some, None, is_some, Result, Ok, Err}
+use Rattle.std.specs.Prelude.{ℕ, ◌+◌, ◌-◌, Bool, true, false, not, ◌&&◌, ◌||◌, if◌then◌else◌, ◌==◌, nat_lt, length}
+use Rattle.std.specs.Prelude.{ℤ, pos, int_le, Option, Some, None, is_some, Result, Ok, Err}
 use Rattle.lock_word.specs.declared.ThreadId.{ThreadId}
 use Rattle.lock_word.specs.declared.ObjectId.{ObjectId}
 use Rattle.fat_monitor.specs.declared.actions.Cause.{Cause}
@@ -67,7 +68,8 @@ exists_below n None = true
 exists_below n (Some o) = nat_lt o.0 n
 
 abbrev pub make_call_from : MachineState → ThreadId → Call → Bool → Doing → Option MachineState
-make_call_from v t c flag Idle = if exists_below (length v.objects) (object_of c) then Some (put v t flag (Wants c)) else None
+make_call_from v t c flag Idle =
+    if exists_below (length v.objects) (object_of c) then Some (put v t flag (Wants c)) else None
 make_call_from v t c flag (Wants d) = None
 make_call_from v t c flag (Waits o n d) = None
 make_call_from v t c flag (Back o n w) = None
@@ -129,7 +131,8 @@ held_by t n = record { owner = Some t; count = n }
 abbrev pub lock_for : MachineState → ThreadId → Option (Bool × Call) → Option MachineState
 lock_for v t None = None
 lock_for v t (Some (flag, call.Enter o)) =
-    if may_be_locked (held_at v o) t then Some (replied (with_held v o (held_by t ((held_at v o).count + 1))) t flag reply.Entered)
+    if may_be_locked (held_at v o) t
+    then Some (replied (with_held v o (held_by t ((held_at v o).count + 1))) t flag reply.Entered)
     else None
 lock_for v t (Some (flag, c)) = None
 
@@ -143,7 +146,8 @@ less_held t n = if n == 1 then unheld else held_by t (n - 1)
 abbrev pub unlock_for : MachineState → ThreadId → Option (Bool × Call) → Option MachineState
 unlock_for v t None = None
 unlock_for v t (Some (flag, call.Exit o)) =
-    if owns v t o && nat_lt 0 (held_at v o).count then Some (replied (with_held v o (less_held t (held_at v o).count)) t flag reply.Exited)
+    if owns v t o && nat_lt 0 (held_at v o).count
+    then Some (replied (with_held v o (less_held t (held_at v o).count)) t flag reply.Exited)
     else None
 unlock_for v t (Some (flag, c)) = None
 
@@ -179,7 +183,8 @@ is_good millis nanos = int_le (pos 0) millis && int_le (pos 0) nanos && int_le n
 
 abbrev pub bad_argument_of : MachineState → ThreadId → Option Wish → Option MachineState
 bad_argument_of v t None = None
-bad_argument_of v t (Some w) = if is_good w.millis w.nanos then None else Some (replied v t w.flag reply.IllegalArgument)
+bad_argument_of v t (Some w) =
+    if is_good w.millis w.nanos then None else Some (replied v t w.flag reply.IllegalArgument)
 
 abbrev pub bad_argument : MachineState → ThreadId → Option MachineState
 bad_argument v t = bad_argument_of v t (wish v t)
@@ -195,7 +200,8 @@ abbrev pub wait_of : MachineState → ThreadId → Option Wish → Option Machin
 wait_of v t None = None
 wait_of v t (Some w) =
     if is_good w.millis w.nanos && not w.flag
-    then Some (put (with_held v w.object unheld) t false (Waits w.object (held_at v w.object).count (over_at v.moment w.millis w.nanos)))
+    then Some (put (with_held v w.object unheld) t false
+    (Waits w.object (held_at v w.object).count (over_at v.moment w.millis w.nanos)))
     else None
 
 abbrev pub wait : MachineState → ThreadId → Option MachineState
@@ -218,7 +224,8 @@ notify_at v t flag o u (Some x) = notify_from v t flag o u x.flag x.act
 
 abbrev pub notify_for : MachineState → ThreadId → ThreadId → Option (Bool × Call) → Option MachineState
 notify_for v t u None = None
-notify_for v t u (Some (flag, call.Notify o)) = if owns v t o then notify_at v t flag o u (live_of v.threads u) else None
+notify_for v t u (Some (flag, call.Notify o)) =
+    if owns v t o then notify_at v t flag o u (live_of v.threads u) else None
 notify_for v t u (Some (flag, c)) = None
 
 abbrev pub notify : MachineState → ThreadId → ThreadId → Option MachineState
@@ -236,7 +243,8 @@ notify_nobody v t = notify_nobody_for v t (wanted v t)
 -- the wait set of o is empty; the threads are looked at only where some wait
 abbrev pub all_left : MachineState → ObjectId → MachineState
 all_left v o =
-    if waiting_in v.objects o == 0 then v else record v { threads = all_back v.threads o; objects = with_waiting v.objects o 0 }
+    if waiting_in v.objects o == 0 then v
+    else record v { threads = all_back v.threads o; objects = with_waiting v.objects o 0 }
 
 abbrev pub notify_all_for : MachineState → ThreadId → Option (Bool × Call) → Option MachineState
 notify_all_for v t None = None
@@ -273,7 +281,8 @@ test_clear v t = test_clear_for v t (wanted v t)
 -- ---- the way back from a wait set
 
 abbrev pub expire_from : MachineState → ThreadId → Bool → Doing → Option MachineState
-expire_from v t flag (Waits o n (Some d)) = if nat_lt v.moment d then None else Some (put v t flag (Back o n why.Elapsed))
+expire_from v t flag (Waits o n (Some d)) =
+    if nat_lt v.moment d then None else Some (put v t flag (Back o n why.Elapsed))
 expire_from v t flag (Waits o n None) = None
 expire_from v t flag Idle = None
 expire_from v t flag (Wants c) = None
@@ -303,7 +312,8 @@ wake v t = wake_at v t (live_of v.threads t)
 
 abbrev pub relock_from : MachineState → ThreadId → Bool → Doing → Option MachineState
 relock_from v t flag (Back o n w) =
-    if is_some (held_at v o).owner then None else Some (replied (with_held v o (held_by t n)) t (flag_back w flag) (reply_of w))
+    if is_some (held_at v o).owner then None
+    else Some (replied (with_held v o (held_by t n)) t (flag_back w flag) (reply_of w))
 relock_from v t flag Idle = None
 relock_from v t flag (Wants c) = None
 relock_from v t flag (Waits o n d) = None

@@ -2,6 +2,7 @@
 
 ghost use Rattle.std.specs.Prelude.{◌≡◌, ◌↔◌, OnOk, OnErr, IsErrOf, IfOk, IsSome, Bool, true, not, length};
 ghost use Rattle.step_core.specs.Machine.{opening, over_at, Steps};
+ghost use Rattle.step_core.specs.Lasting.{LastsBut, MoveReturns};
 ghost use Rattle.jls_check.specs.LiveThreads.{live_of, some_waits};
 ghost use Rattle.jls_check.specs.Monitors.{kept_at, waiting_in, owns_one};
 ghost use Rattle.jls_check.specs.MachineState.{state, held_at, owns, IsSound};
@@ -18,7 +19,7 @@ use fat_monitor::Cause;
 use lock_word::{Memory, ObjectId, ThreadId};
 use std::alloc::Global;
 use std::marker::Model;
-use step_core::{Doing, Move};
+use step_core::{Doing, Move, every_move_keeps_what_lasts};
 
 /// What a thread wants that wants to wait on an object of its own.
 #[derive(Clone, Copy, PartialEq, Eq, Debug)]
@@ -70,12 +71,18 @@ impl Machine {
 
     /// Takes a move, if it is lawful now (JLS SE 8, 17.1 and 17.2). It is refused with [`Broken`](MoveFault::Broken)
     /// exactly where the machine may not make it, and with [`Memory`](MoveFault::Memory) at most where it is an Attach.
+    ///
+    /// No notification is lost: a thread that is back from a wait set stays so or has the reply for its reason, and
+    /// keeps that until the move Return of just that reply.
     pub fn take(&mut self, made: Move) -> Result<(), MoveFault>
         ensures taken { OnOk result (Steps (state self.old) made (state self.new)) }
         ensures broken { IsErrOf result Broken ↔ IsUnlawful (state self.old) made }
         ensures memory { IsErrOf result NoMemory → IsAttach made }
         ensures kept { OnErr result (self.new ≡ self.old) }
+        ensures lasting { OnOk result (LastsBut (state self.old) (MoveReturns made) (state self.new)) }
     {
+        // A law, by which a move that is taken keeps what lasts.
+        every_move_keeps_what_lasts();
         self.advance(made)
     }
 

@@ -32,7 +32,8 @@ impl Machine {
     }
 
     pub(crate) fn return_with(&mut self, thread: ThreadId, reply: Reply) -> Result<(), MoveFault>
-        ensures { record { answer = result; after = self.new } ≡ taken self.old (rows.return_with self.old thread reply) }
+        ensures { record { answer = result; after = self.new }
+            ≡ taken self.old (rows.return_with self.old thread reply) }
     {
         let Some(live) = self.threads.get(thread) else {
             return Err(MoveFault::Broken);

@@ -8,6 +8,8 @@ use Rattle.fat_monitor.specs.declared.actions.Reply.TheVariants.{WaitOver}
 use Rattle.fat_monitor.specs.declared.actions.Why.{Why}
 use Rattle.fat_monitor.specs.declared.actions.Why.TheVariants.{Notified}
 use Rattle.step_core.specs.declared.machine.Doing.TheVariants.{Back, Has}
+use Rattle.step_core.specs.declared.machine.Move.{Move}
+use Rattle.step_core.specs.declared.machine.Move.TheVariants as move
 use Rattle.step_core.specs.declared.steps.Did.{Did}
 use Rattle.step_core.specs.declared.steps.Step.{Step}
 use Rattle.step_core.specs.declared.steps.Step.TheVariants as step
@@ -32,13 +34,21 @@ abbrev pub Returns : Step → Option Reply → ThreadId → Reply → Type 0
 Returns (step.Go t) d u r = (t.0 ≡ u.0) × (d ≡ Some r)
 Returns s d u r = ⊥
 
--- what a step with this reply leaves of threads that are back, for whatever reason, and of replies
-pub record Lasts (s : State) (did : Step) (d : Option Reply) (s' : State) : Type 0 where
+-- the move is a return from the call of u with this reply
+abbrev pub MoveReturns : Move → ThreadId → Reply → Type 0
+MoveReturns m u r = m ≡ move.Return u r
+
+-- what is left of threads that are back, for whatever reason, and of replies, but for those that are returned
+pub record LastsBut (s : State) (returns : ThreadId → Reply → Type 0) (s' : State) : Type 0 where
   -- a thread that is back stays so, or has the reply for its reason
   pub back : (u : ThreadId) (o : ObjectId) (n : ℕ) (w : Why) → IsBack s u o n w → IsBack s' u o n w ⊎ HasReply s' u (reply_of w)
   -- whoever was notified first keeps an interrupt that came since
   pub pending : (u : ThreadId) (o : ObjectId) (n : ℕ) → Is s u true (Back o n Notified) → Is s' u true (Back o n Notified) ⊎ Is s' u true (Has WaitOver)
-  pub replied : (u : ThreadId) (r : Reply) → HasReply s u r → HasReply s' u r ⊎ Returns did d u r
+  pub replied : (u : ThreadId) (r : Reply) → HasReply s u r → HasReply s' u r ⊎ returns u r
+
+-- what a step with this reply leaves of them
+abbrev pub Lasts : State → Step → Option Reply → State → Type 0
+Lasts s did d s' = LastsBut s (Returns did d) s'
 
 -- none of these steps returns from the call of u with this reply
 abbrev pub NeverReturns : WorldState → ThreadId → Reply → List (Step × Bool) → Type 0

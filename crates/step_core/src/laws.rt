@@ -20,7 +20,7 @@ ghost use Rattle.step_core.specs.Shown.{shown};
 ghost use Rattle.step_core.specs.Step.{moves_after, world_after};
 ghost use Rattle.step_core.specs.Labels.{labels_of, labels_after};
 ghost use Rattle.step_core.specs.Patient.{goes_of, AllLinger};
-ghost use Rattle.step_core.specs.Lasting.{IsBack, IsNotified, HasReply, NeverReturns};
+ghost use Rattle.step_core.specs.Lasting.{IsBack, IsNotified, HasReply, NeverReturns, LastsBut, MoveReturns};
 ghost use Rattle.step_core.specs.Kept.{Keeps};
 ghost use Rattle.step_core.specs.Laws.{OfEveryList};
 
@@ -117,4 +117,12 @@ pub fn a_waiter_throws_or_keeps_its_interrupt()
     ensures never { (s s' : State) (m : Move) (u : ThreadId) (o : ObjectId) (n : ℕ) (w : Why)
         → Steps s m s' → Is s u true (doing.Back o n w)
         → Is s' u false (doing.Has WaitOver) → ⊥ }
+{}
+
+/// What each move of the abstract machine leaves: a thread that is back from a wait set, for whatever reason, stays
+/// so or has the reply for its reason, a notified one with the interrupt that it has; and a reply is kept until the
+/// move Return of just that reply.
+#[tactic(auto, using(crate::proofs::Clauses::Lasting::move_lasts))]
+pub fn every_move_keeps_what_lasts()
+    ensures { (s s' : State) (m : Move) → Steps s m s' → LastsBut s (MoveReturns m) s' }
 {}

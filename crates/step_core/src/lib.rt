@@ -49,7 +49,7 @@ pub use fast_path::{Call, InterruptCall, MonitorCall, Operation};
 pub use fat_monitor::{Action, Answer, Cause, Reply, Why};
 pub use laws::{
     a_waiter_throws_or_keeps_its_interrupt, every_call_is_patient, every_list_of_steps_is_a_run,
-    every_list_of_steps_keeps_the_world, no_notification_is_lost,
+    every_list_of_steps_keeps_the_world, every_move_keeps_what_lasts, no_notification_is_lost,
 };
 pub use lock_word::{Lock, Memory, ObjectId, Split, ThreadId, Word, decode};
 pub use machine::{Doing, Move};

@@ -1,14 +1,12 @@
-//! Worked runs, step by step: what each step did, its moves and its reply. A checker follows each run.
+//! Worked runs, step by step: what each step did, its moves and its reply.
 
 use crate::{Atomic, Did, Doing, Fault, Move, Step, World};
 use fast_path::Call;
 use fat_monitor::{Action, Answer, Cause, Reply, Why};
-use lock_word::{ObjectId, ThreadId, Word};
-use plays::Play;
+use lock_word::{ObjectId, Split, ThreadId, Word};
 use std::process::Abort;
 use std::test::Fail;
 
-mod checker;
 mod contention;
 mod deadlines;
 mod endings;
@@ -18,8 +16,6 @@ mod inflation;
 mod interrupts;
 mod memory;
 mod nesting;
-mod plays;
-mod unlawful;
 mod waits;
 
 const X: ThreadId = ThreadId(0);
@@ -41,7 +37,7 @@ const HOLDS: Call = Call::Holds(A);
 /// Does a step that is accepted, and compares what it did: the atomic step, the moves and the reply.
 fn does(
     rt: &impl Abort,
-    play: &mut Play,
+    world: &mut World,
     step: Step,
     atomic: Atomic,
     moves: [Option<Move>; 3],
@@ -52,47 +48,47 @@ fn does(
         moves,
         reply,
     };
-    assert_eq!(rt; play.step(rt, step), Ok(did));
+    assert_eq!(rt; world.step(step), Ok(did));
 }
 
 /// A step that is refused.
-fn refuses(rt: &impl Abort, play: &mut Play, step: Step, fault: Fault) {
-    assert_eq!(rt; play.step(rt, step), Err(fault));
+fn refuses(rt: &impl Abort, world: &mut World, step: Step, fault: Fault) {
+    assert_eq!(rt; world.step(step), Err(fault));
 }
 
-fn attach(rt: &impl Abort, play: &mut Play, thread: ThreadId, index: u16) {
+fn attach(rt: &impl Abort, world: &mut World, thread: ThreadId, index: u16) {
     let moves = [Some(Move::Attach { thread }), None, None];
     does(
         rt,
-        play,
+        world,
         Step::Attach { thread },
         Atomic::Label,
         moves,
         None,
     );
-    assert_eq!(rt; play.index(thread), Some(index));
-    assert_eq!(rt; play.thread_at(index), Some(thread));
-    assert_eq!(rt; play.doing(thread), Some(Doing::Idle));
+    assert_eq!(rt; world.index(thread), Some(index));
+    assert_eq!(rt; world.thread_at(index), Some(thread));
+    assert_eq!(rt; world.doing(thread), Some(Doing::Idle));
 }
 
-fn begin(rt: &impl Abort, play: &mut Play, thread: ThreadId, call: Call) {
+fn begin(rt: &impl Abort, world: &mut World, thread: ThreadId, call: Call) {
     let moves = [Some(Move::Call { thread, call }), None, None];
     does(
         rt,
-        play,
+        world,
         Step::Begin { thread, call },
         Atomic::Label,
         moves,
         None,
     );
-    assert_eq!(rt; play.doing(thread), Some(Doing::Wants(call)));
+    assert_eq!(rt; world.doing(thread), Some(Doing::Wants(call)));
 }
 
 /// A Go that makes no move and has no reply.
-fn goes(rt: &impl Abort, play: &mut Play, thread: ThreadId, atomic: Atomic) {
+fn goes(rt: &impl Abort, world: &mut World, thread: ThreadId, atomic: Atomic) {
     does(
         rt,
-        play,
+        world,
         Step::Go { thread },
         atomic,
         [None, None, None],
@@ -103,38 +99,38 @@ fn goes(rt: &impl Abort, play: &mut Play, thread: ThreadId, atomic: Atomic) {
 /// A Go that makes one move and replies.
 fn replies(
     rt: &impl Abort,
-    play: &mut Play,
+    world: &mut World,
     atomic: Atomic,
     made: Move,
     reply: Reply,
     thread: ThreadId,
 ) {
     let moves = [Some(made), Some(Move::Return { thread, reply }), None];
-    does(rt, play, Step::Go { thread }, atomic, moves, Some(reply));
-    assert_eq!(rt; play.doing(thread), Some(Doing::Idle));
+    does(rt, world, Step::Go { thread }, atomic, moves, Some(reply));
+    assert_eq!(rt; world.doing(thread), Some(Doing::Idle));
 }
 
 /// A Go that replies with what the thread has already.
-fn returns(rt: &impl Abort, play: &mut Play, atomic: Atomic, thread: ThreadId) {
+fn returns(rt: &impl Abort, world: &mut World, atomic: Atomic, thread: ThreadId) {
     let reply = Reply::Entered;
-    assert_eq!(rt; play.doing(thread), Some(Doing::Has(reply)));
+    assert_eq!(rt; world.doing(thread), Some(Doing::Has(reply)));
     let moves = [Some(Move::Return { thread, reply }), None, None];
-    does(rt, play, Step::Go { thread }, atomic, moves, Some(reply));
+    does(rt, world, Step::Go { thread }, atomic, moves, Some(reply));
 }
 
 /// What the word of an object shows.
 fn shows(
     rt: &impl Abort,
-    play: &Play,
+    world: &World,
     object: ObjectId,
     word: u32,
     owner: Option<ThreadId>,
     holds: u16,
 ) {
-    assert!(rt; object.0 < play.objects());
-    assert_eq!(rt; play.word(object), Word(word));
-    assert_eq!(rt; play.owner(object), owner);
-    assert_eq!(rt; play.holds(object), holds);
+    assert!(rt; object.0 < world.objects());
+    assert_eq!(rt; world.word(object), Word(word));
+    assert_eq!(rt; world.owner(object), owner);
+    assert_eq!(rt; world.holds(object), holds);
 }
 
 fn load(word: u32) -> Atomic {
@@ -176,12 +172,12 @@ fn acted(action: Action, reply: Reply) -> Atomic {
 }
 
 /// An uncontended enter of a free object.
-fn enter_free(rt: &impl Abort, play: &mut Play, thread: ThreadId, new: u32) {
-    begin(rt, play, thread, ENTER);
-    goes(rt, play, thread, load(0xA5));
+fn enter_free(rt: &impl Abort, world: &mut World, thread: ThreadId, new: u32) {
+    begin(rt, world, thread, ENTER);
+    goes(rt, world, thread, load(0xA5));
     replies(
         rt,
-        play,
+        world,
         won(0xA5, new),
         Move::Lock { thread },
         Reply::Entered,
@@ -190,28 +186,28 @@ fn enter_free(rt: &impl Abort, play: &mut Play, thread: ThreadId, new: u32) {
 }
 
 /// An enter or exit by the owner of a thin word, which leads to another word of the owner's.
-fn restores(rt: &impl Abort, play: &mut Play, thread: ThreadId, call: Call, old: u32, new: u32) {
+fn restores(rt: &impl Abort, world: &mut World, thread: ThreadId, call: Call, old: u32, new: u32) {
     let (made, reply) = match call {
         Call::Exit(_) => (Move::Unlock { thread }, Reply::Exited),
         _ => (Move::Lock { thread }, Reply::Entered),
     };
-    begin(rt, play, thread, call);
-    goes(rt, play, thread, load(old));
-    replies(rt, play, stored(old, new), made, reply, thread);
+    begin(rt, world, thread, call);
+    goes(rt, world, thread, load(old));
+    replies(rt, world, stored(old, new), made, reply, thread);
 }
 
 /// Enters of x, from none to `holds` of them, 1 to 256, all of them thin.
-fn enter_thinly(rt: &impl Abort, play: &mut Play, holds: u32) {
-    enter_free(rt, play, X, 0x0001_00A5);
+fn enter_thinly(rt: &impl Abort, world: &mut World, holds: u32) {
+    enter_free(rt, world, X, 0x0001_00A5);
     for count in 1..holds {
         assert!(rt; count < 256);
         let old = 0x0001_00A5 + (count - 1) * 256;
-        restores(rt, play, X, ENTER, old, old + 256);
+        restores(rt, world, X, ENTER, old, old + 256);
     }
 }
 
 /// A world with one object, low byte A5, four indices, and so many monitors.
-fn one_object(rt: &impl Abort, alloc: std::alloc::Global, monitors: u32) -> Result<Play, Fail> {
+fn one_object(rt: &impl Abort, alloc: std::alloc::Global, monitors: u32) -> Result<World, Fail> {
     assert!(rt; monitors <= 8_388_608);
-    Ok(Play::new(alloc, &[0xA5], monitors, 4)?)
+    Ok(World::new(alloc, &[0xA5], monitors, 4, Split::Wide)?)
 }

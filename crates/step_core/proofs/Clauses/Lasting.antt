@@ -31,7 +31,7 @@ use Rattle.step_core.specs.Sound.{IsSound}
 use Rattle.step_core.specs.Step.{step_of, moves_made, moves_of, world_after}
 use Rattle.step_core.specs.Labels.{is_label, labels_of, EndsWith, HasLabels}
 use Rattle.step_core.specs.Refused.{IsParked, IsRefused, IsAcceptable}
-use Rattle.step_core.specs.Lasting.{IsBack, HasReply, Returns, Lasts, NeverReturns}
+use Rattle.step_core.specs.Lasting.{IsBack, HasReply, Returns, MoveReturns, LastsBut, Lasts, NeverReturns}
 use Rattle.step_core.proofs.Facts.PlaceFacts.{not_back as out_not_back}
 use Rattle.step_core.proofs.Sound.AllSteps.{step_right}
 use Rattle.step_core.proofs.Clauses.Labels.{step_labels}
@@ -115,6 +115,40 @@ pending_kept s (m ∷ ms) s' u o n plain (mid, one, rest) note =
     by_case (inr (inl back)) later = inr (set_kept mid ms s' u reply.WaitOver (no_first m ms plain).1 rest (relocked_set mid u o n back))
     by_case (inr (inr back)) later = absurd (no_return m u (Back o n why.Notified) (no_first m ms plain).0 back)
 
+-- Each move leaves what lasts, but for the reply that it returns with.
+pub move_lasts : (s s' : State) (m : Move) → Steps s m s' → LastsBut s (MoveReturns m) s'
+move_lasts s s' m one = record { back = backs; pending = pendings; replied = replies }
+  where
+    backs : (u : ThreadId) (o : ObjectId) (n : ℕ) (w : Why) → IsBack s u o n w → Comes s' u o n w
+    backs u o n w note = by_case (one_step s u note.0 (Back o n w) tt note.1 m s' one)
+      where
+        by_case : Leaves s' m u note.0 (Back o n w) → Comes s' u o n w
+        by_case (inl stays) = inl (stays.0, stays.2)
+        by_case (inr (inl back)) = inr (relocked_reply s' u note.0 o n w back)
+        by_case (inr (inr (v, q, e, same, h))) = absurd (cc)
+
+    pendings : (u : ThreadId) (o : ObjectId) (n : ℕ) → Is s u true (Back o n why.Notified) → Pends s' u o n
+    pendings u o n note = by_case (one_step s u true (Back o n why.Notified) tt note m s' one)
+      where
+        by_case : Leaves s' m u true (Back o n why.Notified) → Pends s' u o n
+        by_case (inl stays) = inl (set_stays s' u (Back o n why.Notified) stays)
+        by_case (inr (inl back)) = inr (relocked_set s' u o n back)
+        by_case (inr (inr (v, q, e, same, h))) = absurd (cc)
+
+    -- the reply that a thread returns with is its own
+    own : (u v : ThreadId) (x q : Reply) → m ≡ move.Return v q → v.0 ≡ u.0 → Has x ≡ Has q → MoveReturns m u x
+    own u v x q e same h =
+        let one_reply : q ≡ x = cc in
+        e ∙ ap (λ (k : ℕ). move.Return (record { 0 = k }) q) same ∙ ap (λ (r : Reply). move.Return u r) one_reply
+
+    replies : (u : ThreadId) (x : Reply) → HasReply s u x → HasReply s' u x ⊎ MoveReturns m u x
+    replies u x has = by_case (one_step s u has.0 (Has x) tt has.1 m s' one)
+      where
+        by_case : Leaves s' m u has.0 (Has x) → HasReply s' u x ⊎ MoveReturns m u x
+        by_case (inl stays) = inl (stays.0, stays.2)
+        by_case (inr (inl (o, n, w, e, h))) = absurd (cc)
+        by_case (inr (inr (v, q, e, same, h))) = inr (own u v x q e same h)
+
 -- the last move of a run
 run_split : (s : State) (ms : List Move) (m : Move) (s' : State) → Run s (ms ++ m ∷ []) s' → (mid : State) × Run s ms mid × Steps mid m s'
 run_split s [] m s' (mid, one, e) = (s, refl, subst (Steps s m) (sym e) one)
@@ -143,22 +177,6 @@ module _ (s s' : State) (t : ThreadId) (r : Reply) (last : Steps s (move.Return 
       by_case (inr (inl (o, n, w, e, h))) = absurd (cc)
       by_case (inr (inr back)) = inr (returned_own x back)
 
-  back_returned : (o : ObjectId) (n : ℕ) (w : Why) → IsBack s u o n w → Comes s' u o n w
-  back_returned o n w note = by_case (one_step s u note.0 (Back o n w) tt note.1 (move.Return t r) s' last)
-    where
-      by_case : Leaves s' (move.Return t r) u note.0 (Back o n w) → Comes s' u o n w
-      by_case (inl stays) = inl (stays.0, stays.2)
-      by_case (inr (inl back)) = inr (relocked_reply s' u note.0 o n w back)
-      by_case (inr (inr (v, q, e, same, h))) = absurd (cc)
-
-  pending_returned : (o : ObjectId) (n : ℕ) → Is s u true (Back o n why.Notified) → Pends s' u o n
-  pending_returned o n note = by_case (one_step s u true (Back o n why.Notified) tt note (move.Return t r) s' last)
-    where
-      by_case : Leaves s' (move.Return t r) u true (Back o n why.Notified) → Pends s' u o n
-      by_case (inl stays) = inl (set_stays s' u (Back o n why.Notified) stays)
-      by_case (inr (inl back)) = inr (relocked_set s' u o n back)
-      by_case (inr (inr (v, q, e, same, h))) = absurd (cc)
-
 -- moves without a label
 plain_lasts : (s s' : State) (ms : List Move) (did : Step) (d : Option Reply) → labels_of ms ≡ [] → Run s ms s' → Lasts s did d s'
 plain_lasts s s' ms did d plain run = record {
@@ -184,7 +202,7 @@ go_lasts s s' t ms (Some r) (inner, e, plain) run free = record { back = backs; 
     by_return u o n w note (inr back) = absurd (free u o n w (sym back.0) note)
 
     by_case : (u : ThreadId) (o : ObjectId) (n : ℕ) (w : Why) → IsBack s u o n w → Comes parts.0 u o n w → Comes s' u o n w
-    by_case u o n w note (inl still) = back_returned parts.0 s' t r parts.2 u o n w still
+    by_case u o n w note (inl still) = (move_lasts parts.0 s' (move.Return t r) parts.2).back u o n w still
     by_case u o n w note (inr has) = by_return u o n w note (reply_returned parts.0 s' t r parts.2 u (reply_of w) has)
 
     backs : (u : ThreadId) (o : ObjectId) (n : ℕ) (w : Why) → IsBack s u o n w → Comes s' u o n w
@@ -195,7 +213,7 @@ go_lasts s s' t ms (Some r) (inner, e, plain) run free = record { back = backs; 
     set_return u o n note (inr back) = absurd (free u o n why.Notified (sym back.0) (true, note))
 
     pended : (u : ThreadId) (o : ObjectId) (n : ℕ) → Is s u true (Back o n why.Notified) → Pends parts.0 u o n → Pends s' u o n
-    pended u o n note (inl still) = pending_returned parts.0 s' t r parts.2 u o n still
+    pended u o n note (inl still) = (move_lasts parts.0 s' (move.Return t r) parts.2).pending u o n still
     pended u o n note (inr has) = set_return u o n note (set_returned parts.0 s' t r parts.2 u reply.WaitOver has)
 
     pendings : (u : ThreadId) (o : ObjectId) (n : ℕ) → Is s u true (Back o n why.Notified) → Pends s' u o n
@@ -204,34 +222,12 @@ go_lasts s s' t ms (Some r) (inner, e, plain) run free = record { back = backs; 
 -- one move that is no return
 module _ (s s' : State) (m : Move) (other : (t : ThreadId) (r : Reply) → m ≡ move.Return t r → ⊥) (run : Run s (m ∷ []) s') (did : Step) (d : Option Reply) where
   one_lasts : Lasts s did d s'
-  one_lasts = record { back = backs; pending = pendings; replied = replies }
+  one_lasts = let kept = move_lasts s s' m (subst (Steps s m) (sym run.2) run.1) in
+      record { back = kept.back; pending = kept.pending; replied = λ u x has. by_case u x (kept.replied u x has) }
     where
-      one : Steps s m s'
-      one = subst (Steps s m) (sym run.2) run.1
-
-      backs : (u : ThreadId) (o : ObjectId) (n : ℕ) (w : Why) → IsBack s u o n w → Comes s' u o n w
-      backs u o n w note = by_case (one_step s u note.0 (Back o n w) tt note.1 m s' one)
-        where
-          by_case : Leaves s' m u note.0 (Back o n w) → Comes s' u o n w
-          by_case (inl stays) = inl (stays.0, stays.2)
-          by_case (inr (inl back)) = inr (relocked_reply s' u note.0 o n w back)
-          by_case (inr (inr (v, q, e, same, h))) = absurd (other v q e)
-
-      pendings : (u : ThreadId) (o : ObjectId) (n : ℕ) → Is s u true (Back o n why.Notified) → Pends s' u o n
-      pendings u o n note = by_case (one_step s u true (Back o n why.Notified) tt note m s' one)
-        where
-          by_case : Leaves s' m u true (Back o n why.Notified) → Pends s' u o n
-          by_case (inl stays) = inl (set_stays s' u (Back o n why.Notified) stays)
-          by_case (inr (inl back)) = inr (relocked_set s' u o n back)
-          by_case (inr (inr (v, q, e, same, h))) = absurd (other v q e)
-
-      replies : (u : ThreadId) (x : Reply) → HasReply s u x → HasReply s' u x ⊎ Returns did d u x
-      replies u x has = by_case (one_step s u has.0 (Has x) tt has.1 m s' one)
-        where
-          by_case : Leaves s' m u has.0 (Has x) → HasReply s' u x ⊎ Returns did d u x
-          by_case (inl stays) = inl (stays.0, stays.2)
-          by_case (inr (inl (o, n, w, e, h))) = absurd (cc)
-          by_case (inr (inr (v, q, e, same, h))) = absurd (other v q e)
+      by_case : (u : ThreadId) (x : Reply) → HasReply s' u x ⊎ MoveReturns m u x → HasReply s' u x ⊎ Returns did d u x
+      by_case u x (inl still) = inl still
+      by_case u x (inr e) = absurd (other u x e)
 
 module _ (w : WorldState) (sound : IsSound w) (t : ThreadId) where
   back_parked : (p : Place) (o : ObjectId) (n : ℕ) (y : Why) (x : Option Post) → post_of w.fats t ≡ x → act_of w.fats (unwrap_or x post.Out) p ≡ Back o n y → IsParked w t

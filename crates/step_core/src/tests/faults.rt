@@ -8,16 +8,16 @@ const Q: ThreadId = ThreadId(9);
 
 #[test]
 fn each_fault_has_its_cause(rt: HostRuntime) -> Result<(), Fail> {
-    let mut play = Play::new(rt.alloc(), &[0xA5], 4, 1)?;
-    attach(&rt, &mut play, X, 1);
-    refuses(&rt, &mut play, Step::Attach { thread: X }, Fault::Known);
-    refuses(&rt, &mut play, Step::Attach { thread: Y }, Fault::NoIndex);
-    refuses(&rt, &mut play, Step::Go { thread: X }, Fault::NotCalling);
-    refuses(&rt, &mut play, Step::Go { thread: Y }, Fault::NoThread);
+    let mut world = World::new(rt.alloc(), &[0xA5], 4, 1, Split::Wide)?;
+    attach(&rt, &mut world, X, 1);
+    refuses(&rt, &mut world, Step::Attach { thread: X }, Fault::Known);
+    refuses(&rt, &mut world, Step::Attach { thread: Y }, Fault::NoIndex);
+    refuses(&rt, &mut world, Step::Go { thread: X }, Fault::NotCalling);
+    refuses(&rt, &mut world, Step::Go { thread: Y }, Fault::NoThread);
     let missing = Call::Enter(ObjectId(1));
     refuses(
         &rt,
-        &mut play,
+        &mut world,
         Step::Begin {
             thread: Y,
             call: ENTER,
@@ -26,7 +26,7 @@ fn each_fault_has_its_cause(rt: HostRuntime) -> Result<(), Fail> {
     );
     refuses(
         &rt,
-        &mut play,
+        &mut world,
         Step::Begin {
             thread: Y,
             call: missing,
@@ -35,17 +35,17 @@ fn each_fault_has_its_cause(rt: HostRuntime) -> Result<(), Fail> {
     );
     refuses(
         &rt,
-        &mut play,
+        &mut world,
         Step::Begin {
             thread: X,
             call: missing,
         },
         Fault::NoObject,
     );
-    begin(&rt, &mut play, X, ENTER);
+    begin(&rt, &mut world, X, ENTER);
     refuses(
         &rt,
-        &mut play,
+        &mut world,
         Step::Begin {
             thread: X,
             call: ENTER,
@@ -54,61 +54,61 @@ fn each_fault_has_its_cause(rt: HostRuntime) -> Result<(), Fail> {
     );
     refuses(
         &rt,
-        &mut play,
+        &mut world,
         Step::Begin {
             thread: X,
             call: missing,
         },
         Fault::NoObject,
     );
-    assert_eq!(rt; play.doing(X), Some(Doing::Wants(ENTER)));
-    assert_eq!(rt; play.doing(Y), None);
-    assert_eq!(rt; play.index(Y), None);
-    assert_eq!(rt; play.thread_at(0), None);
-    assert_eq!(rt; play.thread_at(2), None);
-    shows(&rt, &play, A, 0xA5, None, 0);
+    assert_eq!(rt; world.doing(X), Some(Doing::Wants(ENTER)));
+    assert_eq!(rt; world.doing(Y), None);
+    assert_eq!(rt; world.index(Y), None);
+    assert_eq!(rt; world.thread_at(0), None);
+    assert_eq!(rt; world.thread_at(2), None);
+    shows(&rt, &world, A, 0xA5, None, 0);
     Ok(())
 }
 
 #[test]
 fn a_parked_thread_neither_goes_nor_begins(rt: HostRuntime) -> Result<(), Fail> {
-    let mut play = one_object(&rt, rt.alloc(), 4)?;
-    attach(&rt, &mut play, X, 1);
-    enter_thinly(&rt, &mut play, 1);
-    waits_thinly(&rt, &mut play, 1);
+    let mut world = one_object(&rt, rt.alloc(), 4)?;
+    attach(&rt, &mut world, X, 1);
+    enter_thinly(&rt, &mut world, 1);
+    waits_thinly(&rt, &mut world, 1);
     let again = Step::Begin {
         thread: X,
         call: ENTER,
     };
-    refuses(&rt, &mut play, Step::Go { thread: X }, Fault::Parked);
-    refuses(&rt, &mut play, again, Fault::InCall);
-    refuses(&rt, &mut play, Step::Attach { thread: X }, Fault::Known);
+    refuses(&rt, &mut world, Step::Go { thread: X }, Fault::Parked);
+    refuses(&rt, &mut world, again, Fault::InCall);
+    refuses(&rt, &mut world, Step::Attach { thread: X }, Fault::Known);
     Ok(())
 }
 
 #[test]
 fn only_a_live_thread_that_waits_may_expire(rt: HostRuntime) -> Result<(), Fail> {
-    let mut play = one_object(&rt, rt.alloc(), 4)?;
-    attach(&rt, &mut play, X, 1);
-    refuses(&rt, &mut play, Step::Expire { thread: Q }, Fault::NoThread);
-    refuses(&rt, &mut play, Step::Expire { thread: X }, Fault::NotDue);
-    begin(&rt, &mut play, X, ENTER);
-    refuses(&rt, &mut play, Step::Expire { thread: X }, Fault::NotDue);
-    goes(&rt, &mut play, X, load(0xA5));
-    refuses(&rt, &mut play, Step::Expire { thread: X }, Fault::NotDue);
+    let mut world = one_object(&rt, rt.alloc(), 4)?;
+    attach(&rt, &mut world, X, 1);
+    refuses(&rt, &mut world, Step::Expire { thread: Q }, Fault::NoThread);
+    refuses(&rt, &mut world, Step::Expire { thread: X }, Fault::NotDue);
+    begin(&rt, &mut world, X, ENTER);
+    refuses(&rt, &mut world, Step::Expire { thread: X }, Fault::NotDue);
+    goes(&rt, &mut world, X, load(0xA5));
+    refuses(&rt, &mut world, Step::Expire { thread: X }, Fault::NotDue);
     Ok(())
 }
 
 #[test]
 fn a_call_about_a_thread_that_is_not_live_is_refused(rt: HostRuntime) -> Result<(), Fail> {
-    let mut play = one_object(&rt, rt.alloc(), 4)?;
-    attach(&rt, &mut play, X, 1);
+    let mut world = one_object(&rt, rt.alloc(), 4)?;
+    attach(&rt, &mut world, X, 1);
     let ask = Action::IsInterrupted { target: Q };
-    asks_in_vain(&rt, &mut play, X, Call::IsInterrupted(Q), ask);
+    asks_in_vain(&rt, &mut world, X, Call::IsInterrupted(Q), ask);
     let interrupt = Action::Interrupt { target: Q };
-    asks_in_vain(&rt, &mut play, X, Call::Interrupt(Q), interrupt);
-    assert_eq!(rt; play.flag(X), Some(false));
-    assert_eq!(rt; play.flag(Q), None);
+    asks_in_vain(&rt, &mut world, X, Call::Interrupt(Q), interrupt);
+    assert_eq!(rt; world.flag(X), Some(false));
+    assert_eq!(rt; world.flag(Q), None);
     Ok(())
 }
 

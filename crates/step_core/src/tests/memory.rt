@@ -4,24 +4,24 @@
 use super::*;
 
 /// An attach, tried again where memory was refused.
-fn attaches(rt: &impl Abort, play: &mut Play, thread: ThreadId, index: u16) {
+fn attaches(rt: &impl Abort, world: &mut World, thread: ThreadId, index: u16) {
     let attached = Did {
         atomic: Atomic::Label,
         moves: [Some(Move::Attach { thread }), None, None],
         reply: None,
     };
-    let first = play.step(rt, Step::Attach { thread });
+    let first = world.step(Step::Attach { thread });
     if first == Err(Fault::Memory) {
-        assert_eq!(rt; play.index(thread), None);
-        assert_eq!(rt; play.doing(thread), None);
-        attach(rt, play, thread, index);
+        assert_eq!(rt; world.index(thread), None);
+        assert_eq!(rt; world.doing(thread), None);
+        attach(rt, world, thread, index);
     } else {
         assert_eq!(rt; first, Ok(attached));
     }
 }
 
 /// The bind of a 257th enter of x, and the whole enter once more where memory was refused.
-fn binds(rt: &impl Abort, play: &mut Play) {
+fn binds(rt: &impl Abort, world: &mut World) {
     let cause = Cause::Memory;
     let reply = Reply::Refused(cause);
     let refusal = Did {
@@ -38,12 +38,12 @@ fn binds(rt: &impl Abort, play: &mut Play) {
         moves: [None, None, None],
         reply: None,
     };
-    let first = play.step(rt, Step::Go { thread: X });
+    let first = world.step(Step::Go { thread: X });
     if first == Ok(refusal) {
-        shows(rt, play, A, 0x0001_FFA5, Some(X), 256);
-        begin(rt, play, X, ENTER);
-        goes(rt, play, X, load(0x0001_FFA5));
-        goes(rt, play, X, bound(0));
+        shows(rt, world, A, 0x0001_FFA5, Some(X), 256);
+        begin(rt, world, X, ENTER);
+        goes(rt, world, X, load(0x0001_FFA5));
+        goes(rt, world, X, bound(0));
     } else {
         assert_eq!(rt; first, Ok(binding));
     }
@@ -51,25 +51,25 @@ fn binds(rt: &impl Abort, play: &mut Play) {
 
 #[test]
 fn what_was_refused_succeeds_when_tried_again(rt: HostRuntime) -> Result<(), Fail> {
-    let mut play = match Play::new(rt.alloc(), &[0xA5], 4, 4) {
-        Ok(play) => play,
-        Err(_) => Play::new(rt.alloc(), &[0xA5], 4, 4)?,
+    let mut world = match World::new(rt.alloc(), &[0xA5], 4, 4, Split::Wide) {
+        Ok(world) => world,
+        Err(_) => World::new(rt.alloc(), &[0xA5], 4, 4, Split::Wide)?,
     };
-    attaches(&rt, &mut play, X, 1);
-    attaches(&rt, &mut play, Y, 2);
-    enter_thinly(&rt, &mut play, 256);
-    begin(&rt, &mut play, X, ENTER);
-    goes(&rt, &mut play, X, load(0x0001_FFA5));
-    binds(&rt, &mut play);
-    goes(&rt, &mut play, X, stored(0x0001_FFA5, 0x8000_00A5));
+    attaches(&rt, &mut world, X, 1);
+    attaches(&rt, &mut world, Y, 2);
+    enter_thinly(&rt, &mut world, 256);
+    begin(&rt, &mut world, X, ENTER);
+    goes(&rt, &mut world, X, load(0x0001_FFA5));
+    binds(&rt, &mut world);
+    goes(&rt, &mut world, X, stored(0x0001_FFA5, 0x8000_00A5));
     replies(
         &rt,
-        &mut play,
+        &mut world,
         acted(Action::Enter { monitor: 0 }, Reply::Entered),
         Move::Lock { thread: X },
         Reply::Entered,
         X,
     );
-    shows(&rt, &play, A, 0x8000_00A5, Some(X), 257);
+    shows(&rt, &world, A, 0x8000_00A5, Some(X), 257);
     Ok(())
 }

@@ -5,85 +5,85 @@ use fat_calls::*;
 
 #[test]
 fn three_holds_come_back_from_a_wait(rt: HostRuntime) -> Result<(), Fail> {
-    let mut play = one_object(&rt, rt.alloc(), 4)?;
-    attach(&rt, &mut play, X, 1);
-    attach(&rt, &mut play, Y, 2);
-    enter_thinly(&rt, &mut play, 3);
-    shows(&rt, &play, A, 0x0001_02A5, Some(X), 3);
-    waits_thinly(&rt, &mut play, 3);
-    enters(&rt, &mut play, Y);
-    notifies(&rt, &mut play, Y, Some(X));
+    let mut world = one_object(&rt, rt.alloc(), 4)?;
+    attach(&rt, &mut world, X, 1);
+    attach(&rt, &mut world, Y, 2);
+    enter_thinly(&rt, &mut world, 3);
+    shows(&rt, &world, A, 0x0001_02A5, Some(X), 3);
+    waits_thinly(&rt, &mut world, 3);
+    enters(&rt, &mut world, Y);
+    notifies(&rt, &mut world, Y, Some(X));
     let back = Doing::Back {
         object: A,
         holds: 3,
         why: Why::Notified,
     };
-    assert_eq!(rt; play.doing(X), Some(back));
-    assert!(rt; A.0 < play.objects());
-    assert!(rt; !play.waiting(A, X));
-    refuses(&rt, &mut play, Step::Go { thread: X }, Fault::Parked);
-    hands_on(&rt, &mut play, Y, Move::Relock { thread: X });
-    shows(&rt, &play, A, FAT, Some(X), 3);
-    collects(&rt, &mut play, X, Reply::WaitOver);
-    shows(&rt, &play, A, FAT, Some(X), 3);
-    enters(&rt, &mut play, X);
-    shows(&rt, &play, A, FAT, Some(X), 4);
+    assert_eq!(rt; world.doing(X), Some(back));
+    assert!(rt; A.0 < world.objects());
+    assert!(rt; !world.waiting(A, X));
+    refuses(&rt, &mut world, Step::Go { thread: X }, Fault::Parked);
+    hands_on(&rt, &mut world, Y, Move::Relock { thread: X });
+    shows(&rt, &world, A, FAT, Some(X), 3);
+    collects(&rt, &mut world, X, Reply::WaitOver);
+    shows(&rt, &world, A, FAT, Some(X), 3);
+    enters(&rt, &mut world, X);
+    shows(&rt, &world, A, FAT, Some(X), 4);
     for _ in 0..4 {
-        exits(&rt, &mut play, X);
+        exits(&rt, &mut world, X);
     }
-    shows(&rt, &play, A, FAT, None, 0);
+    shows(&rt, &world, A, FAT, None, 0);
     Ok(())
 }
 
 #[test]
 fn a_broadcast_wakes_all_in_order(rt: HostRuntime) -> Result<(), Fail> {
-    let mut play = one_object(&rt, rt.alloc(), 4)?;
-    attach(&rt, &mut play, X, 1);
-    attach(&rt, &mut play, Y, 2);
-    attach(&rt, &mut play, W, 3);
-    enter_thinly(&rt, &mut play, 1);
-    waits_thinly(&rt, &mut play, 1);
-    enters(&rt, &mut play, W);
-    waits(&rt, &mut play, W);
-    enters(&rt, &mut play, Y);
-    notifies_all(&rt, &mut play, Y);
-    hands_on(&rt, &mut play, Y, Move::Relock { thread: X });
-    refuses(&rt, &mut play, Step::Go { thread: W }, Fault::Parked);
-    collects(&rt, &mut play, X, Reply::WaitOver);
-    hands_on(&rt, &mut play, X, Move::Relock { thread: W });
-    collects(&rt, &mut play, W, Reply::WaitOver);
-    exits(&rt, &mut play, W);
-    shows(&rt, &play, A, FAT, None, 0);
-    enters(&rt, &mut play, Y);
-    notifies(&rt, &mut play, Y, None);
-    shows(&rt, &play, A, FAT, Some(Y), 1);
+    let mut world = one_object(&rt, rt.alloc(), 4)?;
+    attach(&rt, &mut world, X, 1);
+    attach(&rt, &mut world, Y, 2);
+    attach(&rt, &mut world, W, 3);
+    enter_thinly(&rt, &mut world, 1);
+    waits_thinly(&rt, &mut world, 1);
+    enters(&rt, &mut world, W);
+    waits(&rt, &mut world, W);
+    enters(&rt, &mut world, Y);
+    notifies_all(&rt, &mut world, Y);
+    hands_on(&rt, &mut world, Y, Move::Relock { thread: X });
+    refuses(&rt, &mut world, Step::Go { thread: W }, Fault::Parked);
+    collects(&rt, &mut world, X, Reply::WaitOver);
+    hands_on(&rt, &mut world, X, Move::Relock { thread: W });
+    collects(&rt, &mut world, W, Reply::WaitOver);
+    exits(&rt, &mut world, W);
+    shows(&rt, &world, A, FAT, None, 0);
+    enters(&rt, &mut world, Y);
+    notifies(&rt, &mut world, Y, None);
+    shows(&rt, &world, A, FAT, Some(Y), 1);
     Ok(())
 }
 
 #[test]
 fn a_contender_stands_in_line(rt: HostRuntime) -> Result<(), Fail> {
-    let mut play = one_object(&rt, rt.alloc(), 4)?;
-    attach(&rt, &mut play, X, 1);
-    attach(&rt, &mut play, Y, 2);
-    attach(&rt, &mut play, Z, 3);
-    enter_thinly(&rt, &mut play, 1);
-    waits_thinly(&rt, &mut play, 1);
-    enters(&rt, &mut play, Y);
-    stands_in_line(&rt, &mut play, Z);
-    notifies(&rt, &mut play, Y, Some(X));
-    hands_on(&rt, &mut play, Y, Move::Lock { thread: Z });
-    shows(&rt, &play, A, FAT, Some(Z), 1);
-    collects(&rt, &mut play, Z, Reply::Entered);
-    hands_on(&rt, &mut play, Z, Move::Relock { thread: X });
-    collects(&rt, &mut play, X, Reply::WaitOver);
-    shows(&rt, &play, A, FAT, Some(X), 1);
+    let mut world = one_object(&rt, rt.alloc(), 4)?;
+    attach(&rt, &mut world, X, 1);
+    attach(&rt, &mut world, Y, 2);
+    attach(&rt, &mut world, Z, 3);
+    enter_thinly(&rt, &mut world, 1);
+    waits_thinly(&rt, &mut world, 1);
+    enters(&rt, &mut world, Y);
+    stands_in_line(&rt, &mut world, Z);
+    notifies(&rt, &mut world, Y, Some(X));
+    hands_on(&rt, &mut world, Y, Move::Lock { thread: Z });
+    shows(&rt, &world, A, FAT, Some(Z), 1);
+    collects(&rt, &mut world, Z, Reply::Entered);
+    hands_on(&rt, &mut world, Z, Move::Relock { thread: X });
+    collects(&rt, &mut world, X, Reply::WaitOver);
+    shows(&rt, &world, A, FAT, Some(X), 1);
     Ok(())
 }
 
 /// A wait of x that is answered at its load.
 fn waits_in_vain(
     rt: &impl Abort,
-    play: &mut Play,
+    world: &mut World,
     (millis, nanos): (i64, i32),
     word: u32,
     made: Move,
@@ -94,94 +94,94 @@ fn waits_in_vain(
         millis,
         nanos,
     };
-    begin(rt, play, X, call);
-    replies(rt, play, load(word), made, reply, X);
+    begin(rt, world, X, call);
+    replies(rt, world, load(word), made, reply, X);
 }
 
 #[test]
 fn a_wait_needs_the_object_and_a_time_in_range(rt: HostRuntime) -> Result<(), Fail> {
-    let mut play = one_object(&rt, rt.alloc(), 4)?;
-    attach(&rt, &mut play, X, 1);
+    let mut world = one_object(&rt, rt.alloc(), 4)?;
+    attach(&rt, &mut world, X, 1);
     waits_in_vain(
         &rt,
-        &mut play,
+        &mut world,
         (-1, 0),
         0xA5,
         Move::Illegal { thread: X },
         Reply::IllegalMonitorState,
     );
-    enter_thinly(&rt, &mut play, 1);
+    enter_thinly(&rt, &mut world, 1);
     for time in [(-1, 0), (0, 1_000_000), (0, -1)] {
         waits_in_vain(
             &rt,
-            &mut play,
+            &mut world,
             time,
             0x0001_00A5,
             Move::BadArgument { thread: X },
             Reply::IllegalArgument,
         );
-        shows(&rt, &play, A, 0x0001_00A5, Some(X), 1);
+        shows(&rt, &world, A, 0x0001_00A5, Some(X), 1);
     }
-    ticks(&rt, &mut play, 7);
+    ticks(&rt, &mut world, 7);
     let call = Call::Wait {
         object: A,
         millis: 0,
         nanos: 999_999,
     };
-    inflates(&rt, &mut play, call, 0x0001_00A5);
-    parks(&rt, &mut play, X, (0, 999_999), 1, Some(1_000_006));
+    inflates(&rt, &mut world, call, 0x0001_00A5);
+    parks(&rt, &mut world, X, (0, 999_999), 1, Some(1_000_006));
     Ok(())
 }
 
 #[test]
 fn a_thin_owner_notifies_nobody(rt: HostRuntime) -> Result<(), Fail> {
-    let mut play = one_object(&rt, rt.alloc(), 4)?;
-    attach(&rt, &mut play, X, 1);
-    enter_thinly(&rt, &mut play, 1);
+    let mut world = one_object(&rt, rt.alloc(), 4)?;
+    attach(&rt, &mut world, X, 1);
+    enter_thinly(&rt, &mut world, 1);
     let nobody = Move::Notify {
         thread: X,
         chosen: None,
     };
-    begin(&rt, &mut play, X, Call::Notify(A));
+    begin(&rt, &mut world, X, Call::Notify(A));
     replies(
         &rt,
-        &mut play,
+        &mut world,
         load(0x0001_00A5),
         nobody,
         Reply::Notified,
         X,
     );
-    begin(&rt, &mut play, X, Call::NotifyAll(A));
+    begin(&rt, &mut world, X, Call::NotifyAll(A));
     let all = Move::NotifyAll { thread: X };
-    replies(&rt, &mut play, load(0x0001_00A5), all, Reply::Notified, X);
-    shows(&rt, &play, A, 0x0001_00A5, Some(X), 1);
+    replies(&rt, &mut world, load(0x0001_00A5), all, Reply::Notified, X);
+    shows(&rt, &world, A, 0x0001_00A5, Some(X), 1);
     Ok(())
 }
 
 #[test]
 fn a_wait_without_a_monitor_is_refused(rt: HostRuntime) -> Result<(), Fail> {
-    let mut play = one_object(&rt, rt.alloc(), 0)?;
-    attach(&rt, &mut play, X, 1);
-    enter_thinly(&rt, &mut play, 2);
-    begin(&rt, &mut play, X, WAIT);
-    goes(&rt, &mut play, X, load(0x0001_01A5));
+    let mut world = one_object(&rt, rt.alloc(), 0)?;
+    attach(&rt, &mut world, X, 1);
+    enter_thinly(&rt, &mut world, 2);
+    begin(&rt, &mut world, X, WAIT);
+    goes(&rt, &mut world, X, load(0x0001_01A5));
     let cause = Cause::NoMonitor;
     replies(
         &rt,
-        &mut play,
+        &mut world,
         not_bound(cause),
         Move::Refuse { thread: X, cause },
         Reply::Refused(cause),
         X,
     );
-    shows(&rt, &play, A, 0x0001_01A5, Some(X), 2);
+    shows(&rt, &world, A, 0x0001_01A5, Some(X), 2);
     Ok(())
 }
 
 /// A wait of the owner that is answered at the monitor.
 fn waits_in_vain_there(
     rt: &impl Abort,
-    play: &mut Play,
+    world: &mut World,
     thread: ThreadId,
     (millis, nanos): (i64, i32),
     made: Move,
@@ -197,32 +197,32 @@ fn waits_in_vain_there(
         millis,
         nanos,
     };
-    answers(rt, play, thread, call, action, made, reply);
+    answers(rt, world, thread, call, action, made, reply);
 }
 
 #[test]
 fn a_wait_at_a_fat_monitor_needs_the_same(rt: HostRuntime) -> Result<(), Fail> {
-    let mut play = one_object(&rt, rt.alloc(), 4)?;
-    attach(&rt, &mut play, X, 1);
-    attach(&rt, &mut play, Y, 2);
-    enter_thinly(&rt, &mut play, 1);
-    waits_thinly(&rt, &mut play, 1);
-    enters(&rt, &mut play, Y);
+    let mut world = one_object(&rt, rt.alloc(), 4)?;
+    attach(&rt, &mut world, X, 1);
+    attach(&rt, &mut world, Y, 2);
+    enter_thinly(&rt, &mut world, 1);
+    waits_thinly(&rt, &mut world, 1);
+    enters(&rt, &mut world, Y);
     for time in [(-1, 0), (0, 1_000_000), (0, -1)] {
         waits_in_vain_there(
             &rt,
-            &mut play,
+            &mut world,
             Y,
             time,
             Move::BadArgument { thread: Y },
             Reply::IllegalArgument,
         );
     }
-    shows(&rt, &play, A, FAT, Some(Y), 1);
-    exits(&rt, &mut play, Y);
+    shows(&rt, &world, A, FAT, Some(Y), 1);
+    exits(&rt, &mut world, Y);
     waits_in_vain_there(
         &rt,
-        &mut play,
+        &mut world,
         Y,
         (-1, 0),
         Move::Illegal { thread: Y },
@@ -233,16 +233,16 @@ fn a_wait_at_a_fat_monitor_needs_the_same(rt: HostRuntime) -> Result<(), Fail> {
 
 #[test]
 fn a_wait_hands_the_monitor_on(rt: HostRuntime) -> Result<(), Fail> {
-    let mut play = one_object(&rt, rt.alloc(), 4)?;
-    attach(&rt, &mut play, X, 1);
-    attach(&rt, &mut play, Y, 2);
-    attach(&rt, &mut play, Z, 3);
-    enter_thinly(&rt, &mut play, 1);
-    waits_thinly(&rt, &mut play, 1);
-    enters(&rt, &mut play, Y);
-    stands_in_line(&rt, &mut play, Z);
-    begin(&rt, &mut play, Y, WAIT);
-    goes(&rt, &mut play, Y, load(FAT));
+    let mut world = one_object(&rt, rt.alloc(), 4)?;
+    attach(&rt, &mut world, X, 1);
+    attach(&rt, &mut world, Y, 2);
+    attach(&rt, &mut world, Z, 3);
+    enter_thinly(&rt, &mut world, 1);
+    waits_thinly(&rt, &mut world, 1);
+    enters(&rt, &mut world, Y);
+    stands_in_line(&rt, &mut world, Z);
+    begin(&rt, &mut world, Y, WAIT);
+    goes(&rt, &mut world, Y, load(FAT));
     let parked = Atomic::Acted {
         action: Action::Wait {
             monitor: 0,
@@ -256,12 +256,12 @@ fn a_wait_hands_the_monitor_on(rt: HostRuntime) -> Result<(), Fail> {
         Some(Move::Lock { thread: Z }),
         None,
     ];
-    does(&rt, &mut play, Step::Go { thread: Y }, parked, moves, None);
-    shows(&rt, &play, A, FAT, Some(Z), 1);
-    collects(&rt, &mut play, Z, Reply::Entered);
-    notifies(&rt, &mut play, Z, Some(X));
-    notifies(&rt, &mut play, Z, Some(Y));
-    notifies(&rt, &mut play, Z, None);
-    hands_on(&rt, &mut play, Z, Move::Relock { thread: X });
+    does(&rt, &mut world, Step::Go { thread: Y }, parked, moves, None);
+    shows(&rt, &world, A, FAT, Some(Z), 1);
+    collects(&rt, &mut world, Z, Reply::Entered);
+    notifies(&rt, &mut world, Z, Some(X));
+    notifies(&rt, &mut world, Z, Some(Y));
+    notifies(&rt, &mut world, Z, None);
+    hands_on(&rt, &mut world, Z, Move::Relock { thread: X });
     Ok(())
 }

@@ -1,10 +1,11 @@
-//! A small checker of runs. It knows nothing of words, indices and monitors' numbers: it was written from
-//! the rows of `Steps` in specs/Machine.antt alone, a function for each row.
+//! A plain checker of moves, of which nothing is proved but that it returns. It was written from the rows of
+//! `Steps` in `step_core/specs/Machine.antt` alone, a function for each row, and walks over all threads and all
+//! objects where it looks for one.
 
 mod rows;
 
-use super::*;
 use std::alloc::{AllocError, Global};
+use step_core::{Call, Cause, Doing, Move, ObjectId, Reply, ThreadId, Why};
 
 /// A live thread.
 #[derive(Clone, Copy, PartialEq, Eq, Debug)]

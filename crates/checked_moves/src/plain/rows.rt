@@ -1,4 +1,4 @@
-//! The rows of the table of moves: each is done where it is lawful.
+//! The rows of the table of moves: each move is made where it is lawful.
 
 use super::*;
 

@@ -1,9 +1,29 @@
-//! Moves that the checker itself does not take, after which it is as it was.
+//! Moves that the plain checker does not take, after which it is as it was.
 
-use super::*;
-use checker::Machine;
-use fat_calls::WAIT;
+use crate::plain::Machine;
 use std::alloc::Global;
+use std::process::Abort;
+use std::test::Fail;
+use step_core::{Call, Cause, Move, ObjectId, Reply, ThreadId};
+
+const X: ThreadId = ThreadId(0);
+
+const Y: ThreadId = ThreadId(1);
+
+const A: ObjectId = ObjectId(0);
+
+const ENTER: Call = Call::Enter(A);
+
+const EXIT: Call = Call::Exit(A);
+
+const HOLDS: Call = Call::Holds(A);
+
+/// A wait of no limit.
+const WAIT: Call = Call::Wait {
+    object: A,
+    millis: 0,
+    nanos: 0,
+};
 
 /// An object that the checker does not have.
 const MISSING: ObjectId = ObjectId(1);

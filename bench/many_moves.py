@@ -1,0 +1,86 @@
+"""Times `thinmon check` on histories of 1,000,000 moves, and prints a table.
+
+    python3 bench/many_moves.py crates/thinmon/out/thinmon
+
+The program is there once `rt run` in `crates/thinmon` has built it. A history has so many live threads,
+which take turns in pairs: one waits, and the other notifies it. Each time is the least of three runs.
+"""
+
+import json
+import subprocess
+import sys
+import tempfile
+import time
+
+MOVES = 1_000_000
+OBJECTS = 1000
+RUNS = 3
+
+
+def move(kind, thread, **members):
+    return {"move": kind, "thread": thread, **members}
+
+
+def whole_call(thread, call, place, answer, reply):
+    """A call, its answer and its return."""
+    yield move("Call", thread, call=call, object=place)
+    yield answer
+    yield move("Return", thread, reply=reply)
+
+
+def one_round(waiter, notifier, place):
+    """The waiter waits on an object, the notifier notifies it, and both give up the object."""
+    yield from whole_call(waiter, "Enter", place, move("Lock", waiter), "Entered")
+    yield move("Call", waiter, call="Wait", object=place, millis=0, nanos=0)
+    yield move("Wait", waiter)
+    yield from whole_call(notifier, "Enter", place, move("Lock", notifier), "Entered")
+    chosen = move("Notify", notifier, chosen=waiter)
+    yield from whole_call(notifier, "Notify", place, chosen, "Notified")
+    yield from whole_call(notifier, "Exit", place, move("Unlock", notifier), "Exited")
+    yield move("Relock", waiter)
+    yield move("Return", waiter, reply="WaitOver")
+    yield from whole_call(waiter, "Exit", place, move("Unlock", waiter), "Exited")
+
+
+def moves(threads):
+    for thread in range(threads):
+        yield move("Attach", thread)
+    number = 0
+    while True:
+        waiter, notifier = number % threads, (number + 1) % threads
+        yield from one_round(waiter, notifier, number % OBJECTS)
+        number += 1
+
+
+def write(file, threads):
+    file.write(json.dumps({"objects": OBJECTS}) + "\n")
+    for _, one in zip(range(MOVES), moves(threads)):
+        file.write(json.dumps(one, sort_keys=True, separators=(",", ":")) + "\n")
+    file.flush()
+
+
+def seconds(program, threads):
+    with tempfile.NamedTemporaryFile("w", suffix=".history") as file:
+        write(file, threads)
+        best = None
+        for _ in range(RUNS):
+            start = time.perf_counter()
+            done = subprocess.run(
+                [program, "check", file.name], stdout=subprocess.PIPE, check=True, text=True
+            )
+            took = time.perf_counter() - start
+            best = took if best is None else min(best, took)
+        if done.stdout != f"run of {MOVES} moves\n":
+            sys.exit(f"with {threads} threads the answer is {done.stdout!r}")
+        return best
+
+
+def main():
+    [program] = sys.argv[1:]
+    print("live threads: seconds for 1,000,000 moves")
+    for threads in (2, 32_767):
+        print(f"{threads:8} {seconds(program, threads):8.3f}", flush=True)
+
+
+if __name__ == "__main__":
+    main()

@@ -1,0 +1,22 @@
+//! Plays moves on two checkers: the one of `jls_check`, which is proved, and a plain one that was written apart from
+//! it. The moves are those of a table of cells, moves at random, and the moves of random worlds. What is printed is
+//! the same each time; the exit status is 1 where the checkers disagree, or say otherwise than was expected.
+#![tactic(auto)]
+
+mod both;
+mod cells;
+mod plain;
+mod random;
+mod random_moves;
+mod random_worlds;
+#[cfg(test)]
+mod tests;
+mod trouble;
+
+use trouble::Trouble;
+
+fn main(rt: HostRuntime) -> Result<(), Trouble> {
+    cells::play(&rt)?;
+    random_moves::play(&rt)?;
+    random_worlds::play(&rt)
+}
