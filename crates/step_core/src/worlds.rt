@@ -19,6 +19,8 @@ ghost use Rattle.step_core.specs.Patient.{IsPatient};
 ghost use Rattle.step_core.specs.Lasting.{Lasts};
 ghost use Rattle.step_core.specs.Kept.{Keeps};
 
+mod readers;
+
 use crate::{Did, Doing, Fault, Place, Stage, Step, control, going};
 use fast_path::Call;
 use fat_monitor::{Fats, Post, Reply};

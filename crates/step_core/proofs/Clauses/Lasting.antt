@@ -116,7 +116,7 @@ pending_kept s (m ∷ ms) s' u o n plain (mid, one, rest) note =
     by_case (inr (inr back)) later = absurd (no_return m u (Back o n why.Notified) (no_first m ms plain).0 back)
 
 -- the last move of a run
-run_split : (s : State) (ms : List Move) (m : Move) (s' : State) → Run s (ms ++ m ∷ []) s' → (mid : State) × Run s ms mid × Steps mid m s'
+pub run_split : (s : State) (ms : List Move) (m : Move) (s' : State) → Run s (ms ++ m ∷ []) s' → (mid : State) × Run s ms mid × Steps mid m s'
 run_split s [] m s' (mid, one, e) = (s, refl, subst (Steps s m) (sym e) one)
 run_split s (x ∷ xs) m s' (mid, one, rest) = let r = run_split mid xs m s' rest in (r.0, (mid, one, r.1), r.2)
 
