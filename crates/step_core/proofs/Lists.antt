@@ -3,3 +3,4 @@ pub mod Lingering
 pub mod Steady
 pub mod Waiters
 pub mod Reached
+pub mod Rings

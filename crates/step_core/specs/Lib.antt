@@ -15,5 +15,6 @@ pub mod Spared
 pub mod Patient
 pub mod Lasting
 pub mod Kept
+pub mod Cycles
 pub mod Laws
 pub mod Names

@@ -34,6 +34,7 @@
 #![tactic(auto)]
 
 mod control;
+mod cycles;
 mod going;
 mod laws;
 mod machine;
@@ -45,6 +46,7 @@ mod tests;
 mod worlds;
 
 // What a caller of a world names beside it, so that it needs no other crate of the service.
+pub use cycles::a_cycle_of_owners_stays;
 pub use fast_path::{Call, InterruptCall, MonitorCall, Operation};
 pub use fat_monitor::{Action, Answer, Cause, Reply, Why};
 pub use laws::{

@@ -19,6 +19,7 @@ ghost use Rattle.step_core.specs.Patient.{IsPatient};
 ghost use Rattle.step_core.specs.Lasting.{Lasts};
 ghost use Rattle.step_core.specs.Kept.{Keeps};
 
+mod readers;
 mod relayout;
 
 use crate::{Did, Doing, Fault, Place, Stage, Step, control, going};

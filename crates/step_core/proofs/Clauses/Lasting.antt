@@ -150,7 +150,7 @@ move_lasts s s' m one = record { back = backs; pending = pendings; replied = rep
         by_case (inr (inr (v, q, e, same, h))) = inr (own u v x q e same h)
 
 -- the last move of a run
-run_split : (s : State) (ms : List Move) (m : Move) (s' : State) → Run s (ms ++ m ∷ []) s' → (mid : State) × Run s ms mid × Steps mid m s'
+pub run_split : (s : State) (ms : List Move) (m : Move) (s' : State) → Run s (ms ++ m ∷ []) s' → (mid : State) × Run s ms mid × Steps mid m s'
 run_split s [] m s' (mid, one, e) = (s, refl, subst (Steps s m) (sym e) one)
 run_split s (x ∷ xs) m s' (mid, one, rest) = let r = run_split mid xs m s' rest in (r.0, (mid, one, r.1), r.2)
 

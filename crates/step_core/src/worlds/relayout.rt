@@ -89,7 +89,7 @@ impl World {
         if self.has_split(split) {
             return Ok(0);
         }
-        if self.seats() > split.greatest_index() {
+        if self.indices() > split.greatest_index() {
             return Err(RelayoutFault::IndexTooWide);
         }
         let deep = self.count_deep(split);
@@ -114,13 +114,6 @@ impl World {
         }
     }
 
-    /// How many threads can be live at once.
-    fn seats(&self) -> u16
-        ensures { result ≡ length self.now.seats }
-    {
-        self.places.len() as u16
-    }
-
     /// How many monitors are left to be bound.
     fn unbound(&self) -> u32
         ensures { length self.now.fats.monitors + result ≡ self.now.fats.limit }
@@ -132,7 +125,7 @@ impl World {
     fn is_at_rest(&self) -> bool
         ensures { result ≡ is_at_rest self.now }
     {
-        for seat in 0..self.seats() {
+        for seat in 0..self.indices() {
             if !self.rests(seat + 1) {
                 return false;
             }

@@ -27,12 +27,12 @@ respell-requires-clause-rest c =
 
 pub respell-requires-clause-few : goal.respell-requires-clause-few
 respell-requires-clause-few c =
-    rw (c.inflate_deep.ensures.exact, inflated_seats c.args.split c.reserve.new.self, c.in-Ok.ensures.ok, ← c.seats.ensures, ← c.greatest_index.ensures) c.if-seats-greatest_index.false
+    rw (c.inflate_deep.ensures.exact, inflated_seats c.args.split c.reserve.new.self, c.in-Ok.ensures.ok, ← c.indices.ensures, ← c.greatest_index.ensures) c.if-indices-greatest_index.false
 
 pub returns-clause-exact : goal.returns-clause-exact
 returns-clause-exact c =
     (true, done_exact c.args.split c.args.self.now c.respell.new.self c.count_deep-deep.result (sym c.is_at_rest.ensures ∙ c.if-not-is_at_rest.false) (sym c.has_split.ensures ∙ c.if-has_split.false)
-    (rw (← c.seats.ensures, ← c.greatest_index.ensures) c.if-seats-greatest_index.false) (rw (← c.count_deep-deep.ensures) (omega (arith, c.unbound.ensures, c.if-unbound-deep.false)))
+    (rw (← c.indices.ensures, ← c.greatest_index.ensures) c.if-indices-greatest_index.false) (rw (← c.count_deep-deep.ensures) (omega (arith, c.unbound.ensures, c.if-unbound-deep.false)))
     c.count_deep-deep.ensures
     (relaid_exact c.args.split c.args.self.now c.respell.new.self c.reserve.new.self c.count_deep-deep.result c.count_deep-deep.ensures c.in-Ok.ensures.ok
     (c.respell.ensures.exact ∙ ap (respelled c.args.split) c.inflate_deep.ensures.exact)))
