@@ -1,5 +1,6 @@
--- How many values of a map, or items of a list, pass a test: after a write, and where the count is 0.
-use Rattle.std.specs.Prelude.{◌≡◌, ◌⊎◌, ℕ, ◌+◌, ◌<◌, ◌≤◌, ◌==◌, Bool, true, false, not, cond, ◌||◌, ◌&&◌, T, List, [], ◌∷◌, map as list_map, length, get_or, slice_set, count_by, Option, Some, None}
+-- What the values of a map weigh together, and how many of them, or of the items of a list, pass a test: after a
+-- write, and where the count is 0.
+use Rattle.std.specs.Prelude.{◌≡◌, ◌⊎◌, ℕ, ◌+◌, ◌<◌, ◌≤◌, ◌==◌, Bool, true, false, not, cond, ◌||◌, ◌&&◌, T, List, [], ◌∷◌, map as list_map, length, get_or, slice_set, count_by, sum_by, Option, Some, None}
 use Rattle.std.specs.List.{list_any}
 use Rattle.std.specs.Ordering.{nat_cmp, is_eq, is_lt}
 use Rattle.std.specs.declared.cmp.Ordering.{Ordering}
@@ -13,24 +14,23 @@ use Rattle.std.proofs.lemmas.Bool.{cases_eq, eq-eqb, ne_eqb}
 use Rattle.std.proofs.lemmas.List.Sums.{sum_by-cons, sum_by-set}
 use Rattle.fat_monitor.proofs.PostMaps.{get-insert_by, get-remove_by}
 
-module _ {X : Type 0} (p : X → Bool) where
-  -- one for a value that passes, nothing for one that does not or is not there
-  abbrev pub one : X → ℕ
-  one x = cond (p x) 1 0
+-- ---- the weights of the values of a map, added up
 
-  abbrev pub one_in : Option X → ℕ
-  one_in None = 0
-  one_in (Some x) = one x
+module _ {X : Type 0} (w : X → ℕ) where
+  -- the weight of a value; nothing for one that is not there
+  abbrev pub weight_in : Option X → ℕ
+  weight_in None = 0
+  weight_in (Some x) = w x
 
-  -- how many of the listed values pass
-  abbrev passing : List (ℕ × X) → ℕ
-  passing [] = 0
-  passing (e ∷ es) = one e.1 + passing es
+  -- the weights of the listed values
+  abbrev listed : List (ℕ × X) → ℕ
+  listed [] = 0
+  listed (e ∷ es) = w e.1 + listed es
 
-  -- counted by their values they are as many
-  count-values : (es : List (ℕ × X)) → count_by p (list_map (λ e. e.1) es) ≡ passing es
-  count-values [] = refl
-  count-values (e ∷ es) = sum_by-cons one e.1 (list_map (λ x. x.1) es) ∙ ap (λ n. one e.1 + n) (count-values es)
+  -- added up by their values they are as much
+  sum-values : (es : List (ℕ × X)) → sum_by w (list_map (λ e. e.1) es) ≡ listed es
+  sum-values [] = refl
+  sum-values (e ∷ es) = sum_by-cons w e.1 (list_map (λ x. x.1) es) ∙ ap (λ n. w e.1 + n) (sum-values es)
 
   -- what is below a list is below its first number and below the rest
   head_below : (x : ℕ) (e : ℕ × X) (es : List (ℕ × X)) → T (below_all nat_cmp x (e ∷ es)) → (nat_cmp x e.0 ≡ Less) × T (below_all nat_cmp x es)
@@ -42,7 +42,7 @@ module _ {X : Type 0} (p : X → Bool) where
       at Greater h = absurd h
 
   -- the first number of a sorted list is below the rest, which is sorted
-  pub head_sorted : (e : ℕ × X) (es : List (ℕ × X)) → T (is_sorted nat_cmp (e ∷ es)) → T (below_all nat_cmp e.0 es) × T (is_sorted nat_cmp es)
+  head_sorted : (e : ℕ × X) (es : List (ℕ × X)) → T (is_sorted nat_cmp (e ∷ es)) → T (below_all nat_cmp e.0 es) × T (is_sorted nat_cmp es)
   head_sorted e es h = at (below_all nat_cmp e.0 es) h
     where
       at : (b : Bool) → T (b && is_sorted nat_cmp es) → T b × T (is_sorted nat_cmp es)
@@ -50,32 +50,53 @@ module _ {X : Type 0} (p : X → Bool) where
       at false h = absurd h
 
   -- a number below each number of a list is not found in it
-  pub unmet : (q x : ℕ) (es : List (ℕ × X)) → ((y : ℕ) → nat_cmp x y ≡ Less → nat_cmp q y ≡ Less) → T (below_all nat_cmp x es) → find nat_cmp q es ≡ None
+  unmet : (q x : ℕ) (es : List (ℕ × X)) → ((y : ℕ) → nat_cmp x y ≡ Less → nat_cmp q y ≡ Less) → T (below_all nat_cmp x es) → find nat_cmp q es ≡ None
   unmet q x [] below h = refl
   unmet q x (e ∷ es) below h =
       let parts = head_below x e es h in
       ap (λ r. cond (is_eq r) (Some e.1) (find nat_cmp q es)) (below e.0 parts.0) ∙ unmet q x es below parts.1
 
   -- a value that is put into a list takes the place of the one that stood there
-  passing-put : (k : ℕ) (x : X) (es : List (ℕ × X)) → T (is_sorted nat_cmp es) → passing (put nat_cmp k x es) + one_in (find nat_cmp k es) ≡ passing es + one x
-  passing-put k x [] h = omega arith
-  passing-put k x (e ∷ es) h = at (nat_cmp k e.0) refl (passing-put k x es (head_sorted e es h).1)
+  listed-put : (k : ℕ) (x : X) (es : List (ℕ × X)) → T (is_sorted nat_cmp es) → listed (put nat_cmp k x es) + weight_in (find nat_cmp k es) ≡ listed es + w x
+  listed-put k x [] h = omega arith
+  listed-put k x (e ∷ es) h = at (nat_cmp k e.0) refl (listed-put k x es (head_sorted e es h).1)
     where
-      at : (r : Ordering) → nat_cmp k e.0 ≡ r → passing (put nat_cmp k x es) + one_in (find nat_cmp k es) ≡ passing es + one x
-          → passing (by_order r ((k, x) ∷ e ∷ es) ((e.0, x) ∷ es) (e ∷ put nat_cmp k x es)) + one_in (cond (is_eq r) (Some e.1) (find nat_cmp k es)) ≡ passing (e ∷ es) + one x
+      at : (r : Ordering) → nat_cmp k e.0 ≡ r → listed (put nat_cmp k x es) + weight_in (find nat_cmp k es) ≡ listed es + w x
+          → listed (by_order r ((k, x) ∷ e ∷ es) ((e.0, x) ∷ es) (e ∷ put nat_cmp k x es)) + weight_in (cond (is_eq r) (Some e.1) (find nat_cmp k es)) ≡ listed (e ∷ es) + w x
       at Less less again =
           let none : find nat_cmp k es ≡ None = unmet k e.0 es (λ y q. nat_cmp_total.trans k e.0 y less q) (head_sorted e es h).0 in rw none (omega arith)
       at Equal equal again = omega arith
       at Greater more again = omega arith
 
   -- in a map a new value takes the place of the one that was there
-  pub count-insert : (l : map.FinMap nat_cmp X) (k : ℕ) (x : X) → count_by p (map.values (map.insert l k x)) + one_in (map.get l k) ≡ count_by p (map.values l) + one x
-  count-insert l k x =
-      let before = count-values (map.entries l) in
-      let after = count-values (map.entries (map.insert l k x)) ∙ ap passing (entries-insert nat_cmp_total l k x) in
-      let found = ap one_in (get-entries l k) in
-      let put_in = passing-put k x (map.entries l) (entries_sorted l) in
+  pub sum-insert : (l : map.FinMap nat_cmp X) (k : ℕ) (x : X) → sum_by w (map.values (map.insert l k x)) + weight_in (map.get l k) ≡ sum_by w (map.values l) + w x
+  sum-insert l k x =
+      let before = sum-values (map.entries l) in
+      let after = sum-values (map.entries (map.insert l k x)) ∙ ap listed (entries-insert nat_cmp_total l k x) in
+      let found = ap weight_in (get-entries l k) in
+      let put_in = listed-put k x (map.entries l) (entries_sorted l) in
       omega arith
+
+  none_listed : (es : List (ℕ × X)) → length es ≡ 0 → sum_by w (list_map (λ e. e.1) es) ≡ 0
+  none_listed [] e = refl
+  none_listed (x ∷ es) e = absurd (omega arith)
+
+  pub sum-empty : sum_by w (map.values {R = nat_cmp} map.empty) ≡ 0
+  sum-empty = none_listed (map.entries map.empty) (sym (len-entries map.empty) ∙ len-empty nat_cmp X)
+
+-- ---- how many values of a map pass a test
+
+module _ {X : Type 0} (p : X → Bool) where
+  -- one for a value that passes, nothing for one that does not or is not there
+  abbrev pub one : X → ℕ
+  one x = cond (p x) 1 0
+
+  abbrev pub one_in : Option X → ℕ
+  one_in o = weight_in one o
+
+  -- in a map a new value takes the place of the one that was there
+  pub count-insert : (l : map.FinMap nat_cmp X) (k : ℕ) (x : X) → count_by p (map.values (map.insert l k x)) + one_in (map.get l k) ≡ count_by p (map.values l) + one x
+  count-insert l k x = sum-insert one l k x
 
   -- to take a value out and to put it back changes nothing
   back_again : (l : map.FinMap nat_cmp X) (k : ℕ) (x : X) → map.get l k ≡ Some x → map.insert (map.remove l k) k x ≡ l
@@ -102,27 +123,23 @@ module _ {X : Type 0} (p : X → Bool) where
       let same : one x ≡ one y = ap (λ (b : Bool). cond b 1 0) alike in
       omega arith
 
-  none_listed : (es : List (ℕ × X)) → length es ≡ 0 → count_by p (list_map (λ e. e.1) es) ≡ 0
-  none_listed [] e = refl
-  none_listed (x ∷ es) e = absurd (omega arith)
-
   pub count-empty : count_by p (map.values {R = nat_cmp} map.empty) ≡ 0
-  count-empty = none_listed (map.entries map.empty) (sym (len-entries map.empty) ∙ len-empty nat_cmp X)
+  count-empty = sum-empty one
 
-  passing-le : (es : List (ℕ × X)) → passing es ≤ length es
-  passing-le [] = omega arith
-  passing-le (e ∷ es) = at (p e.1) (passing-le es)
+  listed-le : (es : List (ℕ × X)) → listed one es ≤ length es
+  listed-le [] = omega arith
+  listed-le (e ∷ es) = at (p e.1) (listed-le es)
     where
-      at : (b : Bool) → passing es ≤ length es → cond b 1 0 + passing es ≤ length (e ∷ es)
+      at : (b : Bool) → listed one es ≤ length es → cond b 1 0 + listed one es ≤ length (e ∷ es)
       at true again = omega arith
       at false again = omega arith
 
   -- no more pass than there are
   pub count-le : (l : map.FinMap nat_cmp X) → count_by p (map.values l) ≤ map.len l
   count-le l =
-      let counted = count-values (map.entries l) in
+      let counted = sum-values one (map.entries l) in
       let long = len-entries l in
-      let le = passing-le (map.entries l) in
+      let le = listed-le (map.entries l) in
       omega arith
 
   -- ---- of a list

@@ -14,3 +14,4 @@ pub mod Steps
 pub mod Removals
 pub mod Seats
 pub mod OwnedCounts
+pub mod WaitCounts

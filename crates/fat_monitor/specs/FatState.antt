@@ -1,5 +1,5 @@
 -- The fat monitors, the attached threads, and the lines in which threads stand.
-use Rattle.std.specs.Prelude.{◌≡◌, ◌≢◌, ◌⊎◌, ℕ, ◌+◌, ◌-◌, max, ◌<◌, ◌≤◌, ◌↔◌, Bool, true, false, if◌then◌else◌, ◌==◌, nat_lt, List, [], ◌∷◌, ◌++◌, length, count_by, slice_index_or, slice_get, slice_set, Option, Some, None, IsSome}
+use Rattle.std.specs.Prelude.{◌≡◌, ◌≢◌, ◌⊎◌, ℕ, ◌+◌, ◌-◌, max, ◌<◌, ◌≤◌, ◌↔◌, Bool, true, false, if◌then◌else◌, ◌==◌, nat_lt, List, [], ◌∷◌, ◌++◌, length, map as list_map, count_by, slice_index_or, slice_get, slice_set, Option, Some, None, IsSome}
 use Rattle.std.specs.Option.{option_map, unwrap_or}
 use Rattle.std.specs.List.{list_any}
 use Rattle.std.specs.Ordering.{nat_cmp}
@@ -62,6 +62,10 @@ flag_at f t = unwrap_or (map.get f.flags t.0) false
 -- the flag of an attached thread
 abbrev pub flag_of : FatState → ThreadId → Option Bool
 flag_of f t = option_map (λ (p : Post). flag_at f t) (post_of f t)
+
+-- the objects of the bound monitors, by number
+abbrev pub objects_of : FatState → List ObjectId
+objects_of f = list_map (λ (b : Monitor). b.object) f.monitors
 
 abbrev pub thread_count : FatState → ℕ
 thread_count f = map.len f.threads
@@ -156,6 +160,17 @@ stands (Granted r) = false
 -- how many of the threads stand in a line
 abbrev pub stand_count : map.FinMap nat_cmp Post → ℕ
 stand_count threads = count_by stands (map.values threads)
+
+-- whether a thread with this post stands in a wait set, and how many of the threads do
+abbrev pub waits : Post → Bool
+waits Out = false
+waits (Entering m) = false
+waits (Waiting m n d) = true
+waits (Back m n w) = false
+waits (Granted r) = false
+
+abbrev pub wait_count : map.FinMap nat_cmp Post → ℕ
+wait_count threads = count_by waits (map.values threads)
 
 -- these holds may be given up by a wait and taken back
 abbrev pub IsHeld : ℕ → Type 0

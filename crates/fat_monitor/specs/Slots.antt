@@ -71,6 +71,10 @@ posted_in records keys = record {
   owned = values_of (λ r. r.owned) 0 records keys;
 }
 
+-- the posts that slots and keys show
+abbrev pub posts_in : Slab Record → List (ℕ × ℕ) → map.FinMap nat_cmp Post
+posts_in records keys = values_of (λ r. r.post) Out records keys
+
 -- each key leads to the record of its thread
 abbrev pub LeadToRecords : Slab Record → List (ℕ × ℕ) → Type 0
 LeadToRecords records keys = (t k : ℕ) → lookup (nat_eq t) keys ≡ Some k → (r : Record) × (get records k ≡ Some r) × (r.thread.0 ≡ t)

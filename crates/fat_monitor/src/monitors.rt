@@ -1,12 +1,12 @@
 //! The fat monitors and the threads that may use them.
 
-ghost use Rattle.std.specs.Prelude.{false, ◌≡◌, ◌-◌, ◌<◌, ◌≤◌, ◌↔◌, IfOk, IfErr, OnErr, IsErrOf, OnOk, length, [], Some, None, Option, Ok};
+ghost use Rattle.std.specs.Prelude.{false, ◌≡◌, ◌-◌, ◌<◌, ◌≤◌, ◌↔◌, IfOk, IfErr, OnErr, IsErrOf, OnOk, length, [], ◌∷◌, ◌++◌, Some, None, Option, Ok};
 ghost use Rattle.std.specs.FinMap as map;
 ghost use Rattle.lock_word.specs.declared.ThreadId.{ThreadId};
 ghost use Rattle.fat_monitor.specs.declared.actions.Action.{Action};
 ghost use Rattle.fat_monitor.specs.declared.actions.Cause.{Cause};
 ghost use Rattle.fat_monitor.specs.declared.actions.Post.{Post};
-ghost use Rattle.fat_monitor.specs.FatState.{FatState, IsSound, opened, post_of, IsAttached, thread_count, with_thread, without_thread, with_moment, with_spare, bound_with, refusal, owns_one, StandBehindOwners};
+ghost use Rattle.fat_monitor.specs.FatState.{FatState, IsSound, opened, post_of, IsAttached, thread_count, with_thread, without_thread, with_moment, with_spare, bound_with, objects_of, refusal, owns_one, StandBehindOwners};
 ghost use Rattle.fat_monitor.specs.Acting.{acted, NamesBound, MayAct};
 
 mod acts;
@@ -197,6 +197,7 @@ impl Fats {
         requires high { holds ≤ 4096 }
         ensures receipt { IfOk result (λ r. r ≡ record { object = object; owner = owner; holds = holds; monitor = length self.old.monitors }) }
         ensures bound { OnOk result (self.new ≡ bound_with self.old object owner holds) }
+        ensures objects { OnOk result (objects_of self.new ≡ objects_of self.old ++ object ∷ []) }
         ensures room { OnOk result (length self.old.monitors < self.old.limit) }
         ensures cause { IfErr result (λ c. c ≡ refusal self.old) }
         ensures memory { IsErrOf result Cause.Memory → self.old.spare ≡ 0 }
@@ -225,6 +226,7 @@ impl Fats {
         ensures ok { OnOk result (self.new ≡ with_moment self.old now) }
         ensures later { OnOk result (self.old.moment ≤ now) }
         ensures earlier { OnErr result (now < self.old.moment) }
+        ensures objects { objects_of self.new ≡ objects_of self.old }
         ensures err { OnErr result (self.new ≡ self.old) }
         ensures sound { IsSound self.new }
     {
@@ -244,6 +246,7 @@ impl Fats {
         requires ready { MayAct self.old thread action }
         requires bound { NamesBound self.old action }
         ensures table { record { answer = result; after = self.new } ≡ acted self.old thread action }
+        ensures objects { objects_of self.new ≡ objects_of self.old }
         ensures behind { StandBehindOwners self.new }
         ensures sound { IsSound self.new }
     {

@@ -1,10 +1,11 @@
 //! The attached threads: where each stands, and whether it is interrupted.
 
-ghost use Rattle.std.specs.Prelude.{◌≡◌, ◌<◌, ◌↔◌, OnOk, OnErr, IsErrOf, IsSome, Some, None, false};
+ghost use Rattle.std.specs.Prelude.{◌≡◌, ◌<◌, ◌↔◌, OnOk, OnErr, IsErrOf, IsSome, Some, None, false, cond};
 ghost use Rattle.std.specs.Option.{unwrap_or};
 ghost use Rattle.std.specs.FinMap as map;
 ghost use Rattle.lock_word.specs.declared.ThreadId.{ThreadId};
 ghost use Rattle.fat_monitor.specs.declared.actions.Post.{Post};
+ghost use Rattle.fat_monitor.specs.FatState.{waits, wait_count};
 ghost use Rattle.fat_monitor.specs.Slots.{nobody_posted, with_thread_posted, without_thread_posted, with_parked, count_of, one_less, one_more, handed_over};
 
 use crate::{AttachFault, Post};
@@ -34,12 +35,16 @@ pub(crate) struct Posts {
     records: Slab<Record>,
     // The key of each attached thread's record, by the thread's number.
     keys: HashMap<u32, usize>,
+    // How many of the threads stand in wait sets.
+    waiting: usize,
 }
 
 impl Model for Posts {
     ghost use Rattle.std.specs.Coded.{codes};
     ghost use Rattle.std.specs.FinMap as map;
-    ghost use Rattle.fat_monitor.specs.Slots.{Posted, posted_in, LeadToRecords, HaveKeys};
+    ghost use Rattle.std.specs.Prelude.{◌≡◌};
+    ghost use Rattle.fat_monitor.specs.FatState.{wait_count};
+    ghost use Rattle.fat_monitor.specs.Slots.{Posted, posted_in, posts_in, LeadToRecords, HaveKeys};
 
     ghost Value = { Posted };
 
@@ -47,7 +52,18 @@ impl Model for Posts {
 
     ghost view = { λ p. posted_in p.records p.keys.entries };
 
-    ghost invariant = { λ p. LeadToRecords p.records p.keys.entries × HaveKeys p.records p.keys.entries };
+    ghost invariant = { λ p. LeadToRecords p.records p.keys.entries × HaveKeys p.records p.keys.entries
+        × (p.waiting ≡ wait_count (posts_in p.records p.keys.entries)) };
+}
+
+/// One where a thread with this post stands in a wait set.
+fn one_waiting(post: Post) -> usize
+    ensures { result ≡ cond (waits post) 1 0 }
+{
+    match post {
+        Post::Waiting { .. } => 1,
+        Post::Out | Post::Entering { .. } | Post::Back { .. } | Post::Granted(_) => 0,
+    }
 }
 
 impl Posts {
@@ -58,7 +74,15 @@ impl Posts {
         Posts {
             records: Slab::new(alloc),
             keys: HashMap::new(alloc),
+            waiting: 0,
         }
+    }
+
+    /// How many of the attached threads stand in wait sets.
+    pub(crate) fn waiting(&self) -> usize
+        ensures { result ≡ wait_count self.now.posts }
+    {
+        self.waiting
     }
 
     /// How many threads are attached.
@@ -146,7 +170,11 @@ impl Posts {
         let Some(record) = self.records.get_mut(*key) else {
             unreachable!();
         };
+        let before = one_waiting(record.post);
         record.post = post;
+        // No more threads wait than are attached.
+        let _ = self.keys.len();
+        self.waiting = self.waiting - before + one_waiting(post);
     }
 
     /// The node of an attached thread, at which it stands if it stands in a line.
@@ -174,6 +202,7 @@ impl Posts {
         let Some(record) = self.records.get_mut(*key) else {
             unreachable!();
         };
+        let before = one_waiting(record.post);
         *record = Record {
             thread: record.thread,
             post,
@@ -181,6 +210,9 @@ impl Posts {
             flag: record.flag,
             owned: record.owned,
         };
+        // No more threads wait than are attached.
+        let _ = self.keys.len();
+        self.waiting = self.waiting - before + one_waiting(post);
     }
 
     /// Sets or clears the interrupt flag of an attached thread.
@@ -251,6 +283,9 @@ impl Posts {
         let Some(key) = self.keys.remove(&thread.0) else {
             unreachable!();
         };
-        let _ = self.records.try_remove(key);
+        let Some(record) = self.records.try_remove(key) else {
+            unreachable!();
+        };
+        self.waiting -= one_waiting(record.post);
     }
 }

@@ -1,7 +1,7 @@
 //! What is told of the fat monitors and of the attached threads.
 
 ghost use Rattle.std.specs.Prelude.{◌≡◌, ◌≤◌, length};
-ghost use Rattle.fat_monitor.specs.FatState.{IsSound, post_of, flag_of, monitor_at, object_at};
+ghost use Rattle.fat_monitor.specs.FatState.{IsSound, post_of, flag_of, monitor_at, object_at, wait_count};
 
 use super::Fats;
 use crate::Post;
@@ -56,6 +56,13 @@ impl Fats {
         self.monitors
             .get(monitor as usize)
             .map_or(0, |found| found.holds)
+    }
+
+    /// How many threads stand in wait sets, 0 to 32,767. This walks nothing.
+    pub fn waiting(&self) -> u16
+        ensures { result ≡ wait_count self.now.threads }
+    {
+        self.posts.waiting() as u16
     }
 
     /// How many monitors are bound: the number of the next one.

@@ -20,6 +20,7 @@ fn a_wait_gives_up_all_holds_and_has_them_back(rt: HostRuntime) -> Result<(), Fa
     assert_eq!(rt; act(&rt, &mut fats, SEVEN, action), parked(None));
     assert_eq!(rt; fats.owner(0), None);
     assert_eq!(rt; fats.holds(0), 0);
+    assert_eq!(rt; fats.waiting(), 1);
     let deadline = Some(1_000_002);
     let waiting = Post::Waiting {
         monitor,
@@ -30,6 +31,7 @@ fn a_wait_gives_up_all_holds_and_has_them_back(rt: HostRuntime) -> Result<(), Fa
     assert_eq!(rt; act(&rt, &mut fats, EIGHT, ENTER), replied(Reply::Entered));
     assert_eq!(rt; collect(&rt, &mut fats, SEVEN), Err(ActFault::Parked));
     assert_eq!(rt; act(&rt, &mut fats, EIGHT, NOTIFY), notified(Some(SEVEN)));
+    assert_eq!(rt; fats.waiting(), 0);
     let why = Why::Notified;
     let back = Post::Back {
         monitor,

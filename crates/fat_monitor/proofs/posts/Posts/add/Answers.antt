@@ -1,5 +1,8 @@
 use Rattle.std.specs.Prelude.{◌≡◌, ℕ, Some, false, if◌then◌else◌, nat_eq}
-use Rattle.std.proofs.Common.{refl, sym, ◌∙◌, subst}
+use Rattle.fat_monitor.specs.FatState.{wait_count}
+use Rattle.fat_monitor.specs.Slots.{Posted, posts_in, posted_in, with_thread_posted}
+use Rattle.fat_monitor.proofs.WaitCounts.{wait_count-new}
+use Rattle.std.proofs.Common.{refl, sym, ap, ◌∙◌, subst}
 use Rattle.std.specs.Map.{lookup}
 use Rattle.fat_monitor.specs.declared.actions.Post.TheVariants.{Out}
 use Rattle.fat_monitor.specs.declared.posts.Record.{Record}
@@ -24,6 +27,14 @@ led c =
     let key : c.vacant_key-key.result ≡ c.insert_reserved.result = c.vacant_key-key.ensures.value ∙ sym c.insert_reserved.ensures.key in
     subst (λ (k : ℕ). (q : ℕ) → lookup (nat_eq q) c.insert.new.self.entries ≡ (if nat_eq c.args.thread.0 q then Some k else lookup (nat_eq q) c.self.inside.keys.entries)) key c.in-Ok-insert.ensures.updates.0
 
+-- what is shown now
+shown : (c : goal.After-insert_reserved) → posted_in c.insert_reserved.new.self c.insert.new.self.entries ≡ with_thread_posted (posted_in c.self.inside.records c.self.inside.keys.entries) c.args.thread
+shown c =
+    posted_in-put c.reserve.new.self c.insert_reserved.new.self c.self.inside.keys.entries c.insert.new.self.entries c.args.thread.0 c.insert_reserved.result
+    (record { thread = c.args.thread; post = Out; node = record { 0 = 0 }; flag = false; owned = 0 })
+    (rw (c.in-Ok.ensures.rest_kept) c.self.invariant.0) c.insert_reserved.ensures.was_vacant c.insert_reserved.ensures.updates (led c)
+    ∙ rw (c.in-Ok.ensures.rest_kept) refl
+
 pub invariant_of-self-2 : goal.invariant_of-self-2
 invariant_of-self-2 c =
     let new : Record = record { thread = c.args.thread; post = Out; node = record { 0 = 0 }; flag = false; owned = 0 } in
@@ -32,15 +43,13 @@ invariant_of-self-2 c =
           (rw (c.in-Ok.ensures.rest_kept) c.self.invariant.0) c.insert_reserved.ensures.was_vacant c.insert_reserved.ensures.updates (led c) refl,
       HaveKeys-put c.reserve.new.self c.insert_reserved.new.self keys c.insert.new.self.entries c.args.thread.0 c.insert_reserved.result new
           (rw (c.in-Ok.ensures.rest_kept) c.self.invariant.1) (keyless (lookup (nat_eq c.args.thread.0) keys) (sym c.contains_key.ensures ∙ c.if-contains_key.false)) c.insert_reserved.ensures.updates (led c) refl,
+      c.self.invariant.2
+          ∙ sym (wait_count-new (posts_in c.self.inside.records keys) c.args.thread.0 (unvalued (λ r. r.post) Out c.self.inside.records keys c.args.thread.0 (sym c.contains_key.ensures ∙ c.if-contains_key.false)))
+          ∙ sym (ap (λ (p : Posted). wait_count p.posts) (shown c)),
     )
 
 pub returns-clause-ok : goal.returns-clause-ok
-returns-clause-ok c =
-    rw (← c.self.view_is) (
-    posted_in-put c.reserve.new.self c.insert_reserved.new.self c.self.inside.keys.entries c.insert.new.self.entries c.args.thread.0 c.insert_reserved.result
-    (record { thread = c.args.thread; post = Out; node = record { 0 = 0 }; flag = false; owned = 0 })
-    (rw (c.in-Ok.ensures.rest_kept) c.self.invariant.0) c.insert_reserved.ensures.was_vacant c.insert_reserved.ensures.updates (led c)
-    ∙ rw (c.in-Ok.ensures.rest_kept) refl)
+returns-clause-ok c = rw (← c.self.view_is) (shown c)
 
 pub returns-clause-fresh : goal.returns-clause-fresh
 returns-clause-fresh c = rw (← c.self.view_is) (unvalued (λ r. r.post) Out c.self.inside.records c.self.inside.keys.entries c.args.thread.0 (sym c.contains_key.ensures ∙ c.if-contains_key.false))

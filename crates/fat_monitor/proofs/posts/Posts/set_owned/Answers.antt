@@ -1,4 +1,6 @@
-use Rattle.std.proofs.Common.{sym, ap, refl, ℕ, Option, is_some}
+use Rattle.fat_monitor.specs.FatState.{wait_count}
+use Rattle.fat_monitor.specs.Slots.{Posted}
+use Rattle.std.proofs.Common.{◌∙◌, sym, ap, refl, ℕ, Option, is_some}
 use Rattle.fat_monitor.proofs.PostMaps.{not_posted, posted_in-set_owned, LeadToRecords-write, HaveKeys-write, Updates-with_value}
 use Rattle.fat_monitor.proofs.posts.Posts.set_owned.Goals as goal
 
@@ -13,6 +15,8 @@ invariant_of-self c =
     let slot = Updates-with_value c.self.inside.records c.in-Some.key.now c.in-Some-get_mut.record.now (record c.in-Some-get_mut.record.now { owned = c.args.count }) there in (
       LeadToRecords-write c.self.inside.records _ c.self.inside.keys.entries c.args.thread.0 c.in-Some.key.now c.in-Some-get_mut.record.now _ c.self.invariant.0 c.self.invariant.1 found there slot refl,
       HaveKeys-write c.self.inside.records _ c.self.inside.keys.entries c.args.thread.0 c.in-Some.key.now c.in-Some-get_mut.record.now _ c.self.invariant.0 c.self.invariant.1 found there slot refl,
+      c.self.invariant.2
+          ∙ ap (λ (p : Posted). wait_count p.posts) (sym (posted_in-set_owned c.self.inside.records _ c.self.inside.keys.entries c.args.thread.0 c.in-Some.key.now c.in-Some-get_mut.record.now _ c.self.invariant.0 c.self.invariant.1 found there slot refl refl refl)),
     )
 
 pub returns : goal.returns
