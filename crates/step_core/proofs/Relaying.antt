@@ -3,3 +3,4 @@ pub mod Resting
 pub mod Inflating
 pub mod Respelling
 pub mod Whole
+pub mod Requests

@@ -1,6 +1,7 @@
 -- The labels of a run: what a user of the machine sees of it.
 use Rattle.step_core.specs.World.{WorldState}
 use Rattle.step_core.specs.Step.{moves_made, step_of}
+use Rattle.step_core.specs.Requests.{world_then}
 use Rattle.step_core.specs.declared.steps.Fault.{Fault}
 use Rattle.std.specs.Prelude.{◌≡◌, Bool, true, false, List, [], ◌∷◌, ◌++◌, filter, Option, Some, None, Result, Ok, Err}
 use Rattle.lock_word.specs.declared.ThreadId.{ThreadId}
@@ -8,6 +9,8 @@ use Rattle.fat_monitor.specs.declared.actions.Reply.{Reply}
 use Rattle.step_core.specs.declared.machine.Move.{Move}
 use Rattle.step_core.specs.declared.machine.Move.TheVariants.{Attach, Call, Return, Time}
 use Rattle.step_core.specs.declared.steps.Did.{Did}
+use Rattle.step_core.specs.declared.steps.Request.{Request}
+use Rattle.step_core.specs.declared.steps.Request.TheVariants as request
 use Rattle.step_core.specs.declared.steps.Step.{Step}
 use Rattle.step_core.specs.declared.steps.Step.TheVariants as step
 
@@ -50,7 +53,12 @@ labels_for (step.Expire t) (Ok d) = []
 labels_for (step.Spurious t) (Ok d) = []
 labels_for (step.Tick now) (Ok d) = Time now ∷ []
 
--- the labels of a list of steps, each with whether its growth is granted
-abbrev pub labels_after : WorldState → List (Step × Bool) → List Move
+-- a relayout has none
+abbrev pub labels_then : WorldState → (Request × Bool) → List Move
+labels_then w (request.Step s, room) = labels_for s (step_of room w s).answer
+labels_then w (request.Relayout split, room) = []
+
+-- the labels of a list of steps and relayouts, each with whether its growth is granted
+abbrev pub labels_after : WorldState → List (Request × Bool) → List Move
 labels_after w [] = []
-labels_after w (s ∷ ss) = labels_for s.0 (step_of s.1 w s.0).answer ++ labels_after (step_of s.1 w s.0).after ss
+labels_after w (r ∷ rs) = labels_then w r ++ labels_after (world_then w r) rs

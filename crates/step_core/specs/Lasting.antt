@@ -11,11 +11,14 @@ use Rattle.step_core.specs.declared.machine.Doing.TheVariants.{Back, Has}
 use Rattle.step_core.specs.declared.machine.Move.{Move}
 use Rattle.step_core.specs.declared.machine.Move.TheVariants as move
 use Rattle.step_core.specs.declared.steps.Did.{Did}
+use Rattle.step_core.specs.declared.steps.Request.{Request}
+use Rattle.step_core.specs.declared.steps.Request.TheVariants as request
 use Rattle.step_core.specs.declared.steps.Step.{Step}
 use Rattle.step_core.specs.declared.steps.Step.TheVariants as step
 use Rattle.step_core.specs.Machine.{State, Is, reply_of}
 use Rattle.step_core.specs.World.{WorldState}
 use Rattle.step_core.specs.Step.{step_of}
+use Rattle.step_core.specs.Requests.{world_then}
 
 -- u is back from the wait set of o, with n holds, for this reason
 abbrev pub IsBack : State → ThreadId → ObjectId → ℕ → Why → Type 0
@@ -50,8 +53,12 @@ pub record LastsBut (s : State) (returns : ThreadId → Reply → Type 0) (s' : 
 abbrev pub Lasts : State → Step → Option Reply → State → Type 0
 Lasts s did d s' = LastsBut s (Returns did d) s'
 
--- none of these steps returns from the call of u with this reply
-abbrev pub NeverReturns : WorldState → ThreadId → Reply → List (Step × Bool) → Type 0
+-- it does not return from the call of u with this reply
+abbrev pub NotReturns : WorldState → ThreadId → Reply → (Request × Bool) → Type 0
+NotReturns w u r (request.Step s, room) = (d : Did) → (step_of room w s).answer ≡ Ok d → Returns s d.reply u r → ⊥
+NotReturns w u r (request.Relayout split, room) = Unit {0}
+
+-- and none of these does
+abbrev pub NeverReturns : WorldState → ThreadId → Reply → List (Request × Bool) → Type 0
 NeverReturns w u r [] = Unit {0}
-NeverReturns w u r (s ∷ ss) =
-    ((d : Did) → (step_of s.1 w s.0).answer ≡ Ok d → Returns s.0 d.reply u r → ⊥) × NeverReturns (step_of s.1 w s.0).after u r ss
+NeverReturns w u r (q ∷ qs) = NotReturns w u r q × NeverReturns (world_then w q) u r qs

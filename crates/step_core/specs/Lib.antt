@@ -8,6 +8,7 @@ pub mod Did
 pub mod Go
 pub mod Step
 pub mod Relayout
+pub mod Requests
 pub mod Changes
 pub mod Labels
 pub mod Refused

@@ -15,12 +15,15 @@ use Rattle.step_core.specs.declared.places.Stage.TheVariants.{Begun, Taking, Sto
 use Rattle.step_core.specs.declared.steps.Atomic.{Atomic}
 use Rattle.step_core.specs.declared.steps.Atomic.TheVariants.{Load, Lost, Acted}
 use Rattle.step_core.specs.declared.steps.Did.{Did}
+use Rattle.step_core.specs.declared.steps.Request.{Request}
+use Rattle.step_core.specs.declared.steps.Request.TheVariants as request
 use Rattle.step_core.specs.declared.steps.Step.{Step}
 use Rattle.step_core.specs.declared.steps.Step.TheVariants as step
 use Rattle.step_core.specs.Machine.{Is}
 use Rattle.step_core.specs.World.{WorldState, place_at}
 use Rattle.step_core.specs.Shown.{shown}
 use Rattle.step_core.specs.Step.{step_of}
+use Rattle.step_core.specs.Requests.{world_then}
 
 -- the Go steps that a call has left at this stage at most, if it meets nobody
 abbrev pub left_in : Stage → ℕ
@@ -76,27 +79,29 @@ IsPatient w (step.Spurious t) d w' = (u : ThreadId) → left_of w' u ≡ left_of
 IsPatient w (step.Tick now) d w' = (u : ThreadId) → left_of w' u ≡ left_of w u
 IsPatient w (step.Go t) d w' = Advances w t d w' × ((u : ThreadId) → u.0 ≢ t.0 → left_of w' u ≡ left_of w u)
 
--- how many of these steps are a Go of t
-abbrev pub goes_of : ThreadId → List (Step × Bool) → ℕ
+-- how many of these are a Go of t
+abbrev pub goes_of : ThreadId → List (Request × Bool) → ℕ
 goes_of t [] = 0
-goes_of t ((step.Attach u, room) ∷ ss) = goes_of t ss
-goes_of t ((step.Begin u c, room) ∷ ss) = goes_of t ss
-goes_of t ((step.Go u, room) ∷ ss) = if u.0 == t.0 then goes_of t ss + 1 else goes_of t ss
-goes_of t ((step.Expire u, room) ∷ ss) = goes_of t ss
-goes_of t ((step.Spurious u, room) ∷ ss) = goes_of t ss
-goes_of t ((step.Tick now, room) ∷ ss) = goes_of t ss
+goes_of t ((request.Step (step.Attach u), room) ∷ rs) = goes_of t rs
+goes_of t ((request.Step (step.Begin u c), room) ∷ rs) = goes_of t rs
+goes_of t ((request.Step (step.Go u), room) ∷ rs) = if u.0 == t.0 then goes_of t rs + 1 else goes_of t rs
+goes_of t ((request.Step (step.Expire u), room) ∷ rs) = goes_of t rs
+goes_of t ((request.Step (step.Spurious u), room) ∷ rs) = goes_of t rs
+goes_of t ((request.Step (step.Tick now), room) ∷ rs) = goes_of t rs
+goes_of t ((request.Relayout split, room) ∷ rs) = goes_of t rs
 
--- a step is no Go of t, or one that is accepted and neither replies nor parks nor meets another thread
-abbrev pub Lingers : WorldState → ThreadId → (Step × Bool) → Type 0
-Lingers w t (step.Attach u, room) = Unit {0}
-Lingers w t (step.Begin u c, room) = Unit {0}
-Lingers w t (step.Expire u, room) = Unit {0}
-Lingers w t (step.Spurious u, room) = Unit {0}
-Lingers w t (step.Tick now, room) = Unit {0}
-Lingers w t (step.Go u, room) =
+-- it is no Go of t, or one that is accepted and neither replies nor parks nor meets another thread
+abbrev pub Lingers : WorldState → ThreadId → (Request × Bool) → Type 0
+Lingers w t (request.Step (step.Attach u), room) = Unit {0}
+Lingers w t (request.Step (step.Begin u c), room) = Unit {0}
+Lingers w t (request.Step (step.Expire u), room) = Unit {0}
+Lingers w t (request.Step (step.Spurious u), room) = Unit {0}
+Lingers w t (request.Step (step.Tick now), room) = Unit {0}
+Lingers w t (request.Relayout split, room) = Unit {0}
+Lingers w t (request.Step (step.Go u), room) =
     u.0 ≡ t.0 → (d : Did) × ((step_of room w (step.Go u)).answer ≡ Ok d) × (IsSome d.reply → ⊥) × (HasParked d.atomic → ⊥) × (HasMet w u d.atomic → ⊥)
 
 -- and so is each of these
-abbrev pub AllLinger : WorldState → ThreadId → List (Step × Bool) → Type 0
+abbrev pub AllLinger : WorldState → ThreadId → List (Request × Bool) → Type 0
 AllLinger w t [] = Unit {0}
-AllLinger w t (s ∷ ss) = Lingers w t s × AllLinger (step_of s.1 w s.0).after t ss
+AllLinger w t (r ∷ rs) = Lingers w t r × AllLinger (world_then w r) t rs

@@ -1,5 +1,5 @@
--- What a step answers and leaves: the step relation, and lists of steps.
-use Rattle.std.specs.Prelude.{ℕ, Bool, true, false, if◌then◌else◌, nat_lt, List, [], ◌∷◌, ◌++◌, ◌+◌, length, slice_set, Option, Some, None, Result, Ok, Err}
+-- What a step answers and leaves: the step relation.
+use Rattle.std.specs.Prelude.{ℕ, Bool, true, false, if◌then◌else◌, nat_lt, List, [], ◌∷◌, ◌+◌, length, slice_set, Option, Some, None, Result, Ok, Err}
 use Rattle.lock_word.specs.declared.ThreadId.{ThreadId}
 use Rattle.thread_index.specs.Indices.{seat_of, free_seat}
 use Rattle.fat_monitor.specs.FatState.{FatState, with_thread, with_moment}
@@ -168,13 +168,3 @@ moves_made (Some m ∷ ms) = m ∷ moves_made ms
 abbrev pub moves_of : Result Did Fault → List Move
 moves_of (Ok d) = moves_made d.moves
 moves_of (Err f) = []
-
--- the world after a list of steps, each with whether its growth is granted
-abbrev pub world_after : WorldState → List (Step × Bool) → WorldState
-world_after w [] = w
-world_after w (s ∷ ss) = world_after (step_of s.1 w s.0).after ss
-
--- the moves that the steps hand out
-abbrev pub moves_after : WorldState → List (Step × Bool) → List Move
-moves_after w [] = []
-moves_after w (s ∷ ss) = moves_of (step_of s.1 w s.0).answer ++ moves_after (step_of s.1 w s.0).after ss

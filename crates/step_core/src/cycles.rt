@@ -4,12 +4,12 @@ ghost use Rattle.std.specs.Prelude.{ℕ, List, Bool};
 ghost use Rattle.std.specs.List.{Contains};
 ghost use Rattle.lock_word.specs.declared.ThreadId.{ThreadId};
 ghost use Rattle.fat_monitor.specs.declared.actions.Reply.{Reply};
-ghost use Rattle.step_core.specs.declared.steps.Step.{Step};
+ghost use Rattle.step_core.specs.declared.steps.Request.{Request};
 ghost use Rattle.step_core.specs.declared.machine.Move.{Move};
 ghost use Rattle.step_core.specs.declared.machine.Move.TheVariants as move;
 ghost use Rattle.step_core.specs.Machine.{State, Run, Steps};
 ghost use Rattle.step_core.specs.Shown.{shown};
-ghost use Rattle.step_core.specs.Step.{world_after};
+ghost use Rattle.step_core.specs.Requests.{world_after};
 ghost use Rattle.step_core.specs.Lasting.{NeverReturns};
 ghost use Rattle.step_core.specs.Laws.{OfEveryList};
 ghost use Rattle.step_core.specs.Cycles.{IsCycle};
@@ -24,9 +24,9 @@ pub fn a_cycle_of_owners_stays()
         → IsCycle s c → Contains c t → Steps s (move.Return t r) s' → ⊥ }
     ensures lasts { (s s' : State) (ms : List Move) (c : List ThreadId)
         → IsCycle s c → Run s ms s' → IsCycle s' c }
-    ensures kept { OfEveryList (λ lows w steps v. (c : List ThreadId) (more : List (Step × Bool))
+    ensures kept { OfEveryList (λ lows w steps v. (c : List ThreadId) (more : List (Request × Bool))
         → IsCycle (shown v) c → IsCycle (shown (world_after v more)) c) }
     ensures never { OfEveryList (λ lows w steps v.
-        (c : List ThreadId) (t : ThreadId) (r : Reply) (more : List (Step × Bool))
+        (c : List ThreadId) (t : ThreadId) (r : Reply) (more : List (Request × Bool))
         → IsCycle (shown v) c → Contains c t → NeverReturns v t r more) }
 {}

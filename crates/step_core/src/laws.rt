@@ -10,14 +10,14 @@ ghost use Rattle.fat_monitor.specs.declared.actions.Why.{Why};
 ghost use Rattle.fat_monitor.specs.declared.actions.Why.TheVariants.{Notified, Interrupted, Elapsed, Spurious};
 ghost use Rattle.thread_index.specs.Indices.{IsOneToOne};
 ghost use Rattle.fast_path.specs.declared.Call.TheVariants as call;
-ghost use Rattle.step_core.specs.declared.steps.Step.{Step};
+ghost use Rattle.step_core.specs.declared.steps.Request.{Request};
 ghost use Rattle.step_core.specs.declared.machine.Doing.{Doing};
 ghost use Rattle.step_core.specs.declared.machine.Doing.TheVariants as doing;
 ghost use Rattle.step_core.specs.declared.machine.Move.{Move};
 ghost use Rattle.step_core.specs.declared.machine.Move.TheVariants as move;
 ghost use Rattle.step_core.specs.Machine.{State, Run, Steps, Calls, opening, Is};
 ghost use Rattle.step_core.specs.Shown.{shown};
-ghost use Rattle.step_core.specs.Step.{moves_after, world_after};
+ghost use Rattle.step_core.specs.Requests.{moves_after, world_after};
 ghost use Rattle.step_core.specs.Labels.{labels_of, labels_after};
 ghost use Rattle.step_core.specs.Patient.{goes_of, AllLinger};
 ghost use Rattle.step_core.specs.Lasting.{IsBack, IsNotified, HasReply, NeverReturns, LastsBut, MoveReturns};
@@ -45,11 +45,11 @@ pub fn every_list_of_steps_keeps_the_world()
 #[tactic(auto, using(crate::proofs::Lists::Reached::reached_four, crate::proofs::Lists::Reached::reached_all))]
 pub fn every_call_is_patient()
     ensures within_four { OfEveryList (λ lows w steps v.
-        (t : ThreadId) (flag : Bool) (act : Doing) (more : List (Step × Bool))
+        (t : ThreadId) (flag : Bool) (act : Doing) (more : List (Request × Bool))
         → Is (shown v) t flag act → (act ≡ doing.Idle → ⊥) → (act ≡ doing.Wants call.End → ⊥)
         → AllLinger v t more → goes_of t more < 4) }
     ensures within_all { OfEveryList (λ lows w steps v.
-        (t : ThreadId) (flag : Bool) (more : List (Step × Bool))
+        (t : ThreadId) (flag : Bool) (more : List (Request × Bool))
         → Is (shown v) t flag (doing.Wants call.End)
         → AllLinger v t more → goes_of t more < length lows + 1) }
 {}
@@ -61,27 +61,27 @@ pub fn every_call_is_patient()
 #[tactic(auto, using(crate::proofs::Lists::Reached::reached_notified, crate::proofs::Lists::Reached::reached_interrupted, crate::proofs::Lists::Reached::reached_elapsed, crate::proofs::Lists::Reached::reached_spurious, crate::proofs::Lists::Reached::reached_kept))]
 pub fn no_notification_is_lost()
     ensures notified { OfEveryList (λ lows w steps v.
-        (u : ThreadId) (o : ObjectId) (n : ℕ) (more : List (Step × Bool))
+        (u : ThreadId) (o : ObjectId) (n : ℕ) (more : List (Request × Bool))
         → IsNotified (shown v) u o n → NeverReturns v u WaitOver more
         → IsNotified (shown (world_after v more)) u o n
         ⊎ HasReply (shown (world_after v more)) u WaitOver) }
     ensures interrupted { OfEveryList (λ lows w steps v.
-        (u : ThreadId) (o : ObjectId) (n : ℕ) (more : List (Step × Bool))
+        (u : ThreadId) (o : ObjectId) (n : ℕ) (more : List (Request × Bool))
         → IsBack (shown v) u o n Interrupted → NeverReturns v u Throws more
         → IsBack (shown (world_after v more)) u o n Interrupted
         ⊎ HasReply (shown (world_after v more)) u Throws) }
     ensures elapsed { OfEveryList (λ lows w steps v.
-        (u : ThreadId) (o : ObjectId) (n : ℕ) (more : List (Step × Bool))
+        (u : ThreadId) (o : ObjectId) (n : ℕ) (more : List (Request × Bool))
         → IsBack (shown v) u o n Elapsed → NeverReturns v u WaitOver more
         → IsBack (shown (world_after v more)) u o n Elapsed
         ⊎ HasReply (shown (world_after v more)) u WaitOver) }
     ensures spurious { OfEveryList (λ lows w steps v.
-        (u : ThreadId) (o : ObjectId) (n : ℕ) (more : List (Step × Bool))
+        (u : ThreadId) (o : ObjectId) (n : ℕ) (more : List (Request × Bool))
         → IsBack (shown v) u o n Spurious → NeverReturns v u WaitOver more
         → IsBack (shown (world_after v more)) u o n Spurious
         ⊎ HasReply (shown (world_after v more)) u WaitOver) }
     ensures kept { OfEveryList (λ lows w steps v.
-        (u : ThreadId) (r : Reply) (more : List (Step × Bool))
+        (u : ThreadId) (r : Reply) (more : List (Request × Bool))
         → HasReply (shown v) u r → NeverReturns v u r more
         → HasReply (shown (world_after v more)) u r) }
 {}

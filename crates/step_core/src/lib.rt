@@ -56,5 +56,5 @@ pub use laws::{
 pub use lock_word::{Lock, Memory, ObjectId, Split, ThreadId, Word, decode};
 pub use machine::{Doing, Move};
 pub use places::{Place, Stage};
-pub use steps::{Atomic, Did, Fault, Step};
+pub use steps::{Atomic, Did, Fault, Request, Step};
 pub use worlds::{RelayoutFault, World};

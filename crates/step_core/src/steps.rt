@@ -8,7 +8,7 @@ use crate::Move;
 pub(crate) use building::{grant_of, move_for};
 use fast_path::Call;
 use fat_monitor::{Action, Answer, Cause, Reply};
-use lock_word::{ObjectId, ThreadId, Word};
+use lock_word::{ObjectId, Split, ThreadId, Word};
 use std::error::Error;
 use std::fmt;
 
@@ -27,6 +27,15 @@ pub enum Step {
     Spurious { thread: ThreadId },
     /// This is the moment now, in nanoseconds; it never falls.
     Tick { now: u64 },
+}
+
+/// What is asked of a world.
+#[derive(Clone, Copy, PartialEq, Eq, Hash, Debug)]
+pub enum Request {
+    /// A step of it.
+    Step(Step),
+    /// At rest, that its words are written in this split.
+    Relayout(Split),
 }
 
 /// The one thing that a step did to the words or the fat monitors.

@@ -22,18 +22,22 @@ use Rattle.step_core.specs.declared.places.Place.{Place}
 use Rattle.step_core.specs.declared.steps.Did.{Did}
 use Rattle.step_core.specs.declared.steps.Fault.{Fault}
 use Rattle.step_core.specs.declared.steps.Fault.TheVariants.{Memory, Parked}
+use Rattle.step_core.specs.declared.steps.Request.{Request}
+use Rattle.step_core.specs.declared.steps.Request.TheVariants as request
 use Rattle.step_core.specs.declared.steps.Step.{Step}
 use Rattle.step_core.specs.declared.steps.Step.TheVariants as step
 use Rattle.step_core.specs.Machine.{State, Thread, Steps, Run, Is, flag_back, reply_of}
 use Rattle.step_core.specs.World.{WorldState, place_at}
 use Rattle.step_core.specs.Shown.{shown, doing_of, act_of}
 use Rattle.step_core.specs.Sound.{IsSound}
-use Rattle.step_core.specs.Step.{step_of, moves_made, moves_of, world_after}
+use Rattle.step_core.specs.Step.{step_of, moves_made, moves_of}
+use Rattle.step_core.specs.Requests.{world_then, world_after}
 use Rattle.step_core.specs.Labels.{is_label, labels_of, EndsWith, HasLabels}
 use Rattle.step_core.specs.Refused.{IsParked, IsRefused, IsAcceptable}
-use Rattle.step_core.specs.Lasting.{IsBack, HasReply, Returns, MoveReturns, LastsBut, Lasts, NeverReturns}
+use Rattle.step_core.specs.Lasting.{IsBack, HasReply, Returns, MoveReturns, LastsBut, Lasts, NotReturns, NeverReturns}
 use Rattle.step_core.proofs.Facts.PlaceFacts.{not_back as out_not_back}
 use Rattle.step_core.proofs.Sound.AllSteps.{step_right}
+use Rattle.step_core.proofs.Relaying.Requests.{then_right, relayout_shows}
 use Rattle.step_core.proofs.Clauses.Labels.{step_labels}
 use Rattle.step_core.proofs.Clauses.Refused.{step_judged, shows}
 use Rattle.step_core.proofs.Lists.Steady.{Stays, Relocked, Returned, Leaves, one_step}
@@ -289,36 +293,43 @@ step_lasts w sound room (step.Spurious t) =
 step_lasts w sound room (step.Tick now) =
     tick_lasts (shown w) (shown (step_of room w (step.Tick now)).after) now (step_of room w (step.Tick now)).answer (step_labels w sound room (step.Tick now)) (step_right w sound room (step.Tick now)).1
 
--- Over more steps, a reply is kept while none of them returns with it,
-pub all_replied : (w : WorldState) → IsSound w → (u : ThreadId) (r : Reply) (ss : List (Step × Bool)) → HasReply (shown w) u r → NeverReturns w u r ss → HasReply (shown (world_after w ss)) u r
-all_replied w sound u r [] has never = has
-all_replied w sound u r (s ∷ ss) has never =
-    all_replied (step_of s.1 w s.0).after (step_right w sound s.1 s.0).0 u r ss
-    (by_answer (step_of s.1 w s.0).answer refl (step_lasts w sound s.1 s.0) (step_judged w sound s.1 s.0).1) never.1
+-- Over a step or a relayout, a reply is kept where none of them returns with it,
+then_replied : (w : WorldState) → IsSound w → (u : ThreadId) (r : Reply) (q : Request × Bool) → HasReply (shown w) u r → NotReturns w u r q → HasReply (shown (world_then w q)) u r
+then_replied w sound u r (request.Relayout split, room) has never = subst (λ (s : State). HasReply s u r) (sym (relayout_shows w sound room split)) has
+then_replied w sound u r (request.Step s, room) has never =
+    by_answer (step_of room w s).answer refl (step_lasts w sound room s) (step_judged w sound room s).1
   where
-    by_case : (d : Did) → (step_of s.1 w s.0).answer ≡ Ok d → HasReply (shown (step_of s.1 w s.0).after) u r ⊎ Returns s.0 d.reply u r → HasReply (shown (step_of s.1 w s.0).after) u r
+    by_case : (d : Did) → (step_of room w s).answer ≡ Ok d → HasReply (shown (step_of room w s).after) u r ⊎ Returns s d.reply u r → HasReply (shown (step_of room w s).after) u r
     by_case d e (inl kept) = kept
-    by_case d e (inr back) = absurd (never.0 d e back)
+    by_case d e (inr back) = absurd (never d e back)
 
-    by_answer : (a : Result Did Fault) → (step_of s.1 w s.0).answer ≡ a → IfOk a (λ d. Lasts (shown w) s.0 d.reply (shown (step_of s.1 w s.0).after))
-        → OnErr a ((step_of s.1 w s.0).after ≡ w) → HasReply (shown (step_of s.1 w s.0).after) u r
+    by_answer : (a : Result Did Fault) → (step_of room w s).answer ≡ a → IfOk a (λ d. Lasts (shown w) s d.reply (shown (step_of room w s).after))
+        → OnErr a ((step_of room w s).after ≡ w) → HasReply (shown (step_of room w s).after) u r
     by_answer (Ok d) e lasts same = by_case d e (lasts.replied u r has)
     by_answer (Err f) e lasts same = rw same has
 
--- and a thread that is back stays so, or has the reply of its wait.
-pub all_back : (w : WorldState) → IsSound w → (u : ThreadId) (o : ObjectId) (n : ℕ) (y : Why) (ss : List (Step × Bool)) → IsBack (shown w) u o n y → NeverReturns w u (reply_of y) ss
-    → IsBack (shown (world_after w ss)) u o n y ⊎ HasReply (shown (world_after w ss)) u (reply_of y)
-all_back w sound u o n y [] note never = inl note
-all_back w sound u o n y (s ∷ ss) note never =
-    by_case (by_answer (step_of s.1 w s.0).answer (step_lasts w sound s.1 s.0) (step_judged w sound s.1 s.0).1)
-    (λ still. all_back (step_of s.1 w s.0).after (step_right w sound s.1 s.0).0 u o n y ss still never.1)
-  where
-    by_case : Comes (shown (step_of s.1 w s.0).after) u o n y → (IsBack (shown (step_of s.1 w s.0).after) u o n y → Comes (shown (world_after (step_of s.1 w s.0).after ss)) u o n y)
-        → Comes (shown (world_after (step_of s.1 w s.0).after ss)) u o n y
-    by_case (inl still) later = later still
-    by_case (inr has) later = inr (all_replied (step_of s.1 w s.0).after (step_right w sound s.1 s.0).0 u (reply_of y) ss has never.1)
+-- and so over more of them.
+pub all_replied : (w : WorldState) → IsSound w → (u : ThreadId) (r : Reply) (qs : List (Request × Bool)) → HasReply (shown w) u r → NeverReturns w u r qs → HasReply (shown (world_after w qs)) u r
+all_replied w sound u r [] has never = has
+all_replied w sound u r (q ∷ qs) has never = all_replied (world_then w q) (then_right w sound q).0 u r qs (then_replied w sound u r q has never.0) never.1
 
-    by_answer : (a : Result Did Fault) → IfOk a (λ d. Lasts (shown w) s.0 d.reply (shown (step_of s.1 w s.0).after))
-        → OnErr a ((step_of s.1 w s.0).after ≡ w) → Comes (shown (step_of s.1 w s.0).after) u o n y
+-- A thread that is back stays so, or has the reply of its wait.
+then_back : (w : WorldState) → IsSound w → (u : ThreadId) (o : ObjectId) (n : ℕ) (y : Why) (q : Request × Bool) → IsBack (shown w) u o n y → Comes (shown (world_then w q)) u o n y
+then_back w sound u o n y (request.Relayout split, room) note = inl (subst (λ (s : State). IsBack s u o n y) (sym (relayout_shows w sound room split)) note)
+then_back w sound u o n y (request.Step s, room) note = by_answer (step_of room w s).answer (step_lasts w sound room s) (step_judged w sound room s).1
+  where
+    by_answer : (a : Result Did Fault) → IfOk a (λ d. Lasts (shown w) s d.reply (shown (step_of room w s).after))
+        → OnErr a ((step_of room w s).after ≡ w) → Comes (shown (step_of room w s).after) u o n y
     by_answer (Ok d) lasts same = lasts.back u o n y note
     by_answer (Err f) lasts same = inl (rw same note)
+
+pub all_back : (w : WorldState) → IsSound w → (u : ThreadId) (o : ObjectId) (n : ℕ) (y : Why) (qs : List (Request × Bool)) → IsBack (shown w) u o n y → NeverReturns w u (reply_of y) qs
+    → IsBack (shown (world_after w qs)) u o n y ⊎ HasReply (shown (world_after w qs)) u (reply_of y)
+all_back w sound u o n y [] note never = inl note
+all_back w sound u o n y (q ∷ qs) note never =
+    by_case (then_back w sound u o n y q note) (λ still. all_back (world_then w q) (then_right w sound q).0 u o n y qs still never.1)
+  where
+    by_case : Comes (shown (world_then w q)) u o n y → (IsBack (shown (world_then w q)) u o n y → Comes (shown (world_after (world_then w q) qs)) u o n y)
+        → Comes (shown (world_after (world_then w q) qs)) u o n y
+    by_case (inl still) later = later still
+    by_case (inr has) later = inr (all_replied (world_then w q) (then_right w sound q).0 u (reply_of y) qs has never.1)

@@ -4,6 +4,7 @@ use Rattle.std.proofs.Common.{refl, arith, ap, sym, ◌∙◌, inl, inr}
 use Rattle.std.proofs.lemmas.Bool.{cases_eq, cases_lt, eq-eqb, ne_eqb}
 use Rattle.lock_word.specs.declared.ThreadId.{ThreadId}
 use Rattle.lock_word.specs.declared.ObjectId.{ObjectId}
+use Rattle.lock_word.specs.declared.Split.{Split}
 use Rattle.thread_index.specs.Indices.{seat_of}
 use Rattle.thread_index.proofs.Seats.{seat_same}
 use Rattle.fast_path.specs.declared.calls.Call.{Call}
@@ -19,6 +20,8 @@ use Rattle.step_core.specs.declared.places.Place.{Place}
 use Rattle.step_core.specs.declared.places.Place.TheVariants.{Idle, InCall, Ending, AtPost}
 use Rattle.step_core.specs.declared.places.Stage.{Stage}
 use Rattle.step_core.specs.declared.places.Stage.TheVariants.{Begun, Taking, Storing, Binding, Acting, Won, Bound, Inflated, Direct}
+use Rattle.step_core.specs.declared.steps.Request.{Request}
+use Rattle.step_core.specs.declared.steps.Request.TheVariants as request
 use Rattle.step_core.specs.declared.steps.Step.{Step}
 use Rattle.step_core.specs.declared.steps.Step.TheVariants as step
 use Rattle.step_core.specs.declared.steps.Did.{Did}
@@ -30,10 +33,12 @@ use Rattle.step_core.specs.World.{WorldState, place_at}
 use Rattle.step_core.specs.Shown.{shown, doing_of, doing_in}
 use Rattle.step_core.specs.Sound.{IsSound, Fitting}
 use Rattle.step_core.specs.Step.{step_of}
+use Rattle.step_core.specs.Relayout.{after_relayout}
 use Rattle.step_core.specs.Refused.{IsLive, IsBusy, IsRefused, IsAcceptable}
 use Rattle.step_core.specs.Patient.{left_in, left_at, left_of_seat, left_of, HasMet, HasParked, goes_of, Lingers, AllLinger}
 use Rattle.step_core.proofs.Facts.OneThread.{within}
 use Rattle.step_core.proofs.Sound.AllSteps.{step_right}
+use Rattle.step_core.proofs.Relaying.Requests.{relayout_sound, relayout_left}
 use Rattle.step_core.proofs.Clauses.Refused.{step_judged, does, does_out, shows, busy}
 use Rattle.step_core.proofs.Clauses.Patient.{step_patient}
 
@@ -120,7 +125,7 @@ module _ (w : WorldState) (sound : IsSound w) (t : ThreadId) (left : 1 ≤ left_
   others u room (Err f) e other = unmoved (step.Go u) room (rw e at (step_judged w sound room (step.Go u)).1)
   others u room (Ok d) e other = kept (step_of room w (step.Go u)).after ((rw e at (step_patient w sound room (step.Go u))).1 t (λ x. other (sym x)))
 
-  goes : (u : ThreadId) (room : Bool) (r : Result Did Fault) → (step_of room w (step.Go u)).answer ≡ r → u.0 ≡ t.0 → Lingers w t (step.Go u, room)
+  goes : (u : ThreadId) (room : Bool) (r : Result Did Fault) → (step_of room w (step.Go u)).answer ≡ r → u.0 ≡ t.0 → Lingers w t (request.Step (step.Go u), room)
       → LowersBy w t 1 (step_of room w (step.Go u)).after
   goes u room (Err f) e same lingers = let one = lingers same in let never : ◌≡◌ {A = Result Did Fault} (Err f) (Ok one.0) = sym e ∙ one.1 in absurd (cc)
   goes u room (Ok d) e same lingers =
@@ -140,28 +145,35 @@ module _ (w : WorldState) (sound : IsSound w) (t : ThreadId) (left : 1 ≤ left_
           let before : left_of w u ≡ left_of w t = same_left w t u same in let after : left_of w' u ≡ left_of w' t = same_left w' t u same in
           (omega arith, omega arith)
 
+  -- nor does a relayout touch it
+  relays : (split : Split) (room : Bool) → LowersBy w t 0 (after_relayout room w split).after
+  relays split room = kept (after_relayout room w split).after (relayout_left w sound room split t)
+
 -- A call in which t lingers over a list of steps goes on less often than it has steps left.
-pub lingers : (w : WorldState) → IsSound w → (t : ThreadId) (ss : List (Step × Bool)) → 1 ≤ left_of w t → AllLinger w t ss → goes_of t ss < left_of w t
+pub lingers : (w : WorldState) → IsSound w → (t : ThreadId) (ss : List (Request × Bool)) → 1 ≤ left_of w t → AllLinger w t ss → goes_of t ss < left_of w t
 lingers w sound t [] left all = left
-lingers w sound t ((step.Expire u, room) ∷ ss) left all =
+lingers w sound t ((request.Step (step.Expire u), room) ∷ ss) left all =
     let one = expires w sound t left u room (step_of room w (step.Expire u)).answer refl in
     let rest = lingers (step_of room w (step.Expire u)).after (step_right w sound room (step.Expire u)).0 t ss one.1 all.1 in omega arith
-lingers w sound t ((step.Spurious u, room) ∷ ss) left all =
+lingers w sound t ((request.Step (step.Spurious u), room) ∷ ss) left all =
     let one = wakes w sound t left u room (step_of room w (step.Spurious u)).answer refl in
     let rest = lingers (step_of room w (step.Spurious u)).after (step_right w sound room (step.Spurious u)).0 t ss one.1 all.1 in omega arith
-lingers w sound t ((step.Tick now, room) ∷ ss) left all =
+lingers w sound t ((request.Step (step.Tick now), room) ∷ ss) left all =
     let one = ticks w sound t left now room (step_of room w (step.Tick now)).answer refl in
     let rest = lingers (step_of room w (step.Tick now)).after (step_right w sound room (step.Tick now)).0 t ss one.1 all.1 in omega arith
-lingers w sound t ((step.Attach u, room) ∷ ss) left all =
+lingers w sound t ((request.Relayout split, room) ∷ ss) left all =
+    let one = relays w sound t left split room in
+    let rest = lingers (after_relayout room w split).after (relayout_sound w sound room split) t ss one.1 all.1 in omega arith
+lingers w sound t ((request.Step (step.Attach u), room) ∷ ss) left all =
     let one = attaches w sound t left u room (step_of room w (step.Attach u)).answer refl (cases_eq u.0 t.0) in
     let rest = lingers (step_of room w (step.Attach u)).after (step_right w sound room (step.Attach u)).0 t ss one.1 all.1 in omega arith
-lingers w sound t ((step.Begin u c, room) ∷ ss) left all =
+lingers w sound t ((request.Step (step.Begin u c), room) ∷ ss) left all =
     let one = begins w sound t left u c room (step_of room w (step.Begin u c)).answer refl (cases_eq u.0 t.0) in
     let rest = lingers (step_of room w (step.Begin u c)).after (step_right w sound room (step.Begin u c)).0 t ss one.1 all.1 in omega arith
-lingers w sound t ((step.Go u, room) ∷ ss) left all = by_thread (cases_eq u.0 t.0) (λ h. lingers (step_of room w (step.Go u)).after (step_right w sound room (step.Go u)).0 t ss h all.1)
+lingers w sound t ((request.Step (step.Go u), room) ∷ ss) left all = by_thread (cases_eq u.0 t.0) (λ h. lingers (step_of room w (step.Go u)).after (step_right w sound room (step.Go u)).0 t ss h all.1)
   where
     by_thread : (u.0 ≡ t.0) ⊎ (u.0 ≡ t.0 → ⊥) → (1 ≤ left_of (step_of room w (step.Go u)).after t → goes_of t ss < left_of (step_of room w (step.Go u)).after t)
-        → goes_of t ((step.Go u, room) ∷ ss) < left_of w t
+        → goes_of t ((request.Step (step.Go u), room) ∷ ss) < left_of w t
     by_thread (inl same) rest =
         let one = goes w sound t left u room (step_of room w (step.Go u)).answer refl same all.0 in let more = rest one.1 in
         rw (eq-eqb u.0 t.0 same) (omega arith)
@@ -247,14 +259,14 @@ module _ (w : WorldState) (sound : IsSound w) (t : ThreadId) (flag : Bool) (act 
       rw p.1 (left_bounds w p.0 (place_at w p.0) (sound.places p.0 (within w sound p.0 t p.1)) (λ e. busy (sym (place_does p.0 p.1 p.2 Idle e (λ i. cc)))))
 
   -- A call but End replies, parks or meets another thread within four Go steps.
-  pub within_four : (act ≡ doing.Idle → ⊥) → (act ≡ doing.Wants call.End → ⊥) → (ss : List (Step × Bool)) → AllLinger w t ss → goes_of t ss < 4
+  pub within_four : (act ≡ doing.Idle → ⊥) → (act ≡ doing.Wants call.End → ⊥) → (ss : List (Request × Bool)) → AllLinger w t ss → goes_of t ss < 4
   within_four busy not_end ss all =
       let p = placed in
       let most : left_of w t ≤ 4 = rw p.1 (at_most_four (length w.words) (place_at w p.0) (λ n e. not_end (sym (place_does p.0 p.1 p.2 (Ending n) e (λ i. cc))))) in
       let fewer : goes_of t ss < left_of w t = lingers w sound t ss (has_left busy) all in omega arith
 
 -- An end replies within a Go for each object and one more.
-pub within_all : (w : WorldState) → IsSound w → (t : ThreadId) (flag : Bool) → Is (shown w) t flag (doing.Wants call.End) → (ss : List (Step × Bool)) → AllLinger w t ss → goes_of t ss < length w.words + 1
+pub within_all : (w : WorldState) → IsSound w → (t : ThreadId) (flag : Bool) → Is (shown w) t flag (doing.Wants call.End) → (ss : List (Request × Bool)) → AllLinger w t ss → goes_of t ss < length w.words + 1
 within_all w sound t flag is ss all =
     let p = placed w sound t flag (doing.Wants call.End) is in
     let most : left_of w t ≤ length w.words + 1 = rw p.1 (at_most_all (length w.words) (place_at w p.0) (λ free. place_does w sound t flag (doing.Wants call.End) is p.0 p.1 p.2 (place_at w p.0) refl free)) in

@@ -19,6 +19,8 @@ use Rattle.step_core.specs.declared.machine.Doing.TheVariants.{Idle, Wants, Wait
 use Rattle.step_core.specs.declared.machine.Move.{Move}
 use Rattle.step_core.specs.declared.machine.Move.TheVariants as move
 use Rattle.step_core.specs.declared.steps.Did.{Did}
+use Rattle.step_core.specs.declared.steps.Request.{Request}
+use Rattle.step_core.specs.declared.steps.Request.TheVariants as request
 use Rattle.step_core.specs.declared.steps.Step.{Step}
 use Rattle.step_core.specs.declared.steps.Step.TheVariants as step
 use Rattle.step_core.specs.Machine.{State, Thread, Monitor, Steps, Run, Is, Calls, OwnedBy, Unowned, now_is, free, held, owner_only, IsAnswer, MayRefuse, after_notify_all, after_interrupt, with_interrupt}
@@ -26,12 +28,14 @@ use Rattle.step_core.specs.Cycles.{entered, wanted, wanted_by, other_than, owner
 use Rattle.step_core.specs.World.{WorldState}
 use Rattle.step_core.specs.Shown.{shown}
 use Rattle.step_core.specs.Sound.{IsSound}
-use Rattle.step_core.specs.Step.{step_of, moves_made, moves_of, world_after}
+use Rattle.step_core.specs.Step.{step_of, moves_made, moves_of}
+use Rattle.step_core.specs.Requests.{world_then, moves_then, world_after}
 use Rattle.step_core.specs.Labels.{EndsWith, HasLabels}
-use Rattle.step_core.specs.Lasting.{Returns, NeverReturns}
+use Rattle.step_core.specs.Lasting.{Returns, NotReturns, NeverReturns}
 use Rattle.lock_word.specs.declared.Split.{Split}
 use Rattle.step_core.specs.Laws.{AreWithinLimits, reached}
 use Rattle.step_core.proofs.Sound.AllSteps.{step_right}
+use Rattle.step_core.proofs.Relaying.Requests.{then_right}
 use Rattle.step_core.proofs.Clauses.Labels.{step_labels}
 use Rattle.step_core.proofs.Clauses.Lasting.{run_split}
 use Rattle.step_core.proofs.Lists.Reached.{reached_sound}
@@ -360,11 +364,11 @@ none_returns s s' c t r is in' one = let (f, has) = has_reply s s' t r one in wa
 
 -- ---- over steps of a world
 
-pub cycle_kept : (w : WorldState) → IsSound w → (c : List ThreadId) (ss : List (Step × Bool)) → IsCycle (shown w) c → IsCycle (shown (world_after w ss)) c
+pub cycle_kept : (w : WorldState) → IsSound w → (c : List ThreadId) (rs : List (Request × Bool)) → IsCycle (shown w) c → IsCycle (shown (world_after w rs)) c
 cycle_kept w sound c [] is = is
-cycle_kept w sound c (s ∷ ss) is =
-    let right = step_right w sound s.1 s.0 in
-    cycle_kept (step_of s.1 w s.0).after right.0 c ss (cycle_lasts (shown w) (shown (step_of s.1 w s.0).after) (moves_of (step_of s.1 w s.0).answer) c is right.1)
+cycle_kept w sound c (r ∷ rs) is =
+    let right = then_right w sound r in
+    cycle_kept (world_then w r) right.0 c rs (cycle_lasts (shown w) (shown (world_then w r)) (moves_then w r) c is right.1)
 
 module _ (s s' : State) (c : List ThreadId) (u : ThreadId) (r : Reply) (is : IsCycle s c) (in' : Contains c u) where
   ends_not : (t : ThreadId) (ms : List Move) → t.0 ≡ u.0 → EndsWith t ms (Some r) → Run s ms s' → ⊥
@@ -380,19 +384,22 @@ module _ (s s' : State) (c : List ThreadId) (u : ThreadId) (r : Reply) (is : IsC
   step_returns_not (step.Spurious t) d h run back = back
   step_returns_not (step.Tick now) d h run back = back
 
-pub never_returns : (w : WorldState) → IsSound w → (c : List ThreadId) (u : ThreadId) (r : Reply) (ss : List (Step × Bool)) → IsCycle (shown w) c → Contains c u → NeverReturns w u r ss
-never_returns w sound c u r [] is in' = tt
-never_returns w sound c u r (s ∷ ss) is in' = (
-  λ d e. step_returns_not (shown w) (shown (step_of s.1 w s.0).after) c u r is in' s.0 d
-      (subst (λ a. IfOk a (HasLabels s.0)) e (step_labels w sound s.1 s.0)) (subst (λ a. Run (shown w) (moves_of a) (shown (step_of s.1 w s.0).after)) e (step_right w sound s.1 s.0).1),
-  never_returns (step_of s.1 w s.0).after (step_right w sound s.1 s.0).0 c u r ss (cycle_kept w sound c (s ∷ []) is) in',
-)
+then_returns_not : (w : WorldState) → IsSound w → (c : List ThreadId) (u : ThreadId) (r : Reply) (q : Request × Bool) → IsCycle (shown w) c → Contains c u → NotReturns w u r q
+then_returns_not w sound c u r (request.Step s, room) is in' =
+    λ d e. step_returns_not (shown w) (shown (step_of room w s).after) c u r is in' s d
+    (subst (λ a. IfOk a (HasLabels s)) e (step_labels w sound room s)) (subst (λ a. Run (shown w) (moves_of a) (shown (step_of room w s).after)) e (step_right w sound room s).1)
+then_returns_not w sound c u r (request.Relayout split, room) is in' = tt
 
-module _ (lows : List ℕ) (monitors indices : ℕ) (split : Split) (steps : List (Step × Bool)) (limits : AreWithinLimits lows monitors indices split) where
-  pub reached_cycle : (c : List ThreadId) (more : List (Step × Bool)) → IsCycle (shown (reached lows monitors indices split steps)) c
+pub never_returns : (w : WorldState) → IsSound w → (c : List ThreadId) (u : ThreadId) (r : Reply) (qs : List (Request × Bool)) → IsCycle (shown w) c → Contains c u → NeverReturns w u r qs
+never_returns w sound c u r [] is in' = tt
+never_returns w sound c u r (q ∷ qs) is in' =
+    (then_returns_not w sound c u r q is in', never_returns (world_then w q) (then_right w sound q).0 c u r qs (cycle_kept w sound c (q ∷ []) is) in')
+
+module _ (lows : List ℕ) (monitors indices : ℕ) (split : Split) (steps : List (Request × Bool)) (limits : AreWithinLimits lows monitors indices split) where
+  pub reached_cycle : (c : List ThreadId) (more : List (Request × Bool)) → IsCycle (shown (reached lows monitors indices split steps)) c
       → IsCycle (shown (world_after (reached lows monitors indices split steps) more)) c
   reached_cycle c more is = cycle_kept (reached lows monitors indices split steps) (reached_sound lows monitors indices split steps limits) c more is
 
-  pub reached_silent : (c : List ThreadId) (u : ThreadId) (r : Reply) (more : List (Step × Bool)) → IsCycle (shown (reached lows monitors indices split steps)) c → Contains c u
+  pub reached_silent : (c : List ThreadId) (u : ThreadId) (r : Reply) (more : List (Request × Bool)) → IsCycle (shown (reached lows monitors indices split steps)) c → Contains c u
       → NeverReturns (reached lows monitors indices split steps) u r more
   reached_silent c u r more is in' = never_returns (reached lows monitors indices split steps) (reached_sound lows monitors indices split steps limits) c u r more is in'

@@ -25,6 +25,7 @@ use Rattle.step_core.specs.Sound.{IsSound}
 use Rattle.step_core.specs.Go.{new_word}
 use Rattle.step_core.specs.Machine.{State, Thread}
 use Rattle.step_core.specs.Kept.{Keeps}
+use Rattle.step_core.specs.Patient.{left_of, left_of_seat}
 use Rattle.step_core.specs.Relayout.{is_resting, IsAtRest, rests_as, holder_rests, rest_below, is_at_rest, is_too_deep, is_deep_word, deep_in, inflated_for, inflated_at, inflated_below, is_same_split, word_in, respelled, roomy, relaid, AfterRelayout, after_relayout}
 use Rattle.step_core.proofs.Relaying.Respelling.{word_now}
 use Rattle.thread_index.specs.Indices.{seat_of, holder_at, holder_of}
@@ -32,7 +33,7 @@ use Rattle.thread_index.proofs.Seats.{seat_found}
 use Rattle.step_core.proofs.Sound.Parts.{sound_fats}
 
 -- room for binds to come leaves the world sound
-spare_sound : (w : WorldState) → IsSound w → (n : ℕ) → book.IsSound (with_spare w.fats n) → IsSound (record w { fats = with_spare w.fats n })
+pub spare_sound : (w : WorldState) → IsSound w → (n : ℕ) → book.IsSound (with_spare w.fats n) → IsSound (record w { fats = with_spare w.fats n })
 spare_sound w sound n fats =
     sound_fats w sound (with_spare w.fats n) refl (λ m. refl) (λ m i c e h. refl) fats refl (λ u. ((λ h. h), (λ h. h))) (λ u. ((λ h. h), (λ h. h)))
 
@@ -60,6 +61,7 @@ module _ (s : Split) (w : WorldState) where
   pub record Follows (p : ℕ) (v : WorldState) : Type 0 where
     pub split : v.split ≡ w.split
     pub seats : v.seats ≡ w.seats
+    pub places : v.places ≡ w.places
     pub size : length v.words ≡ length w.words
     pub limit : v.fats.limit ≡ w.fats.limit
     pub later : (q : ℕ) → p ≤ q → word_at v q ≡ word_at w q
@@ -77,6 +79,7 @@ module _ (s : Split) (w : WorldState) where
     unchanged b e = record {
       split = f.split;
       seats = f.seats;
+      places = f.places;
       size = f.size;
       limit = f.limit;
       later = λ q h. f.later q (omega arith);
@@ -88,6 +91,7 @@ module _ (s : Split) (w : WorldState) where
     bound n t e = record {
       split = f.split;
       seats = f.seats;
+      places = f.places;
       size = length-set v.words p (new_word v (record { 0 = p }) (Fat (length v.fats.monitors))) ∙ f.size;
       limit = f.limit;
       later = λ q h. get_or-set_other v.words p q (new_word v (record { 0 = p }) (Fat (length v.fats.monitors))) (low_word 0) (λ same. absurd (omega arith)) ∙ f.later q (omega arith);
@@ -107,7 +111,7 @@ module _ (s : Split) (w : WorldState) where
         by_test false e = rw e (unchanged false (rw lock_now at e))
 
   pub follows : (p : ℕ) → p ≤ length w.words → Follows p (inflated_below s w p)
-  follows zero h = record { split = refl; seats = refl; size = refl; limit = refl; later = λ q h. refl; most = omega arith; spare = omega arith }
+  follows zero h = record { split = refl; seats = refl; places = refl; size = refl; limit = refl; later = λ q h. refl; most = omega arith; spare = omega arith }
   follows (suc p) h = let more : p + 1 ≡ suc p = omega arith in rw more at (next p (omega arith) (inflated_below s w p) (follows p (omega arith)))
 
 -- where the threads below seat k rest and its own does not, not all rest
@@ -230,6 +234,19 @@ relaid_keeps s w = record {
 } where
   v : WorldState
   v = inflated_below s (roomy s w) (length w.words)
+
+-- a call has as many steps left where the seats, the places and the number of objects stay
+left_same : (w v : WorldState) (t : ThreadId) → v.seats ≡ w.seats → v.places ≡ w.places → length v.words ≡ length w.words → left_of v t ≡ left_of w t
+left_same w v t seats places size = ap (λ (xs : List (Option ThreadId)). left_of_seat v (seat_of xs t)) seats ∙ by_seat (seat_of w.seats t)
+  where
+    by_seat : (o : Option ℕ) → left_of_seat v o ≡ left_of_seat w o
+    by_seat None = refl
+    by_seat (Some k) = rw (places, size) refl
+
+pub relaid_left : (s : Split) (w : WorldState) (t : ThreadId) → left_of (relaid s w) t ≡ left_of w t
+relaid_left s w t =
+    let f = follows s (roomy s w) (length w.words) (omega arith) in
+    left_same w (relaid s w) t f.seats f.places (relaid_keeps s w).objects
 
 -- room for binds to come is not shown
 pub spare_shows : (w : WorldState) (n : ℕ) → shown (record w { fats = with_spare w.fats n }) ≡ shown w

@@ -36,7 +36,7 @@ use Rattle.step_core.specs.World.{WorldState, place_at, lock_at, is_own}
 use Rattle.step_core.specs.Shown.{shown, doing_of}
 use Rattle.step_core.specs.Sound.{IsSound, Fitting, Agrees}
 use Rattle.step_core.specs.Did.{one_move}
-use Rattle.step_core.specs.Step.{AfterStep, after_attach, after_begin, after_begin_at, after_go, after_wait_end, time_over, wake_up, after_tick, step_of, moves_of, world_after, moves_after, first_place}
+use Rattle.step_core.specs.Step.{AfterStep, after_attach, after_begin, after_begin_at, after_go, after_wait_end, time_over, wake_up, after_tick, step_of, moves_of, first_place}
 use Rattle.step_core.proofs.Facts.OneThread.{within, is_at, out_at, shown_stays}
 use Rattle.step_core.proofs.Facts.Cases.{did_return, begin_cases, go_cases}
 use Rattle.step_core.proofs.Runs.NotifyRuns.{collect_run}
@@ -142,14 +142,6 @@ step_right w sound room (step.Tick now) = ticked_right w sound now
 pub Run-append : (s : State) (ms : List Move) (mid : State) (ns : List Move) (s' : State) → Run s ms mid → Run mid ns s' → Run s (ms ++ ns) s'
 Run-append s [] mid ns s' a b = subst (λ (x : State). Run x ns s') a b
 Run-append s (m ∷ ms) mid ns s' a b = (a.0, a.1, Run-append a.0 ms mid ns s' a.2 b)
-
--- Whatever steps come, their moves are a run.
-pub steps_run : (w : WorldState) → IsSound w → (ss : List (Step × Bool)) → Run (shown w) (moves_after w ss) (shown (world_after w ss))
-steps_run w sound [] = refl
-steps_run w sound (s ∷ ss) =
-    let h = step_right w sound s.1 s.0 in
-    Run-append (shown w) (moves_of (step_of s.1 w s.0).answer) (shown (step_of s.1 w s.0).after) (moves_after (step_of s.1 w s.0).after ss) (shown (world_after (step_of s.1 w s.0).after ss)) h.1
-    (steps_run (step_of s.1 w s.0).after h.0 ss)
 
 -- what a step of the code left is sound
 pub attach_kept : (w w' : WorldState) (t : ThreadId) (r : Result Did Fault) (room : Bool) → IsSound w

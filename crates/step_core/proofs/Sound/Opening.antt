@@ -23,8 +23,6 @@ use Rattle.step_core.specs.Machine.{State, Run, opening}
 use Rattle.step_core.specs.World.{WorldState, opening_world, low_word, lock_at}
 use Rattle.step_core.specs.Shown.{shown}
 use Rattle.step_core.specs.Sound.{IsSound}
-use Rattle.step_core.specs.Step.{moves_after, world_after}
-use Rattle.step_core.proofs.Sound.AllSteps.{steps_run}
 
 -- a word of a low byte alone
 low_words : (lows : List ℕ) → ((k : ℕ) → k < length lows → get_or lows k 0 < 256) → (p : ℕ) → (get_or (map low_word lows) p (low_word 0)).0 < 256
@@ -90,11 +88,3 @@ module _ (lows : List ℕ) (monitors indices : ℕ) (split : Split) (bytes : (k 
       let monitors_free : (shown world).monitor ≡ (opening (length lows)).monitor = fun_ext (λ o. rw (lock_free o.0) refl) in
       let size : length (map low_word lows) ≡ length lows = length-map lows low_word in
       λ i. record { thread = threads i; objects = size i; monitor = monitors_free i; moment = 0 }
-
--- Whatever steps come from the opening world, their moves are a run.
-pub opened_run : (lows : List ℕ) (monitors indices : ℕ) (split : Split) (ss : List (Step × Bool)) → ((k : ℕ) → k < length lows → get_or lows k 0 < 256)
-    → length lows ≤ 65535 → monitors ≤ 8388608 → indices ≤ greatest_index split
-    → Run (opening (length lows)) (moves_after (opening_world lows monitors indices split) ss) (shown (world_after (opening_world lows monitors indices split) ss))
-opened_run lows monitors indices split ss bytes many bounded few =
-    subst (λ (s : State). Run s (moves_after (opening_world lows monitors indices split) ss) (shown (world_after (opening_world lows monitors indices split) ss)))
-    (opened_shows lows monitors indices split bytes) (steps_run (opening_world lows monitors indices split) (opened_sound lows monitors indices split bytes many few bounded) ss)
