@@ -16,6 +16,7 @@ mod inflation;
 mod interrupts;
 mod memory;
 mod nesting;
+mod relayouts;
 mod waits;
 
 const X: ThreadId = ThreadId(0);
