@@ -6,7 +6,7 @@ use Rattle.std.specs.Fmt.{signed_decimal}
 use Rattle.std.specs.Str.{IsUtf8, IsAscii, bytes_eq}
 use Rattle.std.proofs.lemmas.Bool.{and_parts, leb-true, le-leb, ltb-true}
 use Rattle.std.proofs.lemmas.Bool.Decides.{nat_tests}
-use Rattle.std.proofs.lemmas.Option.{cond_some}
+use Rattle.std.proofs.lemmas.Option.{cond_some, same_Some}
 use Rattle.std.proofs.lemmas.List.Splits.{join_with_byte-slice_split}
 use Rattle.std.proofs.lemmas.Str.{IsUtf8-from_ascii}
 use Rattle.std.proofs.lemmas.Str.Ascii.{IsAscii-nil, IsAscii-cons}
@@ -16,11 +16,11 @@ use Rattle.lock_word.specs.Layout.{greatest_index}
 use Rattle.history_text.specs.declared.lines.Line.{Line}
 use Rattle.history_text.specs.declared.lines.Line.TheVariants.{World, Object, Step}
 use Rattle.history_text.specs.declared.lines.StepLine.{StepLine}
-use Rattle.history_text.specs.declared.lines.StepLine.TheVariants.{Attach, Begin, Go, Expire, Spurious, Tick}
+use Rattle.history_text.specs.declared.lines.StepLine.TheVariants.{Attach, Begin, Go, Expire, Spurious, Tick, Relayout}
 use Rattle.history_text.specs.declared.lines.Call.{Call}
 use Rattle.history_text.specs.declared.lines.Call.TheVariants.{Enter, Exit, Wait, Notify, NotifyAll, Holds, Interrupt, Interrupted, IsInterrupted, End}
 use Rattle.history_text.specs.Words.{IsBelow, is_name, name_from, number_from, signed_from, nanos_from, hex_digit, hex_from, low_text, low_from}
-use Rattle.history_text.specs.Lines.{line_at, line_from, step_of_two, line_of_three, line_of_four, world_from, world_of, split_words, wait_from, call_alone, call_naming, call_timed, call_with, begin_from, words_of, line_words, step_words, call_words, line_text, Fits, StepFits, CallFits}
+use Rattle.history_text.specs.Lines.{line_at, line_from, split_name, split_from, step_of_two, line_of_three, line_of_four, world_from, world_of, split_words, wait_from, call_alone, call_naming, call_timed, call_with, begin_from, words_of, line_words, step_words, call_words, line_text, Fits, StepFits, CallFits}
 use Rattle.history_text.proofs.Choices.{by_cond, bound, mapped, none_some, some_same, same_word}
 use Rattle.history_text.proofs.Numerals.{number_takes, number_again}
 use Rattle.history_text.proofs.Signed.{signed_takes, signed_again, signed_plain, nanos_takes, nanos_again, nanos_plain}
@@ -77,13 +77,33 @@ tick_takes v word s verb e =
     let number = number_takes word made.0 made.1 in
     subst (λ (s : StepLine). StepFits s × ((v ∷ word ∷ []) ≡ step_words s)) made.2 (tick_said v word made.0 verb number.0 number.1)
 
+split_said : (word : List ℕ) (made split : Split) → word ≡ split_name made → Some made ≡ Some split → word ≡ split_name split
+split_said word made split is e = subst (λ (s : Split). word ≡ split_name s) (same_Some made split e) is
+
+split_takes : (word : List ℕ) (split : Split) → split_from word ≡ Some split → word ≡ split_name split
+split_takes word split e =
+    by_cond (bytes_eq word (codes "wide")) _ _ _ _ e (λ is m. split_said word Wide split (same_word word _ is) m)
+    (λ _ e. by_cond (bytes_eq word (codes "deep")) _ _ _ _ e (λ is m. split_said word Deep split (same_word word _ is) m) (λ _ none. none_split split none))
+  where
+    none_split : (s : Split) → ◌≡◌ {A = Option Split} None (Some s) → word ≡ split_name split
+    none_split s e = absurd (cc)
+
+relayout_said : (v word : List ℕ) (split : Split) → v ≡ codes "relayout" → word ≡ split_name split → StepFits (Relayout split) × ((v ∷ word ∷ []) ≡ step_words (Relayout split))
+relayout_said v word split verb spelled = (tt, rw (verb, spelled) refl)
+
+relayout_takes : (v word : List ℕ) (s : StepLine) → v ≡ codes "relayout" → option_map Relayout (split_from word) ≡ Some s → StepFits s × ((v ∷ word ∷ []) ≡ step_words s)
+relayout_takes v word s verb e =
+    let made = mapped Relayout (split_from word) s e in
+    subst (λ (s : StepLine). StepFits s × ((v ∷ word ∷ []) ≡ step_words s)) made.2 (relayout_said v word made.0 verb (split_takes word made.0 made.1))
+
 two_takes : (v word : List ℕ) (s : StepLine) → step_of_two v word ≡ Some s → StepFits s × ((v ∷ word ∷ []) ≡ step_words s)
 two_takes v word s e =
     by_cond (bytes_eq v (codes "attach")) _ _ _ _ e (λ is m. thread_takes Attach v (codes "attach") word s (same_word v _ is) (λ _. refl) (λ n h. h) m)
     (λ _ e. by_cond (bytes_eq v (codes "go")) _ _ _ _ e (λ is m. thread_takes Go v (codes "go") word s (same_word v _ is) (λ _. refl) (λ n h. h) m)
     (λ _ e. by_cond (bytes_eq v (codes "expire")) _ _ _ _ e (λ is m. thread_takes Expire v (codes "expire") word s (same_word v _ is) (λ _. refl) (λ n h. h) m)
     (λ _ e. by_cond (bytes_eq v (codes "spurious")) _ _ _ _ e (λ is m. thread_takes Spurious v (codes "spurious") word s (same_word v _ is) (λ _. refl) (λ n h. h) m)
-    (λ _ e. by_cond (bytes_eq v (codes "tick")) _ _ _ _ e (λ is m. tick_takes v word s (same_word v _ is) m) (λ _ none. none_some s _ none)))))
+    (λ _ e. by_cond (bytes_eq v (codes "tick")) _ _ _ _ e (λ is m. tick_takes v word s (same_word v _ is) m)
+    (λ _ e. by_cond (bytes_eq v (codes "relayout")) _ _ _ _ e (λ is m. relayout_takes v word s (same_word v _ is) m) (λ _ none. none_some s _ none))))))
 
 -- a line that is a step
 step_line_takes : (ws : List (List ℕ)) (o : Option StepLine) (l : Line) → ((s : StepLine) → o ≡ Some s → StepFits s × (ws ≡ step_words s)) → option_map Step o ≡ Some l → Fits l × (ws ≡ line_words l)
@@ -278,6 +298,8 @@ words_again (Step (Go t)) fits = rw fits refl
 words_again (Step (Expire t)) fits = rw fits refl
 words_again (Step (Spurious t)) fits = rw fits refl
 words_again (Step (Tick now)) fits = rw (number_again now fits) refl
+words_again (Step (Relayout Wide)) fits = refl
+words_again (Step (Relayout Deep)) fits = refl
 
 call_plain : (call : Call) → CallFits call → ArePlain (call_words call)
 call_plain (Enter o) fits = (refl, (name_plain o fits, tt))
@@ -301,6 +323,8 @@ words_plain (Step (Go t)) fits = (omega arith, (refl, (name_plain t fits, tt)))
 words_plain (Step (Expire t)) fits = (omega arith, (refl, (name_plain t fits, tt)))
 words_plain (Step (Spurious t)) fits = (omega arith, (refl, (name_plain t fits, tt)))
 words_plain (Step (Tick now)) fits = (omega arith, (refl, (decimal_plain now fits, tt)))
+words_plain (Step (Relayout Wide)) fits = (omega arith, (refl, (refl, tt)))
+words_plain (Step (Relayout Deep)) fits = (omega arith, (refl, (refl, tt)))
 
 pub line_again : (l : Line) → Fits l → line_at (line_text l) ≡ Some l
 line_again l fits =

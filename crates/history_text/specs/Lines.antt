@@ -9,7 +9,7 @@ use Rattle.lock_word.specs.Layout.{greatest_index}
 use Rattle.history_text.specs.declared.lines.Line.{Line}
 use Rattle.history_text.specs.declared.lines.Line.TheVariants.{World, Object, Step}
 use Rattle.history_text.specs.declared.lines.StepLine.{StepLine}
-use Rattle.history_text.specs.declared.lines.StepLine.TheVariants.{Attach, Begin, Go, Expire, Spurious, Tick}
+use Rattle.history_text.specs.declared.lines.StepLine.TheVariants.{Attach, Begin, Go, Expire, Spurious, Tick, Relayout}
 use Rattle.history_text.specs.declared.lines.Call.{Call}
 use Rattle.history_text.specs.declared.lines.Call.TheVariants.{Enter, Exit, Wait, Notify, NotifyAll, Holds, Interrupt, Interrupted, IsInterrupted, End}
 use Rattle.history_text.specs.Words.{IsBelow, is_name, name_from, number_from, signed_from, nanos_from, low_text, low_from}
@@ -29,6 +29,10 @@ call_words Interrupted = codes "interrupted" ∷ []
 call_words (IsInterrupted target) = codes "isinterrupted" ∷ target ∷ []
 call_words End = codes "end" ∷ []
 
+abbrev pub split_name : Split → List ℕ
+split_name Wide = codes "wide"
+split_name Deep = codes "deep"
+
 abbrev pub step_words : StepLine → List (List ℕ)
 step_words (Attach thread) = codes "attach" ∷ thread ∷ []
 step_words (Begin thread call) = codes "begin" ∷ thread ∷ call_words call
@@ -36,6 +40,7 @@ step_words (Go thread) = codes "go" ∷ thread ∷ []
 step_words (Expire thread) = codes "expire" ∷ thread ∷ []
 step_words (Spurious thread) = codes "spurious" ∷ thread ∷ []
 step_words (Tick now) = codes "tick" ∷ decimal now ∷ []
+step_words (Relayout split) = codes "relayout" ∷ split_name split ∷ []
 
 -- the wide split is not named
 abbrev pub split_words : Split → List (List ℕ)
@@ -78,6 +83,7 @@ StepFits (Go thread) = is_name thread ≡ true
 StepFits (Expire thread) = is_name thread ≡ true
 StepFits (Spurious thread) = is_name thread ≡ true
 StepFits (Tick now) = now < 2 ^ 64
+StepFits (Relayout split) = Unit {0}
 
 -- what a line can say
 abbrev pub Fits : Line → Type 0
@@ -170,13 +176,18 @@ begin_from verb thread call =
     then option_and_then (λ t. option_map (Begin t) call) (name_from thread)
     else None
 
+abbrev pub split_from : List ℕ → Option Split
+split_from word =
+    if bytes_eq word (codes "wide") then Some Wide else (if bytes_eq word (codes "deep") then Some Deep else None)
+
 abbrev pub step_of_two : List ℕ → List ℕ → Option StepLine
 step_of_two verb word =
     if bytes_eq verb (codes "attach") then option_map Attach (name_from word)
     else (if bytes_eq verb (codes "go") then option_map Go (name_from word)
     else (if bytes_eq verb (codes "expire") then option_map Expire (name_from word)
     else (if bytes_eq verb (codes "spurious") then option_map Spurious (name_from word)
-    else (if bytes_eq verb (codes "tick") then option_map Tick (number_from word) else None))))
+    else (if bytes_eq verb (codes "tick") then option_map Tick (number_from word)
+    else (if bytes_eq verb (codes "relayout") then option_map Relayout (split_from word) else None)))))
 
 abbrev pub world_from : Split → ℕ → ℕ → Option Line
 world_from split m k =

@@ -24,7 +24,7 @@ pub enum Call<'a> {
     End,
 }
 
-/// A line that is a step.
+/// A line behind those of the objects: a step, or a relayout.
 #[derive(Debug, Drop)]
 pub enum StepLine<'a> {
     Attach(Name<'a>),
@@ -35,6 +35,8 @@ pub enum StepLine<'a> {
     Spurious(Name<'a>),
     /// The moment, in nanoseconds.
     Tick(u64),
+    /// The split in which all words are written from here on.
+    Relayout(Split),
 }
 
 /// A line of a script.

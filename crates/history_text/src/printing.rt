@@ -59,6 +59,8 @@ fn put_step(out: &mut String, step: &StepLine<'_>) -> Result<(), AllocError>
         StepLine::Expire(thread) => writeln!(out, "expire {thread}"),
         StepLine::Spurious(thread) => writeln!(out, "spurious {thread}"),
         StepLine::Tick(now) => writeln!(out, "tick {now}"),
+        StepLine::Relayout(Split::Wide) => writeln!(out, "relayout wide"),
+        StepLine::Relayout(Split::Deep) => writeln!(out, "relayout deep"),
     }
 }
 

@@ -5,7 +5,7 @@ ghost use Rattle.std.specs.List.{list_all};
 ghost use Rattle.std.specs.Char.{is_ascii_digit};
 ghost use Rattle.history_text.specs.declared.lines.Line.TheVariants.{Object, Step};
 ghost use Rattle.history_text.specs.Words.{is_numeral, signed_from, nanos_from, number_from, name_from, hex_from, low_from};
-ghost use Rattle.history_text.specs.Lines.{begin_from, call_alone, call_naming, call_with, call_timed, wait_from, world_of, step_of_two, line_of_three, line_of_four, line_from, words_of, line_at};
+ghost use Rattle.history_text.specs.Lines.{begin_from, call_alone, call_naming, call_with, call_timed, wait_from, world_of, split_from, step_of_two, line_of_three, line_of_four, line_from, words_of, line_at};
 
 use crate::lines::{Call, Line, StepLine};
 use crate::names::Name;
@@ -199,6 +199,17 @@ fn step_of_two<'a>(verb: &str, word: &'a str) -> Option<StepLine<'a>>
         "expire" => Name::from_text(word).map(StepLine::Expire),
         "spurious" => Name::from_text(word).map(StepLine::Spurious),
         "tick" => Some(StepLine::Tick(number_of(word)?)),
+        "relayout" => Some(StepLine::Relayout(split_of(word)?)),
+        _ => None,
+    }
+}
+
+fn split_of(word: &str) -> Option<Split>
+    ensures { result ≡ split_from word.now }
+{
+    match word {
+        "wide" => Some(Split::Wide),
+        "deep" => Some(Split::Deep),
         _ => None,
     }
 }
