@@ -5,12 +5,19 @@ use Rattle.step_core.specs.declared.machine.Move.{Move}
 use Rattle.step_core.specs.declared.steps.Did.{Did}
 use Rattle.step_core.specs.declared.steps.Fault.{Fault}
 use Rattle.step_core.specs.declared.steps.Fault.TheVariants as fault
+use Rattle.step_core.specs.declared.steps.Request.{Request}
+use Rattle.step_core.specs.declared.steps.Request.TheVariants as request
 use Rattle.step_core.specs.declared.steps.Step.{Step}
+use Rattle.step_core.specs.declared.worlds.relayout.RelayoutFault.{RelayoutFault}
+use Rattle.step_core.specs.declared.worlds.relayout.RelayoutFault.TheVariants as relayout
+use Rattle.lock_word.specs.declared.Split.{Split}
 use Rattle.step_core.specs.Machine.{State, Run, opening}
 use Rattle.step_core.specs.Shown.{shown}
-use Rattle.step_core.specs.Step.{AfterStep, step_of, moves_made, moves_of, moves_after, world_after}
+use Rattle.step_core.specs.Step.{AfterStep, step_of, moves_made, moves_of}
+use Rattle.step_core.specs.Relayout.{AfterRelayout, after_relayout}
+use Rattle.step_core.specs.Requests.{world_then, moves_then, moves_after, world_after}
 use Rattle.step_core.specs.World.{WorldState, opening_world}
-use Rattle.history.specs.Histories.{move_text, moves_text, steps_in, objects_text, first_world, HaveMemory, Tells, IsHistoryOf}
+use Rattle.history.specs.Histories.{move_text, moves_text, steps_in, objects_text, first_world, HasMemory, HaveMemory, Told, Tells, IsHistoryOf}
 use Rattle.history.specs.Plans.{IsPlanOf}
 use Rattle.history.specs.declared.plans.Plan.{Plan}
 use Rattle.history_streams.specs.declared.faults.FileFault.{FileFault}
@@ -39,23 +46,23 @@ move_more old mid new xs i d within e f =
 
 -- ---- steps
 
-steps_in-append : (ts us : List (Step × Bool)) → steps_in (ts ++ us) ≡ steps_in ts ++ steps_in us
+steps_in-append : (ts us : List (Request × Bool)) → steps_in (ts ++ us) ≡ steps_in ts ++ steps_in us
 steps_in-append [] us = refl
-steps_in-append (t ∷ ts) us = ap (λ (l : List Step). t.0 ∷ l) (steps_in-append ts us)
+steps_in-append (t ∷ ts) us = ap (λ (l : List Request). t.0 ∷ l) (steps_in-append ts us)
 
-world_after-one : (ts : List (Step × Bool)) (w : WorldState) (t : Step × Bool) → world_after w (ts ++ t ∷ []) ≡ (step_of t.1 (world_after w ts) t.0).after
+world_after-one : (ts : List (Request × Bool)) (w : WorldState) (t : Request × Bool) → world_after w (ts ++ t ∷ []) ≡ world_then (world_after w ts) t
 world_after-one [] w t = refl
-world_after-one (u ∷ ts) w t = world_after-one ts (step_of u.1 w u.0).after t
+world_after-one (u ∷ ts) w t = world_after-one ts (world_then w u) t
 
-moves_after-one : (ts : List (Step × Bool)) (w : WorldState) (t : Step × Bool) → moves_after w (ts ++ t ∷ []) ≡ moves_after w ts ++ moves_of (step_of t.1 (world_after w ts) t.0).answer
-moves_after-one [] w t = append-nil (moves_of (step_of t.1 w t.0).answer)
+moves_after-one : (ts : List (Request × Bool)) (w : WorldState) (t : Request × Bool) → moves_after w (ts ++ t ∷ []) ≡ moves_after w ts ++ moves_then (world_after w ts) t
+moves_after-one [] w t = append-nil (moves_then w t)
 moves_after-one (u ∷ ts) w t =
-    ap (λ (l : List Move). moves_of (step_of u.1 w u.0).answer ++ l) (moves_after-one ts (step_of u.1 w u.0).after t)
-    ∙ sym (append_assoc (moves_of (step_of u.1 w u.0).answer) (moves_after (step_of u.1 w u.0).after ts) (moves_of (step_of t.1 (world_after (step_of u.1 w u.0).after ts) t.0).answer))
+    ap (λ (l : List Move). moves_then w u ++ l) (moves_after-one ts (world_then w u) t)
+    ∙ sym (append_assoc (moves_then w u) (moves_after (world_then w u) ts) (moves_then (world_after (world_then w u) ts) t))
 
-memory-one : (ts : List (Step × Bool)) (w : WorldState) (t : Step × Bool) → HaveMemory w ts → ((step_of t.1 (world_after w ts) t.0).answer ≡ Err fault.Memory → ⊥) → HaveMemory w (ts ++ t ∷ [])
+memory-one : (ts : List (Request × Bool)) (w : WorldState) (t : Request × Bool) → HaveMemory w ts → HasMemory (world_after w ts) t → HaveMemory w (ts ++ t ∷ [])
 memory-one [] w t p q = (q, tt)
-memory-one (u ∷ ts) w t p q = (p.0, memory-one ts (step_of u.1 w u.0).after t p.1 q)
+memory-one (u ∷ ts) w t p q = (p.0, memory-one ts (world_then w u) t p.1 q)
 
 pub Tells-none : (w : WorldState) (old : List ℕ) → Tells w [] w old old
 Tells-none w old = record { done = []; these = refl; memory = tt; leads = refl; run = refl; text = sym (append-nil old) }
@@ -68,32 +75,55 @@ Run-append (m ∷ ms) ns a b c p q = (p.0, p.1, Run-append ms ns p.0 b c p.2 q)
 abbrev pub Stepped : WorldState → Step → Result Did Fault → WorldState → Type 0
 Stepped v s answer u = (room : Bool) × (◌≡◌ {A = AfterStep} (record { answer = answer; after = u }) (step_of room v s))
 
-pub Tells-one : (w v u : WorldState) (ss : List Step) (s : Step) (old mid new : List ℕ) (answer : Result Did Fault) → Tells w ss v old mid → Stepped v s answer u
-    → Run (shown v) (moves_of answer) (shown u) → new ≡ mid ++ moves_text (moves_of answer) → (answer ≡ Err fault.Memory → ⊥) → Tells w (ss ++ s ∷ []) u old new
-Tells-one w v u ss s old mid new answer t e run told memory =
-    let same : step_of e.0 (world_after w t.done) s ≡ record { answer = answer; after = u } = ap (λ (x : WorldState). step_of e.0 x s) (sym t.leads) ∙ sym e.1 in
+pub told_step : (v u : WorldState) (s : Step) (old new : List ℕ) (answer : Result Did Fault) → Stepped v s answer u → Run (shown v) (moves_of answer) (shown u)
+    → new ≡ old ++ moves_text (moves_of answer) → (answer ≡ Err fault.Memory → ⊥) → Told v (request.Step s) u old new
+told_step v u s old new answer e run text memory = record {
+  room = e.0;
+  memory = λ wrong. memory (ap (λ (a : AfterStep). a.answer) e.1 ∙ wrong);
+  leads = ap (λ (a : AfterStep). a.after) e.1;
+  run = subst (λ (a : AfterStep). Run (shown v) (moves_of a.answer) (shown u)) e.1 run;
+  text = text ∙ ap (λ (a : AfterStep). old ++ moves_text (moves_of a.answer)) e.1;
+}
+
+-- and a relayout
+abbrev pub Relaid : WorldState → Split → Result ℕ RelayoutFault → WorldState → Type 0
+Relaid v s answer u = (room : Bool) × (◌≡◌ {A = AfterRelayout} (record { answer = answer; after = u }) (after_relayout room v s))
+
+pub told_relayout : (v u : WorldState) (s : Split) (old new : List ℕ) (answer : Result ℕ RelayoutFault) → Relaid v s answer u → shown u ≡ shown v
+    → new ≡ old → (answer ≡ Err relayout.Memory → ⊥) → Told v (request.Relayout s) u old new
+told_relayout v u s old new answer e shows text memory = record {
+  room = e.0;
+  memory = λ wrong. memory (ap (λ (a : AfterRelayout). a.answer) e.1 ∙ wrong);
+  leads = ap (λ (a : AfterRelayout). a.after) e.1;
+  run = shows;
+  text = text ∙ sym (append-nil old);
+}
+
+pub Tells-one : (w v u : WorldState) (rs : List Request) (r : Request) (old mid new : List ℕ) → Tells w rs v old mid → Told v r u mid new → Tells w (rs ++ r ∷ []) u old new
+Tells-one w v u rs r old mid new t one =
+    let moves : moves_then (world_after w t.done) (r, one.room) ≡ moves_then v (r, one.room) = ap (λ (x : WorldState). moves_then x (r, one.room)) (sym t.leads) in
+    let all : moves_after w (t.done ++ (r, one.room) ∷ []) ≡ moves_after w t.done ++ moves_then v (r, one.room) =
+    moves_after-one t.done w (r, one.room) ∙ ap (λ (l : List Move). moves_after w t.done ++ l) moves in
     record {
-      done = t.done ++ (s, e.0) ∷ [];
-      these = steps_in-append t.done ((s, e.0) ∷ []) ∙ ap (λ (l : List Step). l ++ s ∷ []) t.these;
-      memory = memory-one t.done w (s, e.0) t.memory (λ wrong. memory (sym (ap (λ (a : AfterStep). a.answer) same) ∙ wrong));
-      leads = sym (world_after-one t.done w (s, e.0) ∙ ap (λ (a : AfterStep). a.after) same);
-      run = subst (λ (ms : List Move). Run (shown w) ms (shown u)) (sym (moves_after-one t.done w (s, e.0) ∙ ap (λ (a : AfterStep). moves_after w t.done ++ moves_of a.answer) same))
-          (Run-append (moves_after w t.done) (moves_of answer) (shown w) (shown v) (shown u) t.run run);
-      text = told ∙ ap (λ (l : List ℕ). l ++ moves_text (moves_of answer)) t.text
-          ∙ append_assoc old (moves_text (moves_after w t.done)) (moves_text (moves_of answer))
-          ∙ ap (λ (l : List ℕ). old ++ l) (sym (moves_text-append (moves_after w t.done) (moves_of answer)))
-          ∙ ap (λ (l : List Move). old ++ moves_text (moves_after w t.done ++ l)) (sym (ap (λ (a : AfterStep). moves_of a.answer) same))
-          ∙ ap (λ (l : List Move). old ++ moves_text l) (sym (moves_after-one t.done w (s, e.0)));
+      done = t.done ++ (r, one.room) ∷ [];
+      these = steps_in-append t.done ((r, one.room) ∷ []) ∙ ap (λ (l : List Request). l ++ r ∷ []) t.these;
+      memory = memory-one t.done w (r, one.room) t.memory (subst (λ (x : WorldState). HasMemory x (r, one.room)) t.leads one.memory);
+      leads = one.leads ∙ ap (λ (x : WorldState). world_then x (r, one.room)) t.leads ∙ sym (world_after-one t.done w (r, one.room));
+      run = subst (λ (ms : List Move). Run (shown w) ms (shown u)) (sym all)
+          (Run-append (moves_after w t.done) (moves_then v (r, one.room)) (shown w) (shown v) (shown u) t.run one.run);
+      text = one.text ∙ ap (λ (l : List ℕ). l ++ moves_text (moves_then v (r, one.room))) t.text
+          ∙ append_assoc old (moves_text (moves_after w t.done)) (moves_text (moves_then v (r, one.room)))
+          ∙ ap (λ (l : List ℕ). old ++ l) (sym (moves_text-append (moves_after w t.done) (moves_then v (r, one.room))))
+          ∙ ap (λ (l : List Move). old ++ moves_text l) (sym all);
     }
 
-pub Tells-next : (w v u : WorldState) (ss : List Step) (i : ℕ) (d : Step) (old mid new : List ℕ) (answer : Result Did Fault) → i < length ss → Tells w (take i ss) v old mid
-    → Stepped v (get_or ss i d) answer u → Run (shown v) (moves_of answer) (shown u) → new ≡ mid ++ moves_text (moves_of answer) → (answer ≡ Err fault.Memory → ⊥) → Tells w (take (i + 1) ss) u old new
-Tells-next w v u ss i d old mid new answer within t e run told memory =
-    rw (take_more ss i d within) (Tells-one w v u (take i ss) (get_or ss i d) old mid new answer t e run told memory)
+pub Tells-next : (w v u : WorldState) (rs : List Request) (i : ℕ) (d : Request) (old mid new : List ℕ) → i < length rs → Tells w (take i rs) v old mid
+    → Told v (get_or rs i d) u mid new → Tells w (take (i + 1) rs) u old new
+Tells-next w v u rs i d old mid new within t one = rw (take_more rs i d within) (Tells-one w v u (take i rs) (get_or rs i d) old mid new t one)
 
 -- ---- the history of a script
 
-told_from_first : (plan : Plan) (v : WorldState) (old new : List ℕ) (steps : List Step) → old ≡ objects_text (length plan.lows.items) → shown (first_world plan) ≡ opening (length plan.lows.items)
+told_from_first : (plan : Plan) (v : WorldState) (old new : List ℕ) (steps : List Request) → old ≡ objects_text (length plan.lows.items) → shown (first_world plan) ≡ opening (length plan.lows.items)
     → steps ≡ plan.steps.items → Tells (first_world plan) steps v old new → IsHistoryOf plan new
 told_from_first plan v old new steps began opens same t = record {
   done = t.done;
@@ -104,7 +134,7 @@ told_from_first plan v old new steps began opens same t = record {
       (subst (λ (x : WorldState). Run (shown (first_world plan)) (moves_after (first_world plan) t.done) (shown x)) t.leads t.run);
 }
 
-pub told_all : (plan : Plan) (lows : List ℕ) (w v : WorldState) (old new : List ℕ) (steps : List Step) → lows ≡ plan.lows.items → w ≡ opening_world lows plan.monitors plan.indices plan.split
+pub told_all : (plan : Plan) (lows : List ℕ) (w v : WorldState) (old new : List ℕ) (steps : List Request) → lows ≡ plan.lows.items → w ≡ opening_world lows plan.monitors plan.indices plan.split
     → shown w ≡ opening (length lows) → old ≡ objects_text (length plan.lows.items) → steps ≡ plan.steps.items → Tells w steps v old new → IsHistoryOf plan new
 told_all plan lows w v old new steps same opened opens began these t =
     let there : w ≡ first_world plan = opened ∙ ap (λ (l : List ℕ). opening_world l plan.monitors plan.indices plan.split) same in

@@ -8,7 +8,7 @@ ghost use Rattle.step_core.specs.Step.{moves_made, moves_of};
 ghost use Rattle.step_core.specs.declared.steps.Fault.TheVariants.{Memory as OutOfMemory};
 ghost use Rattle.history.specs.Plans.{IsPlanOf};
 ghost use Rattle.history.specs.declared.plans.Plan.{Plan as PlanData};
-ghost use Rattle.history.specs.Histories.{IsHistoryOf, Tells, moves_text, objects_text};
+ghost use Rattle.history.specs.Histories.{IsHistoryOf, Tells, Told, moves_text, objects_text};
 
 use crate::plans::Plan;
 use crate::running::{plan_in, read_all};
@@ -18,7 +18,7 @@ use history_text::MOST_BYTES;
 use lock_word::Memory;
 use std::alloc::Global;
 use std::fmt::Write;
-use step_core::{Did, Fault, Move, Step, World};
+use step_core::{Did, Fault, Move, RelayoutFault, Request, World};
 
 /// Reads a script to its end, plays it, and writes its history: how many objects there are, and a line
 /// for each move that its steps hand out.
@@ -79,21 +79,42 @@ fn opening_text(alloc: Global, objects: u16) -> Result<String, Memory>
     Ok(format!(in alloc; "{line}\n")?)
 }
 
-/// Does steps, and writes the moves that each hands out.
+/// Does steps and relayouts, and writes the moves that they hand out.
 fn tell_steps(
     alloc: Global,
     world: &mut World,
-    steps: &[Step],
+    steps: &[Request],
     history: &mut String,
 ) -> Result<(), Memory>
     ensures { OnOk result (Tells world.old steps.now world.new
         (string_bytes history.old) (string_bytes history.new)) }
 {
-    'steps: for step in steps {
-        let answer = world.step(*step);
-        put_answer(alloc, history, answer)?;
+    'steps: for request in steps {
+        tell(alloc, world, *request, history)?;
     }
     Ok(())
+}
+
+/// Does a step, and writes its moves; or a relayout, which has none.
+fn tell(
+    alloc: Global,
+    world: &mut World,
+    request: Request,
+    history: &mut String,
+) -> Result<(), Memory>
+    ensures { OnOk result (Told world.old request world.new
+        (string_bytes history.old) (string_bytes history.new)) }
+{
+    match request {
+        Request::Step(step) => {
+            let answer = world.step(step);
+            put_answer(alloc, history, answer)
+        }
+        Request::Relayout(split) => match world.relayout(split) {
+            Err(RelayoutFault::Memory) => Err(Memory),
+            Ok(_) | Err(_) => Ok(()),
+        },
+    }
 }
 
 /// Writes the moves of an answer, unless it is want of memory.

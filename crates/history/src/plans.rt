@@ -13,7 +13,7 @@ use fast_path::Call;
 use history_text::{Line, Name, StepLine};
 use lock_word::{Memory, Split};
 use std::alloc::Global;
-use step_core::Step;
+use step_core::{Request, Step};
 
 /// The world that a script makes, and the steps that it plays on it.
 #[derive(Drop)]
@@ -24,7 +24,8 @@ pub struct Plan {
     pub split: Split,
     /// The low byte of each object.
     pub lows: Vec<u8>,
-    pub steps: Vec<Step>,
+    /// The steps, and the relayouts between them.
+    pub steps: Vec<Request>,
     ghost monitors_fit: { monitors ≤ 8388608 },
     ghost has_indices: { 1 ≤ indices },
     ghost indices_fit: { indices ≤ greatest_index split },
@@ -89,35 +90,37 @@ impl Plan {
         ensures world { (self.new.monitors ≡ self.old.monitors)
             × (self.new.indices ≡ self.old.indices) × (self.new.split ≡ self.old.split) }
     {
-        let step = step_of(&mut self.names, step)?;
-        self.steps.push(step)?;
+        let request = request_of(&mut self.names, step)?;
+        self.steps.push(request)?;
         Ok(())
     }
 }
 
-/// The step that a line is, by the numbers of its names.
-fn step_of(names: &mut Names, step: &StepLine<'_>) -> Result<Step, Memory>
+/// The step or relayout that a line is, by the numbers of its names.
+fn request_of(names: &mut Names, line: &StepLine<'_>) -> Result<Request, Memory>
     ensures { names.new.objects ≡ names.old.objects }
 {
-    match step {
-        StepLine::Attach(thread) => Ok(Step::Attach {
+    let step = match line {
+        StepLine::Attach(thread) => Step::Attach {
             thread: names.thread(thread)?,
-        }),
-        StepLine::Begin { thread, call } => Ok(Step::Begin {
+        },
+        StepLine::Begin { thread, call } => Step::Begin {
             thread: names.thread(thread)?,
             call: call_of(names, call)?,
-        }),
-        StepLine::Go(thread) => Ok(Step::Go {
+        },
+        StepLine::Go(thread) => Step::Go {
             thread: names.thread(thread)?,
-        }),
-        StepLine::Expire(thread) => Ok(Step::Expire {
+        },
+        StepLine::Expire(thread) => Step::Expire {
             thread: names.thread(thread)?,
-        }),
-        StepLine::Spurious(thread) => Ok(Step::Spurious {
+        },
+        StepLine::Spurious(thread) => Step::Spurious {
             thread: names.thread(thread)?,
-        }),
-        StepLine::Tick(now) => Ok(Step::Tick { now: *now }),
-    }
+        },
+        StepLine::Tick(now) => Step::Tick { now: *now },
+        StepLine::Relayout(split) => return Ok(Request::Relayout(*split)),
+    };
+    Ok(Request::Step(step))
 }
 
 /// The call that a line has, by the numbers of its names.

@@ -3,27 +3,52 @@
 use crate::names::Names;
 use crate::plans::Plan;
 use fat_monitor::Answer;
-use lock_word::{Memory, ObjectId, ThreadId};
+use lock_word::{Memory, ObjectId, Split, ThreadId};
 use std::alloc::{AllocError, Global};
 use std::fmt::Write;
-use step_core::{Atomic, Did, Doing, Fault, Step, World};
+use step_core::{Atomic, Did, Doing, Fault, RelayoutFault, Request, Step, World};
 
 /// Plays a script and writes its report: a line for each step, then a line for each object.
 pub fn report_of(alloc: Global, plan: &Plan) -> Result<String, Memory> {
     let mut world = World::new(alloc, &plan.lows, plan.monitors, plan.indices, plan.split)?;
     let mut report = String::new(alloc);
-    for step in &plan.steps {
-        let answer = world.step(*step);
-        if let Err(Fault::Memory) = answer {
-            return Err(Memory);
-        }
-        match answer {
-            Ok(did) => put_step(&mut report, &plan.names, &world, *step, did)?,
-            Err(fault) => writeln!(report, "fault {} {fault}", fault.number())?,
+    for request in &plan.steps {
+        match *request {
+            Request::Step(step) => play_step(&mut report, &plan.names, &mut world, step)?,
+            Request::Relayout(split) => play_relayout(&mut report, &mut world, split)?,
         }
     }
     put_objects(alloc, &mut report, &plan.names, &world)?;
     Ok(report)
+}
+
+/// Does a step and writes its line.
+fn play_step(
+    report: &mut String,
+    names: &Names,
+    world: &mut World,
+    step: Step,
+) -> Result<(), Memory> {
+    match world.step(step) {
+        Ok(did) => put_step(report, names, world, step, did)?,
+        Err(Fault::Memory) => return Err(Memory),
+        Err(fault) => writeln!(report, "fault {} {fault}", fault.number())?,
+    }
+    Ok(())
+}
+
+/// Does a relayout and writes its line.
+fn play_relayout(report: &mut String, world: &mut World, split: Split) -> Result<(), Memory> {
+    let name = match split {
+        Split::Wide => "wide",
+        Split::Deep => "deep",
+    };
+    match world.relayout(split) {
+        Ok(inflated) => writeln!(report, "relayout {name} inflated {inflated}")?,
+        Err(RelayoutFault::Memory) => return Err(Memory),
+        Err(fault) => writeln!(report, "fault {} {fault}", fault.number())?,
+    }
+    Ok(())
 }
 
 /// Writes the line of a step that was accepted.

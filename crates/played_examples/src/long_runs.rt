@@ -43,6 +43,11 @@ pub fn play<R: Print + AllocGlobal>(rt: &R) -> io::Result<bool> {
         ("enter_65536", enter_65536(alloc)?),
         ("enter_4096_deep", enter_4096_deep(alloc)?),
         ("enter_4097_deep", enter_4097_deep(alloc)?),
+        ("relayout_257", relayout_257(alloc)?),
+        (
+            "relayout_257_without_monitors",
+            relayout_257_without_monitors(alloc)?,
+        ),
         (
             "interrupt_while_inflating",
             interrupt_while_inflating(alloc)?,
@@ -129,6 +134,24 @@ fn enter_4097_deep(alloc: Global) -> Result<Draft, AllocError> {
         ("go x", "go x act Enter = Entered"),
     ])?;
     draft.end("object a 800000A5 owner x holds 4097 waiting -")?;
+    Ok(draft)
+}
+
+/// A relayout inflates a monitor whose count does not fit the wide split, and keeps its holds.
+fn relayout_257(alloc: Global) -> Result<Draft, AllocError> {
+    let mut draft = Draft::deep(alloc, 4)?;
+    draft.enter_thinly(257)?;
+    draft.add("relayout wide", "relayout wide inflated 1")?;
+    draft.end("object a 800000A5 owner x holds 257 waiting -")?;
+    Ok(draft)
+}
+
+/// In a world without fat monitors it is refused, and changes nothing.
+fn relayout_257_without_monitors(alloc: Global) -> Result<Draft, AllocError> {
+    let mut draft = Draft::deep(alloc, 0)?;
+    draft.enter_thinly(257)?;
+    draft.add("relayout wide", "fault 11 NoMonitor")?;
+    draft.end("object a 001100A5 owner x holds 257 waiting -")?;
     Ok(draft)
 }
 

@@ -3,4 +3,4 @@ use Rattle.history.specs.Histories.{Tells}
 use Rattle.history.proofs.histories.tell_steps.Given as goal
 
 abbrev pub invariant-steps : goal.invariant-steps
-invariant-steps l = Tells l.fn.world (take l.step-index l.steps) l.world (string_bytes l.fn.history) (string_bytes l.history)
+invariant-steps l = Tells l.fn.world (take l.request-index l.steps) l.world (string_bytes l.fn.history) (string_bytes l.history)
