@@ -13,10 +13,22 @@ mod random_worlds;
 mod tests;
 mod trouble;
 
+use std::process::ExitCode;
 use trouble::Trouble;
 
-fn main(rt: HostRuntime) -> Result<(), Trouble> {
-    cells::play(&rt)?;
-    random_moves::play(&rt)?;
-    random_worlds::play(&rt)
+fn main(rt: HostRuntime) -> ExitCode {
+    match play(&rt) {
+        Ok(()) => ExitCode::SUCCESS,
+        Err(trouble) => {
+            let _ = eprintln!(rt; "checked_moves: {trouble}");
+            ExitCode::FAILURE
+        }
+    }
+}
+
+/// Has both checkers judge all moves.
+fn play<R: Print + AllocGlobal>(rt: &R) -> Result<(), Trouble> {
+    cells::play(rt)?;
+    random_moves::play(rt)?;
+    random_worlds::play(rt)
 }
