@@ -1,0 +1,6 @@
+pub mod Walks
+pub mod Marks
+pub mod Passes
+pub mod Parts
+pub mod Places
+pub mod Seats

@@ -1,0 +1,179 @@
+-- The threads of a world's seats.
+use Rattle.std.specs.Prelude.{◌≡◌, ◌⊎◌, ℕ, ◌<◌, ◌≤◌, Bool, true, false, List, [], ◌∷◌, ◌++◌, Option, Some, None, length, slice_index_or, Err}
+use Rattle.std.specs.List.{Contains, position_from}
+use Rattle.std.specs.List.Sorted.{IsStrictlyIncreasing, IsStrictlySortedBy, IsBinarySearchResult, IsSortedBy}
+use Rattle.std.specs.Ordering.{nat_cmp, is_lt, MatchOrdering}
+use Rattle.std.specs.declared.cmp.Ordering.{Ordering}
+use Rattle.std.specs.declared.cmp.Ordering.TheVariants.{Less, Equal, Greater}
+use Rattle.std.proofs.Common.{refl, inl, inr, sym, ap, subst, ◌∙◌, arith, zero, suc, ◌+◌, cond, add-one}
+use Rattle.std.proofs.lemmas.Bool.{cases_eq, eq-eqb, ne_eqb}
+use Rattle.std.proofs.lemmas.Cmp.{ranked, nat_cmp_total}
+use Rattle.std.proofs.lemmas.Option.{same_Some}
+use Rattle.std.proofs.lemmas.List.{get_or_default}
+use Rattle.std.proofs.lemmas.List.Sorted.{searchable_from_sorted}
+use Rattle.std.proofs.lemmas.Map.Keys.{sorted_from_strictly_increasing, sorted_head, sorted_tail}
+use Rattle.lock_word.specs.declared.ThreadId.{ThreadId}
+use Rattle.thread_index.specs.Indices.{seat_of, holder_at, holder_of, is_held_by}
+use Rattle.step_core.specs.Machine.{Thread}
+use Rattle.step_core.specs.World.{WorldState}
+use Rattle.step_core.specs.Shown.{shown, thread_of}
+use Rattle.dump.specs.Rows.{IsIn}
+use Rattle.dump.specs.Threads.{IsLive, Ascend, AreLiveThreads, HaveSeats, threads_numbered, with_holder, thread_of_place}
+use Rattle.dump.proofs.Walks.{all_in, all_from, contains_in, in_push, in_end, in_front}
+use Rattle.dump.proofs.Places.{in_contains, in_map, from_map, place_in, rises, three_ways}
+
+-- ---- the seats, one after the other
+
+pub seats_none : (seats : List (Option ThreadId)) → HaveSeats seats 0 []
+seats_none seats = record { seated = λ n i. absurd i; all = λ k n below h. absurd (omega (arith, below)) }
+
+pub seats_more : (seats : List (Option ThreadId)) (k : ℕ) (numbers : List ℕ) (holder : Option ThreadId) → HaveSeats seats k numbers → holder ≡ holder_of seats (k + 1)
+    → HaveSeats seats (k + 1) (with_holder numbers holder)
+seats_more seats k numbers holder h e = by_holder holder (e ∙ ap (holder_of seats) (add-one k))
+  where
+    earlier : (j : ℕ) → j < k + 1 → (j ≡ k → ⊥) → j < k
+    earlier j below other = omega (arith, below, other)
+
+    by_holder : (o : Option ThreadId) → o ≡ holder_at seats k → HaveSeats seats (k + 1) (with_holder numbers o)
+    by_holder None none = record { seated = h.seated; all = λ j n below there. by_seat j n below there (cases_eq j k) }
+      where
+        by_seat : (j n : ℕ) → j < k + 1 → holder_at seats j ≡ Some (record { 0 = n }) → (j ≡ k) ⊎ (j ≡ k → ⊥) → IsIn n numbers
+        by_seat j n below there (inl same) =
+            let never : ◌≡◌ {A = Option ThreadId} None (Some (record { 0 = n })) = none ∙ ap (holder_at seats) (sym same) ∙ there in absurd (cc)
+        by_seat j n below there (inr other) = h.all j n (earlier j below other) there
+    by_holder (Some t) one = record { seated = λ n i. by_number n (in_push n t.0 numbers i); all = λ j n below there. by_seat j n below there (cases_eq j k) }
+      where
+        by_number : (n : ℕ) → IsIn n numbers ⊎ (n ≡ t.0) → (j : ℕ) × (holder_at seats j ≡ Some (record { 0 = n }))
+        by_number n (inl i) = h.seated n i
+        by_number n (inr same) = (k, sym one ∙ ap (λ (m : ℕ). Some (record { 0 = m })) (sym same))
+
+        by_seat : (j n : ℕ) → j < k + 1 → holder_at seats j ≡ Some (record { 0 = n }) → (j ≡ k) ⊎ (j ≡ k → ⊥) → IsIn n (numbers ++ t.0 ∷ [])
+        by_seat j n below there (inl same) =
+            let thread : ◌≡◌ {A = Option ThreadId} (Some (record { 0 = n })) (Some t) = sym there ∙ ap (holder_at seats) same ∙ sym one in
+            let number : n ≡ t.0 = ap (λ (u : ThreadId). u.0) (same_Some (record { 0 = n }) t thread) in
+            subst (λ (m : ℕ). IsIn m (numbers ++ t.0 ∷ [])) (sym number) (in_end t.0 numbers)
+        by_seat j n below there (inr other) = in_front n t.0 numbers (h.all j n (earlier j below other) there)
+
+-- ---- who has a seat is live
+
+held : (seats : List (Option ThreadId)) (k from : ℕ) (t : ThreadId) → slice_index_or seats k None ≡ Some t → (j : ℕ) × (position_from (λ u. is_held_by u t) from seats ≡ Some j)
+held [] k from t e = absurd (cc)
+held (x ∷ xs) zero from t e =
+    let here : is_held_by x t ≡ true = ap (λ (o : Option ThreadId). is_held_by o t) e ∙ eq-eqb t.0 t.0 refl in
+    (from, ap (λ (b : Bool). cond b (Some from) (position_from (λ u. is_held_by u t) (from + 1) xs)) here)
+held (x ∷ xs) (suc k) from t e = by_test (is_held_by x t) refl (held xs k (from + 1) t e)
+  where
+    by_test : (b : Bool) → is_held_by x t ≡ b → (j : ℕ) × (position_from (λ u. is_held_by u t) (from + 1) xs ≡ Some j)
+        → (j : ℕ) × (cond (is_held_by x t) (Some from) (position_from (λ u. is_held_by u t) (from + 1) xs) ≡ Some j)
+    by_test true h more = (from, ap (λ (b : Bool). cond b (Some from) (position_from (λ u. is_held_by u t) (from + 1) xs)) h)
+    by_test false h more = (more.0, ap (λ (b : Bool). cond b (Some from) (position_from (λ u. is_held_by u t) (from + 1) xs)) h ∙ more.1)
+
+holds_it : (x : Option ThreadId) (t : ThreadId) → is_held_by x t ≡ true → x ≡ Some t
+holds_it None t h = absurd (cc)
+holds_it (Some u) t h = by_number (cases_eq u.0 t.0)
+  where
+    by_number : (u.0 ≡ t.0) ⊎ (u.0 ≡ t.0 → ⊥) → ◌≡◌ {A = Option ThreadId} (Some u) (Some t)
+    by_number (inl same) = ap (λ (n : ℕ). Some (record { 0 = n })) same
+    by_number (inr other) = let never : false ≡ true = sym (ne_eqb u.0 t.0 other) ∙ h in absurd (cc)
+
+seated : (seats : List (Option ThreadId)) (from j : ℕ) (t : ThreadId) → position_from (λ u. is_held_by u t) from seats ≡ Some j
+    → (k : ℕ) × (k < length seats) × (slice_index_or seats k None ≡ Some t)
+seated [] from j t e = absurd (cc)
+seated (x ∷ xs) from j t e = by_test (is_held_by x t) refl (λ rest. seated xs (from + 1) j t rest)
+  where
+    by_test : (b : Bool) → is_held_by x t ≡ b
+        → (position_from (λ u. is_held_by u t) (from + 1) xs ≡ Some j → (k : ℕ) × (k < length xs) × (slice_index_or xs k None ≡ Some t))
+        → (k : ℕ) × (k < length (x ∷ xs)) × (slice_index_or (x ∷ xs) k None ≡ Some t)
+    by_test true h later = (0, omega arith, holds_it x t h)
+    by_test false h later =
+        let rest : position_from (λ u. is_held_by u t) (from + 1) xs ≡ Some j = sym (ap (λ (b : Bool). cond b (Some from) (position_from (λ u. is_held_by u t) (from + 1) xs)) h) ∙ e in
+        let more = later rest in (suc more.0, omega (arith, more.1), more.2)
+
+live_seat : (w : WorldState) (k : ℕ) (t : ThreadId) → holder_at w.seats k ≡ Some t → IsLive (shown w) t
+live_seat w k t e = let h = held w.seats k 0 t e in by_seat (seat_of w.seats t) h.0 h.1
+  where
+    by_seat : (o : Option ℕ) (j : ℕ) → o ≡ Some j → (x : Thread) × (thread_of w t o ≡ Some x)
+    by_seat None j h = absurd (cc)
+    by_seat (Some i) j h = (_, refl)
+
+seat_live : (w : WorldState) (t : ThreadId) → IsLive (shown w) t → (k : ℕ) × (k < length w.seats) × (holder_at w.seats k ≡ Some t)
+seat_live w t live = by_seat (seat_of w.seats t) refl live
+  where
+    by_seat : (o : Option ℕ) → seat_of w.seats t ≡ o → (x : Thread) × (thread_of w t o ≡ Some x) → (k : ℕ) × (k < length w.seats) × (holder_at w.seats k ≡ Some t)
+    by_seat None there (x, h) = absurd (cc)
+    by_seat (Some j) there h = seated w.seats 0 j t there
+
+-- ---- in order
+
+less : (a b : ℕ) → nat_cmp a b ≡ Less → a < b
+less a b e = by_order (nat_cmp a b) e (ranked a b (nat_cmp a b) refl)
+  where
+    by_order : (o : Ordering) → o ≡ Less → MatchOrdering o (a < b) (a ≡ b) (b < a) → a < b
+    by_order Less h r = r
+    by_order Equal h r = absurd (cc)
+    by_order Greater h r = absurd (cc)
+
+ascend : (numbers : List ℕ) → IsStrictlySortedBy nat_cmp numbers → Ascend (threads_numbered numbers)
+ascend [] s = tt
+ascend (n ∷ ns) s = (all_from (threads_numbered ns) (λ t i. above t (from_map (λ m. record { 0 = m }) t ns i)), ascend ns (sorted_tail nat_cmp n ns s))
+  where
+    above : (t : ThreadId) → (m : ℕ) × IsIn m ns × (t ≡ record { 0 = m }) → n < t.0
+    above t (m, i, e) = subst (λ (u : ThreadId). n < u.0) (sym e) (less n m (all_in _ m ns (sorted_head nat_cmp n ns s) i))
+
+pub live_all : (w : WorldState) (before after : List ℕ) (threads : List ThreadId) → HaveSeats w.seats (length w.seats) before → IsStrictlyIncreasing after
+    → ((n : ℕ) → Contains before n → Contains after n) → ((n : ℕ) → Contains after n → Contains before n) → threads ≡ threads_numbered after → AreLiveThreads (shown w) threads
+live_all w before after threads h rising keeps adds_none e = subst (AreLiveThreads (shown w)) (sym e) (record {
+  rising = ascend after (sorted_from_strictly_increasing after rising);
+  live = λ t i. is_live t (from_map (λ m. record { 0 = m }) t after i);
+  all = λ t live. is_there t (seat_live w t live);
+})
+  where
+    is_live : (t : ThreadId) → (m : ℕ) × IsIn m after × (t ≡ record { 0 = m }) → IsLive (shown w) t
+    is_live t (m, i, same) =
+        let there = h.seated m (in_contains before m (adds_none m (contains_in m after i))) in
+        subst (IsLive (shown w)) (sym same) (live_seat w there.0 (record { 0 = m }) there.1)
+
+    is_there : (t : ThreadId) → (k : ℕ) × (k < length w.seats) × (holder_at w.seats k ≡ Some t) → IsIn t (threads_numbered after)
+    is_there t (k, below, there) =
+        in_map (λ (m : ℕ). record { 0 = m }) t.0 after (in_contains after t.0 (keeps t.0 (contains_in t.0 before (h.all k t.0 below there))))
+
+-- ---- where a thread stands among them
+
+not_less : (a b : ℕ) → b < a → is_lt (nat_cmp a b) ≡ false
+not_less a b h = by_order (nat_cmp a b) (ranked a b (nat_cmp a b) refl)
+  where
+    by_order : (o : Ordering) → MatchOrdering o (a < b) (a ≡ b) (b < a) → is_lt o ≡ false
+    by_order Less r = absurd (omega (arith, h, r))
+    by_order Equal r = refl
+    by_order Greater r = refl
+
+same_not_less : (n : ℕ) → nat_cmp n n ≡ Less → ⊥
+same_not_less n e = let below : n < n = less n n e in omega (arith, below)
+
+same_not_greater : (n : ℕ) → nat_cmp n n ≡ Greater → ⊥
+same_not_greater n e = by_order (nat_cmp n n) e (ranked n n (nat_cmp n n) refl)
+  where
+    by_order : (o : Ordering) → o ≡ Greater → MatchOrdering o (n < n) (n ≡ n) (n < n) → ⊥
+    by_order Less h r = omega (arith, r)
+    by_order Equal h r = absurd (cc)
+    by_order Greater h r = omega (arith, r)
+
+pub nowhere : (ts : List ThreadId) (t : ThreadId) (i : ℕ) → Ascend ts → IsBinarySearchResult (λ u. nat_cmp u.0 t.0) ts (Err i) → IsIn t ts → ⊥
+nowhere ts t i up found there =
+    let place = place_in ts t there in
+    let sorted : IsSortedBy (λ (a b : ThreadId). is_lt (nat_cmp a.0 b.0)) ts = λ k d low high. at_place k d high in
+    let parts = found (searchable_from_sorted nat_cmp_total (λ (u : ThreadId). u.0) ts t.0 sorted) in
+    by_order place.0 place.1 place.2 parts.0 parts.1 (three_ways place.0 i)
+  where
+    at_place : (k : ℕ) (d : ThreadId) → k + 1 < length ts → is_lt (nat_cmp (slice_index_or ts (k + 1) d).0 (slice_index_or ts k d).0) ≡ false
+    at_place k d high =
+        let below : (thread_of_place ts k).0 < (thread_of_place ts (k + 1)).0 = rises ts up k (k + 1) (omega arith) high in
+        let one : slice_index_or ts (k + 1) d ≡ thread_of_place ts (k + 1) = get_or_default ts (k + 1) d (record { 0 = 0 }) high in
+        let other : slice_index_or ts k d ≡ thread_of_place ts k = get_or_default ts k d (record { 0 = 0 }) (omega (arith, high)) in
+        rw (one, other) (not_less (thread_of_place ts (k + 1)).0 (thread_of_place ts k).0 below)
+
+    by_order : (k : ℕ) → k < length ts → thread_of_place ts k ≡ t → ((j : ℕ) (d : ThreadId) → 0 ≤ j → j < i → nat_cmp (slice_index_or ts j d).0 t.0 ≡ Less)
+        → ((j : ℕ) (d : ThreadId) → i ≤ j → j < length ts → nat_cmp (slice_index_or ts j d).0 t.0 ≡ Greater) → (k < i) ⊎ ((k ≡ i) ⊎ (i < k)) → ⊥
+    by_order k within is low high (inl h) = same_not_less t.0 (subst (λ (u : ThreadId). nat_cmp u.0 t.0 ≡ Less) is (low k (record { 0 = 0 }) (omega arith) h))
+    by_order k within is low high (inr (inl h)) = same_not_greater t.0 (subst (λ (u : ThreadId). nat_cmp u.0 t.0 ≡ Greater) is (high k (record { 0 = 0 }) (omega (arith, h)) within))
+    by_order k within is low high (inr (inr h)) = same_not_greater t.0 (subst (λ (u : ThreadId). nat_cmp u.0 t.0 ≡ Greater) is (high k (record { 0 = 0 }) (omega (arith, h)) within))

@@ -1,0 +1,70 @@
+//! The cycles of owners of a world.
+
+ghost use Rattle.std.specs.Prelude.{◌≡◌, ℕ, ◌<◌, List, IfOk, OnOk, length, map, vec_items};
+ghost use Rattle.step_core.specs.Cycles.{AreCycles};
+ghost use Rattle.step_core.specs.Shown.{shown};
+ghost use Rattle.dump.specs.Rows.{IsIn};
+ghost use Rattle.dump.specs.Threads.{AreLiveThreads, thread_of_place};
+
+use crate::rows::cycles_of_row;
+use crate::waits::{live_threads, next_row};
+use lock_word::{Memory, ThreadId};
+use std::alloc::{AllocError, Global};
+use step_core::World;
+
+/// The cycles of owners of a world: each from its lowest thread on, along the owners, and by lowest thread.
+pub fn cycles(alloc: Global, world: &World) -> Result<Vec<Vec<ThreadId>>, Memory>
+    ensures { IfOk result (λ cycles. AreCycles (shown world.now) (map vec_items cycles.items)) }
+{
+    let threads = live_threads(alloc, world)?;
+    Ok(cycles_among(alloc, world, &threads)?)
+}
+
+/// The cycles of owners of a world that has these live threads.
+pub(crate) fn cycles_among(
+    alloc: Global,
+    world: &World,
+    threads: &[ThreadId],
+) -> Result<Vec<Vec<ThreadId>>, AllocError>
+    requires { AreLiveThreads (shown world.now) threads.now }
+    ensures { IfOk result (λ cycles. AreCycles (shown world.now) (map vec_items cycles.items)) }
+{
+    let row = next_row(alloc, world, threads)?;
+    let places = cycles_of_row(alloc, &row)?;
+    let cycles = threads_of_all(alloc, threads, &places)?;
+    Ok(cycles)
+}
+
+/// For each list of places, the threads there.
+fn threads_of_all(
+    alloc: Global,
+    threads: &[ThreadId],
+    lists: &[Vec<usize>],
+) -> Result<Vec<Vec<ThreadId>>, AllocError>
+    requires { (list : List ℕ) (place : ℕ) → IsIn list (map vec_items lists.now)
+        → IsIn place list → place < length threads.now }
+    ensures { IfOk result (λ all. map vec_items all.items
+        ≡ map (map (thread_of_place threads.now)) (map vec_items lists.now)) }
+{
+    let mut all = Vec::new(alloc);
+    'lists: for places in lists {
+        all.push(threads_of(alloc, threads, places)?)?;
+    }
+    Ok(all)
+}
+
+/// The threads at some places.
+fn threads_of(
+    alloc: Global,
+    threads: &[ThreadId],
+    places: &[usize],
+) -> Result<Vec<ThreadId>, AllocError>
+    requires { (place : ℕ) → IsIn place places.now → place < length threads.now }
+    ensures { IfOk result (λ found. found.items ≡ map (thread_of_place threads.now) places.now) }
+{
+    let mut found = Vec::new(alloc);
+    'places: for place in places {
+        found.push(threads[*place])?;
+    }
+    Ok(found)
+}
