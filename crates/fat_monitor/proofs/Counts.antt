@@ -14,6 +14,33 @@ use Rattle.std.proofs.lemmas.Bool.{cases_eq, eq-eqb, ne_eqb}
 use Rattle.std.proofs.lemmas.List.Sums.{sum_by-cons, sum_by-set}
 use Rattle.fat_monitor.proofs.PostMaps.{get-insert_by, get-remove_by}
 
+-- ---- numbers of a sorted list, whatever is read of its values
+
+module _ {X Y : Type 0} (read : X → Y) where
+  -- what is below a list is below its first number and below the rest
+  head_below : (x : ℕ) (e : ℕ × X) (es : List (ℕ × X)) → T (below_all nat_cmp x (e ∷ es)) → (nat_cmp x e.0 ≡ Less) × T (below_all nat_cmp x es)
+  head_below x e es h = at (nat_cmp x e.0) h
+    where
+      at : (r : Ordering) → T (is_lt r && below_all nat_cmp x es) → (r ≡ Less) × T (below_all nat_cmp x es)
+      at Less h = (refl, h)
+      at Equal h = absurd h
+      at Greater h = absurd h
+
+  -- the first number of a sorted list is below the rest, which is sorted
+  pub head_sorted : (e : ℕ × X) (es : List (ℕ × X)) → T (is_sorted nat_cmp (e ∷ es)) → T (below_all nat_cmp e.0 es) × T (is_sorted nat_cmp es)
+  head_sorted e es h = at (below_all nat_cmp e.0 es) h
+    where
+      at : (b : Bool) → T (b && is_sorted nat_cmp es) → T b × T (is_sorted nat_cmp es)
+      at true h = (tt, h)
+      at false h = absurd h
+
+  -- a number below each number of a list is not found in it
+  pub unmet : (q x : ℕ) (es : List (ℕ × X)) → ((y : ℕ) → nat_cmp x y ≡ Less → nat_cmp q y ≡ Less) → T (below_all nat_cmp x es) → find nat_cmp q es ≡ None
+  unmet q x [] below h = refl
+  unmet q x (e ∷ es) below h =
+      let parts = head_below x e es h in
+      ap (λ r. cond (is_eq r) (Some e.1) (find nat_cmp q es)) (below e.0 parts.0) ∙ unmet q x es below parts.1
+
 -- ---- the weights of the values of a map, added up
 
 module _ {X : Type 0} (w : X → ℕ) where
@@ -32,39 +59,15 @@ module _ {X : Type 0} (w : X → ℕ) where
   sum-values [] = refl
   sum-values (e ∷ es) = sum_by-cons w e.1 (list_map (λ x. x.1) es) ∙ ap (λ n. w e.1 + n) (sum-values es)
 
-  -- what is below a list is below its first number and below the rest
-  head_below : (x : ℕ) (e : ℕ × X) (es : List (ℕ × X)) → T (below_all nat_cmp x (e ∷ es)) → (nat_cmp x e.0 ≡ Less) × T (below_all nat_cmp x es)
-  head_below x e es h = at (nat_cmp x e.0) h
-    where
-      at : (r : Ordering) → T (is_lt r && below_all nat_cmp x es) → (r ≡ Less) × T (below_all nat_cmp x es)
-      at Less h = (refl, h)
-      at Equal h = absurd h
-      at Greater h = absurd h
-
-  -- the first number of a sorted list is below the rest, which is sorted
-  head_sorted : (e : ℕ × X) (es : List (ℕ × X)) → T (is_sorted nat_cmp (e ∷ es)) → T (below_all nat_cmp e.0 es) × T (is_sorted nat_cmp es)
-  head_sorted e es h = at (below_all nat_cmp e.0 es) h
-    where
-      at : (b : Bool) → T (b && is_sorted nat_cmp es) → T b × T (is_sorted nat_cmp es)
-      at true h = (tt, h)
-      at false h = absurd h
-
-  -- a number below each number of a list is not found in it
-  unmet : (q x : ℕ) (es : List (ℕ × X)) → ((y : ℕ) → nat_cmp x y ≡ Less → nat_cmp q y ≡ Less) → T (below_all nat_cmp x es) → find nat_cmp q es ≡ None
-  unmet q x [] below h = refl
-  unmet q x (e ∷ es) below h =
-      let parts = head_below x e es h in
-      ap (λ r. cond (is_eq r) (Some e.1) (find nat_cmp q es)) (below e.0 parts.0) ∙ unmet q x es below parts.1
-
   -- a value that is put into a list takes the place of the one that stood there
   listed-put : (k : ℕ) (x : X) (es : List (ℕ × X)) → T (is_sorted nat_cmp es) → listed (put nat_cmp k x es) + weight_in (find nat_cmp k es) ≡ listed es + w x
   listed-put k x [] h = omega arith
-  listed-put k x (e ∷ es) h = at (nat_cmp k e.0) refl (listed-put k x es (head_sorted e es h).1)
+  listed-put k x (e ∷ es) h = at (nat_cmp k e.0) refl (listed-put k x es (head_sorted w e es h).1)
     where
       at : (r : Ordering) → nat_cmp k e.0 ≡ r → listed (put nat_cmp k x es) + weight_in (find nat_cmp k es) ≡ listed es + w x
           → listed (by_order r ((k, x) ∷ e ∷ es) ((e.0, x) ∷ es) (e ∷ put nat_cmp k x es)) + weight_in (cond (is_eq r) (Some e.1) (find nat_cmp k es)) ≡ listed (e ∷ es) + w x
       at Less less again =
-          let none : find nat_cmp k es ≡ None = unmet k e.0 es (λ y q. nat_cmp_total.trans k e.0 y less q) (head_sorted e es h).0 in rw none (omega arith)
+          let none : find nat_cmp k es ≡ None = unmet w k e.0 es (λ y q. nat_cmp_total.trans k e.0 y less q) (head_sorted w e es h).0 in rw none (omega arith)
       at Equal equal again = omega arith
       at Greater more again = omega arith
 

@@ -1,0 +1,39 @@
+use Rattle.std.proofs.Common.{arith}
+use Rattle.live_turns.proofs.Refusals.{refused_after}
+use Rattle.live_turns.proofs.Books.{acts_on}
+use Rattle.live_turns.proofs.book.Book.act.Goals as goal
+
+pub overflow_sub-self : goal.overflow_sub-self
+overflow_sub-self c =
+    (acts_on (record { fats = c.self.inside.fats; log = c.self.inside.log.items; passes = c.self.inside.passes; places = c.self.inside.places }) c.args.self.now c.args.thread c.args.action
+    c.in-Ok.done c.act.new.self c.self.inside.kept c.free.result c.need.result c.gained-gained.result c.freed-freed.result c.waiting-waited.result c.waiting.result
+    c.self.view_is c.self.invariant.0 c.self.invariant.1 c.requires.thread c.requires.action c.requires.ready c.requires.bound c.free.ensures.free c.need.ensures
+    (let enough = c.if-free-need.false in omega arith) c.in-Ok.ensures.table c.in-Ok.ensures.sound c.waiting-waited.ensures c.waiting.ensures c.gained-gained.ensures c.freed-freed.ensures).within
+
+pub push_reserved-requires : goal.push_reserved-requires
+push_reserved-requires c =
+    let more =
+    (acts_on (record { fats = c.self.inside.fats; log = c.self.inside.log.items; passes = c.self.inside.passes; places = c.self.inside.places }) c.args.self.now c.args.thread c.args.action
+    c.in-Ok.done c.act.new.self c.self.inside.kept c.free.result c.need.result c.gained-gained.result c.freed-freed.result c.waiting-waited.result c.waiting.result
+    c.self.view_is c.self.invariant.0 c.self.invariant.1 c.requires.thread c.requires.action c.requires.ready c.requires.bound c.free.ensures.free c.need.ensures
+    (let enough = c.if-free-need.false in omega arith) c.in-Ok.ensures.table c.in-Ok.ensures.sound c.waiting-waited.ensures c.waiting.ensures c.gained-gained.ensures c.freed-freed.ensures).place in
+    let capacity = c.self.invariant.2 in
+    omega arith
+
+pub invariant_of-self : goal.invariant_of-self
+invariant_of-self c =
+    let acts =
+    acts_on (record { fats = c.self.inside.fats; log = c.self.inside.log.items; passes = c.self.inside.passes; places = c.self.inside.places }) c.args.self.now c.args.thread c.args.action
+    c.in-Ok.done c.act.new.self c.self.inside.kept c.free.result c.need.result c.gained-gained.result c.freed-freed.result c.waiting-waited.result c.waiting.result
+    c.self.view_is c.self.invariant.0 c.self.invariant.1 c.requires.thread c.requires.action c.requires.ready c.requires.bound c.free.ensures.free c.need.ensures
+    (let enough = c.if-free-need.false in omega arith) c.in-Ok.ensures.table c.in-Ok.ensures.sound c.waiting-waited.ensures c.waiting.ensures c.gained-gained.ensures c.freed-freed.ensures in (
+      rw c.push_reserved.ensures.items acts.is,
+      acts.kept_now,
+      rw c.push_reserved.ensures.capacity c.self.invariant.2,
+    )
+
+pub invariant_of-self-in-Err-NotDue : goal.invariant_of-self-in-Err-NotDue
+invariant_of-self-in-Err-NotDue c = rw (refused_after c.self.inside.fats c.act.new.self c.args.thread c.args.action _ c.in-Err-NotDue.ensures.table) c.self.invariant
+
+pub invariant_of-self-in-Err-Parked : goal.invariant_of-self-in-Err-Parked
+invariant_of-self-in-Err-Parked c = rw (refused_after c.self.inside.fats c.act.new.self c.args.thread c.args.action _ c.in-Err-Parked.ensures.table) c.self.invariant
