@@ -207,6 +207,17 @@ fn enter_thinly(rt: &impl Abort, world: &mut World, holds: u32) {
     }
 }
 
+/// So many enters of x, of an object that nobody else wants.
+fn enter_often(rt: &impl Abort, world: &mut World, times: u32) {
+    for _ in 0..times {
+        begin(rt, world, X, ENTER);
+        let load = world.step(Step::Go { thread: X });
+        assert!(rt; load.is_ok());
+        let store = world.step(Step::Go { thread: X });
+        assert!(rt; store.is_ok());
+    }
+}
+
 /// A world with one object, low byte A5, four indices, and so many monitors.
 fn one_object(rt: &impl Abort, alloc: std::alloc::Global, monitors: u32) -> Result<World, Fail> {
     assert!(rt; monitors <= 8_388_608);

@@ -2,6 +2,7 @@
 //! with each allocation refused in turn, this meets every refusal that there is.
 
 use super::*;
+use crate::RelayoutFault;
 
 /// An attach, tried again where memory was refused.
 fn attaches(rt: &impl Abort, world: &mut World, thread: ThreadId, index: u16) {
@@ -70,6 +71,25 @@ fn what_was_refused_succeeds_when_tried_again(rt: HostRuntime) -> Result<(), Fai
         Reply::Entered,
         X,
     );
+    shows(&rt, &world, A, 0x8000_00A5, Some(X), 257);
+    Ok(())
+}
+
+#[test]
+fn a_refused_relayout_succeeds_when_tried_again(rt: HostRuntime) -> Result<(), Fail> {
+    let mut world = match World::new(rt.alloc(), &[0xA5], 4, 4, Split::Deep) {
+        Ok(world) => world,
+        Err(_) => World::new(rt.alloc(), &[0xA5], 4, 4, Split::Deep)?,
+    };
+    attaches(&rt, &mut world, X, 1);
+    enter_often(&rt, &mut world, 257);
+    let first = world.relayout(Split::Wide);
+    if first == Err(RelayoutFault::Memory) {
+        shows(&rt, &world, A, 0x0011_00A5, Some(X), 257);
+        assert_eq!(rt; world.relayout(Split::Wide), Ok(1));
+    } else {
+        assert_eq!(rt; first, Ok(1));
+    }
     shows(&rt, &world, A, 0x8000_00A5, Some(X), 257);
     Ok(())
 }

@@ -14,13 +14,7 @@ fn held(
     assert!(rt; monitors <= 8_388_608);
     let mut world = World::new(alloc, &[0xA5], monitors, 4, split)?;
     attach(rt, &mut world, X, 1);
-    for _ in 0..times {
-        begin(rt, &mut world, X, ENTER);
-        let load = world.step(Step::Go { thread: X });
-        assert!(rt; load.is_ok());
-        let store = world.step(Step::Go { thread: X });
-        assert!(rt; store.is_ok());
-    }
+    enter_often(rt, &mut world, times);
     Ok(world)
 }
 
@@ -69,19 +63,5 @@ fn a_call_that_is_begun_is_not_at_rest(rt: HostRuntime) -> Result<(), Fail> {
     assert_eq!(rt; world.relayout(Split::Deep), Err(RelayoutFault::NotAtRest));
     assert_eq!(rt; world.relayout(Split::Wide), Err(RelayoutFault::NotAtRest));
     shows(&rt, &world, A, 0x0001_02A5, Some(X), 3);
-    Ok(())
-}
-
-#[test]
-fn a_refused_relayout_succeeds_when_tried_again(rt: HostRuntime) -> Result<(), Fail> {
-    let mut world = held(&rt, rt.alloc(), 4, Split::Deep, 257)?;
-    let first = world.relayout(Split::Wide);
-    if first == Err(RelayoutFault::Memory) {
-        shows(&rt, &world, A, 0x0011_00A5, Some(X), 257);
-        assert_eq!(rt; world.relayout(Split::Wide), Ok(1));
-    } else {
-        assert_eq!(rt; first, Ok(1));
-    }
-    shows(&rt, &world, A, 0x8000_00A5, Some(X), 257);
     Ok(())
 }
