@@ -66,7 +66,7 @@ fn the_cycle_alone(rt: HostRuntime) -> Result<(), Fail> {
         Ok(found) => {
             assert_eq!(rt; found.len(), 1);
             for cycle in &found {
-                assert_eq!(rt; cycle.as_slice(), [ThreadId(0), ThreadId(1)]);
+                assert_eq!(rt; cycle.as_slice(), [ThreadId(0), ThreadId(1)].as_slice());
             }
         }
         Err(fault) => assert_eq!(rt; fault, FileFault::Memory),
