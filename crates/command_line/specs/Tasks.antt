@@ -7,12 +7,13 @@ use Rattle.history_check.specs.Replays.{IsWhole}
 use Rattle.history.specs.Histories.{IsHistoryOf}
 use Rattle.history.specs.Plans.{IsPlanOf}
 use Rattle.history.specs.declared.plans.Plan.{Plan}
+use Rattle.dump.specs.Dumps.{IsDumpOf}
 use Rattle.command_line.specs.declared.orders.Task.{Task}
-use Rattle.command_line.specs.declared.orders.Task.TheVariants.{Run, Moves, Check}
+use Rattle.command_line.specs.declared.orders.Task.TheVariants.{Run, Moves, Check, Dump}
 
 -- Of the bytes that were left before and after, how many were given, and those that are held before and
 -- after: a script was read, and a report written; or its history; or a history was read whose moves are a
--- run, and their number written.
+-- run, and their number written; or a script was read, and a dump of the world that it leads to written.
 abbrev pub IsDone : Task → Option (List ℕ) → Option (List ℕ) → ℕ → Option (List ℕ) → Option (List ℕ)
     → Type 0
 IsDone Run left rest given held holds =
@@ -22,6 +23,8 @@ IsDone Moves left rest given held holds =
     × Appends held holds history
 IsDone Check left rest given held holds =
     (count : ℕ) × IsWhole left rest given count × Appends held holds (run_text count)
+IsDone Dump left rest given held holds =
+    (text : List ℕ) × IfSome left (λ input. IsDumpOf input text) × Appends held holds text
 
 abbrev pub task_of_run : Bool → Task
 task_of_run true = Moves

@@ -18,6 +18,8 @@ pub enum Task {
     Moves,
     /// Check a history, and write how many moves it has.
     Check,
+    /// Play a script, and write a dump of the world that it leads to.
+    Dump,
 }
 
 /// What the program is to do, and with what.
@@ -32,38 +34,18 @@ pub struct Order<'a> {
 ///
 /// A request for help or for the version is an `Err` too: the error knows its text.
 pub fn read_words<'a>(alloc: Global, words: &'a [String]) -> Result<Order<'a>, Error> {
-    let script = Arg::new(alloc, "file")
-        .value_name("FILE")
-        .action(ArgAction::Set)
-        .help("The script; standard input where it is left out");
-    let moves = Arg::new(alloc, "moves")
-        .long("moves")
-        .action(ArgAction::SetTrue)
-        .help("Prints the moves of the abstract machine and no report");
-    let history = Arg::new(alloc, "file")
-        .value_name("FILE")
-        .action(ArgAction::Set)
-        .help("The history; standard input where it is left out");
-    let run = Command::new(alloc, "run")
-        .about("Plays a script and prints its report, or its history")
-        .arg(moves)?
-        .arg(script)?;
-    let check = Command::new(alloc, "check")
-        .about("Checks whether a history is a run of the abstract machine")
-        .arg(history)?;
-    let program = Command::new(alloc, "thinmon")
-        .about("Java monitors on thin locks, one atomic step at a time")
-        .version(VERSION)
-        .no_binary_name(true)
-        .subcommand_required(true)
-        .bin_name("thinmon")?
-        .subcommand(run)?
-        .subcommand(check)?;
+    let program = program(alloc)?;
     let matches = program.try_get_matches_from(words)?;
     if let Some(check) = matches.subcommand_matches("check") {
         return Ok(Order {
             task: Task::Check,
             file: check.get_str("file"),
+        });
+    }
+    if let Some(dump) = matches.subcommand_matches("dump") {
+        return Ok(Order {
+            task: Task::Dump,
+            file: dump.get_str("file"),
         });
     }
     match matches.subcommand_matches("run") {
@@ -76,6 +58,42 @@ pub fn read_words<'a>(alloc: Global, words: &'a [String]) -> Result<Order<'a>, E
             file: None,
         }),
     }
+}
+
+/// The program, with its subcommands.
+fn program<'a>(alloc: Global) -> Result<Command<'a>, Error> {
+    let moves = Arg::new(alloc, "moves")
+        .long("moves")
+        .action(ArgAction::SetTrue)
+        .help("Prints the moves of the abstract machine and no report");
+    let run = Command::new(alloc, "run")
+        .about("Plays a script and prints its report, or its history")
+        .arg(moves)?
+        .arg(file(alloc, "The script; standard input where it is left out"))?;
+    let check = Command::new(alloc, "check")
+        .about("Checks whether a history is a run of the abstract machine")
+        .arg(file(alloc, "The history; standard input where it is left out"))?;
+    let dump = Command::new(alloc, "dump")
+        .about("Plays a script and prints what its threads are doing then, and who waits for whom")
+        .arg(file(alloc, "The script; standard input where it is left out"))?;
+    let program = Command::new(alloc, "thinmon")
+        .about("Java monitors on thin locks, one atomic step at a time")
+        .version(VERSION)
+        .no_binary_name(true)
+        .subcommand_required(true)
+        .bin_name("thinmon")?
+        .subcommand(run)?
+        .subcommand(check)?
+        .subcommand(dump)?;
+    Ok(program)
+}
+
+/// The argument that names the file to read.
+fn file<'a>(alloc: Global, help: &'a str) -> Arg<'a> {
+    Arg::new(alloc, "file")
+        .value_name("FILE")
+        .action(ArgAction::Set)
+        .help(help)
 }
 
 /// What a run writes: the moves alone, or a report.

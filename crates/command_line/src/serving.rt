@@ -7,6 +7,7 @@ ghost use Rattle.command_line.specs.Tasks.{IsDone};
 
 use crate::ends::{ProgramEnd, end_for};
 use crate::orders::{Order, Task, read_words};
+use dump::dump_script;
 use history::{FileFault, ReaderSource, Sink, Source, WriterSink, moves, replay, run};
 use std::alloc::Global;
 use std::process::ExitCode;
@@ -112,6 +113,7 @@ fn do_task<S: Source, W: Sink>(
         Task::Run => run(alloc, source, sink),
         Task::Moves => moves(alloc, source, sink),
         Task::Check => replay(alloc, source, sink),
+        Task::Dump => dump_script(alloc, source, sink),
     }
 }
 

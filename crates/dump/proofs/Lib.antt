@@ -4,3 +4,4 @@ pub mod Passes
 pub mod Parts
 pub mod Places
 pub mod Seats
+pub mod Written

@@ -1,3 +1,4 @@
 pub mod Rows
 pub mod Threads
 pub mod Reports
+pub mod Dumps

@@ -1,3 +1,4 @@
 pub mod Lines
 pub mod Namings
 pub mod Telling
+pub mod Stepping

@@ -3,3 +3,4 @@ pub mod NameLists
 pub mod Numbering
 pub mod Histories
 pub mod Plans
+pub mod Plays

@@ -6,6 +6,7 @@
 mod histories;
 mod names;
 mod plans;
+mod playing;
 mod reports;
 mod running;
 
@@ -14,4 +15,5 @@ pub use history_check::{one_answer, replay};
 pub use history_streams::{FileFault, ReaderSource, Sink, Source, WriterSink};
 pub use history_text::{Script, print_script, read_script};
 pub use names::Names;
-pub use running::run;
+pub use playing::play;
+pub use running::{read_all, run};

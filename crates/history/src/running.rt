@@ -60,7 +60,7 @@ pub(crate) fn plan_in(alloc: Global, bytes: &[u8]) -> Result<Plan, FileFault>
 }
 
 /// Reads a source to its end, which must come within the bytes that a script may have.
-pub(crate) fn read_all<S: Source>(alloc: Global, source: &mut S) -> Result<Vec<u8>, FileFault>
+pub fn read_all<S: Source>(alloc: Global, source: &mut S) -> Result<Vec<u8>, FileFault>
     requires { S.given source.old ≡ 0 }
     ensures all { IfOk result (λ bytes. IfSome (S.left source.old) (λ input. bytes.items ≡ input)) }
     ensures few { IfOk result (λ bytes. length bytes.items ≤ MOST_BYTES) }

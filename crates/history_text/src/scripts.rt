@@ -45,7 +45,8 @@ impl<'a> Model for Script<'a> {
 impl<'a> Script<'a> {
     /// The lines: the world, then the objects, then the steps.
     pub fn lines(&self) -> &[Line<'a>]
-        ensures { result.now ≡ self.now }
+        ensures lines { result.now ≡ self.now }
+        ensures rules { IsScript result.now }
     {
         &self.lines
     }

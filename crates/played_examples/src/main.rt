@@ -1,5 +1,6 @@
-//! Plays the examples: each script of a folder is to have the report beside it, each script of the
-//! table `bad_scripts` its first bad line, and each long example, which is made here, its report.
+//! Plays the examples: each script of a folder is to have the report beside it, and the dump beside it if
+//! there is one, each script of the table `bad_scripts` its first bad line, and each long example, which is
+//! made here, its report.
 //!
 //! The folder is the word behind the program's name, or the one that the program runs in. There is
 //! one line for each example, and the exit status is 1 where one came out otherwise.
@@ -8,6 +9,7 @@
 mod bad_scripts;
 mod comparing;
 mod drafts;
+mod dumps;
 mod files;
 mod limits;
 mod long_runs;
@@ -38,9 +40,10 @@ where
         None => String::from_str(rt.alloc(), ".")?,
     };
     let files = files::play(rt, &folder)?;
+    let dumps = dumps::play(rt, &folder)?;
     let bad_scripts = bad_scripts::play(rt, &folder)?;
     let long_runs = long_runs::play(rt)?;
     let limits = limits::play(rt)?;
     let words = words::play(rt, &folder)?;
-    Ok(files && bad_scripts && long_runs && limits && words)
+    Ok(files && dumps && bad_scripts && long_runs && limits && words)
 }

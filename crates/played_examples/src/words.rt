@@ -18,11 +18,14 @@ where
         status(rt, &["run", bad.as_str()])?,
         status(rt, &["run", missing.as_str()])?,
         status(rt, &["run", whole.as_str(), bad.as_str()])?,
+        status(rt, &["dump", whole.as_str()])?,
+        status(rt, &["dump", bad.as_str()])?,
+        status(rt, &["dump", missing.as_str()])?,
         status(rt, &["walk"])?,
         status(rt, &["--version"])?,
     ];
     println!(rt; "statuses of thinmon: {statuses:?}")?;
-    Ok(statuses == [0, 1, 1, 2, 2, 0])
+    Ok(statuses == [0, 1, 1, 2, 0, 1, 1, 2, 0])
 }
 
 /// The exit status that some words behind the program's name lead to.

@@ -26,6 +26,9 @@ fn orders(rt: HostRuntime) -> Result<(), Fail> {
         ("check", Task::Check, None),
         ("check x.history", Task::Check, Some("x.history")),
         ("check run", Task::Check, Some("run")),
+        ("dump", Task::Dump, None),
+        ("dump x.script", Task::Dump, Some("x.script")),
+        ("dump dump", Task::Dump, Some("dump")),
     ];
     for (line, task, file) in rows {
         let words = words_of(rt.alloc(), line)?;
@@ -49,6 +52,8 @@ fn no_orders(rt: HostRuntime) -> Result<(), Fail> {
         ("run --moves=yes", 2),
         ("check a b", 2),
         ("check --moves", 2),
+        ("dump a b", 2),
+        ("dump --moves", 2),
         ("run --version", 2),
         ("--moves run", 2),
         ("help walk", 2),

@@ -1,0 +1,68 @@
+//! Playing a script, for the world that it leads to.
+
+ghost use Rattle.std.specs.Prelude.{◌≡◌, Err, IfErr, IfOk, OnOk};
+ghost use Rattle.history_streams.specs.declared.faults.FileFault.TheVariants.{Memory as WantOfMemory};
+ghost use Rattle.step_core.specs.declared.steps.Fault.TheVariants.{Memory as OutOfMemory};
+ghost use Rattle.history.specs.Plays.{Does, IsPlayOf, Plays};
+
+use crate::names::Names;
+use crate::plans::{Plan, plan_of};
+use history_streams::FileFault;
+use history_text::Script;
+use lock_word::Memory;
+use std::alloc::Global;
+use step_core::{Did, Fault, RelayoutFault, Request, World};
+
+/// Plays a script: the world behind its last step, with the names of its threads and objects.
+///
+/// A step that is refused for want of memory ends the play; one that is refused otherwise changes nothing.
+pub fn play(alloc: Global, script: &Script<'_>) -> Result<(World, Names), FileFault>
+    ensures played { IfOk result (λ play. IsPlayOf script.now play.0 play.1) }
+    ensures memory { IfErr result (λ fault. fault ≡ WantOfMemory) }
+{
+    let plan = plan_of(alloc, script.lines())?;
+    let mut world = World::new(alloc, &plan.lows, plan.monitors, plan.indices, plan.split)?;
+    match do_steps(&mut world, &plan.steps) {
+        Ok(()) => {
+            let Plan { names, .. } = plan;
+            Ok((world, names))
+        }
+        Err(Memory) => Err(FileFault::Memory),
+    }
+}
+
+/// Does steps and relayouts, one after the other.
+fn do_steps(world: &mut World, steps: &[Request]) -> Result<(), Memory>
+    ensures { OnOk result (Plays world.old steps.now world.new) }
+{
+    'steps: for request in steps {
+        do_request(world, *request)?;
+    }
+    Ok(())
+}
+
+/// Does a step or a relayout.
+fn do_request(world: &mut World, request: Request) -> Result<(), Memory>
+    ensures { OnOk result (Does world.old request world.new) }
+{
+    match request {
+        Request::Step(step) => {
+            let answer = world.step(step);
+            unless_memory(&answer)
+        }
+        Request::Relayout(split) => match world.relayout(split) {
+            Err(RelayoutFault::Memory) => Err(Memory),
+            Ok(_) | Err(_) => Ok(()),
+        },
+    }
+}
+
+/// Whether an answer is another than want of memory.
+fn unless_memory(answer: &Result<Did, Fault>) -> Result<(), Memory>
+    ensures { OnOk result (answer.now ≡ Err OutOfMemory → ⊥) }
+{
+    match answer {
+        Err(Fault::Memory) => Err(Memory),
+        Ok(_) | Err(_) => Ok(()),
+    }
+}

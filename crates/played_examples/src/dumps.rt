@@ -1,0 +1,73 @@
+//! The dumps of a folder: `NAME.dump` is that of the script `NAME.script`.
+
+use crate::comparing::first_difference;
+use dump::dump_script;
+use history::{FileFault, ReaderSource, WriterSink};
+use std::alloc::Global;
+use std::rt::Files;
+use std::{fs, io, str};
+
+/// Plays the scripts that have a dump beside them, in the order of their names.
+pub fn play<R>(rt: &R, folder: &str) -> io::Result<bool>
+where
+    R: Files + Print + AllocGlobal + Clone + Drop,
+{
+    let mut all_right = true;
+    for name in &names_in(rt, folder)? {
+        let script = fs::read(rt, format!(in rt.alloc(); "{folder}/{name}.script")?)?;
+        let dump = fs::read_to_string(rt, format!(in rt.alloc(); "{folder}/{name}.dump")?)?;
+        all_right &= compare(rt, name, &script, &dump)?;
+    }
+    Ok(all_right)
+}
+
+/// The names of the dumps in a folder, in order.
+fn names_in<R>(rt: &R, folder: &str) -> io::Result<Vec<String>>
+where
+    R: Files + AllocGlobal + Clone + Drop,
+{
+    let mut names = Vec::new(rt.alloc());
+    for entry in fs::read_dir(rt, folder)? {
+        let entry = entry?;
+        if let Some(name) = entry.file_name().strip_suffix(".dump") {
+            names.push(String::from_str(rt.alloc(), name)?)?;
+        }
+    }
+    names.sort()?;
+    Ok(names)
+}
+
+/// The dump of a script, or why it has none.
+fn dump_of(alloc: Global, script: &[u8]) -> Result<Vec<u8>, FileFault> {
+    let mut sink = WriterSink::new(Vec::new(alloc));
+    dump_script(alloc, &mut ReaderSource::new(script), &mut sink)?;
+    Ok(sink.into_inner())
+}
+
+/// Dumps a script, and prints whether the dump is the wanted one.
+fn compare<R>(rt: &R, name: &str, script: &[u8], wanted: &str) -> io::Result<bool>
+where
+    R: Print + AllocGlobal,
+{
+    let dump = match dump_of(rt.alloc(), script) {
+        Ok(dump) => dump,
+        Err(fault) => {
+            println!(rt; "dump of {name}: {fault}")?;
+            return Ok(false);
+        }
+    };
+    let Ok(dump) = str::from_utf8(&dump) else {
+        println!(rt; "dump of {name}: it is no text")?;
+        return Ok(false);
+    };
+    match first_difference(dump, wanted) {
+        None => {
+            println!(rt; "dump of {name}: as it should be")?;
+            Ok(true)
+        }
+        Some(difference) => {
+            println!(rt; "dump of {name}: {difference}")?;
+            Ok(false)
+        }
+    }
+}
