@@ -1,5 +1,5 @@
 -- What is written of a dump.
-use Rattle.std.proofs.Common.{◌≡◌, ℕ, List, take, sym, subst, ◌∙◌, Option, None, Some}
+use Rattle.std.proofs.Common.{◌≡◌, ℕ, List, take, subst, ◌∙◌, Option, None, Some}
 use Rattle.std.specs.Prelude.{Result, Ok, Err, OnOk, OnErr, IfSome, IsErrOf}
 use Rattle.std.specs.Io.KnownBytes.{Appends}
 use Rattle.history_streams.specs.declared.faults.FileFault.{FileFault}

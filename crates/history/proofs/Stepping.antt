@@ -1,11 +1,9 @@
 -- Steps of a script, one after the other.
-use Rattle.std.proofs.Common.{◌≡◌, refl, ℕ, ◌+◌, ◌<◌, List, [], ◌++◌, length, get_or, take, Bool, sym, ap, ◌∙◌, subst}
+use Rattle.std.proofs.Common.{◌≡◌, refl, ℕ, ◌+◌, ◌<◌, List, [], ◌++◌, length, get_or, take, ap, ◌∙◌, subst}
 use Rattle.step_core.specs.declared.steps.Request.{Request}
-use Rattle.step_core.specs.Machine.{Run}
-use Rattle.step_core.specs.Shown.{shown}
 use Rattle.step_core.specs.Requests.{moves_then, moves_after}
 use Rattle.step_core.specs.World.{WorldState, opening_world}
-use Rattle.history.specs.Histories.{Told, Tells, moves_text, first_world}
+use Rattle.history.specs.Histories.{Tells, moves_text}
 use Rattle.history.specs.Plays.{Does, Plays, IsPlayOf}
 use Rattle.history.specs.Numbering.{IsWorldWith, low_bytes}
 use Rattle.history.specs.declared.plans.Plan.{Plan}

@@ -1,46 +1,21 @@
 -- What a step did: its atomic step, the moves that it hands out, and its reply.
-use Rattle.std.specs.Prelude.{ℕ, ◌+◌, Bool, true, false, if◌then◌else◌, nat_lt, List, [], ◌∷◌, length, slice_set, Option, Some, None, Result, Ok, Err}
+use Rattle.std.specs.Prelude.{Bool, true, false, if◌then◌else◌, [], ◌∷◌, Option, Some, None}
 use Rattle.lock_word.specs.declared.ThreadId.{ThreadId}
-use Rattle.lock_word.specs.declared.ObjectId.{ObjectId}
-use Rattle.lock_word.specs.declared.Word.{Word}
-use Rattle.lock_word.specs.declared.Lock.{Lock}
-use Rattle.lock_word.specs.declared.Lock.TheVariants.{Free, Thin, Fat}
-use Rattle.lock_word.specs.Layout.{with_lock, count_of}
-use Rattle.fat_monitor.specs.declared.actions.Cause.{Cause}
-use Rattle.fat_monitor.specs.declared.actions.Cause.TheVariants as cause
 use Rattle.fat_monitor.specs.declared.actions.Reply.{Reply}
 use Rattle.fat_monitor.specs.declared.actions.Reply.TheVariants as reply
 use Rattle.fat_monitor.specs.declared.actions.Action.{Action}
-use Rattle.fat_monitor.specs.declared.actions.Action.TheVariants as action
-use Rattle.fat_monitor.specs.declared.actions.Answer.{Answer}
 use Rattle.fat_monitor.specs.declared.actions.Answer.TheVariants as answer
 use Rattle.fat_monitor.specs.declared.actions.Post.{Post}
 use Rattle.fat_monitor.specs.declared.actions.Post.TheVariants.{Granted}
 use Rattle.fat_monitor.specs.declared.actions.Done.{Done}
-use Rattle.fat_monitor.specs.declared.actions.ActFault.{ActFault}
-use Rattle.fat_monitor.specs.FatState.{FatState, bound_with, post_at}
-use Rattle.fat_monitor.specs.Acting.{acted}
+use Rattle.fat_monitor.specs.FatState.{FatState, post_at}
 use Rattle.fast_path.specs.declared.calls.Call.{Call}
 use Rattle.fast_path.specs.declared.calls.Call.TheVariants as call
-use Rattle.fast_path.specs.declared.calls.Operation.{Operation}
-use Rattle.fast_path.specs.declared.calls.Operation.TheVariants as op
-use Rattle.fast_path.specs.declared.calls.MonitorCall.{MonitorCall}
-use Rattle.fast_path.specs.declared.calls.InterruptCall.{InterruptCall}
-use Rattle.fast_path.specs.declared.calls.InterruptCall.TheVariants as about
-use Rattle.fast_path.specs.declared.Next.{Next}
-use Rattle.fast_path.specs.declared.Next.TheVariants as next
-use Rattle.fast_path.specs.Calls.{call_of, call_about}
-use Rattle.fast_path.specs.Table.{next_of}
-use Rattle.step_core.specs.declared.places.Place.{Place}
-use Rattle.step_core.specs.declared.places.Place.TheVariants.{Idle, InCall, Ending, AtPost}
-use Rattle.step_core.specs.declared.places.Stage.{Stage}
-use Rattle.step_core.specs.declared.places.Stage.TheVariants.{Begun, Taking, Storing, Binding, Acting, Won, Bound, Inflated, Direct}
 use Rattle.step_core.specs.declared.machine.Move.{Move}
 use Rattle.step_core.specs.declared.machine.Move.TheVariants as move
 use Rattle.step_core.specs.declared.steps.Atomic.{Atomic}
 use Rattle.step_core.specs.declared.steps.Atomic.TheVariants as atomic
 use Rattle.step_core.specs.declared.steps.Did.{Did}
-use Rattle.step_core.specs.World.{WorldState, word_at, lock_at, is_own}
 
 -- the call wakes all that wait, and the caller tests and clears its own flag
 abbrev pub wakes_all : Call → Bool

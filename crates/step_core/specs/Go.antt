@@ -1,5 +1,5 @@
 -- What a Go leaves and does, from the load of a word to an action on the fat monitors.
-use Rattle.std.specs.Prelude.{ℕ, ◌+◌, Bool, true, false, if◌then◌else◌, nat_lt, List, [], ◌∷◌, length, slice_set, Option, Some, None, Result, Ok, Err}
+use Rattle.std.specs.Prelude.{ℕ, ◌+◌, Bool, true, false, if◌then◌else◌, nat_lt, List, length, slice_set, Option, Some, None, Result, Ok, Err}
 use Rattle.lock_word.specs.declared.ThreadId.{ThreadId}
 use Rattle.lock_word.specs.declared.ObjectId.{ObjectId}
 use Rattle.lock_word.specs.declared.Word.{Word}
@@ -14,14 +14,11 @@ use Rattle.fat_monitor.specs.declared.actions.Action.{Action}
 use Rattle.fat_monitor.specs.declared.actions.Action.TheVariants as action
 use Rattle.fat_monitor.specs.declared.actions.Answer.{Answer}
 use Rattle.fat_monitor.specs.declared.actions.Answer.TheVariants as answer
-use Rattle.fat_monitor.specs.declared.actions.Post.{Post}
-use Rattle.fat_monitor.specs.declared.actions.Post.TheVariants.{Granted}
 use Rattle.fat_monitor.specs.declared.actions.Done.{Done}
 use Rattle.fat_monitor.specs.declared.actions.ActFault.{ActFault}
-use Rattle.fat_monitor.specs.FatState.{FatState, bound_with, post_at}
+use Rattle.fat_monitor.specs.FatState.{FatState, bound_with}
 use Rattle.fat_monitor.specs.Acting.{acted}
 use Rattle.fast_path.specs.declared.calls.Call.{Call}
-use Rattle.fast_path.specs.declared.calls.Call.TheVariants as call
 use Rattle.fast_path.specs.declared.calls.Operation.{Operation}
 use Rattle.fast_path.specs.declared.calls.Operation.TheVariants as op
 use Rattle.fast_path.specs.declared.calls.MonitorCall.{MonitorCall}
@@ -35,12 +32,11 @@ use Rattle.step_core.specs.declared.places.Place.{Place}
 use Rattle.step_core.specs.declared.places.Place.TheVariants.{Idle, InCall, Ending, AtPost}
 use Rattle.step_core.specs.declared.places.Stage.{Stage}
 use Rattle.step_core.specs.declared.places.Stage.TheVariants.{Begun, Taking, Storing, Binding, Acting, Won, Bound, Inflated, Direct}
-use Rattle.step_core.specs.declared.machine.Move.{Move}
 use Rattle.step_core.specs.declared.machine.Move.TheVariants as move
 use Rattle.step_core.specs.declared.steps.Atomic.{Atomic}
 use Rattle.step_core.specs.declared.steps.Atomic.TheVariants as atomic
 use Rattle.step_core.specs.declared.steps.Did.{Did}
-use Rattle.step_core.specs.World.{WorldState, word_at, lock_at, is_own}
+use Rattle.step_core.specs.World.{WorldState, word_at, lock_at}
 use Rattle.step_core.specs.Did.{move_for, no_move, one_move, move_and_return, return_alone, did_action}
 
 -- What a Go leaves: the words, the fat state and the place of its thread; and what it did.

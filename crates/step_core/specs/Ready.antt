@@ -1,5 +1,5 @@
 -- The parts of a world, as the functions over them see it.
-use Rattle.std.specs.Prelude.{◌≡◌, true, ℕ, ◌<◌, ◌≤◌, List, [], length, slice_index_or, Option}
+use Rattle.std.specs.Prelude.{ℕ, ◌<◌, ◌≤◌, List, [], length, slice_index_or, Option}
 use Rattle.lock_word.specs.declared.ThreadId.{ThreadId}
 use Rattle.lock_word.specs.declared.Word.{Word}
 use Rattle.lock_word.specs.declared.Split.{Split}

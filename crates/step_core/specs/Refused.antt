@@ -2,8 +2,6 @@
 use Rattle.lock_word.specs.declared.ObjectId.{ObjectId}
 use Rattle.std.specs.Prelude.{◌≡◌, ◌≢◌, ℕ, ◌<◌, ◌≤◌, Bool, length, Option, Some, None, IsSome}
 use Rattle.lock_word.specs.declared.ThreadId.{ThreadId}
-use Rattle.fat_monitor.specs.declared.actions.Reply.{Reply}
-use Rattle.fat_monitor.specs.declared.actions.Reply.TheVariants.{Refused}
 use Rattle.thread_index.specs.Indices.{holder_at}
 use Rattle.wait_lines.specs.Lines.{Stands}
 use Rattle.fast_path.specs.Calls.{object_of}
@@ -12,9 +10,7 @@ use Rattle.step_core.specs.declared.steps.Step.{Step}
 use Rattle.step_core.specs.declared.steps.Step.TheVariants as step
 use Rattle.step_core.specs.declared.steps.Fault.{Fault}
 use Rattle.step_core.specs.declared.steps.Fault.TheVariants.{NoIndex, Memory, Known, NoThread, NoObject, InCall, NotCalling, Parked, NotDue, Backwards, NotWaiting}
-use Rattle.fat_monitor.specs.declared.actions.Cause.{Cause}
-use Rattle.std.specs.Option.{option_map}
-use Rattle.step_core.specs.Machine.{State, Thread, Is, Exists, is_waiting}
+use Rattle.step_core.specs.Machine.{Thread, Is, Exists}
 use Rattle.step_core.specs.World.{WorldState}
 use Rattle.step_core.specs.Shown.{shown}
 

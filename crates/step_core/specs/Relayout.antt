@@ -9,7 +9,7 @@ use Rattle.lock_word.specs.declared.Split.{Split}
 use Rattle.lock_word.specs.declared.Split.TheVariants.{Wide, Deep}
 use Rattle.lock_word.specs.Layout.{lock_of, with_lock, greatest_index, greatest_count}
 use Rattle.thread_index.specs.Indices.{holder_at}
-use Rattle.fat_monitor.specs.FatState.{FatState, bound_with, with_spare}
+use Rattle.fat_monitor.specs.FatState.{bound_with, with_spare}
 use Rattle.step_core.specs.declared.machine.Doing.{Doing}
 use Rattle.step_core.specs.declared.machine.Doing.TheVariants as doing
 use Rattle.step_core.specs.declared.worlds.relayout.RelayoutFault.{RelayoutFault}

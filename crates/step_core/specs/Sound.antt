@@ -1,11 +1,10 @@
 -- What holds of every world.
 use Rattle.step_core.specs.World.{place_at, word_at, lock_at, is_own, WorldState}
-use Rattle.std.specs.Prelude.{Some, ◌≢◌, is_some, count_by, ◌≡◌, ℕ, ◌+◌, ◌-◌, ◌<◌, ◌≤◌, List, length, slice_index_or, Option, None, IsSome, map, replicate, Bool, true, false, ◌==◌, ◌⊎◌}
+use Rattle.std.specs.Prelude.{Some, ◌≢◌, is_some, count_by, ◌≡◌, ℕ, ◌+◌, ◌-◌, ◌<◌, ◌≤◌, length, Option, None, IsSome, false, ◌⊎◌}
 use Rattle.lock_word.specs.declared.ThreadId.{ThreadId}
-use Rattle.lock_word.specs.declared.Word.{Word}
 use Rattle.lock_word.specs.declared.Lock.{Lock}
 use Rattle.lock_word.specs.declared.Lock.TheVariants.{Free, Thin, Fat}
-use Rattle.lock_word.specs.Layout.{lock_of, IsMalformed, greatest_index, greatest_count}
+use Rattle.lock_word.specs.Layout.{IsMalformed, greatest_index, greatest_count}
 use Rattle.thread_index.specs.Indices.{seat_of, holder_at, IsOneToOne}
 use Rattle.fat_monitor.specs.FatState.{FatState, monitor_at, IsAttached, post_of, thread_count}
 use Rattle.fat_monitor.specs.declared.actions.Post.{Post}

@@ -1,20 +1,12 @@
 -- What a refused call leaves: every owner, count, wait set and flag.
 use Rattle.lock_word.specs.declared.ObjectId.{ObjectId}
-use Rattle.std.specs.Prelude.{◌≡◌, ◌≢◌, ℕ, ◌<◌, ◌≤◌, Bool, length, Option, Some, None, IsSome}
+use Rattle.std.specs.Prelude.{◌≡◌, Option, Some}
 use Rattle.lock_word.specs.declared.ThreadId.{ThreadId}
 use Rattle.fat_monitor.specs.declared.actions.Reply.{Reply}
 use Rattle.fat_monitor.specs.declared.actions.Reply.TheVariants.{Refused}
-use Rattle.thread_index.specs.Indices.{holder_at}
-use Rattle.wait_lines.specs.Lines.{Stands}
-use Rattle.fast_path.specs.Calls.{object_of}
-use Rattle.step_core.specs.declared.machine.Doing.TheVariants.{Idle, Waits}
-use Rattle.step_core.specs.declared.steps.Step.{Step}
-use Rattle.step_core.specs.declared.steps.Step.TheVariants as step
-use Rattle.step_core.specs.declared.steps.Fault.{Fault}
-use Rattle.step_core.specs.declared.steps.Fault.TheVariants.{NoIndex, Memory, Known, NoThread, NoObject, InCall, NotCalling, Parked, NotDue, Backwards, NotWaiting}
 use Rattle.fat_monitor.specs.declared.actions.Cause.{Cause}
 use Rattle.std.specs.Option.{option_map}
-use Rattle.step_core.specs.Machine.{State, Thread, Is, Exists, is_waiting}
+use Rattle.step_core.specs.Machine.{State, Thread, is_waiting}
 use Rattle.step_core.specs.World.{WorldState}
 use Rattle.step_core.specs.Shown.{shown}
 

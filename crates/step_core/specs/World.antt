@@ -1,23 +1,15 @@
 -- A world as contracts see it: the split of its header words, the words, the threads by index, the place of each in its call, and the fat state.
-use Rattle.std.specs.Prelude.{Some, ◌≢◌, is_some, count_by, ◌≡◌, ℕ, ◌+◌, ◌-◌, ◌<◌, ◌≤◌, List, length, slice_index_or, Option, None, IsSome, map, replicate, Bool, true, false, ◌==◌, ◌⊎◌}
+use Rattle.std.specs.Prelude.{ℕ, List, slice_index_or, Option, None, map, replicate, Bool, false, ◌==◌}
 use Rattle.lock_word.specs.declared.ThreadId.{ThreadId}
 use Rattle.lock_word.specs.declared.Word.{Word}
 use Rattle.lock_word.specs.declared.Lock.{Lock}
 use Rattle.lock_word.specs.declared.Lock.TheVariants.{Free, Thin, Fat}
 use Rattle.lock_word.specs.declared.Split.{Split}
-use Rattle.lock_word.specs.Layout.{lock_of, IsMalformed}
-use Rattle.thread_index.specs.Indices.{seat_of, holder_at, IsOneToOne}
+use Rattle.lock_word.specs.Layout.{lock_of}
 use Rattle.fat_monitor.specs.FatState.{FatState, monitor_at, IsAttached, post_of, thread_count}
-use Rattle.fat_monitor.specs.declared.actions.Post.{Post}
-use Rattle.fat_monitor.specs.declared.actions.Post.TheVariants.{Out}
 use Rattle.fat_monitor.specs.FatState as fat
-use Rattle.fast_path.specs.declared.calls.MonitorCall.{MonitorCall}
-use Rattle.fast_path.specs.declared.Next.TheVariants as next
-use Rattle.fast_path.specs.Table.{next_of}
 use Rattle.step_core.specs.declared.places.Place.{Place}
-use Rattle.step_core.specs.declared.places.Place.TheVariants.{Idle, InCall, Ending, AtPost}
-use Rattle.step_core.specs.declared.places.Stage.{Stage}
-use Rattle.step_core.specs.declared.places.Stage.TheVariants.{Begun, Taking, Storing, Binding, Acting, Won, Bound, Inflated, Direct}
+use Rattle.step_core.specs.declared.places.Place.TheVariants.{Idle}
 
 -- the split of each word; the word of each object; who has each index, by seat, which is the index less one; the place of the
 -- thread at each seat; and the fat state

@@ -1,6 +1,6 @@
 -- Each accept step makes the one change that its atomic step names.
-use Rattle.std.specs.Prelude.{◌≡◌, ◌≢◌, ℕ, ◌+◌, ◌-◌, ◌<◌, ◌≤◌, Bool, true, false, if◌then◌else◌, nat_lt, length, Option, Some, None, IsSome, IfOk, MatchResult, Result, Ok, Err}
-use Rattle.std.proofs.Common.{refl, arith, ap, sym, ◌∙◌, subst}
+use Rattle.std.specs.Prelude.{◌≡◌, ℕ, ◌+◌, ◌<◌, Bool, true, false, nat_lt, length, Option, Some, None, IfOk, MatchResult, Result, Ok, Err}
+use Rattle.std.proofs.Common.{refl, arith, ap, sym, ◌∙◌}
 use Rattle.std.proofs.lemmas.Bool.{cond_both}
 use Rattle.lock_word.specs.declared.ThreadId.{ThreadId}
 use Rattle.lock_word.specs.declared.ObjectId.{ObjectId}
@@ -20,7 +20,7 @@ use Rattle.fat_monitor.specs.declared.actions.Done.{Done}
 use Rattle.fat_monitor.specs.declared.actions.ActFault.{ActFault}
 use Rattle.fat_monitor.specs.declared.actions.Post.{Post}
 use Rattle.fat_monitor.specs.declared.actions.Post.TheVariants.{Out, Entering, Waiting, Back, Granted}
-use Rattle.fat_monitor.specs.FatState.{FatState, IsAttached, with_moment, post_of, post_at, owns_one}
+use Rattle.fat_monitor.specs.FatState.{with_moment, post_of, post_at, owns_one}
 use Rattle.fat_monitor.specs.Acting.{Outcome as FatOutcome, acted, MayAct, NamesBound, expired as fat_expired, woken}
 use Rattle.fast_path.specs.declared.calls.Call.{Call}
 use Rattle.fast_path.specs.declared.calls.MonitorCall.{MonitorCall}
@@ -31,7 +31,6 @@ use Rattle.fast_path.specs.declared.Next.TheVariants as next
 use Rattle.fast_path.specs.Calls.{call_of, call_about}
 use Rattle.fast_path.specs.Table.{next_of}
 use Rattle.step_core.specs.declared.machine.Move.TheVariants as move
-use Rattle.step_core.specs.declared.places.Place.TheVariants.{InCall, Ending}
 use Rattle.step_core.specs.declared.places.Stage.{Stage}
 use Rattle.step_core.specs.declared.places.Stage.TheVariants.{Begun, Taking, Storing, Binding, Acting, Won, Bound, Inflated, Direct}
 use Rattle.step_core.specs.declared.steps.Atomic.TheVariants.{Label}
@@ -50,7 +49,7 @@ use Rattle.step_core.proofs.Facts.OneThread.{thin_fits, lock_of-new_word}
 use Rattle.step_core.proofs.Facts.Cases.{ended_as, begin_cases, go_cases}
 use Rattle.step_core.proofs.Runs.StageRuns.{storing}
 use Rattle.step_core.proofs.Sound.Stages.{store_fits, number_fits, bound_there, may}
-use Rattle.step_core.proofs.Clauses.Patient.{IsTold, done, own_on, own_about}
+use Rattle.step_core.proofs.Clauses.Patient.{IsTold, done, own_on}
 
 -- an accept step made the change that it names
 abbrev Named : WorldState → Step → AfterStep → Type 0

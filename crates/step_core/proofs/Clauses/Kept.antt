@@ -1,6 +1,6 @@
 -- Each step keeps the objects, and bits 7 to 0 of each word.
 use Rattle.std.specs.Prelude.{◌≡◌, ◌⊎◌, ℕ, ◌+◌, ◌<◌, Bool, true, false, nat_lt, length, set, get_or, Option, Some, None, Result, Ok, Err}
-use Rattle.std.proofs.Common.{refl, arith, ap, ◌∙◌, subst, inl, inr, get_or-set_same, get_or-set_other, length-set}
+use Rattle.std.proofs.Common.{refl, arith, ap, ◌∙◌, inl, inr, get_or-set_same, get_or-set_other, length-set}
 use Rattle.std.proofs.lemmas.Bool.{cases_eq, cond_both}
 use Rattle.lock_word.specs.declared.ThreadId.{ThreadId}
 use Rattle.lock_word.specs.declared.ObjectId.{ObjectId}
@@ -11,15 +11,11 @@ use Rattle.lock_word.proofs.Words.{low_kept}
 use Rattle.thread_index.specs.Indices.{seat_of, free_seat}
 use Rattle.fat_monitor.specs.declared.actions.Cause.{Cause}
 use Rattle.fat_monitor.specs.declared.actions.Action.{Action}
-use Rattle.fat_monitor.specs.declared.actions.Action.TheVariants as action
 use Rattle.fat_monitor.specs.declared.actions.Done.{Done}
 use Rattle.fat_monitor.specs.declared.actions.ActFault.{ActFault}
-use Rattle.fat_monitor.specs.declared.actions.Post.{Post}
-use Rattle.fat_monitor.specs.declared.actions.Post.TheVariants.{Out, Entering, Waiting, Back, Granted}
-use Rattle.fat_monitor.specs.FatState.{FatState, with_moment, post_at, owns_one}
+use Rattle.fat_monitor.specs.FatState.{FatState, with_moment, owns_one}
 use Rattle.fat_monitor.specs.Acting.{acted}
 use Rattle.fast_path.specs.declared.calls.Call.{Call}
-use Rattle.fast_path.specs.declared.calls.Call.TheVariants as call
 use Rattle.fast_path.specs.declared.Next.{Next}
 use Rattle.fast_path.specs.declared.Next.TheVariants as next
 use Rattle.fast_path.specs.declared.calls.MonitorCall.{MonitorCall}
@@ -39,7 +35,7 @@ use Rattle.step_core.specs.Go.{AfterGo, with_go, new_word, after_load, after_tak
 use Rattle.step_core.specs.Step.{AfterStep, accept, refuse, after_attach, after_begin, after_go, WaitEnd, time_over, wake_up, after_wait_end, after_wait_end_as, after_tick, step_of}
 use Rattle.step_core.specs.Kept.{Keeps}
 use Rattle.step_core.proofs.Facts.Cases.{ended_as, begin_cases, go_cases}
-use Rattle.step_core.proofs.Facts.OneThread.{within, thin_fits}
+use Rattle.step_core.proofs.Facts.OneThread.{thin_fits}
 use Rattle.step_core.proofs.Runs.StageRuns.{storing}
 use Rattle.step_core.proofs.Sound.Stages.{store_fits, number_fits}
 

@@ -21,7 +21,7 @@ use Rattle.fat_monitor.specs.declared.actions.ActFault.{ActFault}
 use Rattle.fat_monitor.specs.declared.actions.Post.{Post}
 use Rattle.fat_monitor.specs.declared.actions.Post.TheVariants.{Out, Entering, Waiting, Back, Granted}
 use Rattle.wait_lines.specs.declared.Role.TheVariants.{Waiting as WaitSet}
-use Rattle.fat_monitor.specs.FatState.{FatState, IsProper, monitor_at, first_of, line_of, post_of, post_at, flag_at, flag_of, with_moment, owns_one, is_owned_by}
+use Rattle.fat_monitor.specs.FatState.{FatState, monitor_at, first_of, line_of, post_of, post_at, flag_at, flag_of, with_moment, owns_one, is_owned_by}
 use Rattle.fat_monitor.specs.Acting.{Outcome as FatOutcome, acted, by_owner, entered, exited, waited, notified, replied as fat_replied, all_removed, interrupted, asked, are_good, expired as fat_expired, woken, collected}
 use Rattle.fast_path.specs.declared.calls.Call.{Call}
 use Rattle.fast_path.specs.declared.calls.Call.TheVariants as call
@@ -45,7 +45,6 @@ use Rattle.step_core.specs.Did.{wakes_all, tests_own, is_wait, move_for, no_move
 use Rattle.step_core.specs.Go.{load_of, lost_at, won_at, stored_at, stored_reply, after_load, after_take, after_bind, after_publish, after_told, after_act, after_stage, action_on, action_about, entering, bind_cause, after_look_as}
 use Rattle.step_core.specs.Step.{AfterStep, after_attach, after_begin, refuse, after_go, step_of, moves_made, accept, WaitEnd, time_over, wake_up, after_wait_end, after_wait_end_as, after_tick}
 use Rattle.step_core.specs.Labels.{is_label, labels_of, EndsWith, HasLabels}
-use Rattle.step_core.proofs.Facts.ShownStates.{proper_at}
 use Rattle.step_core.proofs.Facts.Cases.{ended_as, begin_cases, go_cases}
 use Rattle.step_core.specs.declared.steps.Fault.{Fault}
 use Rattle.step_core.specs.declared.steps.Fault.TheVariants as fault

@@ -28,7 +28,7 @@ use Rattle.step_core.specs.declared.steps.Step.{Step}
 use Rattle.step_core.specs.declared.steps.Step.TheVariants as step
 use Rattle.step_core.specs.Machine.{State, Thread, Steps, Run, Is, flag_back, reply_of}
 use Rattle.step_core.specs.World.{WorldState, place_at}
-use Rattle.step_core.specs.Shown.{shown, doing_of, act_of}
+use Rattle.step_core.specs.Shown.{shown, act_of}
 use Rattle.step_core.specs.Sound.{IsSound}
 use Rattle.step_core.specs.Step.{step_of, moves_made, moves_of}
 use Rattle.step_core.specs.Requests.{world_then, world_after}

@@ -1,7 +1,7 @@
 -- A Go replies, parks, meets another thread, or lowers what is left of its call; and no other thread's step does.
 use Rattle.std.specs.Prelude.{◌≡◌, ◌≢◌, ◌⊎◌, ℕ, ◌+◌, ◌-◌, ◌<◌, ◌≤◌, Bool, true, false, ◌==◌, nat_lt, length, Option, Some, None, IsSome, Result, Ok, Err, IfOk, MatchResult}
 use Rattle.std.proofs.Common.{refl, arith, sym, ◌∙◌, subst, inl, inr, get_or-set_same, get_or-set_other, length-set}
-use Rattle.std.proofs.lemmas.Bool.{cond_both, ltb-true}
+use Rattle.std.proofs.lemmas.Bool.{cond_both}
 use Rattle.std.proofs.lemmas.Option.{same_Some}
 use Rattle.lock_word.specs.declared.ThreadId.{ThreadId}
 use Rattle.lock_word.specs.declared.ObjectId.{ObjectId}
@@ -21,9 +21,9 @@ use Rattle.fat_monitor.specs.declared.actions.Action.{Action}
 use Rattle.fat_monitor.specs.declared.actions.Done.{Done}
 use Rattle.fat_monitor.specs.declared.actions.ActFault.{ActFault}
 use Rattle.fat_monitor.specs.declared.actions.Post.{Post}
-use Rattle.fat_monitor.specs.declared.actions.Post.TheVariants.{Out, Entering, Waiting, Back, Granted}
+use Rattle.fat_monitor.specs.declared.actions.Post.TheVariants.{Out}
 use Rattle.wait_lines.specs.declared.Role.TheVariants.{Waiting as WaitSet}
-use Rattle.fat_monitor.specs.FatState.{FatState, monitor_at, first_of, line_of, post_of, post_at, flag_at, flag_of, with_post, with_moment, owns_one, is_owned_by}
+use Rattle.fat_monitor.specs.FatState.{FatState, monitor_at, first_of, line_of, post_of, flag_at, flag_of, with_post, with_moment, owns_one, is_owned_by}
 use Rattle.fat_monitor.specs.Acting.{Outcome as FatOutcome, acted, by_owner, entered, exited, waited, notified, replied as fat_replied, all_removed, interrupted, asked, are_good}
 use Rattle.fast_path.specs.declared.calls.Call.{Call}
 use Rattle.fast_path.specs.declared.calls.Call.TheVariants as call
@@ -38,7 +38,6 @@ use Rattle.fast_path.specs.Calls.{call_on, call_of, call_about, subject_of}
 use Rattle.fast_path.specs.Table.{next_of}
 use Rattle.fast_path.proofs.Tables.{spin_fact}
 use Rattle.step_core.specs.declared.machine.Doing.TheVariants as doing
-use Rattle.step_core.specs.declared.places.Place.{Place}
 use Rattle.step_core.specs.declared.places.Place.TheVariants.{Idle, InCall}
 use Rattle.step_core.specs.declared.places.Stage.{Stage}
 use Rattle.step_core.specs.declared.places.Stage.TheVariants.{Begun, Taking, Storing, Binding, Acting, Won, Bound, Inflated, Direct}

@@ -1,6 +1,5 @@
 -- A step is refuse with the first of its faults whose cause holds, and only then; and a refuse step changes nothing.
 use Rattle.std.specs.Option.{unwrap_or}
-use Rattle.wait_lines.specs.declared.Role.TheVariants.{Entry, Waiting as WaitSet}
 use Rattle.wait_lines.specs.Lines.{Key, key}
 use Rattle.fat_monitor.specs.declared.actions.Post.{Post}
 use Rattle.fat_monitor.specs.declared.actions.Post.TheVariants.{Out, Entering, Waiting, Back, Granted}
@@ -16,7 +15,7 @@ use Rattle.step_core.specs.Did.{one_move}
 use Rattle.step_core.specs.Step.{AfterStep, after_attach, after_begin, after_begin_at, refuse, after_go, step_of, accept, time_over, wake_up, after_wait_end, after_wait_end_as, after_tick}
 use Rattle.step_core.specs.Refused.{IsLive, IsNotLive, IsBusy, IsIdle, IsParked, IsRefused, IsAcceptable}
 use Rattle.lock_word.specs.declared.ObjectId.{ObjectId}
-use Rattle.std.specs.Prelude.{zero, suc, ◌≡◌, ◌⊎◌, ℕ, ◌+◌, ◌<◌, ◌≤◌, Bool, true, false, nat_lt, List, [], ◌∷◌, length, Option, Some, None, IsSome, is_some, is_none, MatchResult, OnErr, if◌then◌else◌}
+use Rattle.std.specs.Prelude.{zero, suc, ◌≡◌, ◌⊎◌, ℕ, ◌+◌, ◌<◌, ◌≤◌, Bool, true, false, nat_lt, List, [], ◌∷◌, length, Option, Some, None, IsSome, is_some, is_none, MatchResult, OnErr}
 use Rattle.std.specs.List.{position_from}
 use Rattle.std.proofs.Common.{refl, arith, sym, ◌∙◌, ap, inl, inr}
 use Rattle.std.proofs.lemmas.Bool.{cond_both, ltb-true, ltb-false}

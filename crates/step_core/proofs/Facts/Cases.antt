@@ -1,5 +1,5 @@
 -- The cases of a Begin and of a Go: what holds of each outcome holds of the step.
-use Rattle.std.specs.Prelude.{◌≡◌, ℕ, ◌<◌, ◌≤◌, Bool, if◌then◌else◌, nat_lt, length, Option, Some, None, IsSome, is_some, MatchOption}
+use Rattle.std.specs.Prelude.{◌≡◌, ℕ, ◌<◌, ◌≤◌, Bool, if◌then◌else◌, nat_lt, length, Option, Some, None, IsSome}
 use Rattle.std.specs.Option.{unwrap_or}
 use Rattle.std.proofs.Common.{refl, sym, ◌∙◌, subst}
 use Rattle.std.proofs.lemmas.Bool.{cond_both, ltb-true, ltb-false}
@@ -15,24 +15,22 @@ use Rattle.fat_monitor.specs.declared.actions.Reply.TheVariants as reply
 use Rattle.fat_monitor.specs.declared.actions.Cause.TheVariants.{StillOwner}
 use Rattle.fat_monitor.specs.declared.actions.Post.{Post}
 use Rattle.fat_monitor.specs.declared.actions.Post.TheVariants.{Out, Entering, Waiting, Back, Granted}
-use Rattle.fat_monitor.specs.FatState.{FatState, post_of, with_post, without_thread, owns_one, IsAttached}
-use Rattle.fat_monitor.specs.Acting.{Outcome as FatOutcome, acted, collected, replied as fat_replied}
+use Rattle.fat_monitor.specs.FatState.{post_of, with_post, without_thread, owns_one, IsAttached}
+use Rattle.fat_monitor.specs.Acting.{Outcome as FatOutcome, collected, replied as fat_replied}
 use Rattle.fast_path.specs.declared.calls.Call.{Call}
-use Rattle.fast_path.specs.declared.calls.Call.TheVariants as call
-use Rattle.fast_path.specs.Calls.{object_of, subject_of}
-use Rattle.step_core.specs.declared.machine.Move.TheVariants as move
+use Rattle.fast_path.specs.Calls.{object_of}
 use Rattle.step_core.specs.declared.places.Place.{Place}
 use Rattle.step_core.specs.declared.places.Place.TheVariants.{Idle, InCall, Ending, AtPost}
 use Rattle.step_core.specs.declared.places.Stage.{Stage}
-use Rattle.step_core.specs.declared.steps.Atomic.TheVariants.{Label, Acted}
+use Rattle.step_core.specs.declared.steps.Atomic.TheVariants.{Acted}
 use Rattle.step_core.specs.declared.steps.Did.{Did}
 use Rattle.step_core.specs.declared.steps.Fault.TheVariants as fault
 use Rattle.step_core.specs.Machine.{Exists}
 use Rattle.step_core.specs.World.{WorldState, place_at}
 use Rattle.step_core.specs.Sound.{IsSound, Fitting, FittingStage}
-use Rattle.step_core.specs.Did.{one_move, return_alone}
+use Rattle.step_core.specs.Did.{return_alone}
 use Rattle.step_core.specs.Go.{fats_changed, after_stage, with_go}
-use Rattle.step_core.specs.Step.{AfterStep, refuse, accept, after_begin, after_begin_at, after_begin_on, first_place, after_go, after_go_at, after_collect, after_end, after_look}
+use Rattle.step_core.specs.Step.{AfterStep, refuse, accept, after_begin, after_begin_at, after_begin_on, after_go, after_go_at, after_collect, after_end, after_look}
 use Rattle.step_core.proofs.Facts.OneThread.{within}
 use Rattle.step_core.proofs.Facts.PlaceFacts.{agrees_out}
 

@@ -18,7 +18,7 @@ use Rattle.step_core.specs.declared.machine.Doing.{Doing}
 use Rattle.fat_monitor.specs.declared.actions.Post.TheVariants.{Out}
 use Rattle.fat_monitor.specs.FatState.{FatState, post_of, post_at, flag_at}
 use Rattle.step_core.specs.declared.places.Place.{Place}
-use Rattle.step_core.specs.declared.places.Place.TheVariants.{Idle, AtPost}
+use Rattle.step_core.specs.declared.places.Place.TheVariants.{AtPost}
 use Rattle.step_core.specs.declared.steps.Did.{Did}
 use Rattle.step_core.specs.Machine.{State, Thread, Monitor, held, with_monitor, Is, now_is, OwnedBy}
 use Rattle.step_core.specs.World.{WorldState, place_at, word_at, lock_at, low_word}

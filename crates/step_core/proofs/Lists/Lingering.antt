@@ -34,7 +34,7 @@ use Rattle.step_core.specs.Shown.{shown, doing_of, doing_in}
 use Rattle.step_core.specs.Sound.{IsSound, Fitting}
 use Rattle.step_core.specs.Step.{step_of}
 use Rattle.step_core.specs.Relayout.{after_relayout}
-use Rattle.step_core.specs.Refused.{IsLive, IsBusy, IsRefused, IsAcceptable}
+use Rattle.step_core.specs.Refused.{IsLive, IsBusy, IsAcceptable}
 use Rattle.step_core.specs.Patient.{left_in, left_at, left_of_seat, left_of, HasMet, HasParked, goes_of, Lingers, AllLinger}
 use Rattle.step_core.proofs.Facts.OneThread.{within}
 use Rattle.step_core.proofs.Sound.AllSteps.{step_right}

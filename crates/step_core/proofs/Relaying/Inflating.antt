@@ -1,5 +1,5 @@
 -- An object of a world at rest is inflated: the world stays sound, and shows what it showed.
-use Rattle.std.specs.Prelude.{◌≡◌, ◌⊎◌, ℕ, zero, suc, ◌+◌, ◌-◌, ◌<◌, ◌≤◌, Bool, true, false, if◌then◌else◌, nat_lt, List, [], ◌∷◌, ◌++◌, length, get_or, slice_index_or, slice_set, Option, Some, None, IsSome}
+use Rattle.std.specs.Prelude.{◌≡◌, ◌⊎◌, ℕ, zero, suc, ◌+◌, ◌-◌, ◌<◌, ◌≤◌, Bool, true, false, nat_lt, List, [], ◌∷◌, length, get_or, slice_index_or, slice_set, Option, Some, None, IsSome}
 use Rattle.std.proofs.Common.{arith, refl, ap, sym, ◌∙◌, subst, inl, inr, get_or-set_same, get_or-set_other, length-set, length-append}
 use Rattle.std.proofs.Math.Path.{fun_ext}
 use Rattle.std.proofs.lemmas.Bool.{cases_eq}
@@ -14,9 +14,9 @@ use Rattle.lock_word.specs.Layout.{Fits, IsMalformed, greatest_count, low_of}
 use Rattle.lock_word.proofs.Words.{formed-word_of, greatest_count-bound}
 use Rattle.thread_index.specs.Indices.{seat_of, holder_at, holder_of}
 use Rattle.fat_monitor.specs.declared.monitors.Monitor as fat
-use Rattle.fat_monitor.specs.FatState.{FatState, monitor_at, bound_with, unbound, flag_at, post_at}
+use Rattle.fat_monitor.specs.FatState.{FatState, monitor_at, bound_with, unbound}
 use Rattle.fat_monitor.proofs.Soundness.{IsSound-bound_with}
-use Rattle.step_core.specs.Machine.{State, Thread, Monitor}
+use Rattle.step_core.specs.Machine.{Thread}
 use Rattle.step_core.specs.World.{WorldState, place_at, word_at, lock_at, low_word, is_own}
 use Rattle.step_core.specs.Shown.{shown, monitor_of, thread_of}
 use Rattle.step_core.specs.Sound.{IsSound, MayShow}

@@ -1,29 +1,26 @@
 -- What a relayout leaves, made or refused; and what a step or a relayout leaves.
-use Rattle.std.specs.Prelude.{◌≡◌, ℕ, zero, suc, ◌+◌, ◌<◌, ◌≤◌, Bool, true, false, if◌then◌else◌, not, nat_lt, ◌||◌, max, List, length, Ok}
-use Rattle.std.proofs.Common.{arith, refl, ap, sym, ◌∙◌, subst}
+use Rattle.std.specs.Prelude.{◌≡◌, ℕ, zero, suc, ◌+◌, ◌<◌, ◌≤◌, Bool, true, false, if◌then◌else◌, not, nat_lt, ◌||◌, max, length, Ok}
+use Rattle.std.proofs.Common.{arith, refl, sym, ◌∙◌, subst}
 use Rattle.std.proofs.lemmas.Bool.{ltb-false}
 use Rattle.lock_word.specs.declared.ThreadId.{ThreadId}
 use Rattle.lock_word.specs.declared.Split.{Split}
 use Rattle.lock_word.specs.Layout.{greatest_index}
-use Rattle.thread_index.specs.Indices.{seat_of}
-use Rattle.fat_monitor.specs.FatState.{with_spare}
 use Rattle.fat_monitor.proofs.SoundSteps.{IsSound-spare}
-use Rattle.step_core.specs.declared.places.Place.{Place}
 use Rattle.step_core.specs.declared.worlds.relayout.RelayoutFault.TheVariants as fault
 use Rattle.step_core.specs.declared.steps.Request.{Request}
 use Rattle.step_core.specs.declared.steps.Request.TheVariants as request
-use Rattle.step_core.specs.Machine.{State, Run}
+use Rattle.step_core.specs.Machine.{Run}
 use Rattle.step_core.specs.World.{WorldState, lock_at}
 use Rattle.step_core.specs.Shown.{shown}
 use Rattle.step_core.specs.Sound.{IsSound}
 use Rattle.step_core.specs.Kept.{Keeps}
 use Rattle.step_core.specs.Patient.{left_of}
 use Rattle.step_core.specs.Requests.{world_then, moves_then}
-use Rattle.step_core.specs.Relayout.{IsAtRest, is_at_rest, is_too_deep, deep_in, inflated_for, inflated_at, inflated_below, is_same_split, respelled, roomy, relaid, AfterRelayout, relayout_refused, after_relayout}
+use Rattle.step_core.specs.Relayout.{IsAtRest, is_at_rest, is_too_deep, deep_in, inflated_at, inflated_below, is_same_split, respelled, roomy, relaid, relayout_refused, after_relayout}
 use Rattle.step_core.proofs.Sound.AllSteps.{step_right}
 use Rattle.step_core.proofs.Relaying.Inflating.{at_sound, at_fits, at_shows}
 use Rattle.step_core.proofs.Relaying.Respelling.{respelled_sound, respelled_shows}
-use Rattle.step_core.proofs.Relaying.Whole.{spare_sound, spare_shows, Follows, follows, room_now, fit_more, at_rest, relaid_keeps, relaid_left}
+use Rattle.step_core.proofs.Relaying.Whole.{spare_sound, spare_shows, follows, room_now, fit_more, at_rest, relaid_keeps, relaid_left}
 
 module _ (s : Split) (w : WorldState) (sound : IsSound w) (rest : IsAtRest (shown w))
     (room : length w.fats.monitors + deep_in s w ≤ w.fats.limit) (spare : deep_in s w ≤ w.fats.spare) where
@@ -41,7 +38,7 @@ module _ (s : Split) (w : WorldState) (sound : IsSound w) (rest : IsAtRest (show
       let size : length (inflated_below s w p).words ≡ length w.words = (follows s w p (omega arith)).size in
       let inside : p < length (inflated_below s w p).words = omega arith in
       let free : is_too_deep s (lock_at (inflated_below s w p) p) ≡ true → length (inflated_below s w p).fats.monitors < (inflated_below s w p).fats.limit =
-          λ e. (room_now s w p here (inflated_below s w p) refl room spare e).0 in
+      λ e. (room_now s w p here (inflated_below s w p) refl room spare e).0 in
       let calm : IsAtRest (shown (inflated_below s w p)) = subst IsAtRest (sym before.shows) rest in
       let more : p + 1 ≡ suc p = omega arith in
       record {
@@ -58,7 +55,7 @@ module _ (s : Split) (w : WorldState) (sound : IsSound w) (rest : IsAtRest (show
       let calm : IsAtRest (shown (inflated_below s w (length w.words))) = subst IsAtRest (sym all.shows) rest in
       let small : length (inflated_below s w (length w.words)).seats ≤ greatest_index s = rw f.seats few in
       let fit : (p : ℕ) → p < length (inflated_below s w (length w.words)).words → is_too_deep s (lock_at (inflated_below s w (length w.words)) p) ≡ false =
-          λ p h. all.fit p (rw f.size at h) in (
+      λ p h. all.fit p (rw f.size at h) in (
         respelled_sound (inflated_below s w (length w.words)) all.kept s small fit calm,
         respelled_shows (inflated_below s w (length w.words)) all.kept s small fit ∙ all.shows,
       )

@@ -1,13 +1,12 @@
 -- The words of a world at rest are written in another split, which each lock fits: the world stays sound, and shows what
 -- it showed.
-use Rattle.std.specs.Prelude.{◌≡◌, ◌⊎◌, ℕ, zero, suc, ◌+◌, ◌-◌, ◌<◌, ◌≤◌, Bool, true, false, nat_lt, List, [], ◌∷◌, ◌++◌, map, take, drop, set, length, get_or, Option, Some, None, IsSome}
-use Rattle.std.proofs.Common.{arith, refl, ap, sym, ◌∙◌, subst, inl, inr}
+use Rattle.std.specs.Prelude.{◌≡◌, ◌⊎◌, ℕ, zero, suc, ◌+◌, ◌-◌, ◌<◌, ◌≤◌, false, List, [], ◌∷◌, ◌++◌, map, take, drop, set, length, get_or, Option, Some, None, IsSome}
+use Rattle.std.proofs.Common.{arith, refl, ap, sym, ◌∙◌, inl, inr}
 use Rattle.std.proofs.Math.Path.{fun_ext}
 use Rattle.std.proofs.lemmas.Bool.{cases_lt, ltb-false}
 use Rattle.std.proofs.lemmas.List.{length-map, get_or_past}
 use lib.ListN.{get_or-map}
 use Rattle.lock_word.specs.declared.ThreadId.{ThreadId}
-use Rattle.lock_word.specs.declared.ObjectId.{ObjectId}
 use Rattle.lock_word.specs.declared.Word.{Word}
 use Rattle.lock_word.specs.declared.Lock.{Lock}
 use Rattle.lock_word.specs.declared.Lock.TheVariants.{Free, Thin, Fat}
@@ -16,8 +15,7 @@ use Rattle.lock_word.specs.Layout.{Fits, IsMalformed, greatest_count, greatest_i
 use Rattle.lock_word.proofs.Words.{formed-word_of, lock_of-word_of, free}
 use Rattle.thread_index.specs.Indices.{seat_of, holder_at}
 use Rattle.fat_monitor.specs.FatState.{monitor_at}
-use Rattle.step_core.specs.Machine.{State, Thread}
-use Rattle.step_core.specs.World.{WorldState, word_at, lock_at, low_word, is_own}
+use Rattle.step_core.specs.World.{WorldState, word_at, lock_at, low_word}
 use Rattle.step_core.specs.Shown.{shown, monitor_of, thread_of}
 use Rattle.step_core.specs.Sound.{IsSound, MayShow}
 use Rattle.step_core.specs.Relayout.{IsAtRest, is_too_deep, word_in, respelled}

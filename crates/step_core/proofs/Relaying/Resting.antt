@@ -11,8 +11,6 @@ use Rattle.thread_index.specs.Indices.{seat_of, holder_at}
 use Rattle.fat_monitor.specs.FatState.{FatState, monitor_at, post_of}
 use Rattle.fat_monitor.specs.FatState as book
 use Rattle.fast_path.specs.declared.calls.MonitorCall.{MonitorCall}
-use Rattle.step_core.specs.declared.machine.Doing.{Doing}
-use Rattle.step_core.specs.declared.machine.Doing.TheVariants as doing
 use Rattle.step_core.specs.declared.places.Place.{Place}
 use Rattle.step_core.specs.declared.places.Place.TheVariants.{Idle, InCall, Ending, AtPost}
 use Rattle.step_core.specs.declared.places.Stage.{Stage}
@@ -22,7 +20,7 @@ use Rattle.step_core.specs.Shown.{shown, doing_of, doing_in}
 use Rattle.step_core.specs.Sound.{IsSound, MayShow, Fitting, FittingStage, IsPublished, bound_by}
 use Rattle.step_core.specs.Relayout.{is_resting, IsAtRest}
 use Rattle.step_core.proofs.Facts.PlaceFacts.{stage_does, who_bound}
-use Rattle.step_core.proofs.Facts.OneThread.{within, out_at, is_at}
+use Rattle.step_core.proofs.Facts.OneThread.{out_at, is_at}
 use Rattle.step_core.proofs.Sound.Parts.{thin_owner}
 use Rattle.step_core.proofs.Sound.Posts.{KeepsPosts, posts_same}
 

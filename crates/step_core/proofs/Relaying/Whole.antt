@@ -1,16 +1,15 @@
 -- A relayout as a whole.
-use Rattle.std.specs.Prelude.{◌≡◌, ◌⊎◌, ℕ, zero, suc, ◌+◌, ◌<◌, ◌≤◌, Bool, true, false, cond, if◌then◌else◌, nat_lt, List, [], ◌∷◌, take, count_by, length, get_or, set, Option, Some, None, Result, Ok, Err, OnOk, OnErr}
+use Rattle.std.specs.Prelude.{◌≡◌, ◌⊎◌, ℕ, zero, suc, ◌+◌, ◌<◌, ◌≤◌, Bool, true, false, cond, if◌then◌else◌, List, [], ◌∷◌, take, count_by, length, get_or, set, Option, Some, None, Result, Ok, Err, OnOk, OnErr}
 use Rattle.std.proofs.Common.{arith, refl, ap, subst, sym, ◌∙◌, inl, inr, get_or-set_same, get_or-set_other, length-set, length-append}
 use Rattle.std.proofs.Math.Path.{fun_ext}
 use Rattle.std.proofs.lemmas.Bool.{cases_eq, le-ltb}
 use Rattle.std.proofs.lemmas.List.{length-map}
 use Rattle.std.proofs.lemmas.List.Sums.{sum_by_more, sum_by-take-le}
 use Rattle.lock_word.specs.declared.ThreadId.{ThreadId}
-use Rattle.lock_word.specs.declared.Word.{Word}
 use Rattle.lock_word.specs.declared.Lock.{Lock}
 use Rattle.lock_word.specs.declared.Lock.TheVariants.{Free, Thin, Fat}
 use Rattle.lock_word.specs.declared.Split.{Split}
-use Rattle.lock_word.specs.Layout.{lock_of, low_of, greatest_index}
+use Rattle.lock_word.specs.Layout.{low_of, greatest_index}
 use Rattle.lock_word.proofs.Words.{low_kept}
 use Rattle.lock_word.specs.declared.Memory.{Memory}
 use Rattle.fat_monitor.specs.declared.actions.Post.{Post}
@@ -23,7 +22,7 @@ use Rattle.step_core.specs.World.{WorldState, place_at, word_at, lock_at, low_wo
 use Rattle.step_core.specs.Shown.{shown, monitor_of, act_of, thread_of}
 use Rattle.step_core.specs.Sound.{IsSound}
 use Rattle.step_core.specs.Go.{new_word}
-use Rattle.step_core.specs.Machine.{State, Thread}
+use Rattle.step_core.specs.Machine.{Thread}
 use Rattle.step_core.specs.Kept.{Keeps}
 use Rattle.step_core.specs.Patient.{left_of, left_of_seat}
 use Rattle.step_core.specs.Relayout.{is_resting, IsAtRest, rests_as, holder_rests, rest_below, is_at_rest, is_too_deep, is_deep_word, deep_in, inflated_for, inflated_at, inflated_below, is_same_split, word_in, respelled, roomy, relaid, AfterRelayout, after_relayout}

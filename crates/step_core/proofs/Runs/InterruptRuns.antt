@@ -2,7 +2,6 @@
 use Rattle.std.specs.Prelude.{◌≡◌, ◌≢◌, ◌⊎◌, ℕ, ◌+◌, ◌-◌, ◌<◌, Bool, true, false, length, [], ◌∷◌, Option, Some, None, IsSome, is_some}
 use Rattle.std.proofs.Common.{arith, refl, ap, sym, ◌∙◌, subst, inl, inr}
 use Rattle.std.proofs.lemmas.Bool.{cases_eq, eq-eqb, ne_eqb}
-use Rattle.std.proofs.lemmas.Option.{same_Some}
 use Rattle.lock_word.specs.declared.ThreadId.{ThreadId}
 use Rattle.lock_word.specs.declared.ObjectId.{ObjectId}
 use Rattle.lock_word.specs.declared.Lock.TheVariants.{Thin, Fat}
@@ -33,8 +32,8 @@ use Rattle.step_core.specs.declared.steps.Atomic.TheVariants as atomic
 use Rattle.step_core.specs.declared.steps.Did.{Did}
 use Rattle.step_core.specs.Machine.{State, Thread, Run, held, with_thread, with_monitor, Is, now_is, Unowned, after_interrupt, with_interrupt}
 use Rattle.step_core.specs.World.{WorldState, place_at, lock_at}
-use Rattle.step_core.specs.Shown.{shown, doing_of, act_of, thread_of}
-use Rattle.step_core.specs.Sound.{IsSound, MayShow, Fitting, bound_by, IsPublished}
+use Rattle.step_core.specs.Shown.{shown, act_of, thread_of}
+use Rattle.step_core.specs.Sound.{IsSound, MayShow, Fitting, IsPublished}
 use Rattle.step_core.specs.Did.{move_and_return, move_grant_and_return}
 use Rattle.step_core.specs.Go.{with_go, fats_changed, action_about}
 use Rattle.step_core.proofs.Facts.Moves.{with_thread-with_thread, run_refused, run_interrupted, run_tested, run_asked}

@@ -32,7 +32,7 @@ use Rattle.fast_path.specs.Calls.{call_on, call_of}
 use Rattle.step_core.specs.declared.machine.Doing.{Doing}
 use Rattle.step_core.specs.declared.machine.Doing.TheVariants as doing
 use Rattle.step_core.specs.declared.places.Place.{Place}
-use Rattle.step_core.specs.declared.places.Place.TheVariants.{Idle, InCall, Ending, AtPost}
+use Rattle.step_core.specs.declared.places.Place.TheVariants.{Idle, InCall, AtPost}
 use Rattle.step_core.specs.declared.places.Stage.TheVariants.{Bound}
 use Rattle.step_core.specs.declared.machine.Move.TheVariants as move
 use Rattle.step_core.specs.declared.steps.Atomic.TheVariants as atomic
@@ -40,7 +40,7 @@ use Rattle.step_core.specs.declared.steps.Did.{Did}
 use Rattle.step_core.specs.Machine.{State, Thread, Run, Is, now_is, NobodyWaits, after_notify_all, all_notified}
 use Rattle.step_core.specs.World.{WorldState, place_at, lock_at}
 use Rattle.step_core.specs.Shown.{shown, monitor_of, doing_of, act_of, thread_of}
-use Rattle.step_core.specs.Sound.{IsSound, MayShow, Fitting, bound_by, IsPublished}
+use Rattle.step_core.specs.Sound.{IsSound, MayShow, Fitting, IsPublished}
 use Rattle.step_core.specs.Did.{move_and_return, return_alone}
 use Rattle.step_core.specs.Go.{with_go, fats_changed, action_on}
 use Rattle.step_core.specs.Step.{moves_made}

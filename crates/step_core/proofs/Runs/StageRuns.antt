@@ -13,7 +13,6 @@ use Rattle.fast_path.specs.Calls.{call_on, call_of}
 use Rattle.fast_path.specs.declared.calls.Call.TheVariants as call
 use Rattle.fast_path.specs.Table.{next_of}
 use Rattle.fast_path.proofs.Tables.{StoresOwn, store_own, BindsOwn, bind_own}
-use Rattle.step_core.specs.declared.places.Place.{Place}
 use Rattle.step_core.specs.declared.places.Place.TheVariants.{InCall}
 use Rattle.step_core.specs.declared.places.Stage.{Stage}
 use Rattle.step_core.specs.declared.places.Stage.TheVariants.{Begun, Taking, Storing, Binding, Acting, Won, Bound, Inflated, Direct}

@@ -11,7 +11,6 @@ use Rattle.lock_word.specs.declared.Lock.TheVariants.{Free, Thin, Fat}
 use Rattle.thread_index.specs.Indices.{seat_of}
 use Rattle.wait_lines.specs.declared.Role.TheVariants.{Waiting as WaitSet}
 use Rattle.fat_monitor.specs.declared.monitors.Monitor as fat
-use Rattle.fat_monitor.specs.declared.actions.Reply.TheVariants as reply
 use Rattle.fat_monitor.specs.declared.actions.Answer.TheVariants as answer
 use Rattle.fat_monitor.specs.declared.actions.Why.{Why}
 use Rattle.fat_monitor.specs.declared.actions.Why.TheVariants as why
@@ -22,7 +21,6 @@ use Rattle.fat_monitor.specs.FatState.{FatState, monitor_at, unbound, post_of, p
 use Rattle.fat_monitor.specs.Acting.{Outcome, acted, told, granted, sent_back, removed, served, reply_back}
 use Rattle.fat_monitor.proofs.Effects.{post-with_post_same, post-with_post_other}
 use Rattle.fat_monitor.proofs.Flags.{settled_flag}
-use Rattle.wait_lines.proofs.ThreadLemmas.{same_thread}
 use Rattle.step_core.specs.declared.machine.Doing.{Doing}
 use Rattle.step_core.specs.declared.machine.Doing.TheVariants as doing
 use Rattle.step_core.specs.declared.places.Place.{Place}

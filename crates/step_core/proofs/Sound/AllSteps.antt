@@ -2,18 +2,13 @@
 use Rattle.step_core.proofs.Sound.End.{Right, ended_right}
 use Rattle.step_core.proofs.Sound.Attach.{attached_right}
 use Rattle.step_core.proofs.Sound.WaitEnds.{expired_right, woken_right, ticked_right}
-use Rattle.std.specs.Prelude.{◌≡◌, ℕ, ◌+◌, ◌<◌, Bool, true, if◌then◌else◌, nat_lt, List, [], ◌∷◌, ◌++◌, length, Option, Some, None, Result, ◌≤◌}
-use Rattle.std.specs.Option.{unwrap_or}
+use Rattle.std.specs.Prelude.{◌≡◌, ℕ, ◌+◌, Bool, true, List, [], ◌∷◌, ◌++◌, length, Option, Some, Result}
 use Rattle.std.proofs.Common.{arith, refl, sym, ◌∙◌, subst, ap}
-use Rattle.std.proofs.lemmas.Bool.{cond_both, ltb-true, ltb-false}
 use Rattle.lock_word.specs.declared.ThreadId.{ThreadId}
 use Rattle.thread_index.specs.Indices.{seat_of, free_seat}
 use Rattle.fat_monitor.specs.declared.actions.Post.{Post}
-use Rattle.fat_monitor.specs.declared.actions.Post.TheVariants.{Out, Entering, Waiting, Back, Granted}
-use Rattle.fat_monitor.specs.declared.actions.Reply.{Reply}
-use Rattle.fat_monitor.specs.declared.actions.Action.TheVariants as action
-use Rattle.fat_monitor.specs.declared.actions.Answer.TheVariants as answer
-use Rattle.fat_monitor.specs.FatState.{owns_one, post_of, flag_at}
+use Rattle.fat_monitor.specs.declared.actions.Post.TheVariants.{Out}
+use Rattle.fat_monitor.specs.FatState.{post_of, flag_at}
 use Rattle.fast_path.specs.declared.calls.Call.{Call}
 use Rattle.fast_path.specs.declared.calls.Call.TheVariants as call
 use Rattle.fast_path.specs.declared.calls.Subject.{Subject}
@@ -25,12 +20,11 @@ use Rattle.step_core.specs.declared.places.Place.{Place}
 use Rattle.step_core.specs.declared.places.Place.TheVariants.{Idle, Ending}
 use Rattle.step_core.specs.declared.machine.Move.{Move}
 use Rattle.step_core.specs.declared.machine.Move.TheVariants as move
-use Rattle.step_core.specs.declared.steps.Atomic.TheVariants.{Label, Acted}
+use Rattle.step_core.specs.declared.steps.Atomic.TheVariants.{Label}
 use Rattle.step_core.specs.declared.steps.Step.{Step}
 use Rattle.step_core.specs.declared.steps.Step.TheVariants as step
 use Rattle.step_core.specs.declared.steps.Did.{Did}
 use Rattle.step_core.specs.declared.steps.Fault.{Fault}
-use Rattle.step_core.specs.declared.steps.Fault.TheVariants as fault
 use Rattle.step_core.specs.Machine.{State, Run, now_is, Exists}
 use Rattle.step_core.specs.World.{WorldState, place_at, lock_at, is_own}
 use Rattle.step_core.specs.Shown.{shown, doing_of}

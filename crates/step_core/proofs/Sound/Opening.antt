@@ -1,6 +1,6 @@
 -- The opening world is sound, and shows the opening state.
-use Rattle.std.specs.Prelude.{◌≡◌, ℕ, ◌<◌, ◌≤◌, List, [], ◌∷◌, length, map, get_or, replicate, Option, None, IsSome, is_some, count_by, cond, true, Bool}
-use Rattle.std.proofs.Common.{arith, refl, sym, ap, ◌∙◌, zero, suc, subst}
+use Rattle.std.specs.Prelude.{◌≡◌, ℕ, ◌<◌, ◌≤◌, List, [], ◌∷◌, length, map, get_or, replicate, Option, None, IsSome, is_some, count_by, cond, true}
+use Rattle.std.proofs.Common.{arith, refl, sym, ap, ◌∙◌, zero, suc}
 use Rattle.std.proofs.Math.Path.{fun_ext}
 use Rattle.std.proofs.lemmas.Bool.{lt-ltb}
 use Rattle.std.proofs.lemmas.List.{length-map}
@@ -18,8 +18,7 @@ use Rattle.fat_monitor.specs.declared.actions.Post.{Post}
 use Rattle.fat_monitor.specs.FatState.{IsAttached}
 use Rattle.fat_monitor.proofs.Soundness.{IsSound-opened}
 use Rattle.step_core.specs.declared.places.Place.TheVariants.{Idle}
-use Rattle.step_core.specs.declared.steps.Step.{Step}
-use Rattle.step_core.specs.Machine.{State, Run, opening}
+use Rattle.step_core.specs.Machine.{opening}
 use Rattle.step_core.specs.World.{WorldState, opening_world, low_word, lock_at}
 use Rattle.step_core.specs.Shown.{shown}
 use Rattle.step_core.specs.Sound.{IsSound}

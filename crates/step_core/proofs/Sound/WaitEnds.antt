@@ -7,17 +7,15 @@ use Rattle.lock_word.specs.declared.ThreadId.{ThreadId}
 use Rattle.wait_lines.specs.declared.Role.TheVariants.{Waiting as WaitSet}
 use Rattle.thread_index.specs.Indices.{seat_of}
 use Rattle.wait_lines.proofs.ThreadLemmas.{same_thread}
-use Rattle.fat_monitor.specs.declared.actions.Action.{Action}
 use Rattle.fat_monitor.specs.declared.actions.Action.TheVariants as action
 use Rattle.fat_monitor.specs.declared.actions.ActFault.{ActFault}
 use Rattle.fat_monitor.specs.declared.actions.Done.{Done}
-use Rattle.fat_monitor.specs.declared.actions.Reply.TheVariants as reply
 use Rattle.fat_monitor.specs.declared.actions.Why.{Why}
 use Rattle.fat_monitor.specs.declared.actions.Why.TheVariants.{Elapsed, Spurious}
 use Rattle.fat_monitor.specs.declared.actions.Post.{Post}
 use Rattle.fat_monitor.specs.declared.actions.Post.TheVariants.{Out, Entering, Waiting, Back, Granted}
 use Rattle.fat_monitor.specs.FatState.{FatState, IsAttached, monitor_at, post_of, with_moment}
-use Rattle.fat_monitor.specs.Acting.{acted, Outcome as Told, expired, woken, removed, sent_back, reply_back, MayAct, NamesBound}
+use Rattle.fat_monitor.specs.Acting.{acted, Outcome as Told, expired, woken, sent_back, reply_back, MayAct, NamesBound}
 use Rattle.fat_monitor.proofs.Soundness.{IsSound-acted}
 use Rattle.fat_monitor.proofs.SoundSteps.{IsSound-moment}
 use Rattle.fat_monitor.proofs.Effects.{named, post-with_post_same, length-acted, object-acted, other-acted, count-acted, attached-acted, out-acted}

@@ -51,7 +51,10 @@ fn a_count_that_fits_is_written_anew(rt: HostRuntime) -> Result<(), Fail> {
 #[test]
 fn a_deep_word_has_2047_indices(rt: HostRuntime) -> Result<(), Fail> {
     let mut world = World::new(rt.alloc(), &[0xA5], 4, 2_048, Split::Wide)?;
-    assert_eq!(rt; world.relayout(Split::Deep), Err(RelayoutFault::IndexTooWide));
+    assert_eq!(rt;
+        world.relayout(Split::Deep),
+        Err(RelayoutFault::IndexTooWide)
+    );
     shows(&rt, &world, A, 0xA5, None, 0);
     Ok(())
 }

@@ -1,4 +1,4 @@
-use Rattle.std.proofs.Common.{arith, ◌≡◌, ◌-◌, ◌<◌, ◌≤◌, ◌∙◌, refl, sym, true, Some, Ok, length}
+use Rattle.std.proofs.Common.{◌≡◌, ◌-◌, ◌∙◌, true, Some}
 use Rattle.thread_index.specs.Indices.{seat_of}
 use Rattle.step_core.specs.declared.places.Place.TheVariants.{InCall, Ending, AtPost}
 use Rattle.step_core.specs.World.{WorldState}

@@ -1,5 +1,4 @@
-use Rattle.std.proofs.Common.{arith, ℕ, ◌≡◌, ◌+◌, ◌≤◌, true, sym, ap, subst, ◌∙◌}
-use Rattle.std.proofs.lemmas.Bool.{le-ltb}
+use Rattle.std.proofs.Common.{arith, true, sym, ap, subst, ◌∙◌}
 use Rattle.step_core.specs.World.{WorldState}
 use Rattle.step_core.specs.Shown.{shown}
 use Rattle.step_core.specs.Kept.{Keeps}
@@ -30,12 +29,14 @@ respell-requires-clause-few c =
     rw (c.inflate_deep.ensures.exact, inflated_seats c.args.split c.reserve.new.self, c.in-Ok.ensures.ok, ← c.indices.ensures, ← c.greatest_index.ensures) c.if-indices-greatest_index.false
 
 pub returns-clause-exact : goal.returns-clause-exact
-returns-clause-exact c =
-    (true, done_exact c.args.split c.args.self.now c.respell.new.self c.count_deep-deep.result (sym c.is_at_rest.ensures ∙ c.if-not-is_at_rest.false) (sym c.has_split.ensures ∙ c.if-has_split.false)
-    (rw (← c.indices.ensures, ← c.greatest_index.ensures) c.if-indices-greatest_index.false) (rw (← c.count_deep-deep.ensures) (omega (arith, c.unbound.ensures, c.if-unbound-deep.false)))
-    c.count_deep-deep.ensures
-    (relaid_exact c.args.split c.args.self.now c.respell.new.self c.reserve.new.self c.count_deep-deep.result c.count_deep-deep.ensures c.in-Ok.ensures.ok
-    (c.respell.ensures.exact ∙ ap (respelled c.args.split) c.inflate_deep.ensures.exact)))
+returns-clause-exact c = (
+  true,
+  done_exact c.args.split c.args.self.now c.respell.new.self c.count_deep-deep.result (sym c.is_at_rest.ensures ∙ c.if-not-is_at_rest.false) (sym c.has_split.ensures ∙ c.if-has_split.false)
+      (rw (← c.indices.ensures, ← c.greatest_index.ensures) c.if-indices-greatest_index.false) (rw (← c.count_deep-deep.ensures) (omega (arith, c.unbound.ensures, c.if-unbound-deep.false)))
+      c.count_deep-deep.ensures
+      (relaid_exact c.args.split c.args.self.now c.respell.new.self c.reserve.new.self c.count_deep-deep.result c.count_deep-deep.ensures c.in-Ok.ensures.ok
+      (c.respell.ensures.exact ∙ ap (respelled c.args.split) c.inflate_deep.ensures.exact)),
+)
 
 pub returns-clause-rest : goal.returns-clause-rest
 returns-clause-rest c = at_rest c.args.self.now (sym c.is_at_rest.ensures ∙ c.if-not-is_at_rest.false)

@@ -1,8 +1,6 @@
-use Rattle.std.proofs.Common.{◌≡◌, sym, ap, ◌∙◌, subst}
-use Rattle.step_core.specs.World.{WorldState}
+use Rattle.std.proofs.Common.{ap, ◌∙◌}
 use Rattle.step_core.specs.View.{world_in}
 use Rattle.step_core.specs.Shown.{shown}
-use Rattle.step_core.specs.Sound.{IsSound}
 use Rattle.step_core.proofs.Relaying.Respelling.{all_fit, respelled_sound, respelled_shows}
 use Rattle.step_core.proofs.worlds.World.respell.Goals as goal
 

@@ -1,4 +1,4 @@
-use Rattle.std.proofs.Common.{◌≡◌, ◌≤◌, ℕ, take, count_by}
+use Rattle.std.proofs.Common.{◌≡◌, ◌≤◌, take, count_by}
 use Rattle.step_core.specs.Relayout.{is_deep_word}
 use Rattle.step_core.proofs.worlds.relayout.count_deep.Given as goal
 

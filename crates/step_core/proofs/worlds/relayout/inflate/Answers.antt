@@ -1,6 +1,5 @@
-use Rattle.std.proofs.Common.{ℕ, ◌≡◌, refl, ap, sym, ◌∙◌, length, slice_index_or, slice_set}
+use Rattle.std.proofs.Common.{ℕ, ◌≡◌, ap, sym, ◌∙◌, length, slice_index_or, slice_set}
 use Rattle.std.proofs.lemmas.Bool.{lt-ltb}
-use Rattle.lock_word.specs.declared.Word.{Word}
 use Rattle.lock_word.specs.declared.Lock.TheVariants.{Thin, Fat}
 use Rattle.lock_word.specs.Layout.{lock_of, with_lock}
 use Rattle.fat_monitor.specs.Binding.{Binding}

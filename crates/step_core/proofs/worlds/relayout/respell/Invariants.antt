@@ -1,4 +1,4 @@
-use Rattle.std.proofs.Common.{◌≡◌, ◌≤◌, ℕ, take, drop, ◌++◌, map}
+use Rattle.std.proofs.Common.{◌≡◌, take, drop, ◌++◌, map}
 use Rattle.step_core.specs.Relayout.{word_in}
 use Rattle.step_core.proofs.worlds.relayout.respell.Given as goal
 
