@@ -1,6 +1,7 @@
-//! `thinmon run [FILE]`: plays a script of monitor steps and prints its report.
+//! `thinmon run [--moves] [FILE]` plays a script of monitor steps and prints its report or its history,
+//! `thinmon dump [FILE]` a dump of its last world; `thinmon check [FILE]` judges a history.
 //!
-//! `docs/FORMATS.md` has the forms of scripts and reports.
+//! `docs/FORMATS.md` has the forms of scripts, reports, dumps and histories.
 #![tactic(auto)]
 
 #[cfg(test)]
