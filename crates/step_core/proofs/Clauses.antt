@@ -1,6 +1,7 @@
 -- The other clauses of a step, a file each.
 pub mod Labels
 pub mod Refused
+pub mod Path
 pub mod Patient
 pub mod Kept
 pub mod Changes

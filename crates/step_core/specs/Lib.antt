@@ -7,6 +7,7 @@ pub mod Ready
 pub mod Did
 pub mod Go
 pub mod Step
+pub mod Path
 pub mod Relayout
 pub mod Requests
 pub mod Changes

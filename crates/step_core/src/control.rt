@@ -22,6 +22,7 @@ use lock_word::{ThreadId, Word};
 use thread_index::{Indices, TakeFault};
 
 /// Attaches a thread, which takes the lowest free index.
+#[inline(always)]
 pub(crate) fn attach(
     indices: &mut Indices,
     places: &mut Vec<Place>,
@@ -56,6 +57,7 @@ pub(crate) fn attach(
 }
 
 /// Begins a call of a thread that is in none.
+#[inline(always)]
 pub(crate) fn begin(
     words: &[Word],
     indices: &Indices,
@@ -99,6 +101,7 @@ fn first_place(subject: Subject) -> Place
 }
 
 /// Ends the wait of a thread whose deadline has come.
+#[inline(always)]
 pub(crate) fn expire(indices: &Indices, fats: &mut Fats, thread: ThreadId) -> Result<Did, Fault>
     requires { IsSome (seat_of indices.now thread) → IsAttached fats.old thread }
     ensures { (split : Split) → (words : List Word) → (places : List Place)
@@ -116,6 +119,7 @@ pub(crate) fn expire(indices: &Indices, fats: &mut Fats, thread: ThreadId) -> Re
 }
 
 /// Ends the wait of a thread for no reason that a program can see.
+#[inline(always)]
 pub(crate) fn wake(indices: &Indices, fats: &mut Fats, thread: ThreadId) -> Result<Did, Fault>
     requires { IsSome (seat_of indices.now thread) → IsAttached fats.old thread }
     ensures { (split : Split) → (words : List Word) → (places : List Place)
@@ -133,6 +137,7 @@ pub(crate) fn wake(indices: &Indices, fats: &mut Fats, thread: ThreadId) -> Resu
 }
 
 /// What a step did by which a wait ended by itself.
+#[inline(always)]
 fn end_of_wait(fats: &Fats, action: Action, made: Move, done: Done) -> Did
     ensures { result ≡ record {
       atomic = Acted action done.answer;
@@ -150,6 +155,7 @@ fn end_of_wait(fats: &Fats, action: Action, made: Move, done: Done) -> Did
 }
 
 /// Tells the moment.
+#[inline(always)]
 pub(crate) fn tick(fats: &mut Fats, now: u64) -> Result<Did, Fault>
     ensures { (split : Split) → (words : List Word) → (seats : List (Option ThreadId)) → (places : List Place)
         → record { answer = result; after = world_of split words seats places fats.new }

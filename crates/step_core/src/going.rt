@@ -23,6 +23,7 @@ use lock_word::{Split, ThreadId, Word};
 use thread_index::Indices;
 
 /// Does the next atomic step of a thread's call.
+#[inline(always)]
 pub(crate) fn go(
     split: Split,
     words: &mut [Word],
@@ -59,6 +60,7 @@ pub(crate) fn go(
 }
 
 /// Takes the reply that a thread at its post was granted, if it was granted one.
+#[inline(always)]
 fn collect(
     places: &mut [Place],
     fats: &mut Fats,

@@ -38,6 +38,7 @@ mod cycles;
 mod going;
 mod laws;
 mod machine;
+mod paths;
 mod places;
 mod stages;
 mod steps;
@@ -55,6 +56,8 @@ pub use laws::{
 };
 pub use lock_word::{Lock, Memory, ObjectId, Split, ThreadId, Word, decode};
 pub use machine::{Doing, Move};
+pub use paths::Point;
 pub use places::{Place, Stage};
+pub use stages::{action_about, action_on};
 pub use steps::{Atomic, Did, Fault, Request, Step};
 pub use worlds::{RelayoutFault, World};

@@ -21,6 +21,7 @@ use fat_monitor::{Action, Answer, Cause, Fats, Reply};
 use lock_word::{Lock, ObjectId, Split, ThreadId, Word, lock_of, with_lock};
 
 /// One Go of the thread with index `me` from a stage of its call: where it stands then, and what it did.
+#[inline(always)]
 pub(crate) fn go_from(
     split: Split,
     words: &mut [Word],
@@ -73,6 +74,7 @@ fn entering(object: ObjectId) -> MonitorCall
 }
 
 /// Loads the word of the call's object, and answers where the word says enough.
+#[inline(always)]
 fn load(
     split: Split,
     words: &[Word],
@@ -116,6 +118,7 @@ fn load(
 }
 
 /// Exchanges the free word for the thread's own, if it is still free.
+#[inline(always)]
 fn take(
     split: Split,
     words: &mut [Word],
@@ -165,6 +168,7 @@ fn take(
 }
 
 /// Stores a free or thin word over the thread's own thin one.
+#[inline(always)]
 fn store(
     split: Split,
     words: &mut [Word],
@@ -299,7 +303,7 @@ fn act(fats: &mut Fats, thread: ThreadId, call: Call, action: Action) -> (Place,
 }
 
 /// The fat action of an operation's own name.
-fn action_on(operation: Operation, monitor: u32) -> Action
+pub fn action_on(operation: Operation, monitor: u32) -> Action
     ensures { result ≡ action_on operation monitor }
 {
     match operation {
@@ -317,7 +321,7 @@ fn action_on(operation: Operation, monitor: u32) -> Action
 }
 
 /// The fat action of the own name of a call about interrupts.
-fn action_about(call: InterruptCall) -> Action
+pub fn action_about(call: InterruptCall) -> Action
     ensures { result ≡ action_about call }
 {
     match call {

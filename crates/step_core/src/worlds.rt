@@ -14,6 +14,7 @@ ghost use Rattle.step_core.specs.Step.{step_of, moves_of};
 ghost use Rattle.step_core.specs.Changes.{Changes};
 ghost use Rattle.step_core.specs.Labels.{HasLabels};
 ghost use Rattle.step_core.specs.Refused.{IsRefused, IsAcceptable};
+ghost use Rattle.step_core.specs.Path.{StepsOnPath};
 ghost use Rattle.step_core.specs.Spared.{Spares};
 ghost use Rattle.step_core.specs.Patient.{IsPatient};
 ghost use Rattle.step_core.specs.Lasting.{Lasts};
@@ -96,6 +97,7 @@ impl World {
     /// The moves that it hands out lead the abstract machine from the state that the world showed to the
     /// one that it shows then. Only an Attach may be refused for want of memory; a Go that finds no
     /// memory for a fat monitor is accepted, and says so in its atomic step.
+    #[inline(always)]
     pub fn step(&mut self, step: Step) -> Result<Did, Fault>
         // The answer and the new world are those of the step relation; room is whether memory is granted.
         ensures exact { (room : Bool) × (record { answer = result; after = self.new }
@@ -116,6 +118,9 @@ impl World {
         // A call that is refused leaves every owner, count, wait set and flag.
         ensures spared { IfOk result (λ d. Spares self.old d.reply self.new) }
 
+        // A Go is one step on the path of its call, from its beginning to its reply.
+        ensures path { IfOk result (λ d. StepsOnPath self.old step d self.new) }
+
         // A thread that is back from a wait set stays so until it has its reply, and a reply stays until it is
         // returned.
         ensures lasting { IfOk result (λ d. Lasts (shown self.old) step d.reply (shown self.new)) }
@@ -131,6 +136,7 @@ impl World {
         self.advance(step)
     }
 
+    #[inline(always)]
     fn advance(&mut self, step: Step) -> Result<Did, Fault>
         ensures was { IsSound self.old }
         ensures exact { (room : Bool) × (record { answer = result; after = self.new }
@@ -147,6 +153,7 @@ impl World {
     }
 
     #[tactic(auto, using(crate::proofs::Sound::AllSteps::attach_kept))]
+    #[inline(always)]
     fn attach(&mut self, thread: ThreadId) -> Result<Did, Fault>
         ensures was { IsSound self.old }
         ensures exact { (room : Bool) × (record { answer = result; after = self.new }
@@ -156,6 +163,7 @@ impl World {
     }
 
     #[tactic(auto, using(crate::proofs::Sound::AllSteps::begin_kept))]
+    #[inline(always)]
     fn begin(&mut self, thread: ThreadId, call: Call) -> Result<Did, Fault>
         ensures was { IsSound self.old }
         ensures exact { record { answer = result; after = self.new }
@@ -164,6 +172,7 @@ impl World {
         control::begin(&self.words, &self.indices, &mut self.places, thread, call)
     }
 
+    #[inline(always)]
     fn go(&mut self, thread: ThreadId) -> Result<Did, Fault>
         ensures was { IsSound self.old }
         ensures exact { (room : Bool) × (record { answer = result; after = self.new }
@@ -179,6 +188,7 @@ impl World {
         )
     }
 
+    #[inline(always)]
     fn expire(&mut self, thread: ThreadId) -> Result<Did, Fault>
         ensures was { IsSound self.old }
         ensures exact { record { answer = result; after = self.new }
@@ -187,6 +197,7 @@ impl World {
         control::expire(&self.indices, &mut self.fats, thread)
     }
 
+    #[inline(always)]
     fn wake(&mut self, thread: ThreadId) -> Result<Did, Fault>
         ensures was { IsSound self.old }
         ensures exact { record { answer = result; after = self.new }
@@ -195,6 +206,7 @@ impl World {
         control::wake(&self.indices, &mut self.fats, thread)
     }
 
+    #[inline(always)]
     fn tick(&mut self, now: u64) -> Result<Did, Fault>
         ensures was { IsSound self.old }
         ensures exact { record { answer = result; after = self.new } ≡ step_of true self.old (step.Tick now) }

@@ -12,9 +12,11 @@ use Rattle.step_core.specs.Labels.{HasLabels}
 use Rattle.step_core.specs.Refused.{IsRefused, IsAcceptable}
 use Rattle.step_core.specs.Spared.{Spares}
 use Rattle.step_core.specs.Patient.{IsPatient}
+use Rattle.step_core.specs.Path.{StepsOnPath}
 use Rattle.step_core.specs.Lasting.{Lasts}
 use Rattle.step_core.specs.Kept.{Keeps}
 use Rattle.step_core.proofs.Clauses.Patient.{step_patient}
+use Rattle.step_core.proofs.Clauses.Path.{step_on_path}
 use Rattle.step_core.proofs.Clauses.Lasting.{step_lasts}
 use Rattle.std.specs.Prelude.{◌≡◌, Bool, IfOk, IfErr, OnOk, OnErr, MatchResult, Result, Ok, Err}
 use Rattle.std.proofs.Common.{sym, subst}
@@ -38,13 +40,14 @@ pub record Tells (w : WorldState) (s : Step) (o : AfterStep) : Type 0 where
   pub kept : Keeps w o.after
   pub behind : StandBehindOwners o.after.fats
   pub lasting : IfOk o.answer (λ d. Lasts (shown w) s d.reply (shown o.after))
+  pub path : IfOk o.answer (λ d. StepsOnPath w s d o.after)
   pub spared : IfOk o.answer (λ d. Spares w d.reply o.after)
 
 step_tells : (w : WorldState) → IsSound w → (room : Bool) (s : Step) → Tells w s (step_of room w s)
 step_tells w sound room s =
     let right = step_right w sound room s in
     let judged = step_judged w sound room s in
-    record { sound = right.0; run = right.1; changes = step_changes w sound room s; labels = step_labels w sound room s; judged = judged.0; unchanged = judged.1; patient = step_patient w sound room s; kept = step_keeps w sound room s; behind = stand_behind (step_of room w s).after.fats right.0.fats; lasting = step_lasts w sound room s; spared = step_spares w sound room s }
+    record { sound = right.0; run = right.1; changes = step_changes w sound room s; labels = step_labels w sound room s; judged = judged.0; unchanged = judged.1; patient = step_patient w sound room s; kept = step_keeps w sound room s; behind = stand_behind (step_of room w s).after.fats right.0.fats; lasting = step_lasts w sound room s; spared = step_spares w sound room s; path = step_on_path w sound room s }
 
 -- what a step of the code answers and leaves
 pub tells : (w w' : WorldState) (s : Step) (r : Result Did Fault) (room : Bool) → IsSound w

@@ -49,7 +49,8 @@ use Rattle.step_core.proofs.Facts.OneThread.{thin_fits, lock_of-new_word}
 use Rattle.step_core.proofs.Facts.Cases.{ended_as, begin_cases, go_cases}
 use Rattle.step_core.proofs.Runs.StageRuns.{storing}
 use Rattle.step_core.proofs.Sound.Stages.{store_fits, number_fits, bound_there, may}
-use Rattle.step_core.proofs.Clauses.Patient.{IsTold, done, own_on}
+use Rattle.step_core.proofs.Clauses.Patient.{done, own_on}
+use Rattle.step_core.specs.Path.{IsTold}
 
 -- an accept step made the change that it names
 abbrev Named : WorldState → Step → AfterStep → Type 0

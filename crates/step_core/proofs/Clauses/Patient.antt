@@ -52,6 +52,7 @@ use Rattle.step_core.specs.Ready.{IsOwnAction}
 use Rattle.step_core.specs.Did.{is_wait, one_move, move_and_return}
 use Rattle.step_core.specs.Go.{AfterGo, with_go, after_load, after_take, after_bind, after_publish, after_told, after_act, after_look_as, after_stage, action_on, action_about, entering, bind_cause, place_only, fats_changed}
 use Rattle.step_core.specs.Step.{AfterStep, accept, refuse, after_attach, after_begin, with_live, after_go, after_look, step_of, first_place, WaitEnd, time_over, wake_up, after_wait_end, after_wait_end_as, after_tick}
+use Rattle.step_core.specs.Path.{IsTold}
 use Rattle.step_core.specs.Patient.{left_in, left_at, left_of_seat, left_of, HasMet, HasParked, Advances, IsPatient}
 use Rattle.step_core.specs.declared.steps.Did.{Did}
 use Rattle.step_core.proofs.Facts.Cases.{ended_as, did_return, begin_cases, go_cases}
@@ -60,12 +61,6 @@ use Rattle.step_core.proofs.Facts.OneThread.{within, is_at, out_at}
 -- an accept step is patient
 abbrev Patient : WorldState → Step → AfterStep → Type 0
 Patient w s o = IfOk o.answer (λ d. IsPatient w s d o.after)
-
--- the call has its reply, or parks
-abbrev pub IsTold : Answer → Type 0
-IsTold (answer.Reply r) = Unit {0}
-IsTold answer.Parked = Unit {0}
-IsTold answer.Quiet = ⊥
 
 -- the action of a call is never refuse
 abbrev pub IsDone : FatOutcome → Type 0

@@ -46,6 +46,7 @@ pub(crate) fn grant_of(fats: &Fats, granted: Option<ThreadId>) -> Option<Move>
 
 impl Did {
     /// No move is made.
+    #[inline(always)]
     pub(crate) fn no_move(atomic: Atomic) -> Did
         ensures { result ≡ no_move atomic }
     {
@@ -57,6 +58,7 @@ impl Did {
     }
 
     /// One move is made, and the call goes on.
+    #[inline(always)]
     pub(crate) fn one_move(atomic: Atomic, made: Move) -> Did
         ensures { result ≡ one_move atomic made }
     {
@@ -68,6 +70,7 @@ impl Did {
     }
 
     /// The call gets its reply by this move, and returns with it.
+    #[inline(always)]
     pub(crate) fn move_and_return(atomic: Atomic, made: Move, thread: ThreadId, reply: Reply) -> Did
         ensures { result ≡ move_and_return atomic made thread reply }
     {
@@ -79,6 +82,7 @@ impl Did {
     }
 
     /// The call returns with the reply that it has.
+    #[inline(always)]
     pub(crate) fn return_alone(atomic: Atomic, thread: ThreadId, reply: Reply) -> Did
         ensures { result ≡ return_alone atomic thread reply }
     {

@@ -37,3 +37,6 @@ returns-clause-lasting c = let e = c.advance.ensures.exact in (tells c.args.self
 
 pub returns-clause-behind : goal.returns-clause-behind
 returns-clause-behind c = let e = c.advance.ensures.exact in (tells c.args.self.now c.advance.new.self c.args.step c.advance.result e.0 c.advance.ensures.was e.1).behind
+
+pub returns-clause-path : goal.returns-clause-path
+returns-clause-path c = let e = c.advance.ensures.exact in (tells c.args.self.now c.advance.new.self c.args.step c.advance.result e.0 c.advance.ensures.was e.1).path
