@@ -2,8 +2,9 @@
 
     python3 bench/growth.py crates/thinmon/out/thinmon
 
-The program is there once `rt run` in `crates/thinmon` has built it. Each time is the least of three
-runs, less that of the same script without the part that is measured. Three kinds of script:
+The program is there once `rt run` in `crates/thinmon` has built it. Each time is the processor time that the
+program takes in user mode, the least of five runs, less that of the same script without the part that is
+measured. Three kinds of script:
 
 - one thread of so many live ones enters an object and exits it, over and over: time for each step
 - so many threads wait on one object, are all notified and have the object back one after another, in
@@ -11,13 +12,13 @@ runs, less that of the same script without the part that is measured. Three kind
 - one thread waits on each of so many objects and is notified: time for each object
 """
 
+import resource
 import subprocess
 import sys
 import tempfile
-import time
 
 DIGITS = "0123456789abcdefghijklmnopqrstuvwxyz"
-RUNS = 3
+RUNS = 5
 
 
 def name(letter, number):
@@ -87,15 +88,20 @@ def spread(objects):
         yield from call(thread, f"exit {place}", 2)
 
 
+def user_seconds():
+    """The processor time in user mode of all programs that were run and have ended."""
+    return resource.getrusage(resource.RUSAGE_CHILDREN).ru_utime
+
+
 def seconds(program, lines):
     with tempfile.NamedTemporaryFile("w", suffix=".script") as file:
         file.write("".join(line + "\n" for line in lines))
         file.flush()
         best = None
         for _ in range(RUNS):
-            start = time.perf_counter()
+            start = user_seconds()
             subprocess.run([program, "run", file.name], stdout=subprocess.DEVNULL, check=True)
-            took = time.perf_counter() - start
+            took = user_seconds() - start
             best = took if best is None else min(best, took)
         return best
 
