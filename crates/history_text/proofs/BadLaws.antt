@@ -6,7 +6,7 @@ use Rattle.history_text.specs.Lines.{next_from, lines_from, may_follow, parts_of
 use Rattle.history_text.proofs.Plain.{TailOf, split_tail}
 use Rattle.history_text.proofs.ScriptLaws.{takes_next, stops_by, last_part, next_takes, next_again, parts_of_line, whole_part, no_parts, lines_again}
 
-walk : (more earlier : List Line) (rest : List ℕ) → Continues earlier more → lines_from earlier (parts_of (script_text more ++ rest)) ≡ lines_from (earlier ++ more) (parts_of rest)
+pub walk : (more earlier : List Line) (rest : List ℕ) → Continues earlier more → lines_from earlier (parts_of (script_text more ++ rest)) ≡ lines_from (earlier ++ more) (parts_of rest)
 walk [] earlier rest c = ap (λ (l : List Line). lines_from l (parts_of rest)) (sym (append-nil earlier))
 walk (l ∷ ls) earlier rest c =
     ap (lines_from earlier) (ap parts_of (append_assoc (line_text l) (10 ∷ script_text ls) rest) ∙ parts_of_line l (script_text ls ++ rest) c.0)

@@ -7,3 +7,4 @@ pub mod NameLaws
 pub mod NotedLaws
 pub mod Signed
 pub mod BadLaws
+pub mod Beginnings

@@ -168,7 +168,7 @@ script_text-append [] ys = refl
 script_text-append (x ∷ xs) ys = rw (script_text-append xs ys) (sym (append_assoc (line_text x) (10 ∷ script_text xs) (script_text ys)))
 
 -- two parts or more, and not one
-one_part : (bs part : List ℕ) (l : Line) (after : List ℕ) → parts_of bs ≡ part ∷ [] → Fits l → bs ≡ line_text l ++ (10 ∷ after) → ⊥
+pub one_part : (bs part : List ℕ) (l : Line) (after : List ℕ) → parts_of bs ≡ part ∷ [] → Fits l → bs ≡ line_text l ++ (10 ∷ after) → ⊥
 one_part bs part l after split fits e =
     let p = parts_cons after in
     two_parts part (line_text l) p.0 p.1 (sym split ∙ ap parts_of e ∙ parts_of_line l after fits ∙ ap (λ (ps : List (List ℕ)). line_text l ∷ ps) p.2)
@@ -176,7 +176,7 @@ one_part bs part l after split fits e =
     two_parts : (part x y : List ℕ) (ys : List (List ℕ)) → part ∷ [] ≡ x ∷ y ∷ ys → ⊥
     two_parts part x y ys e = cc
 
-first_part : (bs part q : List ℕ) (ps : List (List ℕ)) (l : Line) (after : List ℕ) → parts_of bs ≡ part ∷ q ∷ ps → Fits l → bs ≡ line_text l ++ (10 ∷ after) → part ≡ line_text l
+pub first_part : (bs part q : List ℕ) (ps : List (List ℕ)) (l : Line) (after : List ℕ) → parts_of bs ≡ part ∷ q ∷ ps → Fits l → bs ≡ line_text l ++ (10 ∷ after) → part ≡ line_text l
 first_part bs part q ps l after split fits e = heads part (line_text l) (q ∷ ps) (parts_of after) (sym split ∙ ap parts_of e ∙ parts_of_line l after fits)
   where
     heads : (x y : List ℕ) (xs ys : List (List ℕ)) → x ∷ xs ≡ y ∷ ys → x ≡ y

@@ -127,6 +127,13 @@ Continues earlier (l ∷ ls) =
 abbrev pub IsScript : List Line → Type 0
 IsScript ls = (0 < length ls) × Continues [] ls
 
+-- The longest beginning that keeps the rules: right lines, and what is left begins with no line that may follow them.
+pub record IsBeginning (bytes : List ℕ) (ls : List Line) (rest : List ℕ) : Type 0 where
+  pub right : Continues [] ls
+  pub parts : bytes ≡ script_text ls ++ rest
+  pub stuck : (l : Line) (after : List ℕ) → Fits l → may_follow ls l ≡ true
+      → rest ≡ line_text l ++ (10 ∷ after) → ⊥
+
 -- Line n is the first that breaks a rule: right lines stand before it, and what stands there begins
 -- with no line that may follow them. Where nothing stands there, the script has no line at all.
 pub record IsFirstBad (bytes : List ℕ) (n : ℕ) : Type 0 where

@@ -15,4 +15,4 @@ mod scripts;
 pub use history_streams::FileFault;
 pub use lines::{Call, Line, StepLine};
 pub use names::Name;
-pub use scripts::{MOST_BYTES, Script, one_fault, print_script, read_script};
+pub use scripts::{MOST_BYTES, Script, one_fault, print_script, read_beginning, read_script};

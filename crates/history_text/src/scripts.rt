@@ -4,7 +4,7 @@ ghost use Rattle.std.specs.Prelude.{◌≡◌, ◌<◌, ◌≤◌, ◌++◌, ◌
 ghost use Rattle.std.specs.List.{list_any};
 ghost use Rattle.std.specs.Str.{bytes_eq};
 ghost use Rattle.history_text.specs.declared.lines.Line.{Line as LineData};
-ghost use Rattle.history_text.specs.Lines.{is_object, may_follow, next_from, lines_from, parts_of, script_text, IsScript, IsFirstBad};
+ghost use Rattle.history_text.specs.Lines.{is_object, may_follow, next_from, lines_from, parts_of, script_text, IsBeginning, IsFirstBad, IsScript};
 ghost use Rattle.history_text.specs.Noted.{IsNoted, may_follow_by, with_object};
 ghost use Rattle.history_text.specs.Scripts.{Gives, IsReasonFor};
 
@@ -160,10 +160,13 @@ fn cut_line(bytes: &[u8]) -> Option<(&[u8], &[u8])>
     }
 }
 
-/// The lines that some bytes are, or the first that is bad.
-#[tactic(auto, using(crate::proofs::ScriptLaws::reading_steps))]
-fn lines_of<'a>(alloc: Global, bytes: &'a [u8]) -> Result<Vec<Line<'a>>, FileFault>
-    ensures { Gives (λ v. v.items) result (lines_from [] (parts_of bytes.now)) }
+/// The lines of the longest beginning of some bytes that keeps the rules, and the bytes that are left.
+#[tactic(auto, using(crate::proofs::Beginnings::beginning_steps))]
+pub fn read_beginning<'a>(
+    alloc: Global,
+    bytes: &'a [u8],
+) -> Result<(Vec<Line<'a>>, &'a [u8]), AllocError>
+    ensures { IfOk result (λ r. IsBeginning bytes.now r.0.items r.1.now) }
 {
     let mut lines = Vec::new(alloc);
     let mut objects = IndexSet::new(alloc);
@@ -171,17 +174,22 @@ fn lines_of<'a>(alloc: Global, bytes: &'a [u8]) -> Result<Vec<Line<'a>>, FileFau
     let mut rest = bytes;
     'lines: while let Some((part, after)) = cut_line(rest) {
         let Some(line) = next_of(alloc, &lines, declaring, &objects, part)? else {
-            return Err(FileFault::BadLine(lines.len() as u64 + 1));
+            return Ok((lines, rest));
         };
         declaring = note(alloc, &lines, declaring, &mut objects, &line)?;
         lines.push(line)?;
         rest = after;
     }
-    if !rest.is_empty() {
+    Ok((lines, rest))
+}
+
+/// The lines that some bytes are, or the first that is bad.
+fn lines_of<'a>(alloc: Global, bytes: &'a [u8]) -> Result<Vec<Line<'a>>, FileFault>
+    ensures { Gives (λ v. v.items) result (lines_from [] (parts_of bytes.now)) }
+{
+    let (lines, rest) = read_beginning(alloc, bytes)?;
+    if lines.is_empty() || !rest.is_empty() {
         return Err(FileFault::BadLine(lines.len() as u64 + 1));
-    }
-    if lines.is_empty() {
-        return Err(FileFault::BadLine(1));
     }
     Ok(lines)
 }

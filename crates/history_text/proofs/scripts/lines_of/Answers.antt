@@ -1,10 +1,14 @@
 use Rattle.std.proofs.Common.{◌≡◌, ◌∙◌, sym, length, vec_len, arith}
-use Rattle.std.proofs.lemmas.Bool.{eqb-true}
-use Rattle.history_text.proofs.ScriptLaws.{empty_end}
+use Rattle.history_text.proofs.Beginnings.{beginning_empty, beginning_bad, beginning_whole}
+use Rattle.history_text.proofs.scripts.lines_of.Goals.{then-is_empty-via-then-is_empty, then-is_empty-via-else-is_empty+then-not-is_empty}
 use Rattle.history_text.proofs.scripts.lines_of.Goals as goal
 
 pub returns-then-is_empty : goal.returns-then-is_empty
-returns-then-is_empty c =
-    let none = eqb-true (vec_len c.lines.lines) 0 (sym c.is_empty-2.ensures ∙ c.if-is_empty.true) in
-    let no_items : length c.lines.lines.items ≡ 0 = omega (arith, none, c.lines.lines.ok.0) in
-    empty_end c.lines.lines.items c.lines.rest.now c.args.bytes.now no_items c.in_default.ensures.parts c.lines.invariant.same
+returns-then-is_empty c = let n : c.len.result ≡ length c.in_ok-lines.lines.items = omega (arith, c.len.ensures, c.in_ok-lines.lines.ok.0) in
+    elim c.then-is_empty.branch [
+      | then-is_empty-via-then-is_empty w ↦ beginning_empty c.args.bytes.now c.in_ok-lines.rest.now c.in_ok-lines.lines.items c.len.result c.in_ok-lines.ensures n (rw c.len.ensures (sym c.is_empty.ensures ∙ w.if-is_empty.true))
+      | then-is_empty-via-else-is_empty+then-not-is_empty w ↦ beginning_bad c.args.bytes.now c.in_ok-lines.rest.now c.in_ok-lines.lines.items c.len.result c.in_ok-lines.ensures n (sym w.is_empty-else-is_empty.ensures ∙ w.if-not-is_empty.true)
+    ]
+
+pub returns : goal.returns
+returns c = beginning_whole c.args.bytes.now c.in_ok-lines.rest.now c.in_ok-lines.lines.items (vec_len c.in_ok-lines.lines) c.in_ok-lines.ensures (omega (arith, c.in_ok-lines.lines.ok.0)) (sym c.is_empty.ensures ∙ c.if-is_empty.false) (sym c.is_empty-else-is_empty.ensures ∙ c.if-not-is_empty.false)
