@@ -2,3 +2,4 @@ pub mod Lines
 pub mod Namings
 pub mod Telling
 pub mod Stepping
+pub mod Reporting

@@ -9,7 +9,9 @@ use Rattle.history_text.specs.declared.lines.Line.TheVariants.{World, Object, St
 use Rattle.history_text.specs.Lines.{Continues, may_follow, is_object, is_object_named}
 use Rattle.history_text.specs.Noted.{object_names, with_object}
 use Rattle.history_text.proofs.NotedLaws.{any_declared, as_many, names_more}
-use Rattle.history.specs.Numbering.{FollowsWorld, MayTake, low_bytes, with_low}
+use Rattle.step_core.specs.declared.steps.Request.{Request}
+use Rattle.history.specs.NameLists.{NameLists}
+use Rattle.history.specs.Numbering.{FollowsWorld, MayTake, low_bytes, names_after, names_of, names_then, no_names, requests_after, requests_of, requests_then, with_low}
 
 follows_at : (ls earlier : List Line) (i : ℕ) (d : Line) → Continues earlier ls → i < length ls → may_follow (earlier ++ take i ls) (get_or ls i d) ≡ true
 follows_at [] earlier i d c within = absurd (omega (arith, within))
@@ -60,3 +62,28 @@ pub lows_next : (ls : List Line) (i : ℕ) (x : Line) (lows new : List ℕ) → 
 lows_next ls i x lows new within is same e =
     e ∙ ap (λ (b : List ℕ). with_low b x) same ∙ ap (λ (l : Line). with_low (low_bytes (take i ls)) l) is ∙ sym (lows_append (take i ls) (get_or ls i x))
     ∙ ap low_bytes (sym (take_more ls i x within))
+
+-- ---- names and steps
+
+names_after-one : (ls : List Line) (l : Line) (names : NameLists) → names_after names (ls ++ l ∷ []) ≡ names_then (names_after names ls) l
+names_after-one [] l names = refl
+names_after-one (k ∷ ls) l names = names_after-one ls l (names_then names k)
+
+requests_after-one : (ls : List Line) (l : Line) (names : NameLists) → requests_after names (ls ++ l ∷ []) ≡ requests_after names ls ++ requests_then (names_after names ls) l
+requests_after-one [] l names = append-nil (requests_then names l)
+requests_after-one (k ∷ ls) l names =
+    ap (λ (r : List Request). requests_then names k ++ r) (requests_after-one ls l (names_then names k))
+    ∙ sym (append_assoc (requests_then names k) (requests_after (names_then names k) ls) (requests_then (names_after (names_then names k) ls) l))
+
+pub all_names_next : (ls : List Line) (i : ℕ) (x : Line) (names new : NameLists) → i < length ls → x ≡ get_or ls i x → names ≡ names_of (take i ls)
+    → new ≡ names_then names x → new ≡ names_of (take (i + 1) ls)
+all_names_next ls i x names new within is same e =
+    e ∙ ap (λ (n : NameLists). names_then n x) same ∙ ap (λ (l : Line). names_then (names_of (take i ls)) l) is ∙ sym (names_after-one (take i ls) (get_or ls i x) no_names)
+    ∙ ap names_of (sym (take_more ls i x within))
+
+pub requests_next : (ls : List Line) (i : ℕ) (x : Line) (names : NameLists) (steps new : List Request) → i < length ls → x ≡ get_or ls i x → names ≡ names_of (take i ls)
+    → steps ≡ requests_of (take i ls) → new ≡ steps ++ requests_then names x → new ≡ requests_of (take (i + 1) ls)
+requests_next ls i x names steps new within is same done e =
+    e ∙ ap (λ (r : List Request). r ++ requests_then names x) done ∙ ap (λ (n : NameLists). requests_of (take i ls) ++ requests_then n x) same
+    ∙ ap (λ (l : Line). requests_of (take i ls) ++ requests_then (names_of (take i ls)) l) is ∙ sym (requests_after-one (take i ls) (get_or ls i x) no_names)
+    ∙ ap requests_of (sym (take_more ls i x within))

@@ -46,28 +46,28 @@ move_more old mid new xs i d within e f =
 
 -- ---- steps
 
-steps_in-append : (ts us : List (Request × Bool)) → steps_in (ts ++ us) ≡ steps_in ts ++ steps_in us
+pub steps_in-append : (ts us : List (Request × Bool)) → steps_in (ts ++ us) ≡ steps_in ts ++ steps_in us
 steps_in-append [] us = refl
 steps_in-append (t ∷ ts) us = ap (λ (l : List Request). t.0 ∷ l) (steps_in-append ts us)
 
-world_after-one : (ts : List (Request × Bool)) (w : WorldState) (t : Request × Bool) → world_after w (ts ++ t ∷ []) ≡ world_then (world_after w ts) t
+pub world_after-one : (ts : List (Request × Bool)) (w : WorldState) (t : Request × Bool) → world_after w (ts ++ t ∷ []) ≡ world_then (world_after w ts) t
 world_after-one [] w t = refl
 world_after-one (u ∷ ts) w t = world_after-one ts (world_then w u) t
 
-moves_after-one : (ts : List (Request × Bool)) (w : WorldState) (t : Request × Bool) → moves_after w (ts ++ t ∷ []) ≡ moves_after w ts ++ moves_then (world_after w ts) t
+pub moves_after-one : (ts : List (Request × Bool)) (w : WorldState) (t : Request × Bool) → moves_after w (ts ++ t ∷ []) ≡ moves_after w ts ++ moves_then (world_after w ts) t
 moves_after-one [] w t = append-nil (moves_then w t)
 moves_after-one (u ∷ ts) w t =
     ap (λ (l : List Move). moves_then w u ++ l) (moves_after-one ts (world_then w u) t)
     ∙ sym (append_assoc (moves_then w u) (moves_after (world_then w u) ts) (moves_then (world_after (world_then w u) ts) t))
 
-memory-one : (ts : List (Request × Bool)) (w : WorldState) (t : Request × Bool) → HaveMemory w ts → HasMemory (world_after w ts) t → HaveMemory w (ts ++ t ∷ [])
+pub memory-one : (ts : List (Request × Bool)) (w : WorldState) (t : Request × Bool) → HaveMemory w ts → HasMemory (world_after w ts) t → HaveMemory w (ts ++ t ∷ [])
 memory-one [] w t p q = (q, tt)
 memory-one (u ∷ ts) w t p q = (p.0, memory-one ts (world_then w u) t p.1 q)
 
 pub Tells-none : (w : WorldState) (old : List ℕ) → Tells w [] w old old
 Tells-none w old = record { done = []; these = refl; memory = tt; leads = refl; run = refl; text = sym (append-nil old) }
 
-Run-append : (ms ns : List Move) (a b c : State) → Run a ms b → Run b ns c → Run a (ms ++ ns) c
+pub Run-append : (ms ns : List Move) (a b c : State) → Run a ms b → Run b ns c → Run a (ms ++ ns) c
 Run-append [] ns a b c p q = subst (λ (s : State). Run s ns c) p q
 Run-append (m ∷ ms) ns a b c p q = (p.0, p.1, Run-append ms ns p.0 b c p.2 q)
 
@@ -144,19 +144,19 @@ plan_of_left : (left : Option (List ℕ)) (plan : Plan) (read bytes : List ℕ) 
 plan_of_left None plan read bytes all same is = tt
 plan_of_left (Some input) plan read bytes all same is = subst (IsPlanOf plan) (same ∙ all) is
 
-pub moves_written : {T : Type 0} (r : Result T FileFault) (left held holds : Option (List ℕ)) (plan : Plan) (read bytes text history : List ℕ) → IfSome left (λ input. read ≡ input)
-    → bytes ≡ read → IsPlanOf plan bytes → IsHistoryOf plan history → text ≡ history → OnOk r (Appends held holds text)
-    → OnOk r ((p : Plan) × IfSome left (IsPlanOf p) × (h : List ℕ) × IsHistoryOf p h × Appends held holds h)
-moves_written (Ok x) left held holds plan read bytes text history all same is told e a =
+pub text_written : {T : Type 0} (Of : Plan → List ℕ → Type 0) (r : Result T FileFault) (left held holds : Option (List ℕ)) (plan : Plan) (read bytes text history : List ℕ) → IfSome left (λ input. read ≡ input)
+    → bytes ≡ read → IsPlanOf plan bytes → Of plan history → text ≡ history → OnOk r (Appends held holds text)
+    → OnOk r ((p : Plan) × IfSome left (IsPlanOf p) × (h : List ℕ) × Of p h × Appends held holds h)
+text_written Of (Ok x) left held holds plan read bytes text history all same is told e a =
     (plan, plan_of_left left plan read bytes all same is, history, told, subst (λ (l : List ℕ). Appends held holds l) e a)
-moves_written (Err x) left held holds plan read bytes text history all same is told e a = tt
+text_written Of (Err x) left held holds plan read bytes text history all same is told e a = tt
 
-pub moves_cut : {T : Type 0} (r : Result T FileFault) (fault : FileFault) (left held holds : Option (List ℕ)) (plan : Plan) (read bytes text history : List ℕ) → IfSome left (λ input. read ≡ input)
-    → bytes ≡ read → IsPlanOf plan bytes → IsHistoryOf plan history → text ≡ history → OnErr r ((n : ℕ) × Appends held holds (take n text))
-    → IsErrOf r fault → (p : Plan) × IfSome left (IsPlanOf p) × (h : List ℕ) × IsHistoryOf p h × (n : ℕ) × Appends held holds (take n h)
-moves_cut (Ok x) fault left held holds plan read bytes text history all same is told e a failed = absurd (ok_err x fault failed)
+pub text_cut : {T : Type 0} (Of : Plan → List ℕ → Type 0) (r : Result T FileFault) (fault : FileFault) (left held holds : Option (List ℕ)) (plan : Plan) (read bytes text history : List ℕ) → IfSome left (λ input. read ≡ input)
+    → bytes ≡ read → IsPlanOf plan bytes → Of plan history → text ≡ history → OnErr r ((n : ℕ) × Appends held holds (take n text))
+    → IsErrOf r fault → (p : Plan) × IfSome left (IsPlanOf p) × (h : List ℕ) × Of p h × (n : ℕ) × Appends held holds (take n h)
+text_cut Of (Ok x) fault left held holds plan read bytes text history all same is told e a failed = absurd (ok_err x fault failed)
   where
     ok_err : {T : Type 0} (x : T) (f : FileFault) → ◌≡◌ {A = Result T FileFault} (Ok x) (Err f) → ⊥
     ok_err x f e = cc
-moves_cut (Err x) fault left held holds plan read bytes text history all same is told e a failed =
+text_cut Of (Err x) fault left held holds plan read bytes text history all same is told e a failed =
     (plan, plan_of_left left plan read bytes all same is, history, told, a.0, subst (λ (l : List ℕ). Appends held holds (take a.0 l)) e a.1)

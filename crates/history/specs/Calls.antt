@@ -11,7 +11,7 @@ use Rattle.history.specs.NameLists.{NameLists, number_of, with_name}
 abbrev object_in : NameLists → List ℕ → ObjectId
 object_in names name = record { 0 = number_of names.objects name }
 
-abbrev thread_in : NameLists → List ℕ → ThreadId
+abbrev pub thread_in : NameLists → List ℕ → ThreadId
 thread_in names name = record { 0 = number_of names.threads name }
 
 -- the call that a line has, where these names were there before
@@ -27,7 +27,8 @@ call_in names line.Interrupted = Interrupted
 call_in names (line.IsInterrupted target) = IsInterrupted (thread_in names target)
 call_in names line.End = End
 
-abbrev with_thread : NameLists → List ℕ → NameLists
+-- the names, with that of this thread
+abbrev pub with_thread : NameLists → List ℕ → NameLists
 with_thread names name = record names { threads = with_name names.threads name }
 
 -- and the names that are there then

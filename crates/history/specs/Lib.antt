@@ -4,3 +4,4 @@ pub mod Numbering
 pub mod Histories
 pub mod Plans
 pub mod Plays
+pub mod Reports

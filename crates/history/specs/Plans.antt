@@ -3,10 +3,11 @@ use Rattle.std.specs.Prelude.{◌≡◌, ℕ, List}
 use Rattle.history_text.specs.declared.lines.Line.{Line}
 use Rattle.history_text.specs.Lines.{IsScript, script_text}
 use Rattle.history_text.specs.Noted.{object_names}
-use Rattle.history.specs.Numbering.{IsWorldWith, low_bytes}
+use Rattle.history.specs.Numbering.{IsWorldWith, low_bytes, names_of, requests_of}
 use Rattle.history.specs.declared.plans.Plan.{Plan}
 
--- the bytes are the text of a script, which plays this
+-- The bytes are the text of a script, which plays this: the world of its first line, its objects, and its steps and
+-- relayouts, in order, each with the numbers of its names.
 pub record IsPlanOf (plan : Plan) (bytes : List ℕ) : Type 0 where
   pub lines : List Line
   pub script : IsScript lines
@@ -14,3 +15,5 @@ pub record IsPlanOf (plan : Plan) (bytes : List ℕ) : Type 0 where
   pub world : IsWorldWith plan.monitors plan.indices plan.split lines
   pub objects : plan.names.objects ≡ object_names lines
   pub lows : plan.lows.items ≡ low_bytes lines
+  pub names : plan.names ≡ names_of lines
+  pub steps : plan.steps.items ≡ requests_of lines

@@ -8,7 +8,7 @@ use Rattle.step_core.specs.Shown.{shown}
 use Rattle.step_core.specs.Requests.{world_then, moves_then, moves_after, world_after}
 use Rattle.step_core.specs.World.{WorldState}
 use Rattle.history.specs.NameLists.{NameLists}
-use Rattle.history.specs.Numbering.{IsWorldWith, low_bytes}
+use Rattle.history.specs.Numbering.{IsWorldWith, low_bytes, names_of, requests_of}
 use Rattle.history.specs.Histories.{HasMemory, HaveMemory, first_world, steps_in}
 use Rattle.history.specs.declared.plans.Plan.{Plan}
 
@@ -33,5 +33,7 @@ pub record IsPlayOf (lines : List Line) (v : WorldState) (names : NameLists) : T
   pub world : IsWorldWith plan.monitors plan.indices plan.split lines
   pub objects : plan.names.objects ≡ object_names lines
   pub lows : plan.lows.items ≡ low_bytes lines
+  pub numbered : plan.names ≡ names_of lines
+  pub steps : plan.steps.items ≡ requests_of lines
   pub named : names ≡ plan.names
   pub plays : Plays (first_world plan) plan.steps.items v

@@ -6,7 +6,7 @@ ghost use Rattle.history_text.specs.Lines.{IsScript};
 ghost use Rattle.history_text.specs.Noted.{object_names, with_object};
 ghost use Rattle.history.specs.Calls.{call_in, names_with};
 ghost use Rattle.history.specs.NameLists.{is_named};
-ghost use Rattle.history.specs.Numbering.{FollowsWorld, IsWorldWith, MayTake, low_bytes, with_low};
+ghost use Rattle.history.specs.Numbering.{FollowsWorld, IsWorldWith, MayTake, low_bytes, names_in_step, names_of, names_then, no_names, request_in, requests_of, requests_then, with_low};
 
 use crate::names::Names;
 use fast_path::Call;
@@ -41,7 +41,8 @@ impl Plan {
         requires few { indices ≤ greatest_index split }
         ensures world { (result.monitors ≡ monitors) × (result.indices ≡ indices)
             × (result.split ≡ split) }
-        ensures none { (result.names.objects ≡ []) × (result.lows.items ≡ []) }
+        ensures none { (result.names ≡ no_names) × (result.lows.items ≡ []) }
+        ensures no_steps { result.steps.items ≡ [] }
     {
         Plan {
             names: Names::new(alloc),
@@ -59,6 +60,9 @@ impl Plan {
         ensures objects { OnOk result (self.new.names.objects
             ≡ with_object self.old.names.objects line.now) }
         ensures lows { OnOk result (self.new.lows.items ≡ with_low self.old.lows.items line.now) }
+        ensures names { OnOk result (self.new.names ≡ names_then self.old.names line.now) }
+        ensures steps { OnOk result (self.new.steps.items
+            ≡ self.old.steps.items ++ requests_then self.old.names line.now) }
         ensures world { (self.new.monitors ≡ self.old.monitors)
             × (self.new.indices ≡ self.old.indices) × (self.new.split ≡ self.old.split) }
     {
@@ -75,6 +79,8 @@ impl Plan {
         ensures objects { OnOk result (self.new.names.objects
             ≡ self.old.names.objects ++ name.now ∷ []) }
         ensures lows { OnOk result (self.new.lows.items ≡ self.old.lows.items ++ low ∷ []) }
+        ensures threads { OnOk result (self.new.names.threads ≡ self.old.names.threads) }
+        ensures steps { OnOk result (self.new.steps.items ≡ self.old.steps.items) }
         ensures world { (self.new.monitors ≡ self.old.monitors)
             × (self.new.indices ≡ self.old.indices) × (self.new.split ≡ self.old.split) }
     {
@@ -87,6 +93,9 @@ impl Plan {
     fn take_step(&mut self, step: &StepLine<'_>) -> Result<(), Memory>
         ensures objects { OnOk result (self.new.names.objects ≡ self.old.names.objects) }
         ensures lows { OnOk result (self.new.lows.items ≡ self.old.lows.items) }
+        ensures names { OnOk result (self.new.names ≡ names_in_step self.old.names step.now) }
+        ensures steps { OnOk result (self.new.steps.items
+            ≡ self.old.steps.items ++ request_in self.old.names step.now ∷ []) }
         ensures world { (self.new.monitors ≡ self.old.monitors)
             × (self.new.indices ≡ self.old.indices) × (self.new.split ≡ self.old.split) }
     {
@@ -98,7 +107,9 @@ impl Plan {
 
 /// The step or relayout that a line is, by the numbers of its names.
 fn request_of(names: &mut Names, line: &StepLine<'_>) -> Result<Request, Memory>
-    ensures { names.new.objects ≡ names.old.objects }
+    ensures request { IfOk result (λ r. r ≡ request_in names.old line.now) }
+    ensures noted { OnOk result (names.new ≡ names_in_step names.old line.now) }
+    ensures objects { names.new.objects ≡ names.old.objects }
 {
     let step = match line {
         StepLine::Attach(thread) => Step::Attach {
@@ -155,10 +166,13 @@ fn call_of(names: &mut Names, call: &history_text::Call<'_>) -> Result<Call, Mem
 
 /// Takes the lines behind the first.
 fn take_lines(plan: &mut Plan, lines: &[Line<'_>]) -> Result<(), Memory>
-    requires none { (plan.old.names.objects ≡ []) × (plan.old.lows.items ≡ []) }
+    requires none { (plan.old.names ≡ no_names) × (plan.old.lows.items ≡ []) }
+    requires no_steps { plan.old.steps.items ≡ [] }
     requires follow { FollowsWorld lines.now }
     ensures objects { OnOk result (plan.new.names.objects ≡ object_names lines.now) }
     ensures lows { OnOk result (plan.new.lows.items ≡ low_bytes lines.now) }
+    ensures names { OnOk result (plan.new.names ≡ names_of lines.now) }
+    ensures steps { OnOk result (plan.new.steps.items ≡ requests_of lines.now) }
     ensures world { OnOk result ((plan.new.monitors ≡ plan.old.monitors)
         × (plan.new.indices ≡ plan.old.indices) × (plan.new.split ≡ plan.old.split)) }
 {
@@ -174,6 +188,8 @@ pub fn plan_of(alloc: Global, lines: &[Line<'_>]) -> Result<Plan, Memory>
     ensures world { IfOk result (λ plan. IsWorldWith plan.monitors plan.indices plan.split lines.now) }
     ensures objects { IfOk result (λ plan. plan.names.objects ≡ object_names lines.now) }
     ensures lows { IfOk result (λ plan. plan.lows.items ≡ low_bytes lines.now) }
+    ensures names { IfOk result (λ plan. plan.names ≡ names_of lines.now) }
+    ensures steps { IfOk result (λ plan. plan.steps.items ≡ requests_of lines.now) }
 {
     let [first, rest @ ..] = lines else {
         unreachable!()

@@ -1,54 +1,127 @@
 //! Reports: what each step of a script answered, and how the objects stand behind the last.
 
+ghost use Rattle.std.specs.Prelude.{◌≡◌, ◌<◌, ◌++◌, ◌∷◌, [], Err, IfOk, OnOk, codes, decimal, length, map, string_bytes, vec_items};
+ghost use Rattle.history_text.specs.Lines.{split_name};
+ghost use Rattle.step_core.specs.Names.{fault_name, fault_number};
+ghost use Rattle.step_core.specs.Shown.{shown};
+ghost use Rattle.step_core.specs.declared.steps.Fault.TheVariants.{Memory as OutOfMemory};
+ghost use Rattle.step_core.specs.declared.worlds.relayout.RelayoutFault.TheVariants.{Memory as NoMemory};
+ghost use Rattle.history.specs.Reports.{AreEmpty, AreWaitSets, IsAdded, IsReportOf, Reported, Reports, atomic_text, did_text, ending_text, exchange_text, more_threads_text, object_lines, object_text, owner_text, relayout_text, shown_word, standing_text, step_text, threads_text};
+
 use crate::names::Names;
 use crate::plans::Plan;
 use fat_monitor::Answer;
-use lock_word::{Memory, ObjectId, Split, ThreadId};
+use lock_word::{Memory, ObjectId, Split, ThreadId, Word};
 use std::alloc::{AllocError, Global};
 use std::fmt::Write;
 use step_core::{Atomic, Did, Doing, Fault, RelayoutFault, Request, Step, World};
 
-/// Plays a script and writes its report: a line for each step, then a line for each object.
-pub fn report_of(alloc: Global, plan: &Plan) -> Result<String, Memory> {
+/// Plays a script and writes its report: a line for each step and relayout, then a line for each object.
+pub fn report_of(alloc: Global, plan: &Plan) -> Result<String, Memory>
+    ensures { IfOk result (λ report. IsReportOf plan.now (string_bytes report)) }
+{
     let mut world = World::new(alloc, &plan.lows, plan.monitors, plan.indices, plan.split)?;
     let mut report = String::new(alloc);
-    for request in &plan.steps {
-        match *request {
-            Request::Step(step) => play_step(&mut report, &plan.names, &mut world, step)?,
-            Request::Relayout(split) => play_relayout(&mut report, &mut world, split)?,
-        }
-    }
+    put_steps(&mut report, &plan.names, &mut world, &plan.steps)?;
     put_objects(alloc, &mut report, &plan.names, &world)?;
     Ok(report)
 }
 
-/// Does a step and writes its line.
-fn play_step(
+/// Does steps and relayouts, and writes the line of each.
+fn put_steps(
     report: &mut String,
     names: &Names,
     world: &mut World,
-    step: Step,
-) -> Result<(), Memory> {
-    match world.step(step) {
-        Ok(did) => put_step(report, names, world, step, did)?,
-        Err(Fault::Memory) => return Err(Memory),
-        Err(fault) => writeln!(report, "fault {} {fault}", fault.number())?,
+    steps: &[Request],
+) -> Result<(), Memory>
+    ensures { OnOk result (Reports names.now world.old steps.now world.new
+        (string_bytes report.old) (string_bytes report.new)) }
+{
+    'steps: for request in steps {
+        put_request(report, names, world, *request)?;
     }
     Ok(())
 }
 
-/// Does a relayout and writes its line.
-fn play_relayout(report: &mut String, world: &mut World, split: Split) -> Result<(), Memory> {
-    let name = match split {
-        Split::Wide => "wide",
-        Split::Deep => "deep",
-    };
-    match world.relayout(split) {
-        Ok(inflated) => writeln!(report, "relayout {name} inflated {inflated}")?,
-        Err(RelayoutFault::Memory) => return Err(Memory),
-        Err(fault) => writeln!(report, "fault {} {fault}", fault.number())?,
+/// Does a step or a relayout, and writes its line.
+fn put_request(
+    report: &mut String,
+    names: &Names,
+    world: &mut World,
+    request: Request,
+) -> Result<(), Memory>
+    ensures { OnOk result (Reported names.now world.old request world.new
+        (string_bytes report.old) (string_bytes report.new)) }
+{
+    match request {
+        Request::Step(step) => {
+            let answer = world.step(step);
+            put_answer(report, names, world, step, answer)
+        }
+        Request::Relayout(split) => {
+            let answer = world.relayout(split);
+            put_relayout(report, split, answer)
+        }
+    }
+}
+
+/// Writes the line of a step that answered this, unless it is want of memory.
+fn put_answer(
+    report: &mut String,
+    names: &Names,
+    world: &World,
+    step: Step,
+    answer: Result<Did, Fault>,
+) -> Result<(), Memory>
+    ensures told { OnOk result (string_bytes report.new
+        ≡ string_bytes report.old ++ step_text names.now world.now step answer) }
+    ensures memory { OnOk result (answer ≡ Err OutOfMemory → ⊥) }
+{
+    match answer {
+        Ok(did) => put_step(report, names, world, step, did)?,
+        Err(Fault::Memory) => return Err(Memory),
+        Err(fault) => put_fault(report, fault)?,
     }
     Ok(())
+}
+
+fn put_fault(report: &mut String, fault: Fault) -> Result<(), AllocError>
+    ensures { OnOk result (string_bytes report.new ≡ string_bytes report.old
+        ++ codes "fault " ++ decimal (fault_number fault) ++ 32 ∷ fault_name fault ++ 10 ∷ []) }
+{
+    let number = fault.number();
+    writeln!(report, "fault {number} {fault}")
+}
+
+/// Writes the line of a relayout that answered this, unless it is want of memory.
+fn put_relayout(
+    report: &mut String,
+    split: Split,
+    answer: Result<u32, RelayoutFault>,
+) -> Result<(), Memory>
+    ensures told { OnOk result (string_bytes report.new
+        ≡ string_bytes report.old ++ relayout_text split answer) }
+    ensures memory { OnOk result (answer ≡ Err NoMemory → ⊥) }
+{
+    let name = split_word(split);
+    match answer {
+        Ok(inflated) => writeln!(report, "relayout {name} inflated {inflated}")?,
+        Err(RelayoutFault::Memory) => return Err(Memory),
+        Err(fault) => {
+            let number = fault.number();
+            writeln!(report, "fault {number} {fault}")?
+        }
+    }
+    Ok(())
+}
+
+fn split_word(split: Split) -> &'static str
+    ensures { result.now ≡ split_name split }
+{
+    match split {
+        Split::Wide => "wide",
+        Split::Deep => "deep",
+    }
 }
 
 /// Writes the line of a step that was accepted.
@@ -58,7 +131,10 @@ fn put_step(
     world: &World,
     step: Step,
     did: Did,
-) -> Result<(), AllocError> {
+) -> Result<(), AllocError>
+    ensures { OnOk result (string_bytes report.new
+        ≡ string_bytes report.old ++ did_text names.now world.now step did) }
+{
     match step {
         Step::Attach { thread } => {
             let name = names.name_of_thread(thread);
@@ -82,26 +158,38 @@ fn put_step(
             let name = names.name_of_thread(thread);
             write!(report, "go {name} ")?;
             put_atomic(report, names, did.atomic)?;
-            match did {
-                Did {
-                    reply: Some(reply),
-                    ..
-                } => writeln!(report, " = {reply}"),
-                Did {
-                    atomic: Atomic::Acted {
-                        answer: Answer::Parked,
-                        ..
-                    },
-                    ..
-                } => writeln!(report, " = parked"),
-                Did { .. } => writeln!(report),
-            }
+            put_ending(report, did)
         }
     }
 }
 
+/// Ends the line of a `go`: with the reply, where the call ended, or with ` = parked`, where the thread
+/// stands in a line now.
+fn put_ending(report: &mut String, did: Did) -> Result<(), AllocError>
+    ensures { OnOk result (string_bytes report.new
+        ≡ string_bytes report.old ++ ending_text did.reply did.atomic ++ 10 ∷ []) }
+{
+    match did {
+        Did {
+            reply: Some(reply),
+            ..
+        } => writeln!(report, " = {reply}"),
+        Did {
+            atomic: Atomic::Acted {
+                answer: Answer::Parked,
+                ..
+            },
+            ..
+        } => writeln!(report, " = parked"),
+        Did { .. } => writeln!(report),
+    }
+}
+
 /// Writes what a step did to the words or the fat monitors.
-fn put_atomic(report: &mut String, names: &Names, atomic: Atomic) -> Result<(), AllocError> {
+fn put_atomic(report: &mut String, names: &Names, atomic: Atomic) -> Result<(), AllocError>
+    ensures { OnOk result (string_bytes report.new
+        ≡ string_bytes report.old ++ atomic_text names.now atomic) }
+{
     match atomic {
         Atomic::Label => Ok(()),
         Atomic::Load { object, word } => {
@@ -110,7 +198,8 @@ fn put_atomic(report: &mut String, names: &Names, atomic: Atomic) -> Result<(), 
         }
         Atomic::Won { object, old, new } => {
             let object = names.name_of_object(object);
-            write!(report, "won {object} {old} {new}")
+            write!(report, "won {object} ")?;
+            put_exchange(report, old, new)
         }
         Atomic::Lost { object, word } => {
             let object = names.name_of_object(object);
@@ -118,7 +207,8 @@ fn put_atomic(report: &mut String, names: &Names, atomic: Atomic) -> Result<(), 
         }
         Atomic::Stored { object, old, new } => {
             let object = names.name_of_object(object);
-            write!(report, "store {object} {old} {new}")
+            write!(report, "store {object} ")?;
+            put_exchange(report, old, new)
         }
         Atomic::Bound { object, monitor } => {
             let object = names.name_of_object(object);
@@ -132,34 +222,87 @@ fn put_atomic(report: &mut String, names: &Names, atomic: Atomic) -> Result<(), 
     }
 }
 
+/// Writes the words before and after an exchange or a store.
+fn put_exchange(report: &mut String, old: Word, new: Word) -> Result<(), AllocError>
+    ensures { OnOk result (string_bytes report.new
+        ≡ string_bytes report.old ++ exchange_text old new) }
+{
+    put_word(report, old)?;
+    write!(report, " ")?;
+    put_word(report, new)
+}
+
+#[tactic(auto, unfolding(crate::specs::Reports::shown_word))]
+fn put_word(report: &mut String, word: Word) -> Result<(), AllocError>
+    ensures { OnOk result (string_bytes report.new ≡ string_bytes report.old ++ shown_word word) }
+{
+    write!(report, "{word}")
+}
+
 /// Writes a line for each object of a world.
 fn put_objects(
     alloc: Global,
     report: &mut String,
     names: &Names,
     world: &World,
-) -> Result<(), AllocError> {
+) -> Result<(), AllocError>
+    ensures { OnOk result (string_bytes report.new ≡ string_bytes report.old
+        ++ object_lines names.now world.now (shown world.now).objects) }
+{
     let wait_sets = wait_sets_of(alloc, names, world)?;
-    for number in 0..world.objects() {
-        let object = ObjectId(number);
-        let name = names.name_of_object(object);
-        let word = world.word(object);
-        let owner = match world.owner(object) {
-            Some(thread) => names.name_of_thread(thread),
-            None => "-",
-        };
-        let holds = world.holds(object);
-        write!(
-            report,
-            "object {name} {word} owner {owner} holds {holds} waiting "
-        )?;
-        match wait_sets.get(number as usize) {
-            Some(threads) => put_threads(report, names, threads)?,
-            None => write!(report, "-")?,
-        }
-        writeln!(report)?;
+    'objects: for number in 0..world.objects() {
+        let threads = &wait_sets[number as usize];
+        put_object(report, names, world, ObjectId(number), threads)?;
     }
     Ok(())
+}
+
+/// Writes the line of an object, in whose wait set these threads are.
+fn put_object(
+    report: &mut String,
+    names: &Names,
+    world: &World,
+    object: ObjectId,
+    waiting: &[ThreadId],
+) -> Result<(), AllocError>
+    requires { object.0 < length world.now.words }
+    ensures { OnOk result (string_bytes report.new ≡ string_bytes report.old
+        ++ object_text names.now world.now object waiting.now) }
+{
+    let name = names.name_of_object(object);
+    write!(report, "object {name} ")?;
+    put_word(report, world.word(object))?;
+    put_standing(report, names, world, object)?;
+    write!(report, " waiting ")?;
+    put_threads(report, names, waiting)?;
+    writeln!(report)
+}
+
+/// Writes who owns an object, and how often.
+#[tactic(auto, unfolding(crate::specs::Reports::standing_text))]
+fn put_standing(
+    report: &mut String,
+    names: &Names,
+    world: &World,
+    object: ObjectId,
+) -> Result<(), AllocError>
+    requires { object.0 < length world.now.words }
+    ensures { OnOk result (string_bytes report.new
+        ≡ string_bytes report.old ++ standing_text names.now world.now object) }
+{
+    let owner = owner_name(names, world.owner(object));
+    let holds = world.holds(object);
+    write!(report, " owner {owner} holds {holds}")
+}
+
+/// The name of an owner, or `-`.
+fn owner_name(names: &Names, owner: Option<ThreadId>) -> &str
+    ensures { result.now ≡ owner_text names.now owner }
+{
+    match owner {
+        Some(thread) => names.name_of_thread(thread),
+        None => "-",
+    }
 }
 
 /// The threads in the wait set of each object, by rising number.
@@ -167,36 +310,68 @@ fn wait_sets_of(
     alloc: Global,
     names: &Names,
     world: &World,
-) -> Result<Vec<Vec<ThreadId>>, AllocError> {
-    let mut wait_sets = Vec::new(alloc);
-    for _ in 0..world.objects() {
-        wait_sets.push(Vec::new(alloc))?;
-    }
-    for number in 0..names.thread_count() {
-        let thread = ThreadId(number);
-        let Some(Doing::Waits { object, .. }) = world.doing(thread) else {
-            continue;
-        };
-        let Some(threads) = wait_sets.get_mut(object.0 as usize) else {
-            continue;
-        };
-        if object.0 < world.objects() && world.waiting(object, thread) {
-            threads.push(thread)?;
-        }
+) -> Result<Vec<Vec<ThreadId>>, AllocError>
+    ensures { IfOk result (λ sets. AreWaitSets world.now (length names.now.threads) sets.items) }
+{
+    let mut wait_sets = empty_sets(alloc, world.objects())?;
+    'threads: for number in 0..names.thread_count() {
+        add_waiter(&mut wait_sets, world, ThreadId(number))?;
     }
     Ok(wait_sets)
 }
 
-/// Writes the names of some threads between commas, or `-` where there is none.
-fn put_threads(report: &mut String, names: &Names, threads: &[ThreadId]) -> Result<(), AllocError> {
-    if threads.is_empty() {
-        return write!(report, "-");
+/// Some sets of no threads.
+fn empty_sets(alloc: Global, count: u32) -> Result<Vec<Vec<ThreadId>>, AllocError>
+    ensures { IfOk result (λ sets. AreEmpty count sets.items) }
+{
+    let mut sets = Vec::new(alloc);
+    'sets: for _ in 0..count {
+        sets.push(Vec::new(alloc))?;
     }
-    let mut separator = "";
-    for thread in threads {
+    Ok(sets)
+}
+
+/// Adds a thread to the wait set in which it is, if it is in one.
+fn add_waiter(
+    wait_sets: &mut Vec<Vec<ThreadId>>,
+    world: &World,
+    thread: ThreadId,
+) -> Result<(), AllocError>
+    requires { length wait_sets.old.items ≡ length world.now.words }
+    ensures { OnOk result (IsAdded world.now thread wait_sets.old.items wait_sets.new.items) }
+{
+    let Some(Doing::Waits { object, .. }) = world.doing(thread) else {
+        return Ok(());
+    };
+    wait_sets[object.0 as usize].push(thread)?;
+    Ok(())
+}
+
+/// Writes the names of some threads between commas, or `-` where there is none.
+fn put_threads(report: &mut String, names: &Names, threads: &[ThreadId]) -> Result<(), AllocError>
+    ensures { OnOk result (string_bytes report.new
+        ≡ string_bytes report.old ++ threads_text names.now threads.now) }
+{
+    let [first, rest @ ..] = threads else {
+        return write!(report, "-");
+    };
+    let name = names.name_of_thread(*first);
+    write!(report, "{name}")?;
+    put_more_threads(report, names, rest)
+}
+
+/// Writes the names of some threads, each behind a comma.
+fn put_more_threads(
+    report: &mut String,
+    names: &Names,
+    threads: &[ThreadId],
+) -> Result<(), AllocError>
+    ensures { OnOk result (string_bytes report.new
+        ≡ string_bytes report.old ++ more_threads_text names.now threads.now) }
+{
+    'threads: for thread in threads {
         let name = names.name_of_thread(*thread);
-        write!(report, "{separator}{name}")?;
-        separator = ",";
+        write!(report, ",{name}")?;
     }
     Ok(())
 }

@@ -5,6 +5,8 @@ ghost use Rattle.std.specs.Io.KnownBytes.{Keeps, Appends};
 ghost use Rattle.history_text.specs.Lines.{IsFirstBad};
 ghost use Rattle.history_text.specs.Scripts.{IsReasonFor, IsScriptText};
 ghost use Rattle.history.specs.Plans.{IsPlanOf};
+ghost use Rattle.history.specs.Reports.{IsReportOf};
+ghost use Rattle.history.specs.declared.plans.Plan.{Plan as PlanData};
 ghost use Rattle.history_streams.specs.declared.faults.FileFault.TheVariants.{BadLine, Read as ReadFault, Write as WriteFault, Memory};
 
 use crate::plans::{Plan, plan_of};
@@ -22,8 +24,9 @@ const CHUNK: usize = 4096;
 pub fn run<S: Source, W: Sink>(alloc: Global, source: &mut S, sink: &mut W) -> Result<(), FileFault>
     requires { S.given source.old ≡ 0 }
     // At Ok, neither end has failed in the run, the bytes were the text of a script within its limit,
-    // and the whole of a report was written.
-    ensures written { OnOk result ((report : List ℕ)
+    // and the whole of its report was written.
+    ensures written { OnOk result ((plan : PlanData) × IfSome (S.left source.old) (IsPlanOf plan)
+        × (report : List ℕ) × IsReportOf plan report
         × Appends (W.holds sink.old) (W.holds sink.new) report) }
     ensures read_whole { OnOk result (S.has_failed source.new → S.has_failed source.old) }
     ensures written_whole { OnOk result (W.has_failed sink.new → W.has_failed sink.old) }
@@ -31,14 +34,16 @@ pub fn run<S: Source, W: Sink>(alloc: Global, source: &mut S, sink: &mut W) -> R
     ensures within { OnOk result (IfSome (S.left source.old) (λ input. length input ≤ MOST_BYTES)) }
 
     // Else a fault tells its cause, and only where writing failed was something written: the front of
-    // a report.
+    // the report.
     ensures bad_line { (line : ℕ) → result ≡ Err (BadLine line)
         → IfSome (S.left source.old) (λ input. IsFirstBad input line) }
     ensures read { IsErrOf result ReadFault
         → S.has_failed source.new ⊎ MOST_BYTES < S.given source.new }
     ensures write { IsErrOf result WriteFault → W.has_failed sink.new }
-    ensures cut { IsErrOf result WriteFault → (report : List ℕ) × (n : ℕ)
-        × Appends (W.holds sink.old) (W.holds sink.new) (take n report) }
+    ensures cut { IsErrOf result WriteFault → (plan : PlanData)
+        × IfSome (S.left source.old) (IsPlanOf plan)
+        × (report : List ℕ) × IsReportOf plan report
+        × (n : ℕ) × Appends (W.holds sink.old) (W.holds sink.new) (take n report) }
     ensures unwritten { IfErr result (λ fault.
         (fault ≡ WriteFault) ⊎ Keeps (W.holds sink.old) (W.holds sink.new)) }
 {

@@ -1,13 +1,14 @@
 use Rattle.std.proofs.Common.{string_bytes}
-use Rattle.history.proofs.Telling.{moves_written, moves_cut}
+use Rattle.history.specs.Histories.{IsHistoryOf}
+use Rattle.history.proofs.Telling.{text_written, text_cut}
 use Rattle.history.proofs.histories.moves.Goals as goal
 
 pub returns-clause-written : goal.returns-clause-written
 returns-clause-written g c =
-    moves_written c.write_out.result (g.S.Source.left c.args.source.now) (g.W.Sink.holds c.args.sink.now) (g.W.Sink.holds c.write_out.new.sink) c.in_ok-plan.plan c.in_ok-bytes.bytes.items c.deref.result.now
+    text_written IsHistoryOf c.write_out.result (g.S.Source.left c.args.source.now) (g.W.Sink.holds c.args.sink.now) (g.W.Sink.holds c.write_out.new.sink) c.in_ok-plan.plan c.in_ok-bytes.bytes.items c.deref.result.now
     c.as_bytes.result.now (string_bytes c.in_ok-history.history) c.in_ok-bytes.ensures.all c.deref.ensures.value c.in_ok-plan.ensures.a_plan c.in_ok-history.ensures c.as_bytes.ensures.value c.write_out.ensures.ok
 
 pub returns-clause-cut : goal.returns-clause-cut
 returns-clause-cut g c =
-    moves_cut c.write_out.result _ (g.S.Source.left c.args.source.now) (g.W.Sink.holds c.args.sink.now) (g.W.Sink.holds c.write_out.new.sink) c.in_ok-plan.plan c.in_ok-bytes.bytes.items c.deref.result.now
+    text_cut IsHistoryOf c.write_out.result _ (g.S.Source.left c.args.source.now) (g.W.Sink.holds c.args.sink.now) (g.W.Sink.holds c.write_out.new.sink) c.in_ok-plan.plan c.in_ok-bytes.bytes.items c.deref.result.now
     c.as_bytes.result.now (string_bytes c.in_ok-history.history) c.in_ok-bytes.ensures.all c.deref.ensures.value c.in_ok-plan.ensures.a_plan c.in_ok-history.ensures c.as_bytes.ensures.value c.write_out.ensures.prefix
