@@ -4,3 +4,9 @@ pub mod Keeping
 pub mod Replaying
 pub mod Books
 pub mod Refusals
+pub mod Asking
+pub mod Going
+pub mod Gates
+pub mod Words
+pub mod Rows
+pub mod Ends

@@ -2,3 +2,8 @@ pub mod Log
 pub mod Places
 pub mod Book
 pub mod Names
+pub mod Asked
+pub mod Ways
+pub mod Points
+pub mod Numbers
+pub mod Ends

@@ -1,6 +1,6 @@
 //! The book: the fat monitors, and the record of all that was done to them.
 
-ghost use Rattle.std.specs.Prelude.{◌≡◌, ◌≤◌, ◌+◌, ◌↔◌, IfOk, OnErr, OnOk, IsErrOf, IsOk, length, [], ◌∷◌, ◌++◌, IsSome, true, false};
+ghost use Rattle.std.specs.Prelude.{◌≡◌, ◌<◌, ◌≤◌, ◌+◌, ◌↔◌, IfOk, OnErr, OnOk, IsErrOf, IsOk, length, [], ◌∷◌, ◌++◌, IsSome, true, false};
 ghost use Rattle.live_turns.specs.declared.faults.LiveFault.{LiveFault};
 ghost use Rattle.fat_monitor.specs.FatState.{IsSound, object_at, post_of};
 ghost use Rattle.fat_monitor.specs.Acting.{MayAct, NamesBound};
@@ -115,6 +115,13 @@ impl Book {
         ensures answer { result ≡ bind_answer self.old thread object holds }
         ensures ok { OnOk result (self.new ≡ after_bind self.old thread object holds) }
         ensures bindings { OnOk result (bindings self.new ≡ bindings self.old ++ object ∷ []) }
+        ensures receipt { IfOk result (λ r. r ≡ record {
+          object = object;
+          owner = thread;
+          holds = holds;
+          monitor = length (bindings self.old);
+        }) }
+        ensures place { OnOk result (length self.old.log < self.old.places) }
         ensures err { OnErr result (self.new ≡ self.old) }
     {
         if self.free() < u32::from(holds) + 1 {
@@ -144,6 +151,8 @@ impl Book {
         ensures answer { result ≡ act_answer self.old thread action }
         ensures ok { IfOk result (λ d. self.new ≡ after_act self.old thread action d.answer) }
         ensures bindings { bindings self.new ≡ bindings self.old }
+        ensures limit { OnOk result (self.new.fats.limit ≡ self.old.fats.limit) }
+        ensures place { OnOk result (length self.old.log < self.old.places) }
         ensures err { OnErr result (self.new ≡ self.old) }
     {
         if self.free() < self.need(thread, action) {
@@ -171,6 +180,7 @@ impl Book {
         ensures answer { result ≡ tick_answer self.old now }
         ensures ok { OnOk result (self.new ≡ after_tick self.old thread now) }
         ensures bindings { bindings self.new ≡ bindings self.old }
+        ensures place { OnOk result (length self.old.log < self.old.places) }
         ensures err { OnErr result (self.new ≡ self.old) }
     {
         if self.free() < 1 {
@@ -190,6 +200,7 @@ impl Book {
     pub fn check(&self, thread: ThreadId, parked: bool, full: bool) -> Result<(), LiveFault>
         ensures torn { IsErrOf result LiveFault.Torn ↔ (is_torn self.now thread parked full ≡ true) }
         ensures whole { IsOk result ↔ (is_torn self.now thread parked full ≡ false) }
+        ensures thread { OnOk result (IsThreadOf self.now.passes thread) }
     {
         let Some(post) = self.post(thread) else {
             return Err(LiveFault::Torn);
@@ -223,6 +234,13 @@ impl Book {
         self.passes
     }
 
+    /// How many places the record has.
+    pub(crate) fn places(&self) -> u32
+        ensures { result ≡ self.now.places }
+    {
+        self.places
+    }
+
     /// The moment that was told last, in nanoseconds; 0 at first.
     pub fn now(&self) -> u64
         ensures { result ≡ self.now.fats.moment }
@@ -254,6 +272,17 @@ impl Book {
             (nothing_bound self.now.passes self.now.fats.limit) self.now.log self.now.fats }
     {
         self.log.as_slice()
+    }
+
+    /// The record, of which nothing more is made.
+    pub fn into_log(self) -> Vec<Logged>
+        ensures log { result.items ≡ self.log }
+        ensures replays { Replays self.passes
+            (nothing_bound self.passes self.fats.limit) result.items self.fats }
+        ensures sound { IsSound self.fats }
+    {
+        let Book { log, .. } = self;
+        log
     }
 
     /// How many free places an action of a thread needs.

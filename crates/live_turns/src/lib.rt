@@ -4,13 +4,32 @@
 //! memory after the opening, or knows of threads of the system.
 #![tactic(auto)]
 
+mod agreeing;
 mod book;
+mod closed;
 mod deeds;
+mod desks;
+mod driving;
+mod ending;
 mod faults;
+mod holders;
+mod looking;
+mod numbered;
+mod opening;
+mod pass;
 mod places;
 #[cfg(test)]
 mod tests;
+mod turned;
+mod turning;
+mod turns;
 
 pub use book::Book;
+pub use closed::{Closed, TurnsClose};
 pub use deeds::{Deed, Logged};
+pub use desks::Crew;
 pub use faults::{BookFault, LiveFault};
+pub use numbered::{Numbered, has_each};
+pub use pass::TurnPass;
+pub use turned::{Standing, Turned};
+pub use turns::Turns;

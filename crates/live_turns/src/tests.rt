@@ -5,6 +5,8 @@ ghost use Rattle.fat_monitor.specs.FatState.{FatState};
 ghost use Rattle.fat_monitor.specs.Acting.{NamesBound};
 ghost use Rattle.live_turns.specs.Log.{IsThreadOf, IsForBook};
 
+mod turns;
+
 use crate::{Book, BookFault, Deed, LiveFault, Logged};
 use fat_monitor::{Action, Answer, Done, Post, Reply};
 use header_words::Kept;

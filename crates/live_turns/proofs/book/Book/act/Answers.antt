@@ -1,5 +1,9 @@
-use Rattle.std.proofs.Common.{arith}
-use Rattle.live_turns.proofs.Refusals.{refused_after}
+use Rattle.std.specs.Prelude.{◌<◌, length, Ok}
+use Rattle.std.proofs.Common.{arith, ap, ◌∙◌, subst}
+use Rattle.fat_monitor.specs.FatState.{FatState}
+use Rattle.fat_monitor.proofs.MonitorEffects.{limit-acted}
+use Rattle.live_turns.specs.Book.{BookState}
+use Rattle.live_turns.proofs.Refusals.{refused_after, done_after}
 use Rattle.live_turns.proofs.Books.{acts_on}
 use Rattle.live_turns.proofs.book.Book.act.Goals as goal
 
@@ -37,3 +41,18 @@ invariant_of-self-in-Err-NotDue c = rw (refused_after c.self.inside.fats c.act.n
 
 pub invariant_of-self-in-Err-Parked : goal.invariant_of-self-in-Err-Parked
 invariant_of-self-in-Err-Parked c = rw (refused_after c.self.inside.fats c.act.new.self c.args.thread c.args.action _ c.in-Err-Parked.ensures.table) c.self.invariant
+
+pub returns-in-Ok-clause-limit : goal.returns-in-Ok-clause-limit
+returns-in-Ok-clause-limit c =
+    ap (λ (f : FatState). f.limit) (done_after c.self.inside.fats c.act.new.self c.args.thread c.args.action (Ok c.in-Ok.done) c.in-Ok.ensures.table)
+    ∙ (limit-acted c.self.inside.fats c.args.thread c.args.action ∙ ap (λ (b : BookState). b.fats.limit) c.self.view_is)
+
+pub returns-in-Ok-clause-place : goal.returns-in-Ok-clause-place
+returns-in-Ok-clause-place c =
+    let one =
+    (acts_on (record { fats = c.self.inside.fats; log = c.self.inside.log.items; passes = c.self.inside.passes; places = c.self.inside.places }) c.args.self.now c.args.thread c.args.action
+    c.in-Ok.done c.act.new.self c.self.inside.kept c.free.result c.need.result c.gained-gained.result c.freed-freed.result c.waiting-waited.result c.waiting.result
+    c.self.view_is c.self.invariant.0 c.self.invariant.1 c.requires.thread c.requires.action c.requires.ready c.requires.bound c.free.ensures.free c.need.ensures
+    (let enough = c.if-free-need.false in omega arith) c.in-Ok.ensures.table c.in-Ok.ensures.sound c.waiting-waited.ensures c.waiting.ensures c.gained-gained.ensures c.freed-freed.ensures).place in
+    let less : length c.self.inside.log.items < c.self.inside.places = omega arith in
+    subst (λ (b : BookState). length b.log < b.places) c.self.view_is less

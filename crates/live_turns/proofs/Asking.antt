@@ -1,0 +1,148 @@
+-- What a desk may ask of its book, and what its answers are.
+use Rattle.std.specs.Prelude.{◌≡◌, ◌<◌, ℕ, Bool, true, false, if◌then◌else◌, Option, Some, None, IsSome, length, Result, Ok, Err, MatchResult}
+use Rattle.std.proofs.Common.{refl, arith, sym, ap, subst}
+use Rattle.std.proofs.lemmas.Option.{slice_get_within}
+use Rattle.std.proofs.lemmas.List.{length-map}
+use Rattle.lock_word.specs.declared.ThreadId.{ThreadId}
+use Rattle.fat_monitor.specs.declared.actions.Action.{Action}
+use Rattle.fat_monitor.specs.declared.actions.Action.TheVariants as action
+use Rattle.fat_monitor.specs.declared.actions.Done.{Done}
+use Rattle.fat_monitor.specs.declared.actions.ActFault.{ActFault}
+use Rattle.fat_monitor.specs.declared.actions.Answer.{Answer}
+use Rattle.fat_monitor.specs.declared.actions.Answer.TheVariants as answer
+use Rattle.fat_monitor.specs.declared.actions.Reply.{Reply}
+use Rattle.fat_monitor.specs.declared.actions.Post.{Post}
+use Rattle.fat_monitor.specs.declared.actions.Post.TheVariants.{Out, Entering, Waiting, Back, Granted}
+use Rattle.fat_monitor.specs.declared.monitors.Monitor.{Monitor}
+use Rattle.fat_monitor.specs.FatState.{FatState, post_of, post_at, objects_of, IsAttached}
+use Rattle.fat_monitor.specs.Acting.{Outcome, acted, collected, expired, not_due, told, MayAct, NamesBound}
+use Rattle.fast_path.specs.declared.calls.Operation.{Operation}
+use Rattle.fast_path.specs.declared.calls.Operation.TheVariants as op
+use Rattle.fast_path.specs.declared.calls.InterruptCall.{InterruptCall}
+use Rattle.fast_path.specs.declared.calls.InterruptCall.TheVariants as about
+use Rattle.header_words.specs.Bindings.{Binds}
+use Rattle.step_core.specs.Go.{action_on, action_about}
+use Rattle.step_core.specs.Ready.{IsOwnAction}
+use Rattle.step_core.specs.Path.{IsTold}
+use Rattle.step_core.proofs.Clauses.Patient.{done, own_on, own_about}
+use Rattle.live_turns.specs.Log.{IsForBook}
+use Rattle.live_turns.specs.Asked.{own_action, IsAwake}
+
+pub on_for_book : (p : Operation) (m : ℕ) → IsForBook (action_on p m)
+on_for_book op.Enter m = tt
+on_for_book op.Exit m = tt
+on_for_book (op.Wait millis nanos) m = tt
+on_for_book op.Notify m = tt
+on_for_book op.NotifyAll m = tt
+on_for_book op.Holds m = tt
+
+pub on_may_act : (f : FatState) (t : ThreadId) (p : Operation) (m : ℕ) → post_of f t ≡ Some Out → MayAct f t (action_on p m)
+on_may_act f t op.Enter m h = h
+on_may_act f t op.Exit m h = h
+on_may_act f t (op.Wait millis nanos) m h = h
+on_may_act f t op.Notify m h = h
+on_may_act f t op.NotifyAll m h = h
+on_may_act f t op.Holds m h = h
+
+within : (f : FatState) (m o : ℕ) → Binds (objects_of f) m o → m < length f.monitors
+within f m o h =
+    let same : length (objects_of f) ≡ length f.monitors = length-map f.monitors (λ (x : Monitor). x.object) in
+    let lt : m < length (objects_of f) = slice_get_within (objects_of f) m (record { 0 = o }) h in omega arith
+
+pub on_names_bound : (f : FatState) (p : Operation) (m o : ℕ) → Binds (objects_of f) m o → NamesBound f (action_on p m)
+on_names_bound f op.Enter m o h = within f m o h
+on_names_bound f op.Exit m o h = within f m o h
+on_names_bound f (op.Wait millis nanos) m o h = within f m o h
+on_names_bound f op.Notify m o h = within f m o h
+on_names_bound f op.NotifyAll m o h = within f m o h
+on_names_bound f op.Holds m o h = within f m o h
+
+pub about_for_book : (c : InterruptCall) → IsForBook (action_about c)
+about_for_book (about.Interrupt u) = tt
+about_for_book about.Interrupted = tt
+about_for_book (about.IsInterrupted u) = tt
+
+pub about_may_act : (f : FatState) (t : ThreadId) (c : InterruptCall) → post_of f t ≡ Some Out → MayAct f t (action_about c)
+about_may_act f t (about.Interrupt u) h = h
+about_may_act f t about.Interrupted h = h
+about_may_act f t (about.IsInterrupted u) h = h
+
+pub about_names_bound : (f : FatState) (c : InterruptCall) → NamesBound f (action_about c)
+about_names_bound f (about.Interrupt u) = tt
+about_names_bound f about.Interrupted = tt
+about_names_bound f (about.IsInterrupted u) = tt
+
+-- what was done by an action of a call's own replied or parked
+told_by : (f : FatState) (t : ThreadId) (a : Action) (d : Done) → IsOwnAction a → (acted f t a).answer ≡ Ok d → IsTold d.answer
+told_by f t a d own e = subst (λ (r : Result Done ActFault). MatchResult r (λ d. IsTold d.answer) (λ e. ⊥)) e (done f t a own)
+
+pub told_on : (f : FatState) (t : ThreadId) (p : Operation) (m : ℕ) (d : Done) → (acted f t (action_on p m)).answer ≡ Ok d → IsTold d.answer
+told_on f t p m d e = told_by f t (action_on p m) d (own_on p m) e
+
+pub told_about : (f : FatState) (t : ThreadId) (c : InterruptCall) (d : Done) → (acted f t (action_about c)).answer ≡ Ok d → IsTold d.answer
+told_about f t c d e = told_by f t (action_about c) d (own_about c) e
+
+pub attached : (f : FatState) (t : ThreadId) (p : Post) → post_of f t ≡ Some p → IsAttached f t
+attached f t p e = subst (λ (x : Option Post). IsSome x) (sym e) refl
+
+-- what an outcome answers, if it does
+abbrev answer_in : Result Done ActFault → Answer
+answer_in (Ok d) = d.answer
+answer_in (Err e) = answer.Parked
+
+-- a collect that is made has a reply
+collect_of : (f : FatState) (t : ThreadId) (p : Post) (d : Done) → (collected f t p).answer ≡ Ok d → (r : Reply) × (d.answer ≡ answer.Reply r)
+collect_of f t (Granted r) d e = (r, sym (ap answer_in e))
+collect_of f t Out d e = absurd (cc)
+collect_of f t (Entering m) d e = absurd (cc)
+collect_of f t (Waiting m n x) d e = absurd (cc)
+collect_of f t (Back m n w) d e = absurd (cc)
+
+pub collect_replies : (f : FatState) (t : ThreadId) (d : Done) → (acted f t action.Collect).answer ≡ Ok d → (r : Reply) × (d.answer ≡ answer.Reply r)
+collect_replies f t d e = collect_of f t (post_at f t) d e
+
+-- an expire that is made is quiet
+Quietly : Outcome → Type 0
+Quietly o = (d : Done) → o.answer ≡ Ok d → d.answer ≡ answer.Quiet
+
+not_due_quiet : (f : FatState) → Quietly (not_due f)
+unfolding Quietly
+not_due_quiet f d e = absurd (cc)
+
+quiet_told : (f : FatState) (g c : Option ThreadId) → Quietly (told f answer.Quiet g c)
+unfolding Quietly
+quiet_told f g c d e = sym (ap answer_in e)
+
+-- an outcome by cases
+either : (b : Bool) (x y : Outcome) → Quietly x → Quietly y → Quietly (if b then x else y)
+either true x y h k = h
+either false x y h k = k
+
+expire_of : (f : FatState) (t : ThreadId) (p : Post) → Quietly (expired f t p)
+expire_of f t (Waiting m n (Some x)) = either _ _ _ (not_due_quiet f) (quiet_told _ _ _)
+expire_of f t (Waiting m n None) = not_due_quiet f
+expire_of f t Out = not_due_quiet f
+expire_of f t (Entering m) = not_due_quiet f
+expire_of f t (Back m n w) = not_due_quiet f
+expire_of f t (Granted r) = not_due_quiet f
+
+pub expire_quiet : (f : FatState) (t : ThreadId) (d : Done) → (acted f t action.Expire).answer ≡ Ok d → d.answer ≡ answer.Quiet
+unfolding Quietly
+expire_quiet f t d e = expire_of f t (post_at f t) d e
+
+-- What the list of a pass's own gets by a deed of the thread's own, where the answer is the one that comes of it.
+pub collect_action : (d : Done) → (r : Reply) × (d.answer ≡ answer.Reply r) → own_action d.answer ≡ action.Collect
+collect_action d h = ap own_action h.1
+
+pub expire_action : (d : Done) → d.answer ≡ answer.Quiet → own_action d.answer ≡ action.Expire
+expire_action d h = ap own_action h
+
+pub collect_awake : (b : Bool) (d : Done) → (r : Reply) × (d.answer ≡ answer.Reply r) → IsAwake b d.answer
+collect_awake b d h = subst (λ (x : Answer). IsAwake b x) (sym h.1) tt
+
+pub expire_awake : (b : Bool) (d : Done) → b ≡ false → d.answer ≡ answer.Quiet → IsAwake b d.answer
+expire_awake b d first h = subst (λ (x : Answer). IsAwake b x) (sym h) first
+
+pub ruleset asking = (on_for_book, on_may_act, on_names_bound, about_for_book, about_may_act, about_names_bound, told_on, told_about)
+
+pub ruleset waking = (attached, collect_replies, expire_quiet, collect_action, expire_action, collect_awake, expire_awake)

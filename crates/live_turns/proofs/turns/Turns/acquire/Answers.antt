@@ -1,0 +1,32 @@
+use Rattle.std.specs.Prelude.{true, false}
+use Rattle.std.proofs.Common.{refl, ap, sym, subst}
+use Rattle.step_core.specs.declared.places.Place.TheVariants.{InCall}
+use Rattle.step_core.specs.declared.places.Stage.TheVariants.{Taking, Won}
+use Rattle.step_core.specs.declared.paths.Point.{Point}
+use Rattle.step_core.specs.declared.paths.Point.TheVariants.{At}
+use Rattle.live_turns.specs.declared.turned.Turned.{Turned}
+use Rattle.live_turns.specs.Ways.{Holding, Went}
+use Rattle.live_turns.proofs.Going.{went_then}
+use Rattle.live_turns.proofs.Words.{win_way, lose_way}
+use Rattle.live_turns.proofs.turns.Turns.acquire.Goals as goal
+
+pub returns-then-not-acquire-clause-went : goal.returns-then-not-acquire-clause-went
+returns-then-not-acquire-clause-went g c =
+    let p : Holding = record { words = c.holder.inside.words; own = c.holder.inside.own.list.items } in
+    let q : Holding = record { words = c.acquire.new.pass; own = c.holder.inside.own.list.items } in
+    rw (← c.holder.view_is) (subst (λ (u : Point). Went (At (InCall (Taking c.args.object c.args.contended))) u p q) (sym (ap (λ (x : Turned). x.point) c.at.ensures))
+    (lose_way c.args.object c.args.contended c.if-not-acquire.ensures.lost.0 p q c.if-not-acquire.ensures.lost.1 refl))
+
+pub returns-then-contended-clause-went : goal.returns-then-contended-clause-went
+returns-then-contended-clause-went g c =
+    let p : Holding = record { words = c.holder.inside.words; own = c.holder.inside.own.list.items } in
+    let q : Holding = record { words = c.acquire.new.pass; own = c.holder.inside.own.list.items } in
+    rw (← c.holder.view_is, c.if-contended.true) (went_then (At (InCall (Taking c.args.object true))) (At (InCall (Won c.args.object))) c.settle.result.point p q c.settle.new.holder
+    (win_way c.args.object true _ p q c.if-not-acquire.ensures.won refl) c.settle.ensures.went)
+
+pub returns-clause-went : goal.returns-clause-went
+returns-clause-went g c =
+    let p : Holding = record { words = c.holder.inside.words; own = c.holder.inside.own.list.items } in
+    let q : Holding = record { words = c.acquire.new.pass; own = c.holder.inside.own.list.items } in
+    rw (← c.holder.view_is, c.if-contended.false) (subst (λ (u : Point). Went (At (InCall (Taking c.args.object false))) u p q) (sym (ap (λ (x : Turned). x.point) c.said.ensures))
+    (win_way c.args.object false _ p q c.if-not-acquire.ensures.won refl))

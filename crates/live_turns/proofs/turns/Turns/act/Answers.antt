@@ -1,0 +1,23 @@
+use Rattle.step_core.specs.declared.places.Place.TheVariants.{InCall}
+use Rattle.step_core.specs.declared.places.Stage.TheVariants.{Acting}
+use Rattle.step_core.specs.declared.paths.Point.TheVariants.{At}
+use Rattle.live_turns.specs.Book.{bindings}
+use Rattle.live_turns.proofs.Gates.{published_still, covers_kept, gave_up, held_err}
+use Rattle.live_turns.proofs.turns.Turns.act.Goals as goal
+
+pub act_on-told-requires : goal.act_on-told-requires
+act_on-told-requires g c = record {
+  binds =
+      published_still (bindings c.in-Some.desk.book) c.args.monitor c.args.call.object.0 c.args.holder.now.words c.take.new.holder.words c.in-Some.ensures.0.0 c.in-Some.ensures.2
+      c.requires.published;
+}
+
+pub give-requires-clause-covers : goal.give-requires-clause-covers
+give-requires-clause-covers g c =
+    covers_kept (bindings c.in-Some.desk.book) (bindings c.act_on-told.new.desk.book) c.take.new.holder.words c.act_on-told.new.self.words
+    c.act_on-told.ensures.bindings c.act_on-told.ensures.words c.in-Some.ensures.2
+
+pub returns-clause-halted : goal.returns-clause-halted
+returns-clause-halted g c =
+    held_err c.act_on-told.result (At (InCall (Acting c.args.call c.args.monitor))) c.args.holder.now c.take.new.holder c.act_on-told.new.self c.give.new.holder c.requires.belongs.1 c.in-Some.ensures.0 c.give.ensures.gave
+    (gave_up c.act_on-told.result (Acting c.args.call c.args.monitor) c.take.new.holder c.act_on-told.new.self tt c.act_on-told.ensures.words c.act_on-told.ensures.none c.act_on-told.ensures.fault)

@@ -1,0 +1,16 @@
+use Rattle.step_core.specs.declared.places.Place.TheVariants.{InCall}
+use Rattle.step_core.specs.declared.places.Stage.TheVariants.{Direct}
+use Rattle.step_core.specs.declared.paths.Point.TheVariants.{At}
+use Rattle.live_turns.specs.Book.{bindings}
+use Rattle.live_turns.proofs.Gates.{covers_kept, gave_up, held_err}
+use Rattle.live_turns.proofs.turns.Turns.act_directly.Goals as goal
+
+pub give-requires-clause-covers : goal.give-requires-clause-covers
+give-requires-clause-covers g c =
+    covers_kept (bindings c.in-Some.desk.book) (bindings c.act_about-told.new.desk.book) c.take.new.holder.words c.act_about-told.new.self.words
+    c.act_about-told.ensures.bindings c.act_about-told.ensures.words c.in-Some.ensures.2
+
+pub returns-clause-halted : goal.returns-clause-halted
+returns-clause-halted g c =
+    held_err c.act_about-told.result (At (InCall (Direct c.args.call))) c.args.holder.now c.take.new.holder c.act_about-told.new.self c.give.new.holder c.requires.belongs.1 c.in-Some.ensures.0 c.give.ensures.gave
+    (gave_up c.act_about-told.result (Direct c.args.call) c.take.new.holder c.act_about-told.new.self tt c.act_about-told.ensures.words c.act_about-told.ensures.none c.act_about-told.ensures.fault)

@@ -1,0 +1,14 @@
+use Rattle.live_turns.specs.Book.{bindings}
+use Rattle.live_turns.specs.Ways.{parked}
+use Rattle.live_turns.proofs.Gates.{covers_kept, gave_up_parked, held_err}
+use Rattle.live_turns.proofs.turns.Turns.awake.Goals as goal
+
+pub give-requires-clause-covers : goal.give-requires-clause-covers
+give-requires-clause-covers g c =
+    covers_kept (bindings c.in-Some.desk.book) (bindings c.awake-told.new.desk.book) c.take.new.holder.words c.awake-told.new.self.words
+    c.awake-told.ensures.bindings c.awake-told.ensures.words c.in-Some.ensures.2
+
+pub returns-clause-halted : goal.returns-clause-halted
+returns-clause-halted g c =
+    held_err c.awake-told.result (parked c.args.expired) c.args.holder.now c.take.new.holder c.awake-told.new.self c.give.new.holder c.requires.belongs.1 c.in-Some.ensures.0 c.give.ensures.gave
+    (gave_up_parked c.awake-told.result c.args.expired c.take.new.holder c.awake-told.new.self c.awake-told.ensures.words c.awake-told.ensures.none c.awake-told.ensures.fault)

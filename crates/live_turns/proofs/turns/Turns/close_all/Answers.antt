@@ -1,0 +1,24 @@
+use Rattle.std.proofs.Common.{◌∙◌, sym, subst, All, false, ◌≡◌}
+use Rattle.header_words.specs.Passes.{PassValue, Opening}
+use Rattle.live_turns.specs.Ends.{IsEnd}
+use Rattle.live_turns.proofs.Ends.{belong_words, without_words, no_wrong, both_ok, end_of}
+use Rattle.live_turns.proofs.turns.Turns.close_all.Goals as goal
+
+pub close-requires-clause-belong : goal.close-requires-clause-belong
+close-requires-clause-belong g c =
+    subst (λ (o : Opening). All (λ (p : PassValue). p.opening ≡ o) c.take_apart.new.words.items) (sym c.self.view_is)
+    (subst (All (λ (p : PassValue). p.opening ≡ c.args.self)) (sym c.take_apart.ensures.words) (belong_words c.args.self c.args.passes.items c.requires.belong))
+
+pub close-requires-clause-without : goal.close-requires-clause-without
+close-requires-clause-without g c = subst (All (λ (p : PassValue). p.has_gate ≡ false)) (sym c.take_apart.ensures.words) (without_words c.args.self c.args.passes.items c.requires.belong)
+
+pub unreachable-requires : goal.unreachable-requires
+unreachable-requires g c =
+    no_wrong c.args.self c.self.inside.headers c.args.passes.items c.take_apart.new.words.items _ c.in-Err-WrongPass.field-0 c.self.view_is c.take_apart.ensures.words c.in-Err-WrongPass.field-0-is tt c.requires.each
+    c.in-Err-WrongPass.ensures.fault
+
+pub returns-in-Ok-clause-end : goal.returns-in-Ok-clause-end
+returns-in-Ok-clause-end g c =
+    both_ok _ _ (IsEnd c.args.self g.L.Crew.monitors c.args.passes.items) c.end.result c.end.ensures.end c.end.ensures.replays
+    (λ x end replays. end_of c.args.self c.self.inside.headers g.L.Crew.monitors c.args.passes.items c.take_apart.new.rests.items c.take_apart.new.words.items c.in-Ok.words c.args.counts c.in-Ok.desk.book x
+    c.self.view_is c.take_apart.ensures.words c.take_apart.ensures.rests (c.in-Ok.desk.passes ∙ c.requires.crew.1) c.in-Ok.desk.monitors c.in-Ok.ensures.words c.requires.counts end replays)

@@ -1,0 +1,14 @@
+use Rattle.std.proofs.Common.{refl}
+use Rattle.live_turns.specs.Ways.{Holding}
+use Rattle.live_turns.proofs.Words.{load_way, load_shows}
+use Rattle.live_turns.proofs.turns.Turns.load.Goals as goal
+
+pub returns-clause-went : goal.returns-clause-went
+returns-clause-went g c = λ d k same.
+    let p : Holding = record { words = c.holder.inside.words; own = c.holder.inside.own.list.items } in
+    let q : Holding = record { words = c.load-word.new.pass; own = c.holder.inside.own.list.items } in
+    rw (← c.holder.view_is) (load_way d k c.args.object c.load-word.result c.lock_of.result p q same c.lock_of.ensures c.load-word.ensures.event refl)
+
+pub returns-clause-thin : goal.returns-clause-thin
+returns-clause-thin g c =
+    load_shows c.args.object.0 c.load-word.result.0 c.lock_of.result _ c.holder.inside.words c.load-word.new.pass c.lock_of.ensures c.load-word.ensures.event c.load-word.ensures.shows.thin

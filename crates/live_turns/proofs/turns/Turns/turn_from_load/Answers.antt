@@ -1,0 +1,71 @@
+use Rattle.std.proofs.Common.{refl, ap, sym, ◌∙◌, subst}
+use Rattle.lock_word.specs.Layout.{count_of}
+use Rattle.fast_path.specs.declared.Next.TheVariants as next
+use Rattle.header_words.specs.Passes.{depth_at}
+use Rattle.step_core.specs.declared.places.Place.TheVariants.{InCall}
+use Rattle.step_core.specs.declared.places.Stage.TheVariants.{Begun, Taking, Storing, Binding, Acting}
+use Rattle.step_core.specs.declared.paths.Point.{Point}
+use Rattle.step_core.specs.declared.paths.Point.TheVariants.{At, Said}
+use Rattle.live_turns.specs.declared.turned.Turned.{Turned}
+use Rattle.live_turns.specs.Ways.{Went}
+use Rattle.live_turns.proofs.Going.{went_then}
+use Rattle.live_turns.proofs.Gates.{ok_after, err_after}
+use Rattle.live_turns.proofs.Words.{cas_fact, free_depth, bind_depth, first_way}
+use Rattle.live_turns.proofs.turns.Turns.turn_from_load.Goals as goal
+
+pub acquire-requires-clause-free : goal.acquire-requires-clause-free
+acquire-requires-clause-free g c =
+    free_depth c.load-lock.new.holder.words.index (depth_at c.load-lock.new.holder.words c.args.call.object.0) c.load-lock.result c.load-lock.ensures.thin
+    (cas_fact c.args.call.operation c.load-lock.result c.in-Cas.field-0 c.index.result (sym c.next.ensures ∙ c.in-Cas.is)).0
+
+pub inflate-requires-clause-holds : goal.inflate-requires-clause-holds
+inflate-requires-clause-holds g c =
+    rw c.count_of.ensures (bind_depth c.args.call.operation c.load-lock.result c.load-lock.new.holder.words.index (depth_at c.load-lock.new.holder.words c.args.call.object.0)
+    (rw (← c.index.ensures) (sym c.next.ensures ∙ c.in-Bind.is)) c.load-lock.ensures.thin)
+
+pub returns-in-Reply-clause-went : goal.returns-in-Reply-clause-went
+returns-in-Reply-clause-went g c =
+    subst (λ (u : Point). Went (At (InCall (Begun c.args.call c.args.contended))) u c.args.holder.now c.load-lock.new.holder) (sym (ap (λ (x : Turned). x.point) c.said.ensures))
+    (first_way c.args.call c.args.contended c.load-lock.result (next.Reply c.in-Reply.reply) c.index.result c.args.holder.now c.load-lock.new.holder (c.load-lock.ensures.went c.args.call c.args.contended refl) c.index.ensures c.load-lock.ensures.index (sym c.in-Reply.is ∙ c.next.ensures))
+
+pub returns-in-Spin-clause-went : goal.returns-in-Spin-clause-went
+returns-in-Spin-clause-went g c =
+    subst (λ (u : Point). Went (At (InCall (Begun c.args.call c.args.contended))) u c.args.holder.now c.load-lock.new.holder) (sym (ap (λ (x : Turned). x.point) c.at.ensures))
+    (first_way c.args.call c.args.contended c.load-lock.result next.Spin c.index.result c.args.holder.now c.load-lock.new.holder (c.load-lock.ensures.went c.args.call c.args.contended refl) c.index.ensures c.load-lock.ensures.index (sym c.in-Spin.is ∙ c.next.ensures))
+
+pub returns-in-Cas-clause-went : goal.returns-in-Cas-clause-went
+returns-in-Cas-clause-went g c =
+    went_then (At (InCall (Begun c.args.call c.args.contended))) (At (InCall (Taking c.args.call.object c.args.contended))) c.acquire.result.point c.args.holder.now c.load-lock.new.holder c.acquire.new.holder
+    (first_way c.args.call c.args.contended c.load-lock.result (next.Cas c.in-Cas.field-0) c.index.result c.args.holder.now c.load-lock.new.holder (c.load-lock.ensures.went c.args.call c.args.contended refl) c.index.ensures c.load-lock.ensures.index (sym c.in-Cas.is ∙ c.next.ensures))
+    c.acquire.ensures.went
+
+pub returns-in-Store-clause-went : goal.returns-in-Store-clause-went
+returns-in-Store-clause-went g c =
+    subst (λ (u : Point). Went (At (InCall (Begun c.args.call c.args.contended))) u c.args.holder.now c.store.new.holder) (sym (ap (λ (x : Turned). x.point) c.said-in-Store.ensures))
+    (went_then (At (InCall (Begun c.args.call c.args.contended))) (At (InCall (Storing c.args.call c.in-Store.new))) (Said c.store.result) c.args.holder.now c.load-lock.new.holder c.store.new.holder
+    (first_way c.args.call c.args.contended c.load-lock.result (next.Store c.in-Store.new) c.index.result c.args.holder.now c.load-lock.new.holder (c.load-lock.ensures.went c.args.call c.args.contended refl) c.index.ensures c.load-lock.ensures.index (sym c.in-Store.is ∙ c.next.ensures))
+    c.store.ensures.went)
+
+pub returns-in-Bind-clause-went : goal.returns-in-Bind-clause-went
+returns-in-Bind-clause-went g c =
+    ok_after c.inflate.result (At (InCall (Begun c.args.call c.args.contended))) (At (InCall (Binding c.args.call (count_of c.load-lock.result)))) c.args.holder.now c.load-lock.new.holder c.inflate.new.holder
+    (first_way c.args.call c.args.contended c.load-lock.result next.Bind c.index.result c.args.holder.now c.load-lock.new.holder (c.load-lock.ensures.went c.args.call c.args.contended refl) c.index.ensures c.load-lock.ensures.index (sym c.in-Bind.is ∙ c.next.ensures))
+    (rw c.count_of.ensures at c.inflate.ensures.went)
+
+pub returns-in-Bind-clause-halted : goal.returns-in-Bind-clause-halted
+returns-in-Bind-clause-halted g c =
+    err_after c.inflate.result (At (InCall (Begun c.args.call c.args.contended))) (At (InCall (Binding c.args.call (count_of c.load-lock.result)))) c.args.holder.now c.load-lock.new.holder c.inflate.new.holder
+    (first_way c.args.call c.args.contended c.load-lock.result next.Bind c.index.result c.args.holder.now c.load-lock.new.holder (c.load-lock.ensures.went c.args.call c.args.contended refl) c.index.ensures c.load-lock.ensures.index (sym c.in-Bind.is ∙ c.next.ensures))
+    (rw c.count_of.ensures at c.inflate.ensures.halted)
+
+pub returns-in-Fat-clause-went : goal.returns-in-Fat-clause-went
+returns-in-Fat-clause-went g c =
+    ok_after c.act.result (At (InCall (Begun c.args.call c.args.contended))) (At (InCall (Acting c.args.call c.in-Fat.monitor))) c.args.holder.now c.load-lock.new.holder c.act.new.holder
+    (first_way c.args.call c.args.contended c.load-lock.result (next.Fat c.in-Fat.monitor) c.index.result c.args.holder.now c.load-lock.new.holder (c.load-lock.ensures.went c.args.call c.args.contended refl) c.index.ensures c.load-lock.ensures.index (sym c.in-Fat.is ∙ c.next.ensures))
+    c.act.ensures.went
+
+pub returns-in-Fat-clause-halted : goal.returns-in-Fat-clause-halted
+returns-in-Fat-clause-halted g c =
+    err_after c.act.result (At (InCall (Begun c.args.call c.args.contended))) (At (InCall (Acting c.args.call c.in-Fat.monitor))) c.args.holder.now c.load-lock.new.holder c.act.new.holder
+    (first_way c.args.call c.args.contended c.load-lock.result (next.Fat c.in-Fat.monitor) c.index.result c.args.holder.now c.load-lock.new.holder (c.load-lock.ensures.went c.args.call c.args.contended refl) c.index.ensures c.load-lock.ensures.index (sym c.in-Fat.is ∙ c.next.ensures))
+    c.act.ensures.halted

@@ -1,0 +1,91 @@
+-- What one turn of a call came to, and what a pass knows between turns.
+use Rattle.std.specs.Prelude.{◌≡◌, ◌<◌, ◌≤◌, ◌||◌, ◌+◌, Bool, true, false, nat_lt, length}
+use Rattle.header_words.specs.Bindings.{HasPublish}
+use Rattle.fast_path.specs.declared.calls.MonitorCall.{MonitorCall}
+use Rattle.fast_path.specs.declared.calls.InterruptCall.{InterruptCall}
+use Rattle.fast_path.specs.declared.calls.InterruptCall.TheVariants as about
+use Rattle.header_words.specs.Passes.{Opening, depth_at}
+use Rattle.step_core.specs.declared.places.Place.{Place}
+use Rattle.step_core.specs.declared.places.Place.TheVariants.{Idle, InCall, Ending, AtPost}
+use Rattle.step_core.specs.declared.places.Stage.{Stage}
+use Rattle.step_core.specs.declared.places.Stage.TheVariants.{Begun, Binding, Acting, Won, Direct}
+use Rattle.step_core.specs.declared.paths.Point.{Point}
+use Rattle.step_core.specs.declared.paths.Point.TheVariants.{At, Expired, Said}
+use Rattle.live_turns.specs.declared.turned.Turned.{Turned}
+use Rattle.live_turns.specs.declared.turned.Standing.{Standing}
+use Rattle.live_turns.specs.declared.turned.Standing.TheVariants as standing
+use Rattle.live_turns.specs.declared.faults.LiveFault.{LiveFault}
+use Rattle.live_turns.specs.declared.faults.LiveFault.TheVariants as fault
+use Rattle.live_turns.specs.Ways.{Holding, Halted}
+
+-- where a call stands that has no reply yet, for whoever drives it
+abbrev pub waiting_at : Place → Standing
+waiting_at (InCall s) = standing.Contended
+waiting_at p = standing.Parked
+
+abbrev pub standing_at : Bool → Point → Standing
+standing_at gate_taken (Said r) = standing.Said r
+standing_at true (At p) = standing.GateTaken
+standing_at true Expired = standing.GateTaken
+standing_at false (At p) = waiting_at p
+standing_at false Expired = standing.Parked
+
+abbrev pub standing_of : Turned → Standing
+standing_of t = standing_at t.gate_taken t.point
+
+-- what a pass that stands at this stage between turns knows
+abbrev pub KnowsStage : Stage → Holding → Type 0
+KnowsStage (Begun c contended) p = c.object.0 < length p.words.opening.lows
+KnowsStage (Binding c n) p =
+    (c.object.0 < length p.words.opening.lows) × (depth_at p.words c.object.0 ≡ n + 1) × (n ≤ 255)
+KnowsStage (Acting c m) p = HasPublish m c.object.0 p.words.seen
+KnowsStage (Won o) p = (o.0 < length p.words.opening.lows) × (depth_at p.words o.0 ≡ 1)
+KnowsStage (Direct c) p = Unit {0}
+KnowsStage s p = ⊥
+
+-- and at this point: no call rests at another
+abbrev pub Knows : Point → Holding → Type 0
+Knows (At Idle) p = Unit {0}
+Knows (At (InCall s)) p = KnowsStage s p
+Knows (At AtPost) p = Unit {0}
+Knows (At (Ending n)) p = ⊥
+Knows Expired p = Unit {0}
+Knows (Said r) p = Unit {0}
+
+-- a turn at the book ends with the reply, or parked
+abbrev pub RestsAtPost : Point → Type 0
+RestsAtPost (Said r) = Unit {0}
+RestsAtPost (At AtPost) = Unit {0}
+RestsAtPost Expired = Unit {0}
+RestsAtPost p = ⊥
+
+-- where a pass rests after a turn: in no call once it has its reply
+abbrev pub resting : Point → Point
+resting (Said r) = At Idle
+resting p = p
+
+-- the next step of a call that stands here is at the book
+abbrev pub is_at_book : Point → Bool
+is_at_book (At (InCall (Binding c n))) = true
+is_at_book (At (InCall (Acting c m))) = true
+is_at_book (At (InCall (Won o))) = true
+is_at_book (At (InCall (Direct c))) = true
+is_at_book (At AtPost) = true
+is_at_book Expired = true
+is_at_book p = false
+
+-- a call on an object was given up: there is no such object, and nothing was done; or as the point of the path says
+abbrev pub GivenUpOn : Opening → MonitorCall → LiveFault → Holding → Holding → Type 0
+GivenUpOn z c fault.NoObject p q = (length z.lows ≤ c.object.0) × (q ≡ p)
+GivenUpOn z c f p q = (c.object.0 < length z.lows) × Halted f (At (InCall (Begun c false))) p q
+
+-- the call names a thread that is none of so many
+abbrev pub names_stranger : Opening → InterruptCall → Bool
+names_stranger z (about.Interrupt u) = nat_lt u.0 1 || nat_lt z.count u.0
+names_stranger z about.Interrupted = false
+names_stranger z (about.IsInterrupted u) = nat_lt u.0 1 || nat_lt z.count u.0
+
+-- a call about interrupts was given up: there is no such thread, and nothing was done; or as the point of the path says
+abbrev pub GivenUpAbout : Opening → InterruptCall → LiveFault → Holding → Holding → Type 0
+GivenUpAbout z c fault.NoThread p q = (names_stranger z c ≡ true) × (q ≡ p)
+GivenUpAbout z c f p q = (names_stranger z c ≡ false) × Halted f (At (InCall (Direct c))) p q

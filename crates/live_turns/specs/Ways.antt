@@ -1,0 +1,151 @@
+-- What a call adds to the events and to the deeds of its pass.
+use Rattle.std.specs.Prelude.{◌≡◌, ℕ, ◌+◌, Bool, true, false, if◌then◌else◌, ◌==◌, List, [], ◌∷◌, ◌++◌}
+use Rattle.lock_word.specs.declared.ThreadId.{ThreadId}
+use Rattle.lock_word.specs.declared.Lock.{Lock}
+use Rattle.lock_word.specs.declared.Lock.TheVariants.{Free, Thin, Fat}
+use Rattle.lock_word.specs.declared.Split.TheVariants.{Wide}
+use Rattle.lock_word.specs.Layout.{count_of}
+use Rattle.header_words.specs.WideWords.{lock_of}
+use Rattle.header_words.specs.declared.event.Event.{Event}
+use Rattle.header_words.specs.declared.event.Deed.{Deed as WordDeed}
+use Rattle.header_words.specs.declared.event.Deed.TheVariants as word
+use Rattle.header_words.specs.Events.{event}
+use Rattle.header_words.specs.Passes.{Opening, PassValue, HasTaken, has_given}
+use Rattle.step_core.specs.declared.places.Place.{Place}
+use Rattle.step_core.specs.declared.places.Place.TheVariants.{Idle, InCall, AtPost}
+use Rattle.step_core.specs.declared.places.Stage.{Stage}
+use Rattle.step_core.specs.declared.places.Stage.TheVariants.{Binding, Acting, Won, Inflated, Direct}
+use Rattle.step_core.specs.declared.paths.Point.{Point}
+use Rattle.step_core.specs.declared.paths.Point.TheVariants.{At, Expired}
+use Rattle.step_core.specs.declared.steps.Atomic.{Atomic}
+use Rattle.step_core.specs.declared.steps.Atomic.TheVariants as atomic
+use Rattle.step_core.specs.Path.{Leads, point_after}
+use Rattle.live_turns.specs.declared.deeds.Deed.{Deed}
+use Rattle.live_turns.specs.declared.deeds.Deed.TheVariants as deed
+use Rattle.live_turns.specs.declared.deeds.Logged.{Logged}
+use Rattle.live_turns.specs.declared.faults.LiveFault.{LiveFault}
+use Rattle.live_turns.specs.declared.faults.LiveFault.TheVariants as fault
+use Rattle.live_turns.specs.Log.{thread_numbered}
+
+-- a deed and who did it
+abbrev pub by : ThreadId → Deed → Logged
+by t d = record { thread = t; deed = d }
+
+-- what a pass has: what it knows of the words, and its own deeds
+pub record Holding : Type 0 where
+  pub words : PassValue
+  pub own : List Logged
+
+-- a pass to the turns of calls: what it has, and where its call stands
+pub record PassState : Type 0 where
+  pub holding : Holding
+  pub point : Point
+
+-- a pass that has done nothing at the book
+abbrev pub new_holding : PassValue → Holding
+new_holding p = record { words = p; own = [] }
+
+-- and in no call
+abbrev pub new_state : PassValue → PassState
+new_state p = record { holding = new_holding p; point = At Idle }
+
+-- which store turns the one lock into the other
+abbrev pub stored_deed : Lock → Lock → WordDeed
+stored_deed old Free = word.Release
+stored_deed old (Fat m) = word.Publish m
+stored_deed old (Thin i c) = if count_of old + 1 == c then word.Nest else word.Unnest
+
+-- the events on the words of an atomic step by the pass with the index me
+abbrev pub event_of : ℕ → Atomic → List Event
+event_of me (atomic.Load o x) = event me o.0 (word.Load x.0) ∷ []
+event_of me (atomic.Won o x y) = event me o.0 word.Win ∷ []
+event_of me (atomic.Lost o x) = event me o.0 word.Lose ∷ []
+event_of me (atomic.Stored o x y) = event me o.0 (stored_deed (lock_of x.0) (lock_of y.0)) ∷ []
+event_of me a = []
+
+abbrev pub events_of : ℕ → List Atomic → List Event
+events_of me [] = []
+events_of me (a ∷ es) = event_of me a ++ events_of me es
+
+-- with how many holds the bind at this point is
+abbrev pub holds_in : Stage → ℕ
+holds_in (Binding c n) = n + 1
+holds_in (Won o) = 1
+holds_in s = 0
+
+abbrev pub holds_at : Place → ℕ
+holds_at (InCall s) = holds_in s
+holds_at p = 0
+
+abbrev pub bound_holds : Point → ℕ
+bound_holds (At p) = holds_at p
+bound_holds p = 0
+
+-- the deeds at the book of an atomic step at this point
+abbrev pub deed_of : ℕ → Point → Atomic → List Logged
+deed_of me p (atomic.Bound o m) = by (thread_numbered me) (deed.Bound o (bound_holds p) m) ∷ []
+deed_of me p (atomic.Acted a x) = by (thread_numbered me) (deed.Acted a x) ∷ []
+deed_of me p a = []
+
+abbrev pub deeds_of : ℕ → Point → List Atomic → List Logged
+deeds_of me p [] = []
+deeds_of me p (a ∷ es) = deed_of me p a ++ deeds_of me (point_after Wide me p a) es
+
+-- A call went from one point to another: what its pass added are the events and the deeds of atomic steps that lead
+-- there.
+pub record Went (s s' : Point) (p q : Holding) : Type 0 where
+  pub opening : q.words.opening ≡ p.words.opening
+  pub index : q.words.index ≡ p.words.index
+  pub has_gate : q.words.has_gate ≡ p.words.has_gate
+  pub steps : List Atomic
+  pub leads : Leads Wide p.words.index s steps s'
+  pub mine : q.words.mine ≡ p.words.mine ++ events_of p.words.index steps
+  pub own : q.own ≡ p.own ++ deeds_of p.words.index s steps
+
+-- the stages whose next step needs the book
+abbrev pub NeedsBook : Stage → Type 0
+NeedsBook (Binding c n) = Unit {0}
+NeedsBook (Acting c m) = Unit {0}
+NeedsBook (Inflated c m) = Unit {0}
+NeedsBook (Direct c) = Unit {0}
+NeedsBook s = ⊥
+
+-- A call may be given up before its bind and before its fat action; where the pass is torn from the book, also once it
+-- has parked.
+abbrev pub MayHalt : LiveFault → Point → Type 0
+MayHalt fault.RecordFull (At (InCall s)) = NeedsBook s
+MayHalt fault.Torn (At (InCall s)) = NeedsBook s
+MayHalt fault.Torn (At AtPost) = Unit {0}
+MayHalt fault.Torn Expired = Unit {0}
+MayHalt f p = ⊥
+
+-- a call was given up, and what it had done until then
+pub record Halted (f : LiveFault) (s : Point) (p q : Holding) : Type 0 where
+  pub point : Point
+  pub last : MayHalt f point
+  pub went : Went s point p q
+
+-- the pass belongs to this opening, and has the gate or not
+abbrev pub Belongs : Opening → Bool → Holding → Type 0
+Belongs z gate p = (p.words.opening ≡ z) × (p.words.has_gate ≡ gate)
+
+-- the pass took the gate, and gave it back
+abbrev pub Took : Holding → Holding → Type 0
+Took p q = HasTaken p.words q.words × (q.own ≡ p.own)
+
+abbrev pub Gave : Holding → Holding → Type 0
+Gave p q = (q.words ≡ has_given p.words) × (q.own ≡ p.own)
+
+-- the pass made no event on the words
+abbrev pub AddsNoEvent : PassValue → PassValue → Type 0
+AddsNoEvent p q = (q.opening ≡ p.opening) × (q.index ≡ p.index) × (q.mine ≡ p.mine) × (q.has_gate ≡ p.has_gate)
+
+-- the deed of a pass that told the moment, if it did
+abbrev pub ticked_by : Bool → ℕ → ℕ → List Logged
+ticked_by true me now = by (thread_numbered me) (deed.Ticked now) ∷ []
+ticked_by false me now = []
+
+-- where a call stands that has parked, before or after an expire of its own
+abbrev pub parked : Bool → Point
+parked false = At AtPost
+parked true = Expired

@@ -1,0 +1,79 @@
+//! Whether the record has just the deeds of a pass under its number.
+
+ghost use Rattle.std.specs.Prelude.{◌≡◌, true};
+ghost use Rattle.live_turns.specs.Ends.{own_of};
+
+use crate::{Deed, Logged};
+use fat_monitor::{Action, Answer, Reply};
+
+fn same(left: &Logged, right: &Logged) -> bool
+    ensures { result ≡ true → left.now ≡ right.now }
+{
+    left.thread.0 == right.thread.0 && same_deed(left.deed, right.deed)
+}
+
+fn same_deed(left: Deed, right: Deed) -> bool
+    ensures { result ≡ true → left ≡ right }
+{
+    match (left, right) {
+        (
+            Deed::Bound {
+                object,
+                holds,
+                monitor,
+            },
+            Deed::Bound {
+                object: other,
+                holds: count,
+                monitor: number,
+            },
+        ) => object.0 == other.0 && holds == count && monitor == number,
+        (
+            Deed::Acted { action, answer },
+            Deed::Acted {
+                action: other,
+                answer: second,
+            },
+        ) => same_action(action, other) && same_answer(answer, second),
+        (Deed::Ticked { now }, Deed::Ticked { now: other }) => now == other,
+        _ => false,
+    }
+}
+
+fn same_action(left: Action, right: Action) -> bool
+    ensures { result ≡ true → left ≡ right }
+{
+    left == right
+}
+
+fn same_answer(left: Answer, right: Answer) -> bool
+    ensures { result ≡ true → left ≡ right }
+{
+    match (left, right) {
+        (Answer::Reply(reply), Answer::Reply(other)) => same_reply(reply, other),
+        (Answer::Parked, Answer::Parked) | (Answer::Quiet, Answer::Quiet) => true,
+        _ => false,
+    }
+}
+
+fn same_reply(left: Reply, right: Reply) -> bool
+    ensures { result ≡ true → left ≡ right }
+{
+    left == right
+}
+
+/// Whether the record has just these deeds under this number.
+pub(crate) fn agrees(log: &[Logged], own: &[Logged], thread: u16) -> bool
+    ensures { result ≡ true → own_of thread log.now ≡ own.now }
+{
+    let mut next = 0;
+    for entry in log {
+        if entry.thread.0 == u32::from(thread) {
+            if next >= own.len() || !same(&own[next], entry) {
+                return false;
+            }
+            next += 1;
+        }
+    }
+    next == own.len()
+}

@@ -1,0 +1,298 @@
+//! What lies behind the gate, and what a pass keeps of it.
+
+ghost use Rattle.std.specs.Prelude.{◌≡◌, ◌<◌, ◌≤◌, ◌+◌, IfOk, IfErr, OnErr, OnOk, IfSome, MatchOption, ℕ, length, [], ◌∷◌, ◌++◌, vec_len, vec_capacity, Some, false, Ok};
+ghost use Rattle.fat_monitor.specs.FatState.{post_of};
+ghost use Rattle.fat_monitor.specs.Acting.{acted, MayAct, NamesBound};
+ghost use Rattle.fat_monitor.specs.declared.actions.Post.TheVariants.{Out};
+ghost use Rattle.header_words.specs.Bindings.{Binds};
+ghost use Rattle.step_core.specs.Path.{IsTold};
+ghost use Rattle.step_core.specs.Go.{action_on, action_about};
+ghost use Rattle.live_turns.specs.Asked.{IsDeskFault, IsTickFault, MayRefuse, own_action, IsAwake};
+ghost use Rattle.live_turns.specs.declared.faults.LiveFault.{LiveFault};
+ghost use Rattle.live_turns.specs.Log.{IsThreadOf, IsForBook};
+ghost use Rattle.live_turns.specs.Book.{bindings};
+ghost use Rattle.live_turns.specs.Ways.{by};
+ghost use Rattle.live_turns.specs.declared.deeds.Deed.TheVariants.{Bound, Acted, Ticked};
+
+use crate::{Book, BookFault, Deed, LiveFault, Logged};
+use fast_path::{InterruptCall, MonitorCall};
+use fat_monitor::{Action, Cause, Done, Post, Receipt};
+use header_words::Kept;
+use lock_word::{ObjectId, ThreadId};
+use std::marker::Brand;
+use std::sync::ledger::{self, Ledger, Share};
+use step_core::{action_about, action_on};
+
+/// Which service a ledger is of: how many monitors and passes it has, and places of its record.
+pub trait Crew: Ledger {
+    ghost monitors: { ℕ };
+
+    ghost passes: { ℕ };
+
+    ghost places: { ℕ };
+}
+
+impl Crew for Brand {
+    ghost monitors = { 0 };
+
+    ghost passes = { 0 };
+
+    ghost places = { 0 };
+}
+
+/// The deeds of one pass, which the ledger counts.
+#[derive(Drop)]
+pub(crate) struct Own<L: Crew> {
+    pub(crate) list: Vec<Logged>,
+    pub(crate) share: Share<L>,
+    pub(crate) ghost one: { share.parts ≡ 1 },
+    pub(crate) ghost counted: { share.amount ≡ vec_len list },
+    pub(crate) ghost room: { L.places ≤ vec_capacity list },
+}
+
+/// What lies behind the gate: the book, and the ledger's count of its deeds.
+#[derive(Drop)]
+pub(crate) struct Desk<L: Crew> {
+    pub(crate) book: Book,
+    pub(crate) total: ledger::Book<L>,
+    // What is left of the ledger once each pass has a part.
+    pub(crate) rest: Share<L>,
+    pub(crate) ghost none: { rest.parts ≡ 0 },
+    pub(crate) ghost empty: { rest.amount ≡ 0 },
+    pub(crate) ghost passes: { book.passes ≡ L.passes },
+    pub(crate) ghost places: { book.places ≡ L.places },
+    pub(crate) ghost monitors: { book.fats.limit ≡ L.monitors },
+    pub(crate) ghost counted: { length book.log ≡ total.total },
+}
+
+impl<L: Crew> Kept for Desk<L> {
+    ghost use Rattle.live_turns.specs.Book.{bindings};
+
+    ghost bound = { λ d. bindings d.book };
+
+    fn object(&self, monitor: u32) -> Option<ObjectId> {
+        self.book.object(monitor)
+    }
+}
+
+/// Why no monitor was bound.
+#[derive(Clone, Copy, PartialEq, Eq, Debug)]
+pub(crate) enum Refusal {
+    /// The call is given up.
+    Fault(LiveFault),
+    /// The call may be refused.
+    Cause(Cause),
+}
+
+impl<L: Crew> Desk<L> {
+    // Whether the pass of the thread is where the book has it, in a call that has parked or not.
+    fn check(&self, own: &Own<L>, thread: ThreadId, parked: bool) -> Result<(), LiveFault>
+        ensures thread { OnOk result (IsThreadOf self.now.book.passes thread) }
+        ensures out { OnOk result (parked ≡ false → post_of self.now.book.fats thread ≡ Some Out) }
+        ensures room { OnOk result (length self.now.book.log < self.now.book.places → vec_len own.now.list < vec_capacity own.now.list) }
+        ensures torn { IfErr result (λ f. f ≡ LiveFault.Torn) }
+    {
+        let full = own.list.len() >= self.book.places() as usize;
+        self.book.check(thread, parked, full)
+    }
+}
+
+impl<L: Crew> Desk<L> {
+    /// Binds a monitor to an object that the thread holds this often, as a deed of its own.
+    pub(crate) fn bind(
+        &mut self,
+        own: &mut Own<L>,
+        thread: ThreadId,
+        object: ObjectId,
+        holds: u16,
+    ) -> Result<Receipt, Refusal>
+        requires low { 1 ≤ holds }
+        requires high { holds ≤ 256 }
+        ensures receipt { IfOk result (λ r. r ≡ record {
+          object = object;
+          owner = thread;
+          holds = holds;
+          monitor = length (bindings self.old.book);
+        }) }
+        ensures own { OnOk result (own.new.list.items ≡ own.old.list.items
+            ++ by thread (Bound object holds (length (bindings self.old.book))) ∷ []) }
+        ensures bindings { OnOk result (bindings self.new.book ≡ bindings self.old.book
+            ++ object ∷ []) }
+        ensures same { OnErr result (bindings self.new.book ≡ bindings self.old.book) }
+        ensures none { OnErr result (own.new.list.items ≡ own.old.list.items) }
+        ensures fault { IfErr result MayRefuse }
+    {
+        if let Err(fault) = self.check(own, thread, false) {
+            return Err(Refusal::Fault(fault));
+        }
+        let Desk { book, total, .. } = self;
+        match book.bind(thread, object, holds) {
+            Ok(receipt) => {
+                let monitor = receipt.monitor();
+                let deed = Deed::Bound {
+                    object,
+                    holds,
+                    monitor,
+                };
+                note(total, own, Logged { thread, deed });
+                Ok(receipt)
+            }
+            Err(BookFault::RecordFull) => Err(Refusal::Fault(LiveFault::RecordFull)),
+            Err(_) => Err(Refusal::Cause(Cause::NoMonitor)),
+        }
+    }
+
+    // One fat action, as a deed of the thread's own.
+    fn make(
+        &mut self,
+        own: &mut Own<L>,
+        thread: ThreadId,
+        action: Action,
+    ) -> Result<Done, LiveFault>
+        requires thread { IsThreadOf self.old.book.passes thread }
+        requires action { IsForBook action }
+        requires ready { MayAct self.old.book.fats thread action }
+        requires named { NamesBound self.old.book.fats action }
+        requires room { length self.old.book.log < self.old.book.places →
+            vec_len own.old.list < vec_capacity own.old.list }
+        ensures own { IfOk result (λ d. own.new.list.items ≡ own.old.list.items
+            ++ by thread (Acted action d.answer) ∷ []) }
+        ensures told { IfOk result (λ d. (acted self.old.book.fats thread action).answer ≡ Ok d) }
+        ensures bindings { bindings self.new.book ≡ bindings self.old.book }
+        ensures none { OnErr result (own.new.list.items ≡ own.old.list.items) }
+        ensures fault { IfErr result IsDeskFault }
+    {
+        let Desk { book, total, .. } = self;
+        match book.act(thread, action) {
+            Ok(done) => {
+                let answer = done.answer;
+                let deed = Deed::Acted { action, answer };
+                note(total, own, Logged { thread, deed });
+                Ok(done)
+            }
+            Err(BookFault::RecordFull) => Err(LiveFault::RecordFull),
+            Err(_) => Err(LiveFault::Torn),
+        }
+    }
+
+    #[tactic(auto, using(crate::proofs::Asking::asking))]
+    /// The fat action of a call on an object, by a thread that is in no action.
+    pub(crate) fn act_on(
+        &mut self,
+        own: &mut Own<L>,
+        thread: ThreadId,
+        call: MonitorCall,
+        monitor: u32,
+    ) -> Result<Done, LiveFault>
+        requires binds { Binds (bindings self.old.book) monitor call.object.0 }
+        ensures own { IfOk result (λ d. own.new.list.items ≡ own.old.list.items
+            ++ by thread (Acted (action_on call.operation monitor) d.answer) ∷ []) }
+        ensures told { IfOk result (λ d. IsTold d.answer) }
+        ensures bindings { bindings self.new.book ≡ bindings self.old.book }
+        ensures none { OnErr result (own.new.list.items ≡ own.old.list.items) }
+        ensures fault { IfErr result IsDeskFault }
+    {
+        self.check(own, thread, false)?;
+        self.make(own, thread, action_on(call.operation, monitor))
+    }
+
+    #[tactic(auto, using(crate::proofs::Asking::asking))]
+    /// The fat action of a call about interrupts, by a thread that is in no action.
+    pub(crate) fn act_about(
+        &mut self,
+        own: &mut Own<L>,
+        thread: ThreadId,
+        call: InterruptCall,
+    ) -> Result<Done, LiveFault>
+        ensures own { IfOk result (λ d. own.new.list.items ≡ own.old.list.items
+            ++ by thread (Acted (action_about call) d.answer) ∷ []) }
+        ensures told { IfOk result (λ d. IsTold d.answer) }
+        ensures bindings { bindings self.new.book ≡ bindings self.old.book }
+        ensures none { OnErr result (own.new.list.items ≡ own.old.list.items) }
+        ensures fault { IfErr result IsDeskFault }
+    {
+        self.check(own, thread, false)?;
+        self.make(own, thread, action_about(call))
+    }
+
+    #[tactic(auto, using(crate::proofs::Asking::waking))]
+    /// What a parked thread may do itself: it collects its reply where it was granted one, or its
+    /// wait expires where its time is over and `expired` does not say that this was done; None where
+    /// it stays parked.
+    pub(crate) fn awake(
+        &mut self,
+        own: &mut Own<L>,
+        thread: ThreadId,
+        expired: bool,
+    ) -> Result<Option<Done>, LiveFault>
+        ensures own { IfOk result (λ o. MatchOption o (own.new.list.items ≡ own.old.list.items)
+            (λ d. (own.new.list.items ≡ own.old.list.items
+            ++ by thread (Acted (own_action d.answer) d.answer) ∷ [])
+            × IsAwake expired d.answer)) }
+        ensures bindings { bindings self.new.book ≡ bindings self.old.book }
+        ensures none { OnErr result (own.new.list.items ≡ own.old.list.items) }
+        ensures fault { IfErr result (λ f. f ≡ LiveFault.Torn) }
+    {
+        self.check(own, thread, true)?;
+        let now = u128::from(self.book.now());
+        match self.book.post(thread) {
+            Some(Post::Granted(_)) => {
+                // Its place of the record is kept, so that only a pass that is torn is refused.
+                let Ok(done) = self.make(own, thread, Action::Collect) else {
+                    return Err(LiveFault::Torn);
+                };
+                Ok(Some(done))
+            }
+            Some(
+                Post::Waiting {
+                    deadline: Some(deadline),
+                    ..
+                },
+            ) if !expired && deadline <= now => {
+                // Its place of the record is kept, so that only a pass that is torn is refused.
+                let Ok(done) = self.make(own, thread, Action::Expire) else {
+                    return Err(LiveFault::Torn);
+                };
+                Ok(Some(done))
+            }
+            _ => Ok(None),
+        }
+    }
+
+    /// Tells the moment, in nanoseconds, as a deed of the thread's own.
+    pub(crate) fn tick(
+        &mut self,
+        own: &mut Own<L>,
+        thread: ThreadId,
+        now: u64,
+    ) -> Result<(), LiveFault>
+        ensures own { OnOk result (own.new.list.items ≡ own.old.list.items
+            ++ by thread (Ticked now) ∷ []) }
+        ensures bindings { bindings self.new.book ≡ bindings self.old.book }
+        ensures none { OnErr result (own.new.list.items ≡ own.old.list.items) }
+        ensures fault { IfErr result IsTickFault }
+    {
+        self.check(own, thread, false)?;
+        let Desk { book, total, .. } = self;
+        match book.tick(thread, now) {
+            Ok(()) => {
+                let deed = Deed::Ticked { now };
+                note(total, own, Logged { thread, deed });
+                Ok(())
+            }
+            Err(BookFault::Backwards) => Err(LiveFault::Backwards),
+            Err(_) => Err(LiveFault::RecordFull),
+        }
+    }
+}
+
+// Notes a deed of the pass, which the ledger counts.
+fn note<L: Crew>(total: &mut ledger::Book<L>, own: &mut Own<L>, entry: Logged)
+    requires { vec_len own.old.list < vec_capacity own.old.list }
+    ensures list { own.new.list.items ≡ own.old.list.items ++ entry ∷ [] }
+    ensures total { total.new.total ≡ total.old.total + 1 }
+{
+    let Own { list, share } = own;
+    total.add(share, 1);
+    list.push_reserved(entry);
+}

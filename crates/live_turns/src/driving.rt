@@ -1,0 +1,206 @@
+//! Calls that are driven by turns.
+
+ghost use Rattle.std.specs.Prelude.{◌≡◌, ◌<◌, IfOk, IfErr, OnErr, OnOk, Bool, length, ◌++◌, false, None};
+ghost use Rattle.step_core.specs.declared.places.Place.TheVariants.{Idle, InCall};
+ghost use Rattle.step_core.specs.declared.places.Stage.TheVariants.{Begun, Direct};
+ghost use Rattle.step_core.specs.declared.paths.Point.TheVariants.{At};
+ghost use Rattle.live_turns.specs.Asked.{IsTickFault};
+ghost use Rattle.live_turns.specs.Points.{Knows, KnowsStage, resting, GivenUpOn, GivenUpAbout, names_stranger};
+ghost use Rattle.live_turns.specs.Ways.{AddsNoEvent, Belongs, Went, Halted, ticked_by};
+
+use crate::desks::Crew;
+use crate::holders::Holder;
+use crate::{LiveFault, TurnPass, Turned, Turns};
+use fast_path::{InterruptCall, MonitorCall};
+use step_core::{Place, Point, Stage};
+
+/// Where a pass rests after a turn: in no call once it has its reply.
+fn resting(point: Point) -> Point
+    ensures { result ≡ resting point }
+{
+    match point {
+        Point::Said(_) => Point::At(Place::Idle),
+        _ => point,
+    }
+}
+
+impl<L: Crew> Turns<L> {
+    /// The first turn of a call on an object (JLS SE 8, 17.1 and 17.2). It does at once all that can be
+    /// done at once, and never waits: what to do before the next turn, [`Turned::standing`] says.
+    ///
+    /// A fault ends the call: [`NoObject`](LiveFault::NoObject) before anything was done,
+    /// [`RecordFull`](LiveFault::RecordFull) before its action at the book, and
+    /// [`Torn`](LiveFault::Torn) where the pass is not where the book has it.
+    pub fn begin_on(&self, pass: &mut TurnPass<L>, call: MonitorCall) -> Result<Turned, LiveFault>
+        requires belongs { Belongs self.now false pass.old.holding }
+        requires idle { pass.old.point ≡ At Idle }
+        ensures belongs { Belongs self.now false pass.new.holding }
+        ensures went { IfOk result (λ t. Went (At (InCall (Begun call false))) t.point
+            pass.old.holding pass.new.holding) }
+        ensures point { IfOk result (λ t. pass.new.point ≡ resting t.point) }
+        ensures fault { IfErr result (λ f.
+            GivenUpOn self.now call f pass.old.holding pass.new.holding) }
+        ensures there { OnOk result (call.object.0 < length self.now.lows) }
+        ensures over { OnErr result (pass.new.point ≡ At Idle) }
+    {
+        if call.object.0 >= self.objects {
+            return Err(LiveFault::NoObject);
+        }
+        match self.turn_from_load(&mut pass.holder, call, false) {
+            Ok(turned) => {
+                pass.point = resting(turned.point);
+                Ok(turned)
+            }
+            Err(fault) => Err(fault),
+        }
+    }
+
+    /// The first turn of a call about interrupts (JLS SE 8, 17.2.3), which never parks.
+    ///
+    /// A fault ends the call: [`NoThread`](LiveFault::NoThread) before anything was done, and as for
+    /// [`begin_on`](Turns::begin_on).
+    pub fn begin_about(
+        &self,
+        pass: &mut TurnPass<L>,
+        call: InterruptCall,
+    ) -> Result<Turned, LiveFault>
+        requires belongs { Belongs self.now false pass.old.holding }
+        requires idle { pass.old.point ≡ At Idle }
+        ensures belongs { Belongs self.now false pass.new.holding }
+        ensures went { IfOk result (λ t. Went (At (InCall (Direct call))) t.point
+            pass.old.holding pass.new.holding) }
+        ensures point { IfOk result (λ t. pass.new.point ≡ resting t.point) }
+        ensures fault { IfErr result (λ f.
+            GivenUpAbout self.now call f pass.old.holding pass.new.holding) }
+        ensures there { OnOk result (names_stranger self.now call ≡ false) }
+        ensures over { OnErr result (pass.new.point ≡ At Idle) }
+    {
+        if self.is_stranger(call) {
+            return Err(LiveFault::NoThread);
+        }
+        match self.act_directly(&mut pass.holder, call) {
+            Ok(turned) => {
+                pass.point = resting(turned.point);
+                Ok(turned)
+            }
+            Err(fault) => Err(fault),
+        }
+    }
+
+    // Whether the call names a thread that the service does not have.
+    fn is_stranger(&self, call: InterruptCall) -> bool
+        ensures { result ≡ names_stranger self.now call }
+    {
+        match call {
+            InterruptCall::Interrupt(thread) | InterruptCall::IsInterrupted(thread) => thread.0 < 1
+                || thread.0 > u32::from(self.passes),
+            InterruptCall::Interrupted => false,
+        }
+    }
+
+    /// One more turn of the call that the pass is in. A pass that is in no call stays so.
+    ///
+    /// A fault ends the call, as for [`begin_on`](Turns::begin_on).
+    pub fn turn(&self, pass: &mut TurnPass<L>) -> Result<Turned, LiveFault>
+        requires belongs { Belongs self.now false pass.old.holding }
+        ensures belongs { Belongs self.now false pass.new.holding }
+        ensures went { IfOk result (λ t. Went pass.old.point t.point
+            pass.old.holding pass.new.holding) }
+        ensures point { IfOk result (λ t. pass.new.point ≡ resting t.point) }
+        ensures fault { IfErr result (λ f.
+            Halted f pass.old.point pass.old.holding pass.new.holding) }
+        ensures over { OnErr result (pass.new.point ≡ At Idle) }
+    {
+        let point = pass.point;
+        match self.turn_from(&mut pass.holder, point) {
+            Ok(turned) => {
+                pass.point = resting(turned.point);
+                Ok(turned)
+            }
+            Err(fault) => {
+                pass.point = Point::At(Place::Idle);
+                Err(fault)
+            }
+        }
+    }
+
+    // One turn of a call that stands at this point.
+    fn turn_from(&self, holder: &mut Holder<L>, point: Point) -> Result<Turned, LiveFault>
+        requires belongs { Belongs self.now false holder.old }
+        requires knows { Knows point holder.old }
+        ensures belongs { Belongs self.now false holder.new }
+        ensures went { IfOk result (λ t. Went point t.point holder.old holder.new) }
+        ensures knows { IfOk result (λ t. Knows t.point holder.new) }
+        ensures halted { IfErr result (λ f. Halted f point holder.old holder.new) }
+    {
+        match point {
+            Point::At(Place::InCall(stage)) => self.turn_from_stage(holder, stage),
+            Point::At(Place::AtPost) => self.awake(holder, false),
+            Point::Expired => self.awake(holder, true),
+            _ => Ok(Turned {
+                point,
+                gate_taken: false,
+                granted: None,
+            }),
+        }
+    }
+
+    // One turn of a call that stands at this stage.
+    fn turn_from_stage(&self, holder: &mut Holder<L>, stage: Stage) -> Result<Turned, LiveFault>
+        requires belongs { Belongs self.now false holder.old }
+        requires knows { KnowsStage stage holder.old }
+        ensures belongs { Belongs self.now false holder.new }
+        ensures went { IfOk result (λ t. Went (At (InCall stage)) t.point holder.old holder.new) }
+        ensures knows { IfOk result (λ t. Knows t.point holder.new) }
+        ensures halted { IfErr result (λ f. Halted f (At (InCall stage)) holder.old holder.new) }
+    {
+        match stage {
+            Stage::Begun { call, contended } => self.turn_from_load(holder, call, contended),
+            Stage::Binding { call, count } => self.inflate(holder, call, count),
+            Stage::Acting { call, monitor } => self.act(holder, call, monitor),
+            Stage::Won { object } => Ok(self.settle(holder, object)),
+            Stage::Direct { call } => self.act_directly(holder, call),
+            _ => unreachable!(),
+        }
+    }
+
+    /// Tells the moment, in nanoseconds, by a pass that is in no call; false where another pass has the
+    /// gate, and nothing was done. A timed wait ends at its first turn after its moment was told, so
+    /// every sleeper is to be woken then.
+    ///
+    /// A fault leaves everything as it is: [`Torn`](LiveFault::Torn),
+    /// [`RecordFull`](LiveFault::RecordFull) or [`Backwards`](LiveFault::Backwards).
+    pub fn tick(&self, pass: &mut TurnPass<L>, now: u64) -> Result<bool, LiveFault>
+        requires belongs { Belongs self.now false pass.old.holding }
+        requires idle { pass.old.point ≡ At Idle }
+        ensures belongs { Belongs self.now false pass.new.holding }
+        ensures idle { pass.new.point ≡ At Idle }
+        ensures words { AddsNoEvent pass.old.holding.words pass.new.holding.words }
+        ensures own { IfOk result (λ told. pass.new.holding.own ≡ pass.old.holding.own
+            ++ ticked_by told pass.old.holding.words.index now) }
+        ensures none { OnErr result (pass.new.holding.own ≡ pass.old.holding.own) }
+        ensures fault { IfErr result IsTickFault }
+    {
+        self.tell(&mut pass.holder, now)
+    }
+
+    fn tell(&self, holder: &mut Holder<L>, now: u64) -> Result<bool, LiveFault>
+        requires belongs { Belongs self.now false holder.old }
+        ensures belongs { Belongs self.now false holder.new }
+        ensures words { AddsNoEvent holder.old.words holder.new.words }
+        ensures own { IfOk result (λ told. holder.new.own ≡ holder.old.own
+            ++ ticked_by told holder.old.words.index now) }
+        ensures none { OnErr result (holder.new.own ≡ holder.old.own) }
+        ensures fault { IfErr result IsTickFault }
+    {
+        let Some(mut desk) = self.take(holder) else {
+            return Ok(false);
+        };
+        let told = holder.tick(&mut desk, now);
+        self.give(holder, desk);
+        match told {
+            Ok(()) => Ok(true),
+            Err(fault) => Err(fault),
+        }
+    }
+}

@@ -1,0 +1,48 @@
+//! A look at the book.
+
+ghost use Rattle.std.specs.Prelude.{◌≡◌, IfOk, IfErr, false};
+ghost use Rattle.std.specs.Fn.{FnOnceReturnsAt};
+ghost use Rattle.step_core.specs.declared.places.Place.TheVariants.{Idle};
+ghost use Rattle.step_core.specs.declared.paths.Point.TheVariants.{At};
+ghost use Rattle.live_turns.specs.Ways.{AddsNoEvent, Belongs};
+ghost use Rattle.live_turns.specs.Ends.{IsLookedAt};
+
+use crate::desks::Crew;
+use crate::holders::Holder;
+use crate::{Book, TurnPass, Turns};
+
+impl<L: Crew> Turns<L> {
+    /// Lends the book to a closure while a pass that is in no call has the gate, and answers what is answered of it. `Err` gives the
+    /// closure back where another pass has the gate; nothing was done then. No call goes on meanwhile
+    /// that needs the book, so the closure is to be short; it may not call the service.
+    pub fn look<F: FnOnce(&Book) -> bool>(&self, pass: &mut TurnPass<L>, f: F) -> Result<bool, F>
+        requires belongs { Belongs self.now false pass.old.holding }
+        requires idle { pass.old.point ≡ At Idle }
+        requires callable { F.IsAlwaysCallable f }
+        ensures belongs { Belongs self.now false pass.new.holding }
+        ensures idle { pass.new.point ≡ At Idle }
+        ensures words { AddsNoEvent pass.old.holding.words pass.new.holding.words }
+        ensures own { pass.new.holding.own ≡ pass.old.holding.own }
+        ensures told { IfOk result (λ told. IsLookedAt (λ book. FnOnceReturnsAt F.FnOnce f book told)) }
+        ensures back { IfErr result (λ g. g ≡ f) }
+    {
+        self.lend(&mut pass.holder, f)
+    }
+
+    fn lend<F: FnOnce(&Book) -> bool>(&self, holder: &mut Holder<L>, f: F) -> Result<bool, F>
+        requires belongs { Belongs self.now false holder.old }
+        requires callable { F.IsAlwaysCallable f }
+        ensures belongs { Belongs self.now false holder.new }
+        ensures words { AddsNoEvent holder.old.words holder.new.words }
+        ensures own { holder.new.own ≡ holder.old.own }
+        ensures told { IfOk result (λ told. IsLookedAt (λ book. FnOnceReturnsAt F.FnOnce f book told)) }
+        ensures back { IfErr result (λ g. g ≡ f) }
+    {
+        let Some(desk) = self.take(holder) else {
+            return Err(f);
+        };
+        let told = f(&desk.book);
+        self.give(holder, desk);
+        Ok(told)
+    }
+}
