@@ -1,0 +1,6 @@
+pub mod Changing
+pub mod Raw
+pub mod Reading
+pub mod Showing
+pub mod Statuses
+pub mod Writing

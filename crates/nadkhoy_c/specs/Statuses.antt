@@ -1,0 +1,15 @@
+-- The numbers of the statuses.
+use Rattle.std.specs.Prelude.{ℕ}
+use Rattle.nadkhoy_c.specs.declared.status.Status.{Status}
+use Rattle.nadkhoy_c.specs.declared.status.Status.TheVariants.{Done, Memory, Closed, InUse, NoObject, NoThread, NoStep, NoSplit, Range}
+
+abbrev pub status_number : Status → ℕ
+status_number Done = 0
+status_number Memory = 2
+status_number Closed = 101
+status_number InUse = 102
+status_number NoObject = 103
+status_number NoThread = 104
+status_number NoStep = 105
+status_number NoSplit = 106
+status_number Range = 107

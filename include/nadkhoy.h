@@ -1,0 +1,320 @@
+/* The core of the monitor service of a Java virtual machine, for programs in C and C++.
+ *
+ * A world has objects, threads and fat monitors, and does one atomic step at a time. docs/C.md has
+ * the loop of an interpreter over it, docs/EMBEDDING.md what each step means, and which faults it
+ * has.
+ *
+ * Each function answers a status. A call that is refused (a status other than NADKHOY_DONE) leaves
+ * the world as it is, and does not write what it would have written.
+ *
+ * A world knows nothing of threads of the system: any of them may call any of these functions, one
+ * at a time for one slot. None of them waits, and none calls back.
+ *
+ * What the library cannot see, and the caller promises:
+ *
+ *   1. A slot is all zeros, or as the library left it. It is not copied, and its fields are not
+ *      written.
+ *   2. One call at a time has a slot; where it changes threads, a lock, a join or a sequentially
+ *      consistent atomic orders the calls. The library takes no lock of its own.
+ *   3. Each pointer is to a whole struct or number of its type, aligned, and may be written where
+ *      it is not const. What one call is given does not overlap.
+ *   4. `lows` is to at least `objects` bytes; it may be anything that is not null where `objects`
+ *      is 0.
+ *   5. `malloc`, `realloc` and `free` are those of one allocator, and stay so.
+ *   6. No call is made from a signal handler, or in a forked child of a thread that was inside
+ *      one.
+ *   7. There is enough stack.
+ *   8. A world that is not freed keeps its memory.
+ */
+#ifndef NADKHOY_H
+#define NADKHOY_H
+
+#include <stdbool.h>
+#include <stddef.h>
+#include <stdint.h>
+
+#ifdef __cplusplus
+extern "C" {
+#endif
+
+/* What a call answers. A number below 101 is that of a fault of the core. */
+enum nadkhoy_status {
+    NADKHOY_DONE = 0,
+    NADKHOY_NO_INDEX = 1,        /* attach: every index is a live thread's */
+    NADKHOY_MEMORY = 2,          /* open, attach, relayout: the system has no memory for it */
+    NADKHOY_KNOWN = 3,           /* attach: the thread is live */
+    NADKHOY_NOT_LIVE = 4,        /* begin, go, expire, spurious: the thread is not live */
+    NADKHOY_MISSING_OBJECT = 5,  /* begin: the call names an object that the world does not have */
+    NADKHOY_IN_CALL = 6,         /* begin: the thread is in a call */
+    NADKHOY_NOT_CALLING = 7,     /* go: the thread is in no call */
+    NADKHOY_PARKED = 8,          /* go: the thread stands in an entry line or a wait set */
+    NADKHOY_NOT_DUE = 9,         /* expire: it does not wait, has no deadline, or is before it */
+    NADKHOY_BACKWARDS = 10,      /* tick: the moment would fall */
+    NADKHOY_NO_MONITOR = 11,     /* relayout: too few monitors are left */
+    NADKHOY_NOT_WAITING = 28,    /* spurious: the thread does not wait */
+    NADKHOY_NOT_AT_REST = 29,    /* relayout: a live thread is in a call, and does not wait */
+    NADKHOY_INDEX_TOO_WIDE = 30, /* relayout: more indices than the split can write */
+    NADKHOY_CLOSED = 101,        /* the slot has no world */
+    NADKHOY_IN_USE = 102,        /* open: the slot has a world already */
+    NADKHOY_NO_OBJECT = 103,     /* a reader: the world has no such object */
+    NADKHOY_NO_THREAD = 104,     /* a reader: no such thread is live, or nobody has the index */
+    NADKHOY_NO_STEP = 105,       /* step: the number of the step, or of its call, is none */
+    NADKHOY_NO_SPLIT = 106,      /* open, relayout: the number of the split is none */
+    NADKHOY_RANGE = 107          /* open: too many objects or monitors; indices out of range */
+};
+
+/* How a thin word divides its bits between index and count. */
+enum nadkhoy_split {
+    NADKHOY_SPLIT_WIDE = 1, /* indices to 32767, 256 thin holds */
+    NADKHOY_SPLIT_DEEP = 2  /* indices to 2047, 4096 thin holds */
+};
+
+enum nadkhoy_step_kind {
+    NADKHOY_STEP_ATTACH = 1,
+    NADKHOY_STEP_BEGIN = 2,
+    NADKHOY_STEP_GO = 3,
+    NADKHOY_STEP_EXPIRE = 4,
+    NADKHOY_STEP_SPURIOUS = 5,
+    NADKHOY_STEP_TICK = 6
+};
+
+enum nadkhoy_call_kind {
+    NADKHOY_CALL_ENTER = 1,
+    NADKHOY_CALL_EXIT = 2,
+    NADKHOY_CALL_WAIT = 3,
+    NADKHOY_CALL_NOTIFY = 4,
+    NADKHOY_CALL_NOTIFY_ALL = 5,
+    NADKHOY_CALL_HOLDS = 6,
+    NADKHOY_CALL_INTERRUPT = 7,
+    NADKHOY_CALL_INTERRUPTED = 8,
+    NADKHOY_CALL_IS_INTERRUPTED = 9,
+    NADKHOY_CALL_END = 10
+};
+
+/* 0 is no reply yet. */
+enum nadkhoy_reply {
+    NADKHOY_REPLY_ENTERED = 1,
+    NADKHOY_REPLY_EXITED = 2,
+    NADKHOY_REPLY_WAIT_OVER = 3,
+    NADKHOY_REPLY_INTERRUPTED = 4,
+    NADKHOY_REPLY_NOTIFIED = 5,
+    NADKHOY_REPLY_YES = 6,
+    NADKHOY_REPLY_NO = 7,
+    NADKHOY_REPLY_DONE = 8,
+    NADKHOY_REPLY_ENDED = 9,
+    NADKHOY_REPLY_ILLEGAL_MONITOR_STATE = 10,
+    NADKHOY_REPLY_ILLEGAL_ARGUMENT = 11,
+    NADKHOY_REPLY_REFUSED = 12 /* for the cause beside it */
+};
+
+enum nadkhoy_cause {
+    NADKHOY_CAUSE_NO_MONITOR = 11,
+    NADKHOY_CAUSE_MEMORY = 12,
+    NADKHOY_CAUSE_TOO_DEEP = 13,
+    NADKHOY_CAUSE_STILL_OWNER = 14,
+    NADKHOY_CAUSE_NO_THREAD = 15
+};
+
+/* The one change that a step made. */
+enum nadkhoy_atomic_kind {
+    NADKHOY_ATOMIC_LABEL = 0,
+    NADKHOY_ATOMIC_LOAD = 1,
+    NADKHOY_ATOMIC_WON = 2,
+    NADKHOY_ATOMIC_LOST = 3,
+    NADKHOY_ATOMIC_STORED = 4,
+    NADKHOY_ATOMIC_BOUND = 5,
+    NADKHOY_ATOMIC_NOT_BOUND = 6,
+    NADKHOY_ATOMIC_ACTED = 7
+};
+
+/* The action of an ACTED. */
+enum nadkhoy_action {
+    NADKHOY_ACTION_ENTER = 1,
+    NADKHOY_ACTION_EXIT = 2,
+    NADKHOY_ACTION_WAIT = 3,
+    NADKHOY_ACTION_NOTIFY = 4,
+    NADKHOY_ACTION_NOTIFY_ALL = 5,
+    NADKHOY_ACTION_HOLDS = 6,
+    NADKHOY_ACTION_INTERRUPT = 7,
+    NADKHOY_ACTION_INTERRUPTED = 8,
+    NADKHOY_ACTION_IS_INTERRUPTED = 9,
+    NADKHOY_ACTION_EXPIRE = 10,
+    NADKHOY_ACTION_SPURIOUS = 11,
+    NADKHOY_ACTION_COLLECT = 12,
+    NADKHOY_ACTION_END = 13
+};
+
+/* What an ACTED answered. */
+enum nadkhoy_answer {
+    NADKHOY_ANSWER_REPLY = 1,
+    NADKHOY_ANSWER_PARKED = 2,
+    NADKHOY_ANSWER_QUIET = 3
+};
+
+/* A move of the abstract machine; 0 is no move. */
+enum nadkhoy_move_kind {
+    NADKHOY_MOVE_ATTACH = 1,
+    NADKHOY_MOVE_CALL = 2,
+    NADKHOY_MOVE_RETURN = 3,
+    NADKHOY_MOVE_LOCK = 4,
+    NADKHOY_MOVE_UNLOCK = 5,
+    NADKHOY_MOVE_ILLEGAL = 6,
+    NADKHOY_MOVE_BAD_ARGUMENT = 7,
+    NADKHOY_MOVE_EARLY = 8,
+    NADKHOY_MOVE_WAIT = 9,
+    NADKHOY_MOVE_NOTIFY = 10,
+    NADKHOY_MOVE_NOTIFY_ALL = 11,
+    NADKHOY_MOVE_INTERRUPT = 12,
+    NADKHOY_MOVE_TEST_CLEAR = 13,
+    NADKHOY_MOVE_EXPIRE = 14,
+    NADKHOY_MOVE_SPURIOUS = 15,
+    NADKHOY_MOVE_RELOCK = 16,
+    NADKHOY_MOVE_ASK = 17,
+    NADKHOY_MOVE_REFUSE = 18,
+    NADKHOY_MOVE_END = 19,
+    NADKHOY_MOVE_TIME = 20
+};
+
+/* What a thread is doing. */
+enum nadkhoy_doing_kind {
+    NADKHOY_DOING_IDLE = 1,
+    NADKHOY_DOING_WANTS = 2,
+    NADKHOY_DOING_WAITS = 3,
+    NADKHOY_DOING_BACK = 4,
+    NADKHOY_DOING_HAS = 5
+};
+
+/* Why a thread is back from a wait set. */
+enum nadkhoy_why {
+    NADKHOY_WHY_NOTIFIED = 1,
+    NADKHOY_WHY_INTERRUPTED = 2,
+    NADKHOY_WHY_ELAPSED = 3,
+    NADKHOY_WHY_SPURIOUS = 4
+};
+
+/* The place of a world. All zeros is the empty slot; the fields are the library's own. */
+typedef struct nadkhoy_slot {
+    void *world;
+    bool full;
+} nadkhoy_slot;
+
+#define NADKHOY_EMPTY {0, false}
+
+/* A call. What a call of its kind does not use is not read. */
+typedef struct nadkhoy_call {
+    int64_t millis;
+    int32_t nanos;
+    uint32_t kind;   /* enum nadkhoy_call_kind; 0 is no call */
+    uint32_t target; /* the object that it is on, or the thread that it asks about */
+} nadkhoy_call;
+
+/* A step. What a step of its kind does not use is not read. */
+typedef struct nadkhoy_step_in {
+    uint32_t kind; /* enum nadkhoy_step_kind */
+    uint32_t thread;
+    uint64_t moment;   /* of a tick, in nanoseconds */
+    nadkhoy_call call; /* of a begin */
+} nadkhoy_step_in;
+
+/* The change that a step made. What one of its kind does not have is 0. */
+typedef struct nadkhoy_atomic {
+    uint32_t kind; /* enum nadkhoy_atomic_kind */
+    uint32_t object;
+    uint32_t before; /* the word that was loaded, or stood there before */
+    uint32_t after;  /* the word that stands there now */
+    uint32_t monitor;
+    uint32_t cause;  /* enum nadkhoy_cause, of a NOT_BOUND */
+    uint32_t action; /* enum nadkhoy_action */
+    uint32_t answer; /* enum nadkhoy_answer */
+} nadkhoy_atomic;
+
+/* A move. What one of its kind does not have is 0. */
+typedef struct nadkhoy_move {
+    uint32_t kind; /* enum nadkhoy_move_kind */
+    uint32_t thread;
+    uint32_t reply;      /* enum nadkhoy_reply, of a RETURN */
+    uint32_t cause;      /* enum nadkhoy_cause, of a REFUSE or a RETURN */
+    uint32_t has_chosen; /* 1 where a NOTIFY took a thread out of the wait set */
+    uint32_t chosen;
+    uint64_t moment;   /* of a TIME */
+    nadkhoy_call call; /* of a CALL */
+} nadkhoy_move;
+
+/* What a step did. */
+typedef struct nadkhoy_did {
+    nadkhoy_atomic atomic;
+    uint32_t reply; /* enum nadkhoy_reply; 0 where the call goes on */
+    uint32_t cause; /* enum nadkhoy_cause, of a REFUSED */
+    nadkhoy_move moves[3];
+} nadkhoy_did;
+
+typedef struct nadkhoy_sizes_shown {
+    uint64_t moment; /* that was told last, in nanoseconds */
+    uint32_t objects;
+    uint32_t indices; /* the most threads that are live at once */
+} nadkhoy_sizes_shown;
+
+typedef struct nadkhoy_object_shown {
+    uint32_t word;
+    uint32_t is_owned; /* 1 or 0 */
+    uint32_t owner;
+    uint32_t holds;
+} nadkhoy_object_shown;
+
+/* What a thread is doing. What one of its kind does not have is 0. */
+typedef struct nadkhoy_doing {
+    uint32_t kind;   /* enum nadkhoy_doing_kind */
+    uint32_t object; /* of WAITS and BACK */
+    uint32_t holds;
+    uint32_t why;   /* enum nadkhoy_why, of BACK */
+    uint32_t reply; /* of HAS */
+    uint32_t cause;
+    uint32_t has_deadline;  /* of WAITS */
+    uint64_t deadline_high; /* the deadline in nanoseconds is this times 2 to the power of 64, */
+    uint64_t deadline_low;  /* and this */
+    nadkhoy_call call;      /* of WANTS */
+} nadkhoy_doing;
+
+typedef struct nadkhoy_thread_shown {
+    uint32_t index;
+    uint32_t is_interrupted; /* 1 or 0 */
+    nadkhoy_doing doing;
+} nadkhoy_thread_shown;
+
+/* Makes a world in an empty slot: an object for each low byte, 0 to 65535 of them, at most
+ * `monitors` fat monitors, 0 to 8388608, and at most `indices` live threads at once, 1 to 32767 or
+ * 2047 by the split. Answers the first of IN_USE, NO_SPLIT, RANGE and MEMORY that holds. */
+uint32_t nadkhoy_open(const uint8_t *lows, size_t objects, uint32_t monitors, uint16_t indices,
+                      uint32_t split, nadkhoy_slot *slot);
+
+/* Does a step, and writes what it did. Answers CLOSED, NO_STEP or a fault of the core. */
+uint32_t nadkhoy_step(nadkhoy_slot *slot, const nadkhoy_step_in *step, nadkhoy_did *did);
+
+/* Writes each header word in a split, at rest, and how many locks were inflated for it. Answers
+ * CLOSED, NO_SPLIT, NOT_AT_REST, INDEX_TOO_WIDE, NO_MONITOR or MEMORY. */
+uint32_t nadkhoy_relayout(nadkhoy_slot *slot, uint32_t split, uint32_t *inflated);
+
+/* Gives the world back, and leaves the slot empty. Answers CLOSED where it is. */
+uint32_t nadkhoy_free(nadkhoy_slot *slot);
+
+/* The readers leave the world as it is. Each may answer CLOSED. */
+uint32_t nadkhoy_sizes(nadkhoy_slot *slot, nadkhoy_sizes_shown *sizes);
+
+/* May answer NO_OBJECT. */
+uint32_t nadkhoy_object(nadkhoy_slot *slot, uint32_t object, nadkhoy_object_shown *shown);
+
+/* May answer NO_THREAD. */
+uint32_t nadkhoy_thread(nadkhoy_slot *slot, uint32_t thread, nadkhoy_thread_shown *shown);
+
+/* Writes 1 where the thread is in the wait set of the object, and 0 where it is not, or is not
+ * live. May answer NO_OBJECT. */
+uint32_t nadkhoy_waiting(nadkhoy_slot *slot, uint32_t object, uint32_t thread, uint32_t *answer);
+
+/* Writes the thread that has an index. May answer NO_THREAD. */
+uint32_t nadkhoy_holder(nadkhoy_slot *slot, uint16_t index, uint32_t *thread);
+
+#ifdef __cplusplus
+}
+#endif
+
+#endif
