@@ -1,0 +1,67 @@
+-- What a call came to, from its first turn and from those behind it.
+use Rattle.std.specs.Prelude.{◌≡◌, ◌<◌, Bool, true, false, length, Result, Ok, Err, IfOk, IfErr}
+use Rattle.std.proofs.Common.{refl, ap}
+use Rattle.fat_monitor.specs.declared.actions.Reply.{Reply}
+use Rattle.fast_path.specs.declared.calls.MonitorCall.{MonitorCall}
+use Rattle.fast_path.specs.declared.calls.InterruptCall.{InterruptCall}
+use Rattle.header_words.specs.Passes.{Opening}
+use Rattle.step_core.specs.declared.places.Place.TheVariants.{Idle, InCall, Ending, AtPost}
+use Rattle.step_core.specs.declared.places.Stage.TheVariants.{Begun, Direct}
+use Rattle.step_core.specs.declared.paths.Point.{Point}
+use Rattle.step_core.specs.declared.paths.Point.TheVariants.{At, Expired, Said}
+use Rattle.live_turns.specs.declared.turned.Standing.{Standing}
+use Rattle.live_turns.specs.declared.turned.Standing.TheVariants as standing
+use Rattle.live_turns.specs.declared.faults.LiveFault.{LiveFault}
+use Rattle.live_turns.specs.declared.faults.LiveFault.TheVariants as fault
+use Rattle.live_turns.specs.Points.{standing_at, resting, GivenUpOn, GivenUpAbout, names_stranger}
+use Rattle.live_turns.specs.Ways.{Holding, Went, Halted}
+use Rattle.live_turns.proofs.Going.{went_then, halted_then}
+use Rattle.live_threads.specs.Calls.{CalledOn, CalledAbout}
+
+-- the reply of a standing, if it has one
+abbrev reply_of : Standing → Reply → Reply
+reply_of (standing.Said r) d = r
+reply_of s d = d
+
+-- a call whose standing has a reply stands there
+pub said_at : (b : Bool) (p : Point) (r : Reply) → standing_at b p ≡ standing.Said r → p ≡ Said r
+said_at b (Said x) r e = ap (λ s. Said (reply_of s r)) e
+said_at true (At p) r e = absurd (cc)
+said_at false (At (InCall s)) r e = absurd (cc)
+said_at false (At Idle) r e = absurd (cc)
+said_at false (At (Ending n)) r e = absurd (cc)
+said_at false (At AtPost) r e = absurd (cc)
+said_at true Expired r e = absurd (cc)
+said_at false Expired r e = absurd (cc)
+
+-- and a pass rests where its call stands, as long as it has none
+pub rests_there : (b : Bool) (p : Point) → ((r : Reply) → standing_at b p ≡ standing.Said r → ⊥) → resting p ≡ p
+rests_there b (Said x) h = absurd (h x refl)
+rests_there b (At p) h = refl
+rests_there b Expired h = refl
+
+-- a fault behind the first turn
+given_up_on : (z : Opening) (c : MonitorCall) (t : Point) (f : LiveFault) (p q r : Holding) → c.object.0 < length z.lows → Went (At (InCall (Begun c false))) t p q → Halted f t q r → GivenUpOn z c f p r
+given_up_on z c t fault.NoObject p q r lt w k = absurd k.last
+given_up_on z c t fault.Backwards p q r lt w k = (lt, halted_then fault.Backwards (At (InCall (Begun c false))) t p q r w k)
+given_up_on z c t fault.RecordFull p q r lt w k = (lt, halted_then fault.RecordFull (At (InCall (Begun c false))) t p q r w k)
+given_up_on z c t fault.Torn p q r lt w k = (lt, halted_then fault.Torn (At (InCall (Begun c false))) t p q r w k)
+given_up_on z c t fault.NoThread p q r lt w k = (lt, halted_then fault.NoThread (At (InCall (Begun c false))) t p q r w k)
+
+given_up_about : (z : Opening) (c : InterruptCall) (t : Point) (f : LiveFault) (p q r : Holding) → names_stranger z c ≡ false → Went (At (InCall (Direct c))) t p q → Halted f t q r → GivenUpAbout z c f p r
+given_up_about z c t fault.NoThread p q r out w k = absurd k.last
+given_up_about z c t fault.Backwards p q r out w k = (out, halted_then fault.Backwards (At (InCall (Direct c))) t p q r w k)
+given_up_about z c t fault.RecordFull p q r out w k = (out, halted_then fault.RecordFull (At (InCall (Direct c))) t p q r w k)
+given_up_about z c t fault.Torn p q r out w k = (out, halted_then fault.Torn (At (InCall (Direct c))) t p q r w k)
+given_up_about z c t fault.NoObject p q r out w k = (out, halted_then fault.NoObject (At (InCall (Direct c))) t p q r w k)
+
+-- a call, by its first turn and by what the turns behind it came to
+pub finished_on : (z : Opening) (c : MonitorCall) (t : Point) (x : Result Reply LiveFault) (p q r : Holding) → c.object.0 < length z.lows → Went (At (InCall (Begun c false))) t p q
+    → IfOk x (λ y. Went t (Said y) q r) → IfErr x (λ f. Halted f t q r) → CalledOn z c x p r
+finished_on z c t (Ok y) p q r lt w ok err = (lt, went_then (At (InCall (Begun c false))) t (Said y) p q r w ok)
+finished_on z c t (Err f) p q r lt w ok err = given_up_on z c t f p q r lt w err
+
+pub finished_about : (z : Opening) (c : InterruptCall) (t : Point) (x : Result Reply LiveFault) (p q r : Holding) → names_stranger z c ≡ false → Went (At (InCall (Direct c))) t p q
+    → IfOk x (λ y. Went t (Said y) q r) → IfErr x (λ f. Halted f t q r) → CalledAbout z c x p r
+finished_about z c t (Ok y) p q r out w ok err = (out, went_then (At (InCall (Direct c))) t (Said y) p q r w ok)
+finished_about z c t (Err f) p q r out w ok err = given_up_about z c t f p q r out w err

@@ -1,0 +1,4 @@
+pub mod Calling
+pub mod Rows
+pub mod Drives
+pub mod Ends

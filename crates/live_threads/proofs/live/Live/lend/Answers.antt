@@ -1,0 +1,7 @@
+use Rattle.std.proofs.Common.{subst}
+use Rattle.std.specs.Fn.{FnOnceReturnsAt}
+use Rattle.live_turns.specs.Ends.{IsLookedAt}
+use Rattle.live_threads.proofs.live.Live.lend.Goals as goal
+
+pub returns-in-Ok-clause-told : goal.returns-in-Ok-clause-told
+returns-in-Ok-clause-told g c = subst (λ h. IsLookedAt (λ book. FnOnceReturnsAt g.F.FnOnce h book c.in-Ok.told)) c.loop.invariant.lent c.in-Ok.ensures.told

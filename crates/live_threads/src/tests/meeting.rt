@@ -1,0 +1,69 @@
+//! Two threads that meet at one object.
+
+ghost use Rattle.std.specs.Prelude.{◌≡◌};
+
+use crate::tests::OBJECT;
+use crate::{Live, LivePass};
+use fat_monitor::Reply;
+use live_turns::{Crew, LiveFault};
+use std::alloc::Global;
+use std::marker::Brand;
+use std::process::Abort;
+use std::sync::Wait;
+use std::sync::ledger::Blank;
+use std::test::Fail;
+use std::thread::{Threads, join};
+use std::time::Clock;
+
+/// A timed wait of an owner.
+fn wait_a_moment<L: Crew, R: Wait + Clock>(
+    rt: &R,
+    live: &Live<L>,
+    pass: &mut LivePass<L>,
+) -> Result<Reply, LiveFault>
+    requires here { pass.old.words.opening ≡ live.now }
+{
+    live.wait_on(rt, pass, OBJECT, 0, 1)
+}
+
+/// An enter, a tick and an exit.
+fn enter_and_tick<L: Crew, R: Wait + Clock>(
+    rt: &R,
+    live: &Live<L>,
+    pass: &mut LivePass<L>,
+) -> Result<bool, LiveFault>
+    requires here { pass.old.words.opening ≡ live.now }
+{
+    let entered = live.enter(rt, pass, OBJECT)?;
+    live.tick(rt, pass, 1)?;
+    let exited = live.exit(rt, pass, OBJECT)?;
+    Ok(entered == Reply::Entered && exited == Reply::Exited)
+}
+
+fn a_wait_that_ends<L: Crew + Send + Sync, R: Threads + Wait + Clock + Sync + Abort>(
+    rt: &R,
+    alloc: Global,
+    blank: Blank,
+) -> Result<(), Fail>
+    requires name { blank.name ≡ L.name }
+    requires parts { (blank.parts ≡ L.parts) × (L.parts ≡ 2) }
+    requires crew { (L.passes ≡ 2) × (L.monitors ≡ 1) × (L.places ≡ 20) }
+{
+    let (live, mut passes) = Live::<L>::open(alloc, blank, &[0xa5], 1, 2, 20)?;
+    let mut second = passes.pop().ok_or("two passes")?;
+    let mut first = passes.pop().ok_or("two passes")?;
+    assert!(rt; live.enter(rt, &mut first, OBJECT) == Ok(Reply::Entered));
+    let (waited, ticked) = join(
+        rt,
+        || wait_a_moment(rt, &live, &mut first),
+        || enter_and_tick(rt, &live, &mut second),
+    );
+    assert!(rt; waited == Ok(Reply::WaitOver));
+    assert!(rt; ticked == Ok(true));
+    Ok(())
+}
+
+#[test]
+fn a_timed_wait_ends_by_a_tick(rt: HostRuntime) -> Result<(), Fail> {
+    a_wait_that_ends::<Brand, _>(&rt, rt.alloc(), Blank::new(2))
+}

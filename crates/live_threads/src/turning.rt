@@ -1,0 +1,137 @@
+//! The loops over turns.
+
+ghost use Rattle.std.specs.Prelude.{◌≡◌, IfOk, IfErr, OnOk, OnErr, ◌++◌, true, false};
+ghost use Rattle.step_core.specs.declared.paths.Point.TheVariants.{Said};
+ghost use Rattle.live_turns.specs.Asked.{IsTickFault};
+ghost use Rattle.live_turns.specs.Points.{resting};
+ghost use Rattle.live_turns.specs.Ways.{AddsNoEvent, Went, Halted, ticked_by};
+ghost use Rattle.live_threads.specs.Calls.{IsAtRest, CalledOn, CalledAbout};
+
+use crate::waiting::Waiting;
+use crate::Live;
+use crossbeam_utils::sync::Parker;
+use fast_path::{InterruptCall, MonitorCall};
+use fat_monitor::Reply;
+use live_turns::{Crew, LiveFault, Standing, TurnPass, Turned};
+use std::sync::Wait;
+use std::time::Clock;
+
+impl<L: Crew> Live<L> {
+    // Waits as long as this standing of a call asks for.
+    fn wait<R: Wait + Clock>(
+        &self,
+        rt: &R,
+        waiting: &mut Waiting,
+        standing: Standing,
+        pass: &TurnPass<L>,
+        parker: &Parker,
+    ) {
+        match (standing, self.bell(pass.thread())) {
+            (Standing::Parked, Some(bell)) => waiting.listen(rt, bell, parker),
+            _ => waiting.back_off(rt),
+        }
+    }
+
+    // The turns of a call behind this one, until it has its reply.
+    fn finish<R: Wait + Clock>(
+        &self,
+        rt: &R,
+        pass: &mut TurnPass<L>,
+        parker: &Parker,
+        first: Turned,
+    ) -> Result<Reply, LiveFault>
+        requires here { pass.old.holding.words.opening ≡ self.now }
+        requires gate { pass.old.holding.words.has_gate ≡ false }
+        requires point { pass.old.point ≡ resting first.point }
+        ensures went { IfOk result (λ r.
+            Went first.point (Said r) pass.old.holding pass.new.holding) }
+        ensures halted { IfErr result (λ f.
+            Halted f first.point pass.old.holding pass.new.holding) }
+        ensures here { pass.new.holding.words.opening ≡ self.now }
+        ensures rests { IsAtRest pass.new }
+    {
+        let mut turned = first;
+        let mut waiting = Waiting::new();
+        for _ in rt.forever() {
+            self.ring(turned.granted);
+            let standing = turned.standing();
+            if let Standing::Said(reply) = standing {
+                return Ok(reply);
+            }
+            self.wait(rt, &mut waiting, standing, pass, parker);
+            match self.turns.turn(pass) {
+                Ok(next) => turned = next,
+                Err(fault) => return Err(fault),
+            }
+        }
+        unreachable!()
+    }
+
+    // A call on an object, until it has its reply.
+    pub(crate) fn run_on<R: Wait + Clock>(
+        &self,
+        rt: &R,
+        pass: &mut TurnPass<L>,
+        parker: &Parker,
+        call: MonitorCall,
+    ) -> Result<Reply, LiveFault>
+        requires here { pass.old.holding.words.opening ≡ self.now }
+        requires rests { IsAtRest pass.old }
+        ensures called { CalledOn self.now call result pass.old.holding pass.new.holding }
+        ensures here { pass.new.holding.words.opening ≡ self.now }
+        ensures rests { IsAtRest pass.new }
+    {
+        match self.turns.begin_on(pass, call) {
+            Ok(turned) => self.finish(rt, pass, parker, turned),
+            Err(fault) => Err(fault),
+        }
+    }
+
+    // A call about interrupts, until it has its reply.
+    pub(crate) fn run_about<R: Wait + Clock>(
+        &self,
+        rt: &R,
+        pass: &mut TurnPass<L>,
+        parker: &Parker,
+        call: InterruptCall,
+    ) -> Result<Reply, LiveFault>
+        requires here { pass.old.holding.words.opening ≡ self.now }
+        requires rests { IsAtRest pass.old }
+        ensures called { CalledAbout self.now call result pass.old.holding pass.new.holding }
+        ensures here { pass.new.holding.words.opening ≡ self.now }
+        ensures rests { IsAtRest pass.new }
+    {
+        match self.turns.begin_about(pass, call) {
+            Ok(turned) => self.finish(rt, pass, parker, turned),
+            Err(fault) => Err(fault),
+        }
+    }
+
+    // Tells the moment, as soon as the gate is open.
+    pub(crate) fn tell<R: Clock + Wait>(
+        &self,
+        rt: &R,
+        pass: &mut TurnPass<L>,
+        now: u64,
+    ) -> Result<(), LiveFault>
+        requires here { pass.old.holding.words.opening ≡ self.now }
+        requires rests { IsAtRest pass.old }
+        ensures here { pass.new.holding.words.opening ≡ self.now }
+        ensures rests { IsAtRest pass.new }
+        ensures words { AddsNoEvent pass.old.holding.words pass.new.holding.words }
+        ensures own { OnOk result (pass.new.holding.own ≡ pass.old.holding.own
+            ++ ticked_by true pass.old.holding.words.index now) }
+        ensures none { OnErr result (pass.new.holding.own ≡ pass.old.holding.own) }
+        ensures fault { IfErr result IsTickFault }
+    {
+        let mut waiting = Waiting::new();
+        for _ in rt.forever() {
+            match self.turns.tick(pass, now) {
+                Ok(true) => return Ok(()),
+                Ok(false) => waiting.back_off(rt),
+                Err(fault) => return Err(fault),
+            }
+        }
+        unreachable!()
+    }
+}
