@@ -1,0 +1,5 @@
+use Rattle.live_scripts.proofs.Places.{lows_more}
+use Rattle.live_scripts.proofs.plans.lows_of.Goals as goal
+
+pub lines-preserved : goal.lines-preserved
+lines-preserved c = lows_more c.args.lines.now c.lines.line-index c.line-item.result c.lines.lows.items c.note_low.new.lows.items c.lines-test.true c.line-item.is c.lines.invariant c.in_ok-note_low.ensures

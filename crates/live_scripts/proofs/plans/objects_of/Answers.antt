@@ -1,0 +1,8 @@
+use Rattle.std.proofs.Common.{map}
+use Rattle.live_scripts.proofs.Places.{objects_more}
+use Rattle.live_scripts.proofs.plans.objects_of.Goals as goal
+
+pub lines-preserved : goal.lines-preserved
+lines-preserved c =
+    objects_more c.args.lines.now c.lines.line-index c.line-item.result (map (λ t. t.now) c.lines.objects.items) (map (λ t. t.now) c.note_object.new.objects.items) c.lines-test.true c.line-item.is
+    c.lines.invariant c.in_ok-note_object.ensures

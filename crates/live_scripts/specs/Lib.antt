@@ -1,0 +1,5 @@
+pub mod Rules
+pub mod Running
+pub mod Reading
+pub mod Plans
+pub mod Planned
