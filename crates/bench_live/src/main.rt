@@ -111,12 +111,30 @@ fn main(rt: HostRuntime) -> Result<(), BenchFault> {
         None => None,
     };
     let rows = [
-        ("first enter and last exit, beside the bare operations", (Work::Lock, Work::BareLock)),
-        ("nested enter and exit, beside the bare operations", (Work::Nest, Work::BareNest)),
-        ("enter and exit on a fat monitor, beside a thin pair", (Work::Fat, Work::Lock)),
-        ("the same by two threads, beside one", (Work::Contend, Work::Fat)),
-        ("a notify and a wait by each of two, beside a fat pair", (Work::HandOn, Work::Fat)),
-        ("the same, both asleep, beside awake", (Work::HandOnAsleep, Work::HandOn)),
+        (
+            "first enter and last exit, beside the bare operations",
+            (Work::Lock, Work::BareLock),
+        ),
+        (
+            "nested enter and exit, beside the bare operations",
+            (Work::Nest, Work::BareNest),
+        ),
+        (
+            "enter and exit on a fat monitor, beside a thin pair",
+            (Work::Fat, Work::Lock),
+        ),
+        (
+            "the same by two threads, beside one",
+            (Work::Contend, Work::Fat),
+        ),
+        (
+            "a notify and a wait by each of two, beside a fat pair",
+            (Work::HandOn, Work::Fat),
+        ),
+        (
+            "the same, both asleep, beside awake",
+            (Work::HandOnAsleep, Work::HandOn),
+        ),
     ];
     for (name, works) in rows {
         report(&rt, alloc, name, works, asked)?;

@@ -185,11 +185,7 @@ pub fn hand_on<L: Crew, R: Wait + Clock>(
 }
 
 /// Waits until it is notified.
-pub fn wait_once<L: Crew, R: Wait + Clock>(
-    rt: &R,
-    live: &Live<L>,
-    pass: &mut LivePass<L>,
-) -> bool
+pub fn wait_once<L: Crew, R: Wait + Clock>(rt: &R, live: &Live<L>, pass: &mut LivePass<L>) -> bool
     requires here { pass.old.words.opening ≡ live.now }
 {
     let _entered = live.enter(rt, pass, OBJECT);

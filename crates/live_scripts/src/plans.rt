@@ -100,7 +100,12 @@ fn take_call(
         ++ calls_in (map (λ t. t.now) objects.now) (map (λ t. t.now) threads.now) thread.now line.now) }
 {
     match line {
-        Line::Step(StepLine::Begin { thread: caller, call }) => {
+        Line::Step(
+            StepLine::Begin {
+                thread: caller,
+                call,
+            },
+        ) => {
             if caller.as_str() == thread {
                 calls.push(call_of(objects, threads, call))?;
             }

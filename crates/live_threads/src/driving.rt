@@ -46,9 +46,7 @@ pub struct Worked<L: Crew> {
 #[derive(Drop)]
 pub enum DriveFault<L: Crew> {
     /// The system refused memory before a thread was started. The works come back as they were.
-    Memory {
-        works: Vec<Work<L>>,
-    },
+    Memory { works: Vec<Work<L>> },
 }
 
 // A work, with room for its answers.

@@ -42,10 +42,7 @@ impl<L: Crew> Numbered for LivePass<L> {
 }
 
 // Rows for so many passes and their parkers.
-fn rows_for<L: Crew>(
-    alloc: Global,
-    count: usize,
-) -> Result<(Vec<TurnPass<L>>, Vec<Parker>), Memory>
+fn rows_for<L: Crew>(alloc: Global, count: usize) -> Result<(Vec<TurnPass<L>>, Vec<Parker>), Memory>
     ensures none { IfOk result (λ r. (r.0.items ≡ []) × (r.1.items ≡ [])) }
     ensures room { IfOk result (λ r. (count ≤ vec_capacity r.0) × (count ≤ vec_capacity r.1)) }
 {
@@ -70,7 +67,10 @@ fn take_apart<L: Crew>(
     ensures left { length passes.old.items ≤ vec_capacity passes.new }
 {
     while let Some(pass) = passes.pop() {
-        let LivePass { turns: turn, parker } = pass;
+        let LivePass {
+            turns: turn,
+            parker,
+        } = pass;
         turns.push_reserved(turn);
         parkers.push_reserved(parker);
     }
@@ -82,11 +82,7 @@ impl<L: Crew> Live<L> {
     /// Closes the service: the words of its objects, its record, and how many deeds each pass did.
     ///
     /// A missing pass comes before want of memory; both give everything back as it was.
-    pub fn close(
-        self,
-        alloc: Global,
-        passes: Vec<LivePass<L>>,
-    ) -> Result<Closed, LiveClose<L>>
+    pub fn close(self, alloc: Global, passes: Vec<LivePass<L>>) -> Result<Closed, LiveClose<L>>
         requires belong { All (λ p. p.words.opening ≡ self) passes.items }
         requires crew { (L.parts ≡ self.count) × (L.passes ≡ self.count) }
         ensures end { IfOk result (IsEnd self L.monitors (map at_rest passes.items)) }
@@ -129,10 +125,12 @@ impl<L: Crew> Live<L> {
         match service.close(alloc, turns) {
             Ok(closed) => Ok(closed),
             Err(TurnsClose::Torn) => Err(LiveClose::Torn),
-            Err(TurnsClose::Memory {
-                turns: service,
-                passes: turns,
-            }) => {
+            Err(
+                TurnsClose::Memory {
+                    turns: service,
+                    passes: turns,
+                },
+            ) => {
                 let live = Live {
                     turns: service,
                     bells,

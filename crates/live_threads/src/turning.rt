@@ -7,8 +7,8 @@ ghost use Rattle.live_turns.specs.Points.{resting};
 ghost use Rattle.live_turns.specs.Ways.{AddsNoEvent, Went, Halted, ticked_by};
 ghost use Rattle.live_threads.specs.Calls.{IsAtRest, CalledOn, CalledAbout};
 
-use crate::waiting::Waiting;
 use crate::Live;
+use crate::waiting::Waiting;
 use crossbeam_utils::sync::Parker;
 use fast_path::{InterruptCall, MonitorCall};
 use fat_monitor::Reply;

@@ -178,7 +178,10 @@ impl<L: Crew> Desk<L> {
         ensures torn { IfErr result IsTorn }
     {
         let Desk {
-            book, mut total, rest, ..
+            book,
+            mut total,
+            rest,
+            ..
         } = self;
         let logged = book.into_log();
         let agree = all_agree(&logged, &rests);
@@ -200,11 +203,7 @@ impl<L: Crew> Turns<L> {
     ///
     /// A missing pass comes before want of memory; both give everything back as it was. A pass may be
     /// in the middle of a call, of which the words and the record then have the beginning.
-    pub fn close(
-        self,
-        alloc: Global,
-        mut passes: Vec<TurnPass<L>>,
-    ) -> Result<Closed, TurnsClose<L>>
+    pub fn close(self, alloc: Global, mut passes: Vec<TurnPass<L>>) -> Result<Closed, TurnsClose<L>>
         requires belong { All (λ p. Belongs self false p.holding) passes.items }
         requires crew { (L.parts ≡ self.count) × (L.passes ≡ self.count) }
         ensures end { IfOk result (IsEnd self L.monitors passes.items) }
@@ -255,10 +254,12 @@ impl<L: Crew> Turns<L> {
         } = self;
         match headers.close(alloc, words) {
             Ok((words, desk)) => desk.end(words, counts, rests),
-            Err(CloseFault::Memory {
-                headers,
-                passes: words,
-            }) => {
+            Err(
+                CloseFault::Memory {
+                    headers,
+                    passes: words,
+                },
+            ) => {
                 put_together(words, rests, &mut passes);
                 let turns = Turns {
                     headers,

@@ -28,11 +28,7 @@ struct Outcome {
 }
 
 /// Drives two works, and tells what came of each.
-fn both_are_driven<
-    L: Crew + Send + Sync,
-    G: Gate + Sync,
-    R: Threads + Wait + Clock + Sync + Abort,
->(
+fn both_are_driven<L: Crew + Send + Sync, G: Gate + Sync, R: Threads + Wait + Clock + Sync + Abort>(
     rt: &R,
     alloc: Global,
     live: &Live<L>,
@@ -56,11 +52,7 @@ fn both_are_driven<
 }
 
 /// Drives two works of these calls, on one object, and tells what came of each.
-fn two_are_driven<
-    L: Crew + Send + Sync,
-    G: Gate + Sync,
-    R: Threads + Wait + Clock + Sync + Abort,
->(
+fn two_are_driven<L: Crew + Send + Sync, G: Gate + Sync, R: Threads + Wait + Clock + Sync + Abort>(
     rt: &R,
     alloc: Global,
     blank: Blank,
@@ -154,10 +146,7 @@ fn rounds(alloc: Global, times: u32) -> Result<Vec<Call>, Memory>
 }
 
 /// Their answers.
-fn answers_of_rounds(
-    alloc: Global,
-    times: u32,
-) -> Result<Vec<Result<Reply, LiveFault>>, Memory> {
+fn answers_of_rounds(alloc: Global, times: u32) -> Result<Vec<Result<Reply, LiveFault>>, Memory> {
     let mut answers = vec![in alloc; Ok(Reply::Entered)]?;
     for _ in 0..times {
         answers.push(Ok(Reply::Notified))?;

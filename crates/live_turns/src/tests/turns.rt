@@ -84,12 +84,7 @@ fn tick<L: Crew>(
 }
 
 /// Whether so many places of the record are used.
-fn uses<L: Crew>(
-    rt: &impl Abort,
-    turns: &Turns<L>,
-    pass: &mut TurnPass<L>,
-    places: u32,
-) -> bool
+fn uses<L: Crew>(rt: &impl Abort, turns: &Turns<L>, pass: &mut TurnPass<L>, places: u32) -> bool
     requires belongs { Belongs turns.now false pass.old.holding }
     ensures belongs { Belongs turns.now false pass.new.holding }
 {

@@ -6,7 +6,6 @@ use Rattle.live_scripts.proofs.Few.{few_objects, few_threads}
 use Rattle.live_scripts.proofs.Places.{length_map, rows_all}
 use Rattle.live_scripts.proofs.plans.plan_of.Goals as goal
 
-
 pub rows_of-requires-clause-objects : goal.rows_of-requires-clause-objects
 rows_of-requires-clause-objects c =
     let few = few_objects c.lines-lines.result.now c.lines-lines.ensures.rules in

@@ -4,8 +4,12 @@ use Rattle.live_threads.proofs.driving.work_through.Goals as goal
 
 pub returns-then-not-before : goal.returns-then-not-before
 returns-then-not-before g c = record {
-  driven = (c.loop-call.invariant.here, rw (← c.deref-call-items.ensures.value) (answered_so_far c.args.live.now c.deref-call-items.result.now c.loop-call.call-index c.loop-call.answers.items c.args.job.work.pass c.loop-call.pass c.loop-call.invariant.answered), (λ e. absurd (cc)),
-      (λ e some. let lt = c.loop-call-test.true in let count = c.loop-call.invariant.count in rw (← c.deref-call-items.ensures.value) (omega arith)));
+  driven = (
+    c.loop-call.invariant.here,
+    rw (← c.deref-call-items.ensures.value) (answered_so_far c.args.live.now c.deref-call-items.result.now c.loop-call.call-index c.loop-call.answers.items c.args.job.work.pass c.loop-call.pass c.loop-call.invariant.answered),
+    (λ e. absurd (cc)),
+    (λ e some. let lt = c.loop-call-test.true in let count = c.loop-call.invariant.count in rw (← c.deref-call-items.ensures.value) (omega arith)),
+  );
 }
 
 pub loop-call-preserved : goal.loop-call-preserved
