@@ -2,7 +2,7 @@
 use Rattle.std.specs.Prelude.{ℕ}
 use Rattle.clap.specs.declared.error.kind.ErrorKind.{ErrorKind}
 use Rattle.clap.specs.declared.error.kind.ErrorKind.TheVariants.{InvalidValue, UnknownArgument, InvalidSubcommand, NoEquals, ValueValidation, TooManyValues, TooFewValues, WrongNumberOfValues, ArgumentConflict, MissingRequiredArgument, MissingSubcommand, DisplayHelp, DisplayHelpOnMissingArgumentOrSubcommand, DisplayVersion, Io, Format, OutOfMemory}
-use Rattle.history_streams.specs.declared.faults.FileFault.TheVariants.{Memory}
+use Rattle.live_runs.specs.Faults.{out_of_memory}
 use Rattle.command_line.specs.declared.ends.ProgramEnd.{ProgramEnd}
 use Rattle.command_line.specs.declared.ends.ProgramEnd.TheVariants.{Done, Shown, Failed, Misused}
 
@@ -15,7 +15,7 @@ status_of Misused = 2
 
 -- how the program ends where a parse of its words gives no order
 abbrev pub end_for : ErrorKind → ProgramEnd
-end_for OutOfMemory = Failed Memory
+end_for OutOfMemory = Failed out_of_memory
 end_for DisplayHelp = Shown
 end_for DisplayVersion = Shown
 end_for InvalidValue = Misused

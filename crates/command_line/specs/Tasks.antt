@@ -1,23 +1,26 @@
 -- What was done where a task was carried out.
 use Rattle.std.specs.Prelude.{ℕ, List, Option, IfSome, Bool, true, false}
 use Rattle.std.specs.Io.KnownBytes.{Appends}
-use Rattle.history_text.specs.Scripts.{IsScriptText}
 use Rattle.history_check.specs.Histories.{run_text}
 use Rattle.history_check.specs.Replays.{IsWhole}
 use Rattle.history.specs.Histories.{IsHistoryOf}
 use Rattle.history.specs.Plans.{IsPlanOf}
+use Rattle.history.specs.Reports.{IsReportOf}
 use Rattle.history.specs.declared.plans.Plan.{Plan}
 use Rattle.dump.specs.Dumps.{IsDumpOf}
+use Rattle.live_runs.specs.Runs.{IsRunOf}
 use Rattle.command_line.specs.declared.orders.Task.{Task}
-use Rattle.command_line.specs.declared.orders.Task.TheVariants.{Run, Moves, Check, Dump}
+use Rattle.command_line.specs.declared.orders.Task.TheVariants.{Run, Moves, Check, Dump, Live}
 
 -- Of the bytes that were left before and after, how many were given, and those that are held before and
 -- after: a script was read, and a report written; or its history; or a history was read whose moves are a
--- run, and their number written; or a script was read, and a dump of the world that it leads to written.
+-- run, and their number written; or a script was read, and a dump of the world that it leads to written; or a
+-- live script was read, and the text of a run of it written.
 abbrev pub IsDone : Task → Option (List ℕ) → Option (List ℕ) → ℕ → Option (List ℕ) → Option (List ℕ)
     → Type 0
 IsDone Run left rest given held holds =
-    IfSome left IsScriptText × (report : List ℕ) × Appends held holds report
+    (plan : Plan) × IfSome left (IsPlanOf plan) × (report : List ℕ) × IsReportOf plan report
+    × Appends held holds report
 IsDone Moves left rest given held holds =
     (plan : Plan) × IfSome left (IsPlanOf plan) × (history : List ℕ) × IsHistoryOf plan history
     × Appends held holds history
@@ -25,6 +28,8 @@ IsDone Check left rest given held holds =
     (count : ℕ) × IsWhole left rest given count × Appends held holds (run_text count)
 IsDone Dump left rest given held holds =
     (text : List ℕ) × IfSome left (λ input. IsDumpOf input text) × Appends held holds text
+IsDone Live left rest given held holds =
+    (text : List ℕ) × IfSome left (λ input. IsRunOf input text) × Appends held holds text
 
 abbrev pub task_of_run : Bool → Task
 task_of_run true = Moves

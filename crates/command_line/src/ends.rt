@@ -6,6 +6,7 @@ ghost use Rattle.command_line.specs.ProgramEnds.{end_for, status_of};
 
 use clap::error::ErrorKind;
 use history::FileFault;
+use live_runs::RunFault;
 
 /// How the program ends.
 #[derive(Clone, Copy, PartialEq, Eq, Debug)]
@@ -15,7 +16,7 @@ pub enum ProgramEnd {
     /// Help or the version was asked for.
     Shown,
     /// The order was not carried out, for this fault.
-    Failed(FileFault),
+    Failed(RunFault),
     /// The words are no order.
     Misused,
 }
@@ -39,7 +40,7 @@ pub fn end_for(error: &clap::Error) -> ProgramEnd
     ensures { result ≡ end_for (kind_of error.now) }
 {
     match error.kind() {
-        ErrorKind::OutOfMemory => ProgramEnd::Failed(FileFault::Memory),
+        ErrorKind::OutOfMemory => ProgramEnd::Failed(RunFault::File(FileFault::Memory)),
         ErrorKind::DisplayHelp | ErrorKind::DisplayVersion => ProgramEnd::Shown,
         _ => ProgramEnd::Misused,
     }

@@ -20,6 +20,8 @@ pub enum Task {
     Check,
     /// Play a script, and write a dump of the world that it leads to.
     Dump,
+    /// Run a live script on threads of the system, and write what came of it.
+    Live,
 }
 
 /// What the program is to do, and with what.
@@ -46,6 +48,12 @@ pub fn read_words<'a>(alloc: Global, words: &'a [String]) -> Result<Order<'a>, E
         return Ok(Order {
             task: Task::Dump,
             file: dump.get_str("file"),
+        });
+    }
+    if let Some(live) = matches.subcommand_matches("live") {
+        return Ok(Order {
+            task: Task::Live,
+            file: live.get_str("file"),
         });
     }
     match matches.subcommand_matches("run") {
@@ -76,6 +84,14 @@ fn program<'a>(alloc: Global) -> Result<Command<'a>, Error> {
     let dump = Command::new(alloc, "dump")
         .about("Plays a script and prints what its threads are doing then, and who waits for whom")
         .arg(file(alloc, "The script; standard input where it is left out"))?;
+    let live = Command::new(alloc, "live")
+        .about(
+            "Runs the threads of a live script on threads of the system, and prints their replies",
+        )
+        .arg(file(
+            alloc,
+            "The live script; standard input where it is left out",
+        ))?;
     let program = Command::new(alloc, "thinmon")
         .about("Java monitors on thin locks, one atomic step at a time")
         .version(VERSION)
@@ -84,7 +100,8 @@ fn program<'a>(alloc: Global) -> Result<Command<'a>, Error> {
         .bin_name("thinmon")?
         .subcommand(run)?
         .subcommand(check)?
-        .subcommand(dump)?;
+        .subcommand(dump)?
+        .subcommand(live)?;
     Ok(program)
 }
 

@@ -9,15 +9,18 @@ use crate::ends::{ProgramEnd, end_for};
 use crate::orders::{Order, Task, read_words};
 use dump::dump_script;
 use history::{FileFault, ReaderSource, Sink, Source, WriterSink, moves, replay, run};
-use std::alloc::Global;
+use live_runs::{RunFault, run_live};
 use std::process::ExitCode;
 use std::rt::{Env, Files};
+use std::sync::Wait;
+use std::thread::Threads;
+use std::time::Clock;
 use std::{env, fs, io};
 
 /// Does what the words of the command line order, and answers the exit status.
 pub fn serve<R>(rt: &R) -> ExitCode
 where
-    R: Env + Files + Input + Print + Eprint + AllocGlobal,
+    R: Env + Files + Input + Print + Eprint + AllocGlobal + Threads + Wait + Clock + Sync,
 {
     let end = match words_behind_name(rt) {
         Ok(words) => serve_words(rt, &words),
@@ -36,7 +39,7 @@ fn words_behind_name<R: Env + AllocGlobal>(rt: &R) -> io::Result<Vec<String>> {
 /// one line on standard error.
 pub fn serve_words<R>(rt: &R, words: &[String]) -> ProgramEnd
 where
-    R: Files + Input + Print + Eprint + AllocGlobal,
+    R: Files + Input + Print + Eprint + AllocGlobal + Threads + Wait + Clock + Sync,
 {
     match read_words(rt.alloc(), words) {
         Ok(order) => match carry_out(rt, order) {
@@ -47,7 +50,7 @@ where
     }
 }
 
-fn tell_fault(rt: &impl Eprint, fault: FileFault) -> ProgramEnd
+fn tell_fault(rt: &impl Eprint, fault: RunFault) -> ProgramEnd
     ensures { result ≡ ProgramEnd.Failed fault }
 {
     let _ = eprintln!(rt; "thinmon: {fault}");
@@ -57,7 +60,7 @@ fn tell_fault(rt: &impl Eprint, fault: FileFault) -> ProgramEnd
 /// Tells why the words of the command line could not be had.
 fn refuse_words(rt: &impl Eprint, error: &io::Error) -> ProgramEnd {
     if error.kind() == io::ErrorKind::OutOfMemory {
-        return tell_fault(rt, FileFault::Memory);
+        return tell_fault(rt, RunFault::File(FileFault::Memory));
     }
     let _ = rt.eprintln("thinmon: a word of the command line is not text");
     ProgramEnd::Misused
@@ -76,45 +79,45 @@ fn answer(rt: &(impl Print + Eprint), error: &clap::Error) -> ProgramEnd
 }
 
 /// Carries an order out on its file, or on standard input.
-fn carry_out<R>(rt: &R, order: Order<'_>) -> Result<(), FileFault>
+fn carry_out<R>(rt: &R, order: Order<'_>) -> Result<(), RunFault>
 where
-    R: Files + Input + Print + AllocGlobal,
+    R: Files + Input + Print + AllocGlobal + Threads + Wait + Clock + Sync,
 {
     let mut sink = WriterSink::new(io::writer(rt));
     match order.file {
         Some(path) => {
             let file = fs::open(rt, path).map_err(|error| fault_of_opening(&error))?;
-            do_task(
-                rt.alloc(),
-                order.task,
-                &mut ReaderSource::new(file),
-                &mut sink,
-            )
+            do_task(rt, order.task, &mut ReaderSource::new(file), &mut sink)
         }
         None => {
             let mut source = ReaderSource::new(rt.reader());
-            do_task(rt.alloc(), order.task, &mut source, &mut sink)
+            do_task(rt, order.task, &mut source, &mut sink)
         }
     }
 }
 
 /// Does a task on what a source gives.
-fn do_task<S: Source, W: Sink>(
-    alloc: Global,
+fn do_task<R, S: Source, W: Sink>(
+    rt: &R,
     task: Task,
     source: &mut S,
     sink: &mut W,
-) -> Result<(), FileFault>
+) -> Result<(), RunFault>
+where
+    R: AllocGlobal + Threads + Wait + Clock + Sync,
     requires { S.given source.old ≡ 0 }
     ensures { OnOk result (IsDone task (S.left source.old) (S.left source.new)
         (S.given source.new) (W.holds sink.old) (W.holds sink.new)) }
 {
+    let alloc = rt.alloc();
     match task {
-        Task::Run => run(alloc, source, sink),
-        Task::Moves => moves(alloc, source, sink),
-        Task::Check => replay(alloc, source, sink),
-        Task::Dump => dump_script(alloc, source, sink),
+        Task::Run => run(alloc, source, sink)?,
+        Task::Moves => moves(alloc, source, sink)?,
+        Task::Check => replay(alloc, source, sink)?,
+        Task::Dump => dump_script(alloc, source, sink)?,
+        Task::Live => run_live(rt, alloc, source, sink)?,
     }
+    Ok(())
 }
 
 /// Why a file could not be opened.

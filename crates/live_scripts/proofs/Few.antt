@@ -1,10 +1,9 @@
 -- A script has at most 65,535 objects, and a live script at most 64 threads.
-use Rattle.std.proofs.Common.{◌≡◌, ℕ, ◌+◌, ◌<◌, ◌≤◌, List, [], ◌∷◌, ◌++◌, length, Bool, true, false, not, ◌&&◌, nat_lt, refl, sym, ap, ◌∙◌, subst, arith, append-nil, append_assoc, length-append}
+use Rattle.std.proofs.Common.{◌≡◌, ◌≤◌, List, [], ◌∷◌, ◌++◌, length, true, not, ◌&&◌, nat_lt, sym, ap, subst, arith, append-nil, append_assoc, length-append}
 use Rattle.std.specs.List.{list_all, list_any}
 use Rattle.std.proofs.lemmas.Bool.{and_parts, ltb-true}
 use Rattle.history_text.specs.declared.lines.Line.{Line}
 use Rattle.history_text.specs.declared.lines.Line.TheVariants.{World, Object, Step}
-use Rattle.history_text.specs.declared.lines.StepLine.{StepLine}
 use Rattle.history_text.specs.declared.lines.StepLine.TheVariants.{Attach, Begin, Go, Expire, Spurious, Tick, Relayout}
 use Rattle.history_text.specs.Lines.{Continues, may_follow, is_object, is_object_named}
 use Rattle.live_scripts.specs.Rules.{IsLiveScript, Runs, attached, is_named, may_run, most_threads}

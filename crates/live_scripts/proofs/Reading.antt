@@ -1,11 +1,11 @@
 -- A live script is read exactly where the bytes are its text, and else the first bad line is told.
-use Rattle.std.proofs.Common.{◌≡◌, ℕ, zero, suc, ◌+◌, ◌<◌, ◌≤◌, List, [], ◌∷◌, ◌++◌, length, take, drop, get_or, Bool, true, false, ◌==◌, Bor, map, Option, None, Some, MatchOption, Result, Ok, Err, refl, sym, ap, ◌∙◌, subst, arith, inl, inr, ◌⊎◌, append_assoc, append-nil, length-append}
+use Rattle.std.proofs.Common.{◌≡◌, ℕ, zero, suc, ◌+◌, ◌<◌, ◌≤◌, List, [], ◌∷◌, ◌++◌, length, take, drop, get_or, true, false, ◌==◌, Bor, map, Option, None, Some, MatchOption, Result, Ok, refl, sym, ap, ◌∙◌, subst, arith, inl, inr, ◌⊎◌, append_assoc, append-nil, length-append}
 use Rattle.std.specs.List.{join_with_byte}
 use Rattle.std.proofs.lemmas.Bool.{both_ways}
 use Rattle.std.proofs.lemmas.List.Splits.{join_with_byte-slice_split}
 use Rattle.history_text.specs.declared.lines.Line.{Line}
 use Rattle.history_text.specs.Lines.{Fits, Continues, IsScript, IsBeginning, line_text, may_follow, next_from, parts_of, script_text, lines_from}
-use Rattle.history_text.proofs.ScriptLaws.{lines_again, next_again, parts_cons, parts_of_line, script_text-append}
+use Rattle.history_text.proofs.ScriptLaws.{lines_again, next_again, parts_of_line, script_text-append}
 use Rattle.live_scripts.specs.Rules.{IsFirstBadLive, IsLiveScript, Runs, attached, may_run}
 use Rattle.live_scripts.specs.Running.{IsRunning}
 

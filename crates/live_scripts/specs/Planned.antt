@@ -1,5 +1,5 @@
 -- The plan of a live script.
-use Rattle.std.specs.Prelude.{◌≡◌, ◌≤◌, List, length, map}
+use Rattle.std.specs.Prelude.{◌≡◌, List, map}
 use Rattle.history_text.specs.declared.lines.Line.{Line}
 use Rattle.live_scripts.specs.declared.plans.LivePlan.{LivePlan}
 use Rattle.live_scripts.specs.Rules.{attached}

@@ -1,5 +1,5 @@
 -- How many lines at the front of a script may run.
-use Rattle.std.specs.Prelude.{◌≡◌, ◌<◌, ◌≤◌, ℕ, List, [], length, take, get_or, Bool, false}
+use Rattle.std.specs.Prelude.{◌≡◌, ◌<◌, ◌≤◌, ℕ, List, [], length, take, get_or, false}
 use Rattle.history_text.specs.declared.lines.Line.{Line}
 use Rattle.live_scripts.specs.Rules.{Runs, attached, may_run}
 

@@ -1,7 +1,7 @@
 //! What the threads of a live script call.
 
 ghost use Rattle.std.specs.Prelude.{◌≡◌, ◌≤◌, ◌<◌, ◌++◌, IfOk, OnOk, length, map};
-ghost use Rattle.live_scripts.specs.Rules.{attached};
+ghost use Rattle.live_scripts.specs.Rules.{IsLiveScript, attached};
 ghost use Rattle.live_scripts.specs.Plans.{call_in, calls_in, calls_of, lows_in, lows_of, monitors_in, object_of, objects_in, objects_of, place_of, thread_of};
 ghost use Rattle.live_scripts.specs.Planned.{IsPlanOf};
 
@@ -227,7 +227,8 @@ fn rows_of(
 
 /// The names of a live script, and what its threads call.
 pub fn plan_of<'a>(alloc: Global, script: &LiveScript<'a>) -> Result<LivePlan<'a>, AllocError>
-    ensures { IfOk result (IsPlanOf script.now) }
+    ensures plan { IfOk result (IsPlanOf script.now) }
+    ensures rules { IsLiveScript script.now }
 {
     let lines = script.lines();
     let threads = threads_of(alloc, lines)?;

@@ -17,6 +17,9 @@ mod words;
 
 use std::process::ExitCode;
 use std::rt::{Env, Files};
+use std::sync::Wait;
+use std::thread::Threads;
+use std::time::Clock;
 use std::{env, io};
 
 fn main(rt: HostRuntime) -> ExitCode {
@@ -33,7 +36,18 @@ fn main(rt: HostRuntime) -> ExitCode {
 /// Plays all examples, and answers whether each came out as expected.
 fn play_all<R>(rt: &R) -> io::Result<bool>
 where
-    R: Env + Files + Input + Print + Eprint + AllocGlobal + Clone + Drop,
+    R: Env
+        + Files
+        + Input
+        + Print
+        + Eprint
+        + AllocGlobal
+        + Threads
+        + Wait
+        + Clock
+        + Sync
+        + Clone
+        + Drop,
 {
     let folder = match env::args(rt)?.nth(1) {
         Some(word) => word,

@@ -29,6 +29,8 @@ fn orders(rt: HostRuntime) -> Result<(), Fail> {
         ("dump", Task::Dump, None),
         ("dump x.script", Task::Dump, Some("x.script")),
         ("dump dump", Task::Dump, Some("dump")),
+        ("live", Task::Live, None),
+        ("live x.script", Task::Live, Some("x.script")),
     ];
     for (line, task, file) in rows {
         let words = words_of(rt.alloc(), line)?;
@@ -54,6 +56,8 @@ fn no_orders(rt: HostRuntime) -> Result<(), Fail> {
         ("check --moves", 2),
         ("dump a b", 2),
         ("dump --moves", 2),
+        ("live a b", 2),
+        ("live --moves", 2),
         ("run --version", 2),
         ("--moves run", 2),
         ("help walk", 2),

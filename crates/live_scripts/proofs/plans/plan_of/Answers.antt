@@ -1,7 +1,6 @@
-use Rattle.std.proofs.Common.{◌≡◌, ◌≤◌, ◌∙◌, sym, ap, subst, map, length, List, ℕ, Bor, arith}
-use Rattle.fast_path.specs.declared.calls.Call.{Call}
+use Rattle.std.proofs.Common.{◌∙◌, ap, map, length, List, ℕ, Bor, arith}
 use Rattle.live_scripts.specs.Rules.{attached}
-use Rattle.live_scripts.specs.Plans.{calls_of, lows_of, monitors_in, objects_of}
+use Rattle.live_scripts.specs.Plans.{lows_of, monitors_in, objects_of}
 use Rattle.live_scripts.proofs.Few.{few_objects, few_threads}
 use Rattle.live_scripts.proofs.Places.{length_map, rows_all}
 use Rattle.live_scripts.proofs.plans.plan_of.Goals as goal
@@ -18,8 +17,8 @@ rows_of-requires-clause-threads c =
     let same = ap length c.in_ok-threads.ensures in
     omega (arith, few, same, ap length c.deref-2.ensures.value, length_map (λ (t : Bor (List ℕ)). t.now) c.in_ok-threads.threads.items)
 
-pub returns : goal.returns
-returns c =
+pub returns-clause-plan : goal.returns-clause-plan
+returns-clause-plan c =
     let is = c.lines-lines.ensures.lines in
     let objects = ap (map (λ t. t.now)) c.deref.ensures.value ∙ c.in_ok-objects.ensures in
     let threads = ap (map (λ t. t.now)) c.deref-2.ensures.value ∙ c.in_ok-threads.ensures in

@@ -1,4 +1,4 @@
-use Rattle.std.proofs.Common.{◌∙◌, ap, List, ℕ, map}
+use Rattle.std.proofs.Common.{◌∙◌, ap, map}
 use Rattle.live_scripts.specs.Rules.{is_named}
 use Rattle.live_scripts.proofs.Names.{any_text}
 use Rattle.live_scripts.proofs.rules.is_attached.Goals as goal

@@ -1,4 +1,4 @@
-use Rattle.std.proofs.Common.{◌∙◌, sym, ap, map, take, if◌then◌else◌, ◌==◌, ◌+◌, ℕ, arith}
+use Rattle.std.proofs.Common.{◌∙◌, ap, map, take, if◌then◌else◌, ◌==◌, ◌+◌, ℕ, arith}
 use Rattle.live_scripts.specs.Rules.{indices_of}
 use Rattle.live_scripts.proofs.Running.{threads_more, runs_more, most_more, may_here, running_at, stuck_at}
 use Rattle.live_scripts.proofs.rules.running_lines.Goals as goal

@@ -1,4 +1,4 @@
-use Rattle.std.proofs.Common.{◌≡◌, ◌∙◌, sym, length, map, inl, inr, arith, List, ℕ, []}
+use Rattle.std.proofs.Common.{◌∙◌, sym, map, inl, inr, arith}
 use Rattle.std.proofs.lemmas.Bool.{eqb-true}
 use Rattle.live_scripts.proofs.Reading.{live_bad, some_bytes, no_names}
 use Rattle.live_scripts.proofs.scripts.first_bad.Goals.{then-running-lines-via-then-running-lines, then-running-lines-via-else-running-lines+then-not-is_empty, then-running-lines-via-else-running-lines+else-not-is_empty+then-is_empty}

@@ -1,4 +1,4 @@
-use Rattle.std.proofs.Common.{◌∙◌, sym, ap, append-nil, arith}
+use Rattle.std.proofs.Common.{◌∙◌, sym, arith}
 use Rattle.live_scripts.proofs.Reading.{judged_live, judged_bad, one_script, bad_no_live}
 use Rattle.live_scripts.proofs.scripts.read_live.Goals as goal
 

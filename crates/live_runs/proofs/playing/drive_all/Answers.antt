@@ -1,0 +1,56 @@
+use Rattle.std.proofs.Common.{ap, length, map, subst, sym, ◌∙◌, ◌≡◌}
+use Rattle.std.specs.List.{All}
+use Rattle.std.proofs.lemmas.List.{length-map}
+use Rattle.header_words.specs.Passes.{new_passes}
+use Rattle.live_turns.specs.Ends.{IsEnd}
+use Rattle.live_turns.specs.Ways.{Holding, new_holding}
+use Rattle.live_turns.proofs.Rows.{length-new_passes}
+use Rattle.live_threads.specs.Ends.{at_rest}
+use Rattle.live_scripts.specs.Rules.{attached}
+use Rattle.live_scripts.specs.Plans.{calls_of, monitors_in, objects_of}
+use Rattle.live_text.specs.Texts.{live_text}
+use Rattle.live_runs.specs.Runs.{told, told_in}
+use Rattle.live_runs.proofs.Plans.{as_many_lows, rows_are, rows_live}
+use Rattle.live_runs.proofs.Workers.{as_many, can_drive, passes_belong, workers_after, workers_before, workers_calls, workers_of, workers_told, workers_worked}
+use Rattle.live_runs.proofs.playing.drive_all.Goals as goal
+
+pub drive-requires-clause-can : goal.drive-requires-clause-can
+drive-requires-clause-can g c κs within =
+    let ls = c.args.script.now in
+    can_drive c.args.live c.args.live.count c.args.works.items (map (λ t. calls_of (objects_of ls) (attached ls) t ls) (attached ls)) c.requires.passes c.requires.calls (rows_live ls c.requires.script)
+
+pub close-requires-clause-belong : goal.close-requires-clause-belong
+close-requires-clause-belong g c =
+    subst (All (λ (p : Holding). p.words.opening ≡ c.args.live)) (sym c.in_ok-passes.ensures.passes) (passes_belong c.args.live c.args.works.items c.in-Ok.worked.items c.in-Ok.ensures.driven)
+
+pub live_text-requires-clause-threads : goal.live_text-requires-clause-threads
+live_text-requires-clause-threads g c =
+    ap length c.deref.ensures.value
+    ∙ (rows_are told told_in c.in_ok-passes.told.items c.in-Ok.worked.items c.in_ok-passes.ensures.told
+    ∙ (as_many c.args.live c.args.works.items c.in-Ok.worked.items c.in-Ok.ensures.driven
+    ∙ (rows_are (λ w. w.pass) new_holding c.args.works.items (new_passes c.args.live 1 c.args.live.count) c.requires.passes
+    ∙ (length-new_passes c.args.live 1 c.args.live.count ∙ c.requires.threads))))
+
+pub live_text-requires-clause-objects : goal.live_text-requires-clause-objects
+live_text-requires-clause-objects g c =
+    sym (length-map c.in-Ok-close.closed.words.items (λ w. w.0)) ∙ (c.in-Ok-close.ensures.end.words.wide ∙ (ap length c.requires.lows ∙ as_many_lows c.args.script.now))
+
+pub returns-in-Ok-close-clause-run : goal.returns-in-Ok-close-clause-run
+returns-in-Ok-close-clause-run g c =
+    let driven = c.in-Ok.ensures.driven in
+    let ws = c.args.works.items in
+    let ds = c.in-Ok.worked.items in
+    record {
+      opening = c.args.live;
+      lows = c.requires.lows;
+      count = c.requires.threads;
+      workers = workers_of ws ds;
+      starts = workers_before c.args.live ws ds driven ∙ c.requires.passes;
+      calls = workers_calls c.args.live ws ds driven ∙ c.requires.calls;
+      worked = workers_worked c.args.live ws ds driven;
+      closed = c.in-Ok-close.closed;
+      end = subst (λ ps. IsEnd c.args.live (monitors_in c.args.script.now) ps c.in-Ok-close.closed) (ap (map at_rest) c.in_ok-passes.ensures.passes ∙ sym (workers_after c.args.live ws ds driven))
+          (subst (λ n. IsEnd c.args.live n (map at_rest c.in_ok-passes.passes.items) c.in-Ok-close.closed) c.requires.crew.2 c.in-Ok-close.ensures.end);
+      says = c.in_ok-live_text-in-Ok-close.ensures ∙ ap (λ ts. live_text c.args.script.now ts c.in-Ok-close.closed)
+          (ap (map told) c.deref.ensures.value ∙ (c.in_ok-passes.ensures.told ∙ sym (workers_told c.args.live ws ds driven)));
+    }

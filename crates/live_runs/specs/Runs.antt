@@ -1,0 +1,65 @@
+-- What a run of a live script came to.
+use Rattle.std.specs.Prelude.{◌≡◌, ℕ, Bool, false, List, length, map, Vec, vec_items, Result}
+use Rattle.std.specs.List.{All}
+use Rattle.std.specs.declared.alloc.Global.{Global}
+use Rattle.fat_monitor.specs.declared.actions.Reply.{Reply}
+use Rattle.fast_path.specs.declared.calls.Call.{Call}
+use Rattle.history_text.specs.declared.lines.Line.{Line}
+use Rattle.history_text.specs.Lines.{script_text}
+use Rattle.header_words.specs.Passes.{Opening, new_passes}
+use Rattle.live_scripts.specs.Rules.{IsLiveScript, attached}
+use Rattle.live_scripts.specs.Plans.{calls_of, lows_of, monitors_in, objects_of}
+use Rattle.live_turns.specs.declared.closed.Closed.{Closed}
+use Rattle.live_turns.specs.declared.faults.LiveFault.{LiveFault}
+use Rattle.live_turns.specs.Ends.{IsEnd}
+use Rattle.live_turns.specs.Ways.{Holding, new_holding}
+use Rattle.live_threads.specs.declared.driving.Worked.{Worked}
+use Rattle.live_threads.specs.Driving.{Answered}
+use Rattle.live_threads.specs.Ends.{at_rest}
+use Rattle.live_text.specs.Texts.{live_text}
+
+-- a worker: what its pass had, its calls, what they came to, whether it was stopped, and what its pass has then
+pub record Worker : Type 0 where
+  pub before : Holding
+  pub calls : List Call
+  pub answers : List (Result Reply LiveFault)
+  pub stopped : Bool
+  pub after : Holding
+
+-- it made its calls in order, and all of them unless it was stopped
+pub record HasWorked (z : Opening) (w : Worker) : Type 0 where
+  pub answered : Answered z w.calls w.answers w.before w.after
+  pub whole : w.stopped ≡ false → length w.answers ≡ length w.calls
+
+-- what is told of a worker
+abbrev pub told_of : Worker → List (Result Reply LiveFault) × Bool
+told_of w = (w.answers, w.stopped)
+
+-- the same of what a worker gave back
+abbrev pub told_in : {L : Type 0} → Worked L → List (Result Reply LiveFault) × Bool
+told_in d = (vec_items d.answers, d.stopped)
+
+-- and of a row in which it was kept
+abbrev pub told : Vec (Result Reply LiveFault) Global × Bool → List (Result Reply LiveFault) × Bool
+told w = (vec_items w.0, w.1)
+
+-- The text of a run of these lines: their threads made their calls on a service with their objects, each on a pass of its
+-- own from thread 1 on, and the service was closed then. Its text has what they came to.
+pub record IsLiveRun (ls : List Line) (text : List ℕ) : Type 0 where
+  pub opening : Opening
+  pub lows : opening.lows ≡ lows_of ls
+  pub count : opening.count ≡ length (attached ls)
+  pub workers : List Worker
+  pub starts : map (λ (w : Worker). w.before) workers ≡ map new_holding (new_passes opening 1 opening.count)
+  pub calls : map (λ (w : Worker). w.calls) workers ≡ map (λ t. calls_of (objects_of ls) (attached ls) t ls) (attached ls)
+  pub worked : All (HasWorked opening) workers
+  pub closed : Closed
+  pub end : IsEnd opening (monitors_in ls) (map (λ (w : Worker). at_rest w.after) workers) closed
+  pub says : text ≡ live_text ls (map told_of workers) closed
+
+-- the bytes are the text of a live script, and this is the text of a run of it
+pub record IsRunOf (bytes text : List ℕ) : Type 0 where
+  pub lines : List Line
+  pub script : IsLiveScript lines
+  pub read : bytes ≡ script_text lines
+  pub run : IsLiveRun lines text

@@ -1,0 +1,11 @@
+//! Running live scripts: each of their threads on a thread of the system.
+#![tactic(auto)]
+
+mod faults;
+mod playing;
+mod running;
+mod works;
+
+pub use faults::RunFault;
+pub use playing::run_script;
+pub use running::run_live;
