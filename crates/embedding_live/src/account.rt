@@ -69,6 +69,15 @@ fn pay_in_often<L: Crew, R: Wait + Clock>(
     Ok(())
 }
 
+/// When a thread begins to pay in.
+#[derive(Clone, Copy)]
+pub enum Start {
+    /// Once the account is open.
+    WhenTold,
+    /// At once: it opens the account.
+    AtOnce,
+}
+
 /// A pass that comes back from a thread, and how its calls ended.
 #[derive(Drop)]
 pub struct Paid<L: Crew> {
@@ -113,32 +122,21 @@ fn begin_at_once<L: Crew, R: Wait + Clock>(
     pay_in_often(rt, live, pass, account, times)
 }
 
-/// What the first thread does with its pass.
-pub fn first_pays_in<L: Crew, R: Wait + Clock>(
+/// Pays in with a pass, which comes back.
+pub fn pay_in_with<L: Crew, R: Wait + Clock>(
     rt: &R,
     live: &Live<L>,
     mut pass: LivePass<L>,
     account: &Account,
+    start: Start,
     times: u32,
 ) -> Paid<L>
     requires here { pass.words.opening ≡ live.now }
     ensures here { result.pass.words.opening ≡ live.entry.now }
 {
-    let outcome = begin_when_told(rt, live, &mut pass, account, times);
-    Paid { pass, outcome }
-}
-
-/// What the second thread does with its pass.
-pub fn second_pays_in<L: Crew, R: Wait + Clock>(
-    rt: &R,
-    live: &Live<L>,
-    mut pass: LivePass<L>,
-    account: &Account,
-    times: u32,
-) -> Paid<L>
-    requires here { pass.words.opening ≡ live.now }
-    ensures here { result.pass.words.opening ≡ live.entry.now }
-{
-    let outcome = begin_at_once(rt, live, &mut pass, account, times);
+    let outcome = match start {
+        Start::WhenTold => begin_when_told(rt, live, &mut pass, account, times),
+        Start::AtOnce => begin_at_once(rt, live, &mut pass, account, times),
+    };
     Paid { pass, outcome }
 }

@@ -8,7 +8,7 @@ mod account;
 
 ghost use Rattle.std.specs.Prelude.{◌≡◌, IfOk};
 
-use account::{Account, Paid, first_pays_in, second_pays_in};
+use account::{Account, Paid, Start, pay_in_with};
 use fat_monitor::Reply;
 use live_threads::{Live, LiveClose, LivePass};
 use live_turns::{Closed, Crew, LiveFault};
@@ -64,11 +64,11 @@ fn pay_in<L: Crew + Send + Sync, R: Threads + Wait + Clock + Sync>(
         move || -> Paid<L>
             requires { first.words.opening ≡ live.now }
             ensures { result.pass.words.opening ≡ live.entry.now }
-        { first_pays_in(rt, live, first, account, TIMES) },
+        { pay_in_with(rt, live, first, account, Start::WhenTold, TIMES) },
         move || -> Paid<L>
             requires { second.words.opening ≡ live.now }
             ensures { result.pass.words.opening ≡ live.entry.now }
-        { second_pays_in(rt, live, second, account, TIMES) },
+        { pay_in_with(rt, live, second, account, Start::AtOnce, TIMES) },
     );
     one.outcome?;
     two.outcome?;
