@@ -1,0 +1,41 @@
+//! How a report names a fault.
+
+use crate::{Fault, RelayoutFault};
+use std::test::Fail;
+
+#[test]
+fn faults_have_numbers_and_names(rt: HostRuntime) -> Result<(), Fail> {
+    let faults = [
+        (Fault::NoIndex, 1, "NoIndex"),
+        (Fault::Memory, 2, "Memory"),
+        (Fault::Known, 3, "Known"),
+        (Fault::NoThread, 4, "NoThread"),
+        (Fault::NoObject, 5, "NoObject"),
+        (Fault::InCall, 6, "InCall"),
+        (Fault::NotCalling, 7, "NotCalling"),
+        (Fault::Parked, 8, "Parked"),
+        (Fault::NotDue, 9, "NotDue"),
+        (Fault::Backwards, 10, "Backwards"),
+        (Fault::NotWaiting, 28, "NotWaiting"),
+    ];
+    for (fault, number, name) in faults {
+        assert_eq!(rt; fault.number(), number);
+        assert_eq!(rt; format!(in rt.alloc(); "{fault}")?.as_str(), name);
+    }
+    Ok(())
+}
+
+#[test]
+fn faults_of_a_relayout_have_numbers_and_names(rt: HostRuntime) -> Result<(), Fail> {
+    let faults = [
+        (RelayoutFault::Memory, 2, "Memory"),
+        (RelayoutFault::NoMonitor, 11, "NoMonitor"),
+        (RelayoutFault::NotAtRest, 29, "NotAtRest"),
+        (RelayoutFault::IndexTooWide, 30, "IndexTooWide"),
+    ];
+    for (fault, number, name) in faults {
+        assert_eq!(rt; fault.number(), number);
+        assert_eq!(rt; format!(in rt.alloc(); "{fault}")?.as_str(), name);
+    }
+    Ok(())
+}
