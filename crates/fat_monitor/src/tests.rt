@@ -1,4 +1,5 @@
-//! What no script can show: monitors bound one by one, what the readers answer, and what is written.
+//! What no script can show: monitors bound one by one, what the readers answer,
+//! and what is written.
 
 ghost use Rattle.std.specs.Prelude.{◌+◌, ◌<◌, ◌≤◌};
 ghost use Rattle.fat_monitor.specs.FatState.{IsAttached, thread_count};

@@ -1,4 +1,5 @@
-//! What no script can show: memory that is refused, what the readers answer, and the names of faults.
+//! What no script can show: memory that is refused, what the readers answer,
+//! and how faults are named.
 
 use crate::{Step, World};
 use fast_path::Call;

@@ -1,5 +1,5 @@
-//! Want of memory: nothing shows but the refusal, and what was refused succeeds when tried again. Run
-//! with each allocation refused in turn, this meets every refusal that there is.
+//! Want of memory: nothing shows but the refusal, and what was refused succeeds when tried
+//! again. Run with each allocation refused in turn, this meets every refusal that there is.
 
 use super::*;
 use crate::{Did, Fault, RelayoutFault};
