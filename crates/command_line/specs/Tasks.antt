@@ -1,5 +1,5 @@
 -- What was done where a task was carried out.
-use Rattle.std.specs.Prelude.{ℕ, List, Option, IfSome, Bool, true, false}
+use Rattle.std.specs.Prelude.{ℕ, List, Option, IfSome}
 use Rattle.std.specs.Io.KnownBytes.{Appends}
 use Rattle.history_check.specs.Histories.{run_text}
 use Rattle.history_check.specs.Replays.{IsWhole}
@@ -30,7 +30,3 @@ IsDone Dump left rest given held holds =
     (text : List ℕ) × IfSome left (λ input. IsDumpOf input text) × Appends held holds text
 IsDone Live left rest given held holds =
     (text : List ℕ) × IfSome left (λ input. IsRunOf input text) × Appends held holds text
-
-abbrev pub task_of_run : Bool → Task
-task_of_run true = Moves
-task_of_run false = Run

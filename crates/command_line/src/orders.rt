@@ -1,10 +1,16 @@
 //! What the words of the command line order.
 
-ghost use Rattle.std.specs.Prelude.{◌≡◌};
-ghost use Rattle.command_line.specs.Tasks.{task_of_run};
+ghost use Rattle.std.specs.Prelude.{◌≡◌, IfOk, Some, codes, false, map, option_map, string_bytes, true};
+ghost use Rattle.clap.specs.Walk.{rows_of, rule_of};
+ghost use Rattle.clap.specs.Matches.{found_of, has_subcommand};
+ghost use Rattle.clap.specs.Simple.{app_of, subcommand_rows_of};
+ghost use Rattle.clap.specs.Faults.{fault_of};
+ghost use Rattle.clap.specs.Kinds.{FailsBy};
+ghost use Rattle.clap.specs.declared.builder.command.Command.TheViews.{out-Command};
+ghost use Rattle.command_line.specs.Orders.{bare_program, file_rule, file_words, is_set, order_in, order_of, program_words, run_words, task_of};
 
-use clap::{Arg, ArgAction, Command, Error};
-use std::alloc::Global;
+use clap::{Arg, ArgAction, ArgMatches, Command, Error};
+use std::alloc::{AllocError, Global};
 
 /// The version that `--version` tells.
 const VERSION: &str = "0.1.0";
@@ -35,87 +41,154 @@ pub struct Order<'a> {
 /// The order that the words behind the program's name give.
 ///
 /// A request for help or for the version is an `Err` too: the error knows its text.
-pub fn read_words<'a>(alloc: Global, words: &'a [String]) -> Result<Order<'a>, Error> {
+pub fn read_words<'a>(alloc: Global, words: &'a [String]) -> Result<Order<'a>, Error>
+    // At Ok the words are this order.
+    ensures order { IfOk result (λ order. order_in (map string_bytes words.now)
+        ≡ Some (order.task, option_map (λ file. file.now) order.file)) }
+    // Words that are an order fail for want of memory alone, and others with a kind of their own.
+    ensures fault { FailsBy (fault_of program_words (map string_bytes words.now)) result }
+{
     let program = program(alloc)?;
     let matches = program.try_get_matches_from(words)?;
-    if let Some(check) = matches.subcommand_matches("check") {
-        return Ok(Order {
-            task: Task::Check,
-            file: check.get_str("file"),
-        });
-    }
-    if let Some(dump) = matches.subcommand_matches("dump") {
-        return Ok(Order {
-            task: Task::Dump,
-            file: dump.get_str("file"),
-        });
-    }
-    if let Some(live) = matches.subcommand_matches("live") {
-        return Ok(Order {
-            task: Task::Live,
-            file: live.get_str("file"),
-        });
-    }
-    match matches.subcommand_matches("run") {
-        Some(run) => Ok(Order {
-            task: task_of_run(run.get_flag("moves")),
-            file: run.get_str("file"),
-        }),
-        None => Ok(Order {
+    Ok(order_from(&matches))
+}
+
+/// The order of the subcommand that was met. The program requires one, so there is one.
+fn order_from<'a>(matches: &ArgMatches<'a>) -> Order<'a>
+    ensures { has_subcommand matches.now ≡ true
+        → option_map (λ p. order_of p.0 p.1) (subcommand_rows_of matches.now)
+        ≡ Some (result.task, option_map (λ file. file.now) result.file) }
+{
+    match matches.subcommand() {
+        Some((name, inner)) => order_of(name, inner),
+        None => Order {
             task: Task::Run,
             file: None,
-        }),
+        },
+    }
+}
+
+/// The order of a subcommand, of which these matches were read.
+fn order_of<'a>(name: &str, matches: &ArgMatches<'a>) -> Order<'a>
+    ensures task { result.task ≡ (order_of name.now (rows_of (found_of matches.now))).0 }
+    ensures file { option_map (λ file. file.now) result.file
+        ≡ (order_of name.now (rows_of (found_of matches.now))).1 }
+{
+    let moves = is_set(matches.get_str("moves"));
+    Order {
+        task: task_of(name, moves),
+        file: matches.get_str("file"),
+    }
+}
+
+/// Whether this is the value of a flag that was given.
+fn is_set(value: Option<&str>) -> bool
+    ensures { result ≡ is_set (option_map (λ text. text.now) value.entry) }
+{
+    match value {
+        Some(text) => text == "true",
+        None => false,
+    }
+}
+
+/// The task of a subcommand, with `--moves` or without.
+fn task_of(name: &str, moves: bool) -> Task
+    ensures { result ≡ task_of name.now moves }
+{
+    if name == "check" {
+        Task::Check
+    } else if name == "dump" {
+        Task::Dump
+    } else if name == "live" {
+        Task::Live
+    } else if moves {
+        Task::Moves
+    } else {
+        Task::Run
     }
 }
 
 /// The program, with its subcommands.
-fn program<'a>(alloc: Global) -> Result<Command<'a>, Error> {
-    let moves = Arg::new(alloc, "moves")
-        .long("moves")
-        .action(ArgAction::SetTrue)
-        .help("Prints the moves of the abstract machine and no report");
-    let run = Command::new(alloc, "run")
-        .about("Plays a script and prints its report, or its history")
-        .arg(moves)?
-        .arg(file(alloc, "The script; standard input where it is left out"))?;
-    let check = Command::new(alloc, "check")
-        .about("Checks whether a history is a run of the abstract machine")
-        .arg(file(alloc, "The history; standard input where it is left out"))?;
-    let dump = Command::new(alloc, "dump")
-        .about("Plays a script and prints what its threads are doing then, and who waits for whom")
-        .arg(file(alloc, "The script; standard input where it is left out"))?;
-    let live = Command::new(alloc, "live")
-        .about(
-            "Runs the threads of a live script on threads of the system, and prints their replies",
-        )
-        .arg(file(
-            alloc,
-            "The live script; standard input where it is left out",
-        ))?;
-    let program = Command::new(alloc, "thinmon")
+fn program<'a>(alloc: Global) -> Result<Command<'a>, AllocError>
+    ensures words { IfOk result (λ program. app_of program ≡ program_words) }
+    ensures local { IfOk result (λ program. (out-Command program).has_globals ≡ false) }
+{
+    let check = file_command(
+        alloc,
+        "check",
+        "Checks whether a history is a run of the abstract machine",
+        "The history; standard input where it is left out",
+    )?;
+    let dump = file_command(
+        alloc,
+        "dump",
+        "Plays a script and prints what its threads are doing then, and who waits for whom",
+        "The script; standard input where it is left out",
+    )?;
+    let live = file_command(
+        alloc,
+        "live",
+        "Runs the threads of a live script on threads of the system, and prints their replies",
+        "The live script; standard input where it is left out",
+    )?;
+    let program = bare_program(alloc)?;
+    let run = run_command(alloc)?;
+    let with_run = program.subcommand(run)?;
+    let with_check = with_run.subcommand(check)?;
+    let with_dump = with_check.subcommand(dump)?;
+    with_dump.subcommand(live)
+}
+
+/// The program without its subcommands.
+fn bare_program<'a>(alloc: Global) -> Result<Command<'a>, AllocError>
+    ensures words { IfOk result (λ program. app_of program ≡ bare_program) }
+    ensures local { IfOk result (λ program. (out-Command program).has_globals ≡ false) }
+{
+    Command::new(alloc, "thinmon")
         .about("Java monitors on thin locks, one atomic step at a time")
         .version(VERSION)
         .no_binary_name(true)
         .subcommand_required(true)
-        .bin_name("thinmon")?
-        .subcommand(run)?
-        .subcommand(check)?
-        .subcommand(dump)?
-        .subcommand(live)?;
-    Ok(program)
+        .bin_name("thinmon")
+}
+
+/// The subcommand `run`.
+fn run_command<'a>(alloc: Global) -> Result<Command<'a>, AllocError>
+    ensures words { IfOk result (λ command. app_of command ≡ run_words) }
+    ensures local { IfOk result (λ command. (out-Command command).has_globals ≡ false) }
+{
+    let moves = Arg::new(alloc, "moves")
+        .long("moves")
+        .action(ArgAction::SetTrue)
+        .help("Prints the moves of the abstract machine and no report");
+    Command::new(alloc, "run")
+        .about("Plays a script and prints its report, or its history")
+        .arg(moves)?
+        .arg(file(alloc, "The script; standard input where it is left out"))
+}
+
+/// A subcommand of a file alone.
+fn file_command<'a>(
+    alloc: Global,
+    name: &'a str,
+    about: &'a str,
+    help: &'a str,
+) -> Result<Command<'a>, AllocError>
+    ensures words { IfOk result (λ command. app_of command ≡ file_words name.now) }
+    ensures local { IfOk result (λ command. (out-Command command).has_globals ≡ false) }
+{
+    Command::new(alloc, name)
+        .about(about)
+        .arg(file(alloc, help))
 }
 
 /// The argument that names the file to read.
-fn file<'a>(alloc: Global, help: &'a str) -> Arg<'a> {
+fn file<'a>(alloc: Global, help: &'a str) -> Arg<'a>
+    ensures rule { rule_of result ≡ file_rule }
+    ensures local { result.global ≡ false }
+{
     Arg::new(alloc, "file")
         .value_name("FILE")
         .action(ArgAction::Set)
         .help(help)
-}
-
-/// What a run writes: the moves alone, or a report.
-fn task_of_run(moves: bool) -> Task
-    ensures { result ≡ task_of_run moves }
-{
-    if moves { Task::Moves } else { Task::Run }
 }

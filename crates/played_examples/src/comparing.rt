@@ -77,10 +77,11 @@ fn history_of(alloc: Global, script: &[u8]) -> Result<Vec<u8>, FileFault> {
     Ok(sink.into_inner())
 }
 
-/// What is said of a history.
-fn check(alloc: Global, history: &[u8]) -> Result<(), FileFault> {
+/// What is said of a history, or its fault.
+fn check(alloc: Global, history: &[u8]) -> Result<Vec<u8>, FileFault> {
     let mut sink = WriterSink::new(Vec::new(alloc));
-    replay(alloc, &mut ReaderSource::new(history), &mut sink)
+    replay(alloc, &mut ReaderSource::new(history), &mut sink)?;
+    Ok(sink.into_inner())
 }
 
 /// A history with its first Lock twice, and the number of the second one's line.
@@ -99,55 +100,77 @@ fn lock_twice(alloc: Global, history: &str) -> Result<Option<(String, u64)>, All
     Ok(second.map(|number| (twice, number)))
 }
 
-/// Whether the history of a script is a run, and is not lawful from where its first Lock is twice.
-fn has_a_run(alloc: Global, script: &[u8]) -> Result<bool, FileFault> {
-    let history = history_of(alloc, script)?;
-    check(alloc, &history)?;
-    let Ok(history) = str::from_utf8(&history) else {
+/// Whether a history is a run of so many moves, and broken where its first Lock is twice.
+fn is_run(alloc: Global, history: &str, moves: u64) -> Result<bool, FileFault> {
+    let answer = check(alloc, history.as_bytes())?;
+    if answer.as_slice() != format!(in alloc; "run of {moves} moves\n")?.as_bytes() {
         return Ok(false);
-    };
+    }
     match lock_twice(alloc, history)? {
         Some((twice, second)) => {
-            Ok(check(alloc, twice.as_bytes()) == Err(FileFault::Broken(second)))
+            let broken = check(alloc, twice.as_bytes());
+            Ok(broken.is_err_and(|fault| fault == FileFault::Broken(second)))
         }
         None => Ok(true),
     }
 }
 
-/// Plays a script, and prints whether its report is the wanted one.
-pub fn compare<R>(rt: &R, name: &str, script: &[u8], wanted: &str) -> io::Result<bool>
-where
-    R: Print + AllocGlobal,
-{
-    let report = match play(rt.alloc(), script) {
-        Ok(report) => report,
-        Err(fault) => {
-            println!(rt; "{name}: {fault}")?;
-            return Ok(false);
-        }
-    };
-    let Ok(report) = str::from_utf8(&report) else {
-        println!(rt; "{name}: its report is no text")?;
-        return Ok(false);
-    };
-    if !is_printed_again(rt.alloc(), script).unwrap_or(false) {
-        println!(rt; "{name}: its script is printed otherwise")?;
-        return Ok(false);
-    }
-    if !has_a_run(rt.alloc(), script).unwrap_or(false) {
-        println!(rt; "{name}: its history is checked otherwise")?;
-        return Ok(false);
-    }
-    match first_difference(report, wanted) {
-        None => {
-            println!(rt; "{name}: as its report says")?;
-            Ok(true)
-        }
+/// Whether a text of an example is the wanted one; else the first line that differs is printed.
+fn is_wanted<R: Print>(rt: &R, name: &str, written: &str, wanted: &str) -> io::Result<bool> {
+    match first_difference(written, wanted) {
+        None => Ok(true),
         Some(difference) => {
             println!(rt; "{name}: {difference}")?;
             Ok(false)
         }
     }
+}
+
+/// What is to come of a script.
+#[derive(Clone, Copy)]
+pub struct Wanted<'a> {
+    pub report: &'a str,
+    /// Its history, where that is written down.
+    pub history: Option<&'a str>,
+    /// How many moves the history has.
+    pub moves: u64,
+}
+
+/// Plays a script, and prints whether its report and its history are the wanted ones.
+pub fn compare<R>(rt: &R, name: &str, script: &[u8], wanted: Wanted<'_>) -> io::Result<bool>
+where
+    R: Print + AllocGlobal,
+{
+    let played = play(rt.alloc(), script);
+    let told = history_of(rt.alloc(), script);
+    let (report, history) = match (&played, &told) {
+        (Ok(report), Ok(history)) => (report, history),
+        (Err(fault), _) | (_, Err(fault)) => {
+            println!(rt; "{name}: {fault}")?;
+            return Ok(false);
+        }
+    };
+    let (Ok(report), Ok(history)) = (str::from_utf8(report), str::from_utf8(history)) else {
+        println!(rt; "{name}: its report or its history is no text")?;
+        return Ok(false);
+    };
+    if !is_wanted(rt, name, report, wanted.report)? {
+        return Ok(false);
+    }
+    if !is_wanted(rt, name, history, wanted.history.unwrap_or(history))? {
+        return Ok(false);
+    }
+    if !is_printed_again(rt.alloc(), script).unwrap_or(false) {
+        println!(rt; "{name}: its script is printed otherwise")?;
+        return Ok(false);
+    }
+    let moves = wanted.moves;
+    if !is_run(rt.alloc(), history, moves).unwrap_or(false) {
+        println!(rt; "{name}: its history is checked otherwise")?;
+        return Ok(false);
+    }
+    println!(rt; "{name}: as its report says, a run of {moves} moves")?;
+    Ok(true)
 }
 
 /// Whether a script ends in a fault.

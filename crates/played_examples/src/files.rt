@@ -1,6 +1,7 @@
-//! The examples of a folder: scripts `NAME.script`, each with its report `NAME.report`.
+//! The examples of a folder: scripts `NAME.script`, each with its report `NAME.report` and its
+//! history `NAME.history`.
 
-use crate::comparing::compare;
+use crate::comparing::{Wanted, compare};
 use std::rt::Files;
 use std::{fs, io};
 
@@ -13,7 +14,14 @@ where
     for name in &names_in(rt, folder)? {
         let script = fs::read(rt, format!(in rt.alloc(); "{folder}/{name}.script")?)?;
         let report = fs::read_to_string(rt, format!(in rt.alloc(); "{folder}/{name}.report")?)?;
-        all_right &= compare(rt, name, &script, &report)?;
+        let history = fs::read_to_string(rt, format!(in rt.alloc(); "{folder}/{name}.history")?)?;
+        let wanted = Wanted {
+            report: &report,
+            history: Some(&history),
+            // Behind the first line, which tells how many objects there are, each line is a move.
+            moves: history.lines().skip(1).count() as u64,
+        };
+        all_right &= compare(rt, name, &script, wanted)?;
     }
     Ok(all_right)
 }

@@ -1,6 +1,6 @@
 //! Scripts at the limits: the most objects and threads, and the most bytes.
 
-use crate::comparing::{compare, compare_fault};
+use crate::comparing::{Wanted, compare, compare_fault};
 use history::FileFault;
 use std::alloc::{AllocError, Global};
 use std::fmt::Write;
@@ -16,17 +16,37 @@ const MOST_THREADS: u32 = 32_767;
 pub fn play<R: Print + AllocGlobal>(rt: &R) -> io::Result<bool> {
     let alloc = rt.alloc();
     let (mut script, report) = many_objects(alloc)?;
-    let objects = compare(rt, "objects_65535", script.as_bytes(), &report)?;
+    let objects = compare(
+        rt,
+        "objects_65535",
+        script.as_bytes(),
+        with_moves(&report, 0),
+    )?;
     script.push_str("object one_more A5\n")?;
     let bad_line = FileFault::BadLine(65_537);
     let too_many = compare_fault(rt, "objects_65536", script.as_bytes(), bad_line)?;
     let (script, report) = many_threads(alloc)?;
-    let threads = compare(rt, "threads_32767", script.as_bytes(), &report)?;
+    let wanted = with_moves(&report, MOST_THREADS as u64);
+    let threads = compare(rt, "threads_32767", script.as_bytes(), wanted)?;
     let (mut script, report) = many_bytes(alloc)?;
-    let bytes = compare(rt, "bytes_16777216", script.as_bytes(), &report)?;
+    let bytes = compare(
+        rt,
+        "bytes_16777216",
+        script.as_bytes(),
+        with_moves(&report, 0),
+    )?;
     script.push('\n')?;
     let too_long = compare_fault(rt, "bytes_16777217", script.as_bytes(), FileFault::Read)?;
     Ok(objects && too_many && threads && bytes && too_long)
+}
+
+/// This report, and a history of so many moves.
+fn with_moves(report: &str, moves: u64) -> Wanted<'_> {
+    Wanted {
+        report,
+        history: None,
+        moves,
+    }
 }
 
 /// A world with as many objects as a script may declare.

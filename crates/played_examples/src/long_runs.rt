@@ -1,6 +1,6 @@
 //! Runs that are long because a thread enters an object often.
 
-use crate::comparing::compare;
+use crate::comparing::{Wanted, compare};
 use crate::drafts::Draft;
 use std::alloc::{AllocError, Global};
 use std::io;
@@ -28,33 +28,42 @@ const FAT_EXIT: [(&str, &str); 3] = [
     ("go x", "go x act Exit = Exited"),
 ];
 
-/// Plays the long runs.
+/// Plays the long runs, each with the number of its moves: one for an attach, one for a call, and two
+/// more where the call replies.
 pub fn play<R: Print + AllocGlobal>(rt: &R) -> io::Result<bool> {
     let alloc = rt.alloc();
     let mut all_right = true;
     let drafts = [
-        ("enter_256", enter_256(alloc)?),
-        ("enter_257", enter_257(alloc)?),
-        ("enter_257_and_exits", enter_257_and_exits(alloc)?),
+        ("enter_256", enter_256(alloc)?, 769),
+        ("enter_257", enter_257(alloc)?, 772),
+        ("enter_257_and_exits", enter_257_and_exits(alloc)?, 1_543),
         (
             "enter_257_without_monitors",
             enter_257_without_monitors(alloc)?,
+            772,
         ),
-        ("enter_65536", enter_65536(alloc)?),
-        ("enter_4096_deep", enter_4096_deep(alloc)?),
-        ("enter_4097_deep", enter_4097_deep(alloc)?),
-        ("relayout_257", relayout_257(alloc)?),
+        ("enter_65536", enter_65536(alloc)?, 196_609),
+        ("enter_4096_deep", enter_4096_deep(alloc)?, 12_289),
+        ("enter_4097_deep", enter_4097_deep(alloc)?, 12_292),
+        ("relayout_257", relayout_257(alloc)?, 772),
         (
             "relayout_257_without_monitors",
             relayout_257_without_monitors(alloc)?,
+            772,
         ),
         (
             "interrupt_while_inflating",
             interrupt_while_inflating(alloc)?,
+            616,
         ),
     ];
-    for (name, draft) in &drafts {
-        all_right &= compare(rt, name, draft.script.as_bytes(), &draft.report)?;
+    for (name, draft, moves) in &drafts {
+        let wanted = Wanted {
+            report: &draft.report,
+            history: None,
+            moves: *moves,
+        };
+        all_right &= compare(rt, name, draft.script.as_bytes(), wanted)?;
     }
     Ok(all_right)
 }
