@@ -3,7 +3,7 @@ use Rattle.std.specs.Prelude.{◌≡◌, ℕ, List}
 use Rattle.history_streams.specs.declared.faults.FileFault.TheVariants as faults
 use Rattle.live_scripts.specs.Rules.{IsReasonFor}
 use Rattle.live_runs.specs.declared.faults.RunFault.{RunFault}
-use Rattle.live_runs.specs.declared.faults.RunFault.TheVariants.{File, Torn, WrongPass}
+use Rattle.live_runs.specs.declared.faults.RunFault.TheVariants.{File, Torn}
 
 abbrev pub out_of_memory : RunFault
 out_of_memory = File faults.Memory
@@ -12,10 +12,8 @@ out_of_memory = File faults.Memory
 abbrev pub IsOfRun : RunFault → Type 0
 IsOfRun (File fault) = fault ≡ faults.Memory
 IsOfRun Torn = Unit {0}
-IsOfRun WrongPass = Unit {0}
 
 -- why these bytes were not run
 abbrev pub IsRunReason : List ℕ → RunFault → Type 0
 IsRunReason bytes (File fault) = IsReasonFor bytes fault
 IsRunReason bytes Torn = Unit {0}
-IsRunReason bytes WrongPass = Unit {0}

@@ -14,9 +14,6 @@ pub enum RunFault {
     /// The deeds of a thread were not those that the record had under its number.
     #[error("fault 18 Torn")]
     Torn,
-    /// The passes that came back from the threads were not all that the service has.
-    #[error("fault 21 WrongPass")]
-    WrongPass,
 }
 
 impl From<FileFault> for RunFault {

@@ -114,7 +114,7 @@ fn drive_all<L: Crew + Send + Sync, R: Threads + Wait + Clock + Sync>(
     let (passes, told) = taken_apart(alloc, worked)?;
     match live.close(alloc, passes) {
         Ok(closed) => Ok(live_text(alloc, script, &told, &closed)?),
-        Err(LiveClose::WrongPass { .. }) => Err(RunFault::WrongPass),
+        Err(LiveClose::WrongPass { .. }) => unreachable!(),
         Err(LiveClose::Memory { .. }) => Err(RunFault::File(FileFault::Memory)),
         Err(LiveClose::Torn) => Err(RunFault::Torn),
     }

@@ -1,5 +1,5 @@
 -- Calls that follow one another, and works that are driven.
-use Rattle.std.specs.Prelude.{◌≡◌, ◌<◌, ℕ, ◌+◌, suc, List, [], ◌∷◌, ◌++◌, length, map, reverse, Option, Some, None, IfSome, IfNone, option_to_list, Result}
+use Rattle.std.specs.Prelude.{◌≡◌, ◌<◌, ℕ, ◌+◌, suc, List, [], ◌∷◌, ◌++◌, length, map, reverse, Option, Some, None, IfSome, IfNone, option_to_list, Result, Ok, Err}
 use Rattle.std.specs.List.{All}
 use mathlib.Core.List.{reverse-cons}
 use Rattle.std.proofs.Common.{refl, sym, ap, ◌∙◌, subst, arith, take, drop, get_or}
@@ -7,14 +7,21 @@ use Rattle.std.proofs.Math.Seq.{take-suc}
 use Rattle.std.proofs.lemmas.List.{take-append-drop, length-take-le, map-append, append-nil, append_assoc, reverse-append, length-map}
 use Rattle.std.proofs.lemmas.List.Elements.{All-nil, All-cons, All-head, All-tail}
 use Rattle.fat_monitor.specs.declared.actions.Reply.{Reply}
+use Rattle.fast_path.specs.Calls.{subject_of}
 use Rattle.fast_path.specs.declared.calls.Call.{Call}
+use Rattle.fast_path.specs.declared.calls.Subject.{Subject}
+use Rattle.fast_path.specs.declared.calls.Subject.TheVariants.{Monitor, Interrupt, End}
+use Rattle.fast_path.specs.declared.calls.MonitorCall.{MonitorCall}
+use Rattle.fast_path.specs.declared.calls.InterruptCall.{InterruptCall}
 use Rattle.header_words.specs.Passes.{Opening}
 use Rattle.header_words.proofs.Opens.{all_last, all_front}
 use Rattle.live_turns.specs.declared.faults.LiveFault.{LiveFault}
+use Rattle.live_turns.specs.declared.faults.LiveFault.TheVariants as fault
+use Rattle.live_turns.specs.Points.{GivenUpOn, GivenUpAbout}
 use Rattle.live_turns.specs.Ways.{Holding}
 use Rattle.live_threads.specs.declared.driving.Work.{Work}
 use Rattle.live_threads.specs.declared.driving.Worked.{Worked}
-use Rattle.live_threads.specs.Driving.{Called, Answered, Driven, AllDriven}
+use Rattle.live_threads.specs.Driving.{Called, CalledFor, Answered, Driven, AllDriven}
 
 abbrev Answer : Type 0
 Answer = Result Reply LiveFault
@@ -102,3 +109,45 @@ length_of_map f xs ys e = sym (length-map xs f) ∙ ap length e
 -- what holds of both holds of all
 pub all_of_two : {X : Type 0} (P : X → Type 0) (x y : X) (xs : List X) → xs ≡ x ∷ y ∷ [] → P x → P y → All P xs
 all_of_two P x y xs e h k = subst (All P) (sym e) (All-cons P x (y ∷ []) h (All-cons P y [] k (All-nil P)))
+
+-- no call changes the number of its pass
+given_up_on : (z : Opening) (c : MonitorCall) (f : LiveFault) (p q : Holding) → GivenUpOn z c f p q → q.words.index ≡ p.words.index
+given_up_on z c fault.Backwards p q h = h.1.went.index
+given_up_on z c fault.RecordFull p q h = h.1.went.index
+given_up_on z c fault.Torn p q h = h.1.went.index
+given_up_on z c fault.NoObject p q h = ap (λ (r : Holding). r.words.index) h.1
+given_up_on z c fault.NoThread p q h = h.1.went.index
+
+given_up_about : (z : Opening) (c : InterruptCall) (f : LiveFault) (p q : Holding) → GivenUpAbout z c f p q → q.words.index ≡ p.words.index
+given_up_about z c fault.Backwards p q h = h.1.went.index
+given_up_about z c fault.RecordFull p q h = h.1.went.index
+given_up_about z c fault.Torn p q h = h.1.went.index
+given_up_about z c fault.NoObject p q h = h.1.went.index
+given_up_about z c fault.NoThread p q h = ap (λ (r : Holding). r.words.index) h.1
+
+number_kept : (z : Opening) (s : Subject) (x : Answer) (p q : Holding) → CalledFor z s x p q → q.words.index ≡ p.words.index
+number_kept z (Monitor c) (Ok r) p q h = h.1.index
+number_kept z (Monitor c) (Err f) p q h = given_up_on z c f p q h
+number_kept z (Interrupt c) (Ok r) p q h = h.1.index
+number_kept z (Interrupt c) (Err f) p q h = given_up_about z c f p q h
+number_kept z End x p q h = absurd h
+
+numbers_kept : (z : Opening) (cs : List Call) (xs : List Answer) (p q : Holding) → Answered z cs xs p q → q.words.index ≡ p.words.index
+numbers_kept z cs [] p q h = ap (λ (r : Holding). r.words.index) h
+numbers_kept z [] (x ∷ xs) p q h = absurd h
+numbers_kept z (c ∷ cs) (x ∷ xs) p q h = numbers_kept z cs xs h.0 q h.2 ∙ number_kept z (subject_of c) x p h.0 h.1
+
+-- the passes of works that were driven belong where they did, under the same numbers
+pub driven_here : {L : Type 0} (z : Opening) (ws : List (Work L)) (ds : List (Worked L)) → AllDriven z ws ds → All (λ d. d.pass.words.opening ≡ z) ds
+driven_here z [] [] h = All-nil (λ d. d.pass.words.opening ≡ z)
+driven_here z [] (d ∷ ds) h = absurd h
+driven_here z (w ∷ ws) [] h = absurd h
+driven_here z (w ∷ ws) (d ∷ ds) h = All-cons (λ d. d.pass.words.opening ≡ z) d ds h.0.0 (driven_here z ws ds h.1)
+
+pub driven_numbers : {L : Type 0} (z : Opening) (ws : List (Work L)) (ds : List (Worked L)) → AllDriven z ws ds → map (λ d. d.pass.words.index) ds ≡ map (λ w. w.pass.words.index) ws
+driven_numbers z [] [] h = refl
+driven_numbers z [] (d ∷ ds) h = absurd h
+driven_numbers z (w ∷ ws) [] h = absurd h
+driven_numbers z (w ∷ ws) (d ∷ ds) h =
+    let one : d.pass.words.index ≡ w.pass.words.index = numbers_kept z w.calls.items d.answers.items w.pass d.pass h.0.1 in
+    ap (λ n. n ∷ map (λ d. d.pass.words.index) ds) one ∙ ap (λ ns. w.pass.words.index ∷ ns) (driven_numbers z ws ds h.1)

@@ -1,15 +1,17 @@
 -- Passes in no call, as turns have them.
-use Rattle.std.proofs.Common.{◌≡◌, ℕ, zero, suc, List, [], ◌∷◌, ◌++◌, All, false, map, reverse, refl, sym, ap, ◌∙◌, subst, arith}
-use Rattle.std.proofs.lemmas.List.{reverse-append}
+use Rattle.std.proofs.Common.{◌≡◌, ◌+◌, ◌<◌, ℕ, zero, suc, List, [], ◌∷◌, ◌++◌, All, false, map, length, slice_index_or, reverse, refl, sym, ap, ◌∙◌, subst, arith}
+use Rattle.std.proofs.lemmas.List.{reverse-append, length-map}
 use Rattle.std.proofs.lemmas.List.Elements.{All-map, All-append}
-use Rattle.header_words.specs.Passes.{Opening}
+use Rattle.header_words.specs.Passes.{Opening, new_passes}
 use Rattle.step_core.specs.declared.paths.Point.{Point}
-use Rattle.live_turns.proofs.Rows.{moved_over}
-use Rattle.live_turns.specs.Numbers.{HasEach}
+use Rattle.live_turns.proofs.Rows.{moved_over, length-new_passes}
+use Rattle.live_turns.specs.Numbers.{HasEach, HasNumbers}
 use Rattle.live_turns.specs.declared.closed.TurnsClose.{TurnsClose}
 use Rattle.live_turns.specs.declared.closed.TurnsClose.TheVariants as fault
 use Rattle.live_turns.specs.Ends.{TellsEnd, numbers_of as numbers_of_states}
-use Rattle.live_turns.specs.Ways.{Belongs, Holding, PassState}
+use Rattle.live_turns.specs.Ways.{Belongs, Holding, PassState, new_holding}
+use Rattle.live_threads.specs.declared.driving.Work.{Work}
+use Rattle.live_threads.specs.declared.driving.Worked.{Worked}
 use Rattle.live_threads.specs.Calls.{IsAtRest}
 use Rattle.live_threads.specs.Ends.{at_rest, numbers_of}
 
@@ -70,3 +72,35 @@ no_wrong {L} z w ps ts e f here same is missing each tells =
     told (fault.WrongPass t p) missing lacks = lacks (each_state z.count ps ts same each)
     told (fault.Memory t p) missing lacks = absurd missing
     told fault.Torn missing lacks = absurd missing
+
+-- new passes have the numbers from 1 on, each once
+abbrev new_numbers : Opening → ℕ → ℕ → List ℕ
+new_numbers z i n = numbers_of (map new_holding (new_passes z i n))
+
+new_number : (z : Opening) (i n k d : ℕ) → k < n → slice_index_or (new_numbers z i n) k d ≡ i + k
+new_number z i zero k d lt = absurd (omega arith)
+new_number z i (suc n) zero d lt = omega arith
+new_number z i (suc n) (suc k) d lt = new_number z (suc i) n k d (omega arith) ∙ omega arith
+
+as_many : (z : Opening) (i n : ℕ) → length (new_numbers z i n) ≡ n
+as_many z i n =
+    length-map (map new_holding (new_passes z i n)) (λ (p : Holding). p.words.index) ∙ (length-map (new_passes z i n) new_holding ∙ length-new_passes z i n)
+
+numbers_there : (z : Opening) (count : ℕ) → HasNumbers count (new_numbers z 1 count)
+numbers_there z count zero low high = absurd (omega arith)
+numbers_there z count (suc k) low high =
+    (k, subst (λ n. k < n) (sym (as_many z 1 count)) (omega arith), new_number z 1 count k (suc k) (omega arith) ∙ omega arith)
+
+numbers_of_works : {L : Type 0} (ws : List (Work L)) → map (λ w. w.pass.words.index) ws ≡ numbers_of (map (λ w. w.pass) ws)
+numbers_of_works [] = refl
+numbers_of_works (w ∷ ws) = ap (λ (ns : List ℕ). w.pass.words.index ∷ ns) (numbers_of_works ws)
+
+numbers_of_worked : {L : Type 0} (ds : List (Worked L)) → numbers_of (map (λ d. d.pass) ds) ≡ map (λ d. d.pass.words.index) ds
+numbers_of_worked [] = refl
+numbers_of_worked (d ∷ ds) = ap (λ (ns : List ℕ). d.pass.words.index ∷ ns) (numbers_of_worked ds)
+
+-- The passes that `drive` gives back are all there, where the works had all new ones.
+pub each_is_back : {L : Type 0} (z : Opening) (count : ℕ) (ws : List (Work L)) (ds : List (Worked L)) (ps : List Holding) → map (λ w. w.pass) ws ≡ map new_holding (new_passes z 1 count)
+    → map (λ d. d.pass.words.index) ds ≡ map (λ w. w.pass.words.index) ws → ps ≡ map (λ d. d.pass) ds → HasEach count (numbers_of ps)
+each_is_back z count ws ds ps new same back =
+    subst (HasEach count) (sym (ap numbers_of back ∙ (numbers_of_worked ds ∙ (same ∙ (numbers_of_works ws ∙ ap numbers_of new))))) (as_many z 1 count, numbers_there z count)

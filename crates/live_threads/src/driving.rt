@@ -289,6 +289,9 @@ pub fn drive<L: Crew + Send + Sync, G: Gate + Sync, R: Threads + Wait + Clock + 
 ) -> Result<Vec<Worked<L>>, DriveFault<L>>
     requires can { All (CanDrive live.now) works.items }
     ensures driven { IfOk result (λ v. AllDriven live.entry.now works.items v.items) }
+    ensures here { IfOk result (λ v. All (λ d. d.pass.words.opening ≡ live.entry.now) v.items) }
+    ensures numbers { IfOk result (λ v. map (λ d. d.pass.words.index) v.items
+        ≡ map (λ w. w.pass.words.index) works.items) }
     ensures back { IfErr result (HandsBack works.items) }
 {
     let count = works.len();

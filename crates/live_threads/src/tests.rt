@@ -3,9 +3,10 @@
 ghost use Rattle.std.specs.Prelude.{◌≡◌, ◌≤◌};
 
 mod meeting;
+mod memory;
 mod works;
 
-use crate::{Live, LivePass};
+use crate::{Live, LiveClose, LivePass};
 use fat_monitor::{Cause, Reply};
 use live_turns::{Crew, LiveFault};
 use lock_word::{ObjectId, ThreadId, Word};
@@ -35,6 +36,27 @@ fn close_one<L: Crew>(alloc: Global, live: Live<L>, pass: LivePass<L>) -> Result
     let word = closed.words.first().ok_or("one object")?;
     let count = closed.counts.first().ok_or("one pass")?;
     Ok((*word, *count))
+}
+
+/// Closes a service of two passes, and tells the word of its one object and the deeds of both.
+pub(crate) fn close_both<L: Crew>(
+    alloc: Global,
+    live: Live<L>,
+    first: LivePass<L>,
+    second: LivePass<L>,
+) -> Result<(Word, u64), Fail>
+    requires first { first.words.opening ≡ live }
+    requires second { second.words.opening ≡ live }
+    requires crew { (L.parts ≡ live.count) × (L.passes ≡ live.count) }
+{
+    let passes = vec![in alloc; first, second]?;
+    let Ok(closed) = live.close(alloc, passes) else {
+        return Err(Fail::from("not closed"));
+    };
+    let word = closed.words.first().ok_or("one object")?;
+    let one = closed.counts.first().ok_or("two passes")?;
+    let other = closed.counts.last().ok_or("two passes")?;
+    Ok((*word, one.wrapping_add(*other)))
 }
 
 /// A record in which a wait binds its monitor and finds too few places for its action.
@@ -76,12 +98,32 @@ fn a_record_of_three_places_has_one_to_ask(rt: HostRuntime) -> Result<(), Fail> 
     Ok(())
 }
 
-/// Calls that name what is not there, a moment that would fall, and the calls of an owner.
-fn one_after_another<L: Crew, R: Abort + Wait + Clock>(
+/// Closes a service of two passes, the first time with one of them alone.
+fn close_with_one_and_both<L: Crew>(
+    alloc: Global,
+    live: Live<L>,
+    first: LivePass<L>,
+    second: LivePass<L>,
+) -> Result<(Word, u64), Fail>
+    requires first { first.words.opening ≡ live }
+    requires second { second.words.opening ≡ live }
+    requires crew { (L.parts ≡ live.count) × (L.passes ≡ live.count) }
+{
+    let one = vec![in alloc; first]?;
+    let Err(LiveClose::WrongPass { live, mut passes }) = live.close(alloc, one) else {
+        return Err(Fail::from("a pass is missing"));
+    };
+    let first = passes.pop().ok_or("the pass comes back")?;
+    close_both(alloc, live, first, second)
+}
+
+/// Calls that name what is not there, a moment that would fall, and a close without one of two
+/// passes.
+fn what_is_not_there<L: Crew, R: Abort + Wait + Clock>(
     rt: &R,
     alloc: Global,
     blank: Blank,
-) -> Result<(), Fail>
+) -> Result<(Word, u64), Fail>
     requires name { blank.name ≡ L.name }
     requires parts { (blank.parts ≡ L.parts) × (L.parts ≡ 2) }
     requires crew { (L.passes ≡ 2) × (L.monitors ≡ 1) × (L.places ≡ 10) }
@@ -95,6 +137,29 @@ fn one_after_another<L: Crew, R: Abort + Wait + Clock>(
     assert!(rt; stranger == Err(LiveFault::NoThread));
     assert!(rt; live.tick(rt, &mut first, 5) == Ok(()));
     assert!(rt; live.tick(rt, &mut second, 4) == Err(LiveFault::Backwards));
+    close_with_one_and_both(alloc, live, first, second)
+}
+
+#[test]
+fn what_is_not_there_leaves_one_deed(rt: HostRuntime) -> Result<(), Fail> {
+    let closed = what_is_not_there::<Brand, _>(&rt, rt.alloc(), Blank::new(2))?;
+    assert!(&rt; closed == (Word(0xa5), 1));
+    Ok(())
+}
+
+/// The calls of an owner, whom another thread interrupts.
+fn one_after_another<L: Crew, R: Abort + Wait + Clock>(
+    rt: &R,
+    alloc: Global,
+    blank: Blank,
+) -> Result<(), Fail>
+    requires name { blank.name ≡ L.name }
+    requires parts { (blank.parts ≡ L.parts) × (L.parts ≡ 2) }
+    requires crew { (L.passes ≡ 2) × (L.monitors ≡ 1) × (L.places ≡ 10) }
+{
+    let (live, mut passes) = Live::<L>::open(alloc, blank, &[0xa5], 1, 2, 10)?;
+    let mut second = passes.pop().ok_or("two passes")?;
+    let mut first = passes.pop().ok_or("two passes")?;
     assert!(rt; live.enter(rt, &mut first, OBJECT) == ENTERED);
     assert!(rt; live.notify_all(rt, &mut first, OBJECT) == Ok(Reply::Notified));
     assert!(rt; live.interrupt(rt, &mut second, ThreadId(1)) == Ok(Reply::Done));
@@ -107,7 +172,7 @@ fn one_after_another<L: Crew, R: Abort + Wait + Clock>(
 }
 
 #[test]
-fn faults_and_interrupts_have_their_answers(rt: HostRuntime) -> Result<(), Fail> {
+fn interrupts_have_their_answers(rt: HostRuntime) -> Result<(), Fail> {
     one_after_another::<Brand, _>(&rt, rt.alloc(), Blank::new(2))
 }
 

@@ -4,13 +4,13 @@ ghost use Rattle.std.specs.Prelude.{◌≡◌, ◌≤◌, IfOk, length};
 ghost use Rattle.std.specs.List.{All};
 ghost use Rattle.live_threads.specs.Driving.{IsLive, CanDrive};
 
-use crate::tests::OBJECT;
-use crate::{Gate, Live, Work, Worked, drive};
+use crate::tests::{OBJECT, close_both};
+use crate::{Gate, Live, Work, drive};
 use crossbeam_utils::atomic::AtomicCell;
 use fast_path::Call;
 use fat_monitor::Reply;
 use live_turns::{Crew, LiveFault};
-use lock_word::Memory;
+use lock_word::{Memory, Word};
 use std::alloc::Global;
 use std::marker::Brand;
 use std::process::Abort;
@@ -27,28 +27,46 @@ struct Outcome {
     stopped: bool,
 }
 
-/// Drives two works, and tells what came of each.
+/// What came of two works, the word of their object after the close, and how many deeds both did.
+#[derive(Drop)]
+struct Driven {
+    first: Outcome,
+    second: Outcome,
+    word: Word,
+    deeds: u64,
+}
+
+/// Drives two works, closes the service, and tells what came of them.
 fn both_are_driven<L: Crew + Send + Sync, G: Gate + Sync, R: Threads + Wait + Clock + Sync + Abort>(
     rt: &R,
     alloc: Global,
-    live: &Live<L>,
+    live: Live<L>,
     gate: &G,
     works: (Work<L>, Work<L>),
-) -> Result<(Outcome, Outcome), Fail>
-    requires first { CanDrive live.now works.0 }
-    requires second { CanDrive live.now works.1 }
+) -> Result<Driven, Fail>
+    requires first { CanDrive live works.0 }
+    requires second { CanDrive live works.1 }
+    requires crew { (L.parts ≡ live.count) × (L.passes ≡ live.count) }
 {
     let works = vec![in alloc; works.0, works.1]?;
-    let Ok(mut worked) = drive(rt, alloc, live, works, gate) else {
-        panic!(rt; "memory")
+    let Ok(mut worked) = drive(rt, alloc, &live, works, gate) else {
+        return Err(Fail::from("memory"));
     };
     let second = worked.pop().ok_or("two works")?;
     let first = worked.pop().ok_or("two works")?;
-    let outcome = |worked: Worked<L>| Outcome {
-        answers: worked.answers,
-        stopped: worked.stopped,
-    };
-    Ok((outcome(first), outcome(second)))
+    let (word, deeds) = close_both(alloc, live, first.pass, second.pass)?;
+    Ok(Driven {
+        first: Outcome {
+            answers: first.answers,
+            stopped: first.stopped,
+        },
+        second: Outcome {
+            answers: second.answers,
+            stopped: second.stopped,
+        },
+        word,
+        deeds,
+    })
 }
 
 /// Drives two works of these calls, on one object, and tells what came of each.
@@ -59,7 +77,7 @@ fn two_are_driven<L: Crew + Send + Sync, G: Gate + Sync, R: Threads + Wait + Clo
     places: u32,
     gate: &G,
     calls: (Vec<Call>, Vec<Call>),
-) -> Result<(Outcome, Outcome), Fail>
+) -> Result<Driven, Fail>
     requires name { blank.name ≡ L.name }
     requires parts { (blank.parts ≡ L.parts) × (L.parts ≡ 2) }
     requires crew { (L.passes ≡ 2) × (L.monitors ≡ 1) × (L.places ≡ places) }
@@ -75,11 +93,11 @@ fn two_are_driven<L: Crew + Send + Sync, G: Gate + Sync, R: Threads + Wait + Clo
         pass: passes.pop().ok_or("two passes")?,
         calls: calls.0,
     };
-    both_are_driven(rt, alloc, &live, gate, (first, second))
+    both_are_driven(rt, alloc, live, gate, (first, second))
 }
 
 /// Lets every call be made.
-struct Open;
+pub(crate) struct Open;
 
 impl Gate for Open {
     fn before(&self, _worker: usize, _call: usize) -> bool {
@@ -162,11 +180,21 @@ fn two_workers_hand_an_object_to_each_other(rt: HostRuntime) -> Result<(), Fail>
     let alloc = rt.alloc();
     let calls = (rounds(alloc, 1_000)?, rounds(alloc, 1_000)?);
     let blank = Blank::new(2);
-    let (first, second) = two_are_driven::<Brand, _, _>(&rt, alloc, blank, 8_000, &Open, calls)?;
+    let driven = two_are_driven::<Brand, _, _>(&rt, alloc, blank, 8_000, &Open, calls)?;
+    let Driven { first, second, .. } = &driven;
     let wanted = answers_of_rounds(alloc, 1_000)?;
     assert!(&rt; first.answers == wanted && !first.stopped);
     assert!(&rt; second.answers == wanted && !second.stopped);
+    assert_eq!(&rt; driven.word, Word(0x8000_00a5));
+    // The second comer's enter parks, or finds the object without an owner.
+    assert!(&rt; driven.deeds == 6_005 || driven.deeds == 6_006);
     Ok(())
+}
+
+fn holds_once(alloc: Global) -> Result<Vec<Call>, Memory>
+    ensures { IfOk result (λ v. All IsLive v.items) }
+{
+    Ok(vec![in alloc; Call::Holds(OBJECT)]?)
 }
 
 fn holds_twice(alloc: Global) -> Result<Vec<Call>, Memory>
@@ -180,7 +208,8 @@ fn a_gate_stops_a_worker_before_its_second_call(rt: HostRuntime) -> Result<(), F
     let alloc = rt.alloc();
     let calls = (holds_twice(alloc)?, holds_twice(alloc)?);
     let blank = Blank::new(2);
-    let (first, second) = two_are_driven::<Brand, _, _>(&rt, alloc, blank, 10, &First, calls)?;
+    let driven = two_are_driven::<Brand, _, _>(&rt, alloc, blank, 10, &First, calls)?;
+    let Driven { first, second, .. } = &driven;
     let one = vec![in alloc; Ok(Reply::No)]?;
     let two = vec![in alloc; Ok(Reply::No), Ok(Reply::No)]?;
     assert!(&rt; first.answers == one && first.stopped);
@@ -195,9 +224,12 @@ fn workers_run_side_by_side(rt: HostRuntime) -> Result<(), Fail> {
         first: AtomicCell::new(false),
         second: AtomicCell::new(false),
     };
-    let calls = (holds_twice(alloc)?, holds_twice(alloc)?);
+    let calls = (holds_once(alloc)?, holds_once(alloc)?);
     let blank = Blank::new(2);
-    let (first, second) = two_are_driven::<Brand, _, _>(&rt, alloc, blank, 10, &both, calls)?;
-    assert!(&rt; !first.stopped && !second.stopped);
+    let driven = two_are_driven::<Brand, _, _>(&rt, alloc, blank, 10, &both, calls)?;
+    let Driven { first, second, .. } = &driven;
+    let no = vec![in alloc; Ok(Reply::No)]?;
+    assert!(&rt; first.answers == no && !first.stopped);
+    assert!(&rt; second.answers == no && !second.stopped);
     Ok(())
 }

@@ -5,7 +5,8 @@ use Rattle.header_words.specs.Passes.{new_passes}
 use Rattle.live_turns.specs.Ends.{IsEnd}
 use Rattle.live_turns.specs.Ways.{Holding, new_holding}
 use Rattle.live_turns.proofs.Rows.{length-new_passes}
-use Rattle.live_threads.specs.Ends.{at_rest}
+use Rattle.live_threads.specs.Ends.{TellsEnd, at_rest}
+use Rattle.live_threads.proofs.Ends.{each_is_back}
 use Rattle.live_scripts.specs.Rules.{attached}
 use Rattle.live_scripts.specs.Plans.{calls_of, monitors_in, objects_of}
 use Rattle.live_text.specs.Texts.{live_text}
@@ -22,6 +23,12 @@ drive-requires-clause-can g c κs within =
 pub close-requires-clause-belong : goal.close-requires-clause-belong
 close-requires-clause-belong g c =
     subst (All (λ (p : Holding). p.words.opening ≡ c.args.live)) (sym c.in_ok-passes.ensures.passes) (passes_belong c.args.live c.args.works.items c.in-Ok.worked.items c.in-Ok.ensures.driven)
+
+-- no pass is missing
+pub unreachable-requires : goal.unreachable-requires
+unreachable-requires g c =
+    subst (λ e. TellsEnd c.args.live.count c.in_ok-passes.passes.items e) c.in-Err-WrongPass.field-0-is c.in-Err-WrongPass.ensures.fault
+    (each_is_back c.args.live c.args.live.count c.args.works.items c.in-Ok.worked.items c.in_ok-passes.passes.items c.requires.passes c.in-Ok.ensures.numbers c.in_ok-passes.ensures.passes)
 
 pub live_text-requires-clause-threads : goal.live_text-requires-clause-threads
 live_text-requires-clause-threads g c =

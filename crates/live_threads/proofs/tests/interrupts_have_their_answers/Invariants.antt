@@ -1,5 +1,5 @@
 use Rattle.std.proofs.Common.{◌≡◌}
-use Rattle.live_threads.proofs.tests.faults_and_interrupts_have_their_answers.Given as goal
+use Rattle.live_threads.proofs.tests.interrupts_have_their_answers.Given as goal
 
 abbrev pub ghosts-one_after_another-L-Ledger : goal.ghosts-one_after_another-L-Ledger
 ghosts-one_after_another-L-Ledger g a = record { name = a.blank.name; parts = a.blank.parts }
