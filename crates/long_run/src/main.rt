@@ -3,8 +3,8 @@
 //!
 //! A round opens a service of four objects with 2 to 8 threads, and closes it. All threads but one are
 //! workers, which make 10,000 calls each; the last tells the moments and notifies, so that every wait
-//! ends. With no argument there are 7 rounds, and else as many as the argument says:
-//! `rt run -- 250` makes 10,000,000 calls.
+//! ends. With no argument there are 2 rounds, with 8 and 7 threads, and else as many as the argument
+//! says: `rt run -- 250` makes more than 10,000,000 calls.
 #![tactic(auto)]
 
 mod accounts;
@@ -22,7 +22,7 @@ use std::io::Print;
 use trouble::Trouble;
 
 /// How many rounds there are where no argument says so.
-const ROUNDS: u32 = 7;
+const ROUNDS: u32 = 2;
 
 fn main(rt: HostRuntime) -> Result<(), Trouble> {
     let alloc = rt.alloc();

@@ -35,7 +35,7 @@ pub fn play_round<R: Threads + Wait + Clock + Sync>(
     alloc: Global,
     round: u32,
 ) -> Result<u64, Trouble> {
-    let workers = round % WORKERS + 1;
+    let workers = WORKERS - round % WORKERS;
     let threads = workers as u16 + 1;
     let blank = Blank::new(u64::from(threads));
     let closed = play::<Brand, R>(rt, alloc, blank, round, threads)?;
