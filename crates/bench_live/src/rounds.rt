@@ -11,7 +11,7 @@ use std::sync::atomic::{AtomicU64, Ordering};
 use std::thread;
 use std::time::{Clock, Duration, Instant};
 
-const OBJECT: ObjectId = ObjectId(0);
+pub const OBJECT: ObjectId = ObjectId(0);
 
 /// What is measured.
 #[derive(Clone, Copy, PartialEq, Eq, Debug)]
@@ -184,11 +184,10 @@ pub fn hand_on<L: Crew, R: Wait + Clock>(
     HandedOn { done, slept }
 }
 
-/// Waits until it is notified.
+/// Waits as the owner of the object, until it is notified.
 pub fn wait_once<L: Crew, R: Wait + Clock>(rt: &R, live: &Live<L>, pass: &mut LivePass<L>) -> bool
     requires here { pass.old.words.opening ≡ live.now }
 {
-    let _entered = live.enter(rt, pass, OBJECT);
     let waited = live.wait_on(rt, pass, OBJECT, 0, 0);
     let _exited = live.exit(rt, pass, OBJECT);
     waited == Ok(Reply::WaitOver)

@@ -4,8 +4,8 @@ ghost use Rattle.std.specs.Prelude.{◌≡◌};
 
 use crate::BenchFault;
 use crate::rounds::{
-    HandedOn, Measure, Work, bare_lock, bare_nest, hand_on, inflate, nested_pairs, notify_after,
-    pairs, wait_once,
+    HandedOn, Measure, OBJECT, Work, bare_lock, bare_nest, hand_on, inflate, nested_pairs,
+    notify_after, pairs, wait_once,
 };
 use live_threads::{Live, LivePass};
 use live_turns::Crew;
@@ -130,6 +130,8 @@ pub fn doze<L: Crew + Send + Sync, R: Threads + Wait + Clock + CpuClock + Sync>(
     let (Some(mut second), Some(mut first)) = (passes.pop(), passes.pop()) else {
         return Err(BenchFault::Passes);
     };
+    // The one that notifies enters once this one waits.
+    let _entered = live.enter(rt, &mut first, OBJECT);
     let start = rt.process_cpu_time()?;
     let (waited, notified) = join(
         rt,
