@@ -5,8 +5,10 @@
 //! the value as a ghost. [`Parts`] is what such a struct is made from and taken apart into.
 #![tactic(auto)]
 
+mod maybe;
 mod parts;
 #[cfg(test)]
 mod tests;
 
+pub use maybe::MaybeParts;
 pub use parts::Parts;

@@ -1,7 +1,7 @@
 -- The numbers of the statuses.
 use Rattle.std.specs.Prelude.{ℕ}
 use Rattle.nadkhoy_c.specs.declared.status.Status.{Status}
-use Rattle.nadkhoy_c.specs.declared.status.Status.TheVariants.{Done, Memory, Closed, InUse, NoObject, NoThread, NoStep, NoSplit, Range}
+use Rattle.nadkhoy_c.specs.declared.status.Status.TheVariants.{Done, Memory, Closed, InUse, NoObject, NoThread, NoStep, NoSplit, Range, NoPass}
 
 abbrev pub status_number : Status → ℕ
 status_number Done = 0
@@ -13,3 +13,4 @@ status_number NoThread = 104
 status_number NoStep = 105
 status_number NoSplit = 106
 status_number Range = 107
+status_number NoPass = 108

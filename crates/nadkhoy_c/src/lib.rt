@@ -7,6 +7,7 @@ ghost use Rattle.nadkhoy_c.specs.Showing.{Reading, read, sizes_shown, object_sho
 
 mod changing;
 mod laws;
+mod live;
 mod plain;
 mod raw;
 mod reading;
@@ -18,9 +19,10 @@ mod tests;
 mod writing;
 
 pub use laws::every_call_is_read_back;
+pub use live::{Answered, LiveSlot, RawSeat, Started};
 pub use plain::{
     PlainAtomic, PlainCall, PlainDid, PlainDoing, PlainMove, PlainObject, PlainSizes, PlainStep,
-    PlainThread,
+    PlainThread, PlainTurned,
 };
 pub use raw::RawWorld;
 pub use slot::WorldSlot;

@@ -136,3 +136,17 @@ pub struct PlainThread {
     pub is_interrupted: u32,
     pub doing: PlainDoing,
 }
+
+/// What a turn of a call of the live service came to.
+#[repr(C)]
+#[derive(Clone, Copy, PartialEq, Eq, Debug)]
+pub struct PlainTurned {
+    /// 1 the call is over, 2 another thread owns the object, 3 another seat has the gate, 4 parked.
+    pub standing: u32,
+    /// 1 to 12, in the order of [`Reply`](step_core::Reply); 0 where the call goes on.
+    pub reply: u32,
+    /// Why the call was refused.
+    pub cause: u32,
+    /// The number of the thread that the turn made an owner; 0 for none.
+    pub granted: u32,
+}

@@ -9,11 +9,11 @@ ghost use Rattle.nadkhoy_c.specs.Statuses.{status_number};
 pub enum Status {
     /// It is done.
     Done = 0,
-    /// The system has no memory for the world.
+    /// The system has no memory for the world, the service or the seat.
     Memory = 2,
-    /// The slot has no world.
+    /// The slot is empty.
     Closed = 101,
-    /// The slot has a world already.
+    /// The slot is full already.
     InUse = 102,
     /// The world has no such object.
     NoObject = 103,
@@ -23,8 +23,10 @@ pub enum Status {
     NoStep = 105,
     /// The number of the split is none.
     NoSplit = 106,
-    /// There are too many objects or monitors, or too few or too many indices.
+    /// There are too many objects, monitors or places, or too few or too many indices or passes.
     Range = 107,
+    /// No pass of the service is left for another seat.
+    NoPass = 108,
 }
 
 impl Status {
@@ -42,6 +44,7 @@ impl Status {
             Status::NoStep => 105,
             Status::NoSplit => 106,
             Status::Range => 107,
+            Status::NoPass => 108,
         }
     }
 }

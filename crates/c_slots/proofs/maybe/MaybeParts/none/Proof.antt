@@ -1,0 +1,99 @@
+-- `none` stores the null pointer and owns nothing.
+use Rattle.std.specs.declared.option.Option.TheVariants.{None}
+use mathlib.Core.Path.{refl, sym, subst}
+use mathlib.Core.List.{List, [], ◌∷◌, ◌++◌}
+use lib.Dec.{T}
+use seplogic.Ra.Ura.{Ura}
+use mir.Syntax.{Fn}
+use mir.MapTy.{inst_fn}
+use mir.Val.{Val, vstruct, vcons, vnil, has_ty, WT}
+use base.Logic.{SProp, ent}
+use base.Fml.{ftrue, fsep, flft}
+use contract.BorrowLft.{◌⊑◌}
+use prog.Memory.{Memory}
+use prog.Routine.{Routine}
+use prog.Wp.{WpFn, Tables}
+use types.Logic.{Logic}
+use contract.Monad.{Fun, fact}
+use contract.Running.{tables, tables_of}
+use sound.WpLaws.{WpFn-mono}
+use types.Kit.{Item, ‵, raw, ◌⊛◌, ◌$◌, ◌∵◌, !, qed, by, move, drop, join, split, fsplit, fjoin, fpack, feq_i, suffices, done}
+use types.Run.{lit, of_opd, no_more, and_then, returns, enter}
+use types.Part.{agg}
+use types.ByLocal.{alloc_all, pass_all, free_all, look_at, get, sets}
+use denote.Exit.{no}
+use denote.RattleType.{RattleType, Valss}
+use denote.Builtin.{RawPtr}
+use denote.RawPtr.{Ptr, block_ptr, null_ptr, ptr_val}
+use denote.Signature.{plain}
+use denote.Steps.{nothing}
+use denote.Struct.Struct.{within}
+use denote.Struct.Owning.{shape, to}
+use Rattle.std.proofs.Common.{arith}
+use denote.Triple.Clauses.{Ended, Clauses}
+use denote.Triple.Spec.{triple_of}
+use denote.Triple.Table.{entered}
+use denote.Triple.Walked.{says, Stays, stay_dropped, walk_of, ends_at, walk_Meets}
+use Rattle.core.proofs.alloc.Calls.{α, Fits, handle_tells, Goes-blank}
+use Rattle.std_alloc.proofs.ResultValues.{and_tt}
+use Rattle.std_alloc.proofs.BoxSteps.Form.{Bx, R, P, args, box_ty}
+use Rattle.c_slots.specs.contracts.maybe.MaybeParts as maybe
+use Rattle.c_slots.specs.contracts.maybe.MaybeParts.none as F
+use Rattle.c_slots.specs.contracts.maybe.MaybeParts.none.Key.{name as #self}
+use Rattle.c_slots.proofs.maybe.MaybeParts.none.Statement as stated
+use Rattle.c_slots.proofs.maybe.MaybeParts.none.Code as code
+
+abbrev both : Ptr → Val → Val
+both p h = vstruct (vcons (ptr_val p) (vcons h vnil))
+
+module _ (E : Bx) where
+  made_good : (p : Ptr) (h : Val) → Fits E.al h → T (has_ty (box_ty E) (both p h)) × WT (both p h)
+  made_good (block_ptr b o) h fa = (and_tt (has_ty (α E.al) h) fa.0, (tt, (fa.1, tt)))
+  made_good null_ptr h fa = (and_tt (has_ty (α E.al) h) fa.0, (record { fits = omega arith }, (fa.1, tt)))
+
+  abbrev fn' : Fn
+  fn' = inst_fn (args E) code.function
+
+  abbrev ended : Ended
+  ended = F.ended E.row E.al.row E.al.g E.al.d E.al.drops
+
+  abbrev To : RattleType
+  To = maybe.the_row (R E) (P E) E.al.g
+
+  abbrev stayed : Stays ended.signature.params ended.kept
+  stayed = (stay_dropped (plain (λ _. P E)) no, tt)
+
+  module _ {M : Type 1} {𝓤 : Ura M} (𝓛 : Logic 𝓤) (at_mem : Memory → SProp 𝓤) (run : Routine → Fun 𝓤) (𝓣 : Tables 𝓤 𝓛.H) where
+    open 𝓛 use {H}
+
+    abbrev held : Clauses 𝓤 ended
+    held = F.clauses E.row E.al.row E.al.g E.al.d E.al.drops 𝓛 at_mem run
+
+    walk : (z : (walk_of 𝓛 ended stayed held).Ghost) → ent 𝓤 ((walk_of 𝓛 ended stayed held).pre z) (WpFn 𝓤 H 𝓣.C 𝓣.Λ fn' (z.0.4.0 ++ []) ((walk_of 𝓛 ended stayed held).post z))
+    walk z =
+        let κs = z.0.0 in let qs = z.0.1 in let Post = (walk_of 𝓛 ended stayed held).post z in
+        let p : Ptr = null_ptr in let a = z.0.3.0 in
+        let made : To.Denot = record { ptr = p; alloc = a; value = None } in
+        let ts : Item 𝓤 = ‵ (flft κs.0 qs.0) ⊛ ‵ (flft κs.1.0 qs.1.0) ⊛ ‵ ftrue in
+        let in_x : Item 𝓤 = raw (fact 𝓤 (κs.0 ⊑ E.row.lives)) in let in_a : Item 𝓤 = raw (fact 𝓤 (κs.1.0 ⊑ E.al.row.lives)) in
+        qed 𝓛 ((ts ⊛ ‵ (fsep ((P E).own_val a z.0.4.0) ftrue)) ∷ (in_x ⊛ in_a ⊛ ‵ ftrue) ∷ []) ∵ move ! (1 ∷ []) $ drop ! $ split ! $ move ! (1 ∷ []) $ fsplit ! $
+        handle_tells E.al ! a z.0.4.0 (λ h ea fa. move ! (1 ∷ []) $ drop ! $
+        let w = both p h in
+        let Γ : List (Item 𝓤) = ‵ ((P E).own_val a (h ∷ [])) ∷ ts ∷ [] in
+        by ! (subst (λ (us : List Val). ent 𝓤 (types.Kit.⋆ 𝓛 Γ) (WpFn 𝓤 H 𝓣.C 𝓣.Λ fn' us Post)) (sym (λ i. ea i ++ []))
+        (qed 𝓛 Γ ∵ enter ! 𝓣.C 𝓣.Λ fn' (h ∷ []) _ $ alloc_all ! (λ ls. pass_all ! refl (fa, tt) $
+        sets ! (of_opd ! (get ! refl)) refl fa $ sets ! (agg ! (and_then ! (lit ! tt) (and_then ! (get ! refl) (no_more !)))) refl (made_good p h fa) $ returns ! (look_at ! 0 refl) $ free_all ! refl $
+        nothing ! $ nothing ! $ move ! (2 ∷ 0 ∷ []) $ fjoin ! $ feq_i ! (List Val) (ptr_val p ∷ []) (ptr_val p ∷ []) refl $ fjoin ! $ feq_i ! (List Val) (w ∷ []) (w ∷ []) refl $ fjoin ! $
+        fpack ! (Valss (RawPtr ∷ P E ∷ [])) (within (shape (maybe.the_type (R E) (P E) E.al.g)) (to (maybe.the_type (R E) (P E) E.al.g) made) (w ∷ [])) (ptr_val p ∷ [], (h ∷ [], tt)) $ fjoin ! $
+        suffices ! _ (ends_at 𝓛 ended stayed held z w made (tt, tt) (tt, tt)) $ says ! refl $
+        nothing ! $ nothing ! $ fjoin ! $ join ! $ move ! (1 ∷ 0 ∷ []) $ join ! $ done !))))
+
+pub none_spec : {M : Type 1} → stated.statement M
+unfolding tables_of
+none_spec 𝓤 𝓛 𝓜 𝓡 wired X Z LX LZ g d dd allocator md =
+    let E : Bx = record { row = X; laws = LX; al = record { row = Z; laws = LZ; g = g; d = d; drops = dd } } in
+    let 𝓣 : Tables 𝓤 𝓛.H = tables_of 𝓤 𝓛.H 𝓜 (tables 𝓤 𝓛.H 𝓜 𝓡 𝓡.env) in
+    let fn = fn' E in
+    entered 𝓤 𝓛.H (triple_of 𝓛 (ended E).signature (F.spec X Z g d dd 𝓛 𝓜.mem 𝓡.returns)) 𝓣.C 𝓣.Λ (#self (args E)) fn (code.unfolded 𝓤 𝓛.H 𝓜 𝓡 wired (X, (Z, tt)) d dd)
+    (walk_Meets 𝓛 (ended E) (stayed E) (Goes-blank 𝓛 2 (plain (λ _. P E)) no (λ κs x f. tt), tt) (held E 𝓛 𝓜.mem 𝓡.returns 𝓣) (WpFn 𝓤 𝓛.H 𝓣.C 𝓣.Λ fn) (WpFn-mono 𝓤 𝓛.H 𝓛.laws 𝓣 fn)
+    (walk E 𝓛 𝓜.mem 𝓡.returns 𝓣))

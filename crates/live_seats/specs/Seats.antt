@@ -1,0 +1,171 @@
+-- What a seat has, and what an order does to it.
+use Rattle.std.specs.Prelude.{◌≡◌, ◌≢◌, ℕ, ◌++◌, List, [], ◌∷◌, map, Bool, true, false, Option, Some, None}
+use Rattle.header_words.specs.Passes.{Opening, new_passes}
+use Rattle.step_core.specs.declared.places.Place.TheVariants.{Idle, InCall}
+use Rattle.step_core.specs.declared.places.Stage.TheVariants.{Begun, Direct}
+use Rattle.step_core.specs.declared.paths.Point.{Point}
+use Rattle.step_core.specs.declared.paths.Point.TheVariants.{At}
+use Rattle.live_turns.specs.Asked.{IsTickFault}
+use Rattle.live_turns.specs.Log.{thread_numbered}
+use Rattle.live_turns.specs.Points.{resting, GivenUpOn, GivenUpAbout}
+use Rattle.live_turns.specs.Ways.{PassState, Went, Halted, AddsNoEvent, ticked_by, new_state}
+use Rattle.live_turns.specs.declared.turned.Turned.{Turned}
+use Rattle.live_turns.specs.declared.faults.LiveFault.{LiveFault}
+use Rattle.live_seats.specs.declared.opening.Draft.{Draft}
+use Rattle.live_seats.specs.declared.orders.Order.{Order}
+use Rattle.live_seats.specs.declared.orders.Order.TheVariants.{BeginOn, BeginAbout, Turn, Tick, Thread, Share, Leave}
+use Rattle.live_seats.specs.declared.orders.Told.{Told}
+use Rattle.live_seats.specs.declared.orders.Told.TheVariants as told
+
+-- the opening of its service, its pass, and the passes of those who have no seat yet
+pub record SeatState : Type 0 where
+  pub opening : Opening
+  pub pass : PassState
+  pub rest : List PassState
+
+-- the pass is in no call
+abbrev pub IsIdle : PassState → Type 0
+IsIdle p = p.point ≡ At Idle
+
+-- the point that the turn of this order begins at
+abbrev pub begun_at : Order → Point → Point
+begun_at (BeginOn c) p = At (InCall (Begun c false))
+begun_at (BeginAbout c) p = At (InCall (Direct c))
+begun_at Turn p = p
+begun_at (Tick now) p = p
+begun_at Thread p = p
+begun_at Share p = p
+begun_at Leave p = p
+
+-- an order that is taken where the pass is in no call, and one that is taken where it is in one
+abbrev pub IsTaken : Order → PassState → Type 0
+IsTaken (BeginOn c) p = IsIdle p
+IsTaken (BeginAbout c) p = IsIdle p
+IsTaken Turn p = p.point ≢ At Idle
+IsTaken (Tick now) p = IsIdle p
+IsTaken Thread p = ⊥
+IsTaken Share p = ⊥
+IsTaken Leave p = ⊥
+
+-- what a fault leaves of the order
+abbrev pub GaveUp : Opening → Order → LiveFault → PassState → PassState → Type 0
+GaveUp z (BeginOn c) f p q = IsIdle q × GivenUpOn z c f p.holding q.holding
+GaveUp z (BeginAbout c) f p q = IsIdle q × GivenUpAbout z c f p.holding q.holding
+GaveUp z Turn f p q = IsIdle q × Halted f p.point p.holding q.holding
+GaveUp z (Tick now) f p q =
+    IsIdle q × IsTickFault f × AddsNoEvent p.holding.words q.holding.words × (q.holding.own ≡ p.holding.own)
+GaveUp z Thread f p q = ⊥
+GaveUp z Share f p q = ⊥
+GaveUp z Leave f p q = ⊥
+
+-- the order was a turn of a call
+abbrev pub IsTurn : Order → Type 0
+IsTurn (BeginOn c) = Unit {0}
+IsTurn (BeginAbout c) = Unit {0}
+IsTurn Turn = Unit {0}
+IsTurn (Tick now) = ⊥
+IsTurn Thread = ⊥
+IsTurn Share = ⊥
+IsTurn Leave = ⊥
+
+-- the moment was told, or not
+abbrev pub Ticks : Order → Bool → PassState → PassState → Type 0
+Ticks (BeginOn c) b p q = ⊥
+Ticks (BeginAbout c) b p q = ⊥
+Ticks Turn b p q = ⊥
+Ticks (Tick now) b p q =
+    IsIdle q × AddsNoEvent p.holding.words q.holding.words
+    × (q.holding.own ≡ p.holding.own ++ ticked_by b p.holding.words.index now)
+Ticks Thread b p q = ⊥
+Ticks Share b p q = ⊥
+Ticks Leave b p q = ⊥
+
+-- the order begins something
+abbrev pub IsBegin : Order → Type 0
+IsBegin (BeginOn c) = Unit {0}
+IsBegin (BeginAbout c) = Unit {0}
+IsBegin Turn = ⊥
+IsBegin (Tick now) = Unit {0}
+IsBegin Thread = ⊥
+IsBegin Share = ⊥
+IsBegin Leave = ⊥
+
+-- What came of an order of a pass: it was none for a pass that stands so; it took a turn of the call, by steps of its
+-- path; it told the moment; or it gave up.
+abbrev pub Serves : Opening → Order → Told → PassState → PassState → Type 0
+Serves z o told.InCall p q = IsBegin o × (p.point ≢ At Idle) × (q ≡ p)
+Serves z o told.NotCalling p q = (o ≡ Turn) × IsIdle p × (q ≡ p)
+Serves z o (told.Turned t) p q =
+    IsTurn o × IsTaken o p × Went (begun_at o p.point) t.point p.holding q.holding × (q.point ≡ resting t.point)
+Serves z o (told.Ticked b) p q = IsIdle p × Ticks o b p q
+Serves z o (told.Fault f) p q = IsTaken o p × GaveUp z o f p q
+Serves z o (told.Thread t) p q =
+    (o ≡ Thread) × (t ≡ thread_numbered p.holding.words.index) × (q ≡ p)
+Serves z o told.Shared p q = ⊥
+Serves z o told.NoPass p q = ⊥
+Serves z o told.Memory p q = ⊥
+Serves z o told.Left p q = ⊥
+
+-- An order that a pass carries out leaves the seat with all else that it has.
+abbrev pub PassServes : SeatState → Order → Told → Option SeatState → Option SeatState → Type 0
+PassServes s o x None u = ⊥
+PassServes s o x (Some q) (Some u) = ⊥
+PassServes s o x (Some q) None =
+    (q.opening ≡ s.opening) × (q.rest ≡ s.rest) × Serves s.opening o x s.pass q.pass
+
+-- the new seat has the last of the passes that were left
+abbrev pub HasShared : SeatState → Option SeatState → Option SeatState → Type 0
+HasShared s None u = ⊥
+HasShared s (Some q) None = ⊥
+HasShared s (Some q) (Some u) =
+    (q.opening ≡ s.opening) × (q.pass ≡ s.pass) × (s.rest ≡ q.rest ++ u.pass ∷ [])
+    × (u.opening ≡ s.opening) × (u.rest ≡ [])
+
+-- A new seat was made, or none: where no pass is left, or the system has no memory for it.
+abbrev pub Shares : SeatState → Told → Option SeatState → Option SeatState → Type 0
+Shares s told.InCall q u = ⊥
+Shares s told.NotCalling q u = ⊥
+Shares s (told.Turned t) q u = ⊥
+Shares s (told.Ticked b) q u = ⊥
+Shares s (told.Fault f) q u = ⊥
+Shares s (told.Thread t) q u = ⊥
+Shares s told.Shared q u = HasShared s q u
+Shares s told.NoPass q u = (s.rest ≡ []) × (q ≡ Some s) × (u ≡ None)
+Shares s told.Memory q u = (s.rest ≢ []) × (q ≡ Some s) × (u ≡ None)
+Shares s told.Left q u = ⊥
+
+-- What came of an order: the seat afterwards, if it is not gone, and a new one, if there is one.
+abbrev pub SeatServes : SeatState → Order → Told → Option SeatState → Option SeatState → Type 0
+SeatServes s (BeginOn c) x q u = PassServes s (BeginOn c) x q u
+SeatServes s (BeginAbout c) x q u = PassServes s (BeginAbout c) x q u
+SeatServes s Turn x q u = PassServes s Turn x q u
+SeatServes s (Tick now) x q u = PassServes s (Tick now) x q u
+SeatServes s Thread x q u = PassServes s Thread x q u
+SeatServes s Share x q u = Shares s x q u
+SeatServes s Leave x q u = (x ≡ told.Left) × (q ≡ None) × (u ≡ None)
+
+-- a pass carries the order out by itself
+abbrev pub IsOfPass : Order → Type 0
+IsOfPass (BeginOn c) = Unit {0}
+IsOfPass (BeginAbout c) = Unit {0}
+IsOfPass Turn = Unit {0}
+IsOfPass (Tick now) = Unit {0}
+IsOfPass Thread = Unit {0}
+IsOfPass Share = ⊥
+IsOfPass Leave = ⊥
+
+-- a seat of a service that was just opened: its passes are all there, and have done nothing
+abbrev pub IsOpenedWith : List ℕ → ℕ → SeatState → Type 0
+IsOpenedWith lows passes s =
+    (s.opening.lows ≡ lows) × (s.opening.count ≡ passes)
+    × (s.rest ++ s.pass ∷ [] ≡ map new_state (new_passes s.opening 1 passes))
+
+abbrev pub IsOpened : Draft → SeatState → Type 0
+IsOpened d s = IsOpenedWith d.lows.items d.passes s
+
+-- whether a service was opened, and its seat
+abbrev pub HasOpened : Draft → Bool → Option SeatState → Type 0
+HasOpened d true None = ⊥
+HasOpened d true (Some v) = IsOpened d v
+HasOpened d false None = Unit {0}
+HasOpened d false (Some v) = ⊥

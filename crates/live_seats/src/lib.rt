@@ -1,0 +1,14 @@
+//! Seats at a live service: each is a share of the service and the right to make calls in it under
+//! one thread number. A seat carries out one order at a time, by one turn of a call at most.
+#![tactic(auto)]
+
+mod opening;
+mod orders;
+mod seat;
+mod serving;
+mod turning;
+
+pub use opening::{Draft, Opened, open_at};
+pub use orders::{Order, Told};
+pub use seat::Seat;
+pub use serving::{Served, serve_at};

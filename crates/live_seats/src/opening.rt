@@ -1,0 +1,106 @@
+//! The opening of a service.
+
+ghost use Rattle.std.specs.Prelude.{◌≡◌, ◌≤◌, ◌++◌, ◌∷◌, IfOk, length, map, []};
+ghost use Rattle.header_words.specs.Passes.{new_passes};
+ghost use Rattle.live_turns.specs.Ways.{new_state};
+ghost use Rattle.live_seats.specs.Seats.{HasOpened, IsOpened};
+
+use crate::seat::Seat;
+use c_slots::{MaybeParts, Parts};
+use live_turns::{Crew, TurnPass, Turns};
+use lock_word::Memory;
+use std::alloc::Global;
+use std::sync::Arc;
+use std::sync::ledger::Blank;
+
+/// What a service is opened with: the low byte of each object, how many fat monitors it may have, how
+/// many passes there are, and how many places its record has.
+#[derive(Drop)]
+pub struct Draft {
+    pub lows: Vec<u8>,
+    pub monitors: u32,
+    pub passes: u16,
+    pub places: u32,
+}
+
+// A seat with the last of these passes.
+#[tactic(auto, using(crate::proofs::Passes::new_states_belong))]
+fn seated<L: Crew>(
+    alloc: Global,
+    turns: Turns<L>,
+    mut passes: Vec<TurnPass<L>>,
+    count: u16,
+) -> Result<Box<Seat<L>>, Memory>
+    requires passes { passes.items ≡ map new_state (new_passes turns 1 count) }
+    requires some { 1 ≤ count }
+    ensures { IfOk result (λ s. (s.value.opening ≡ turns)
+        × (s.value.rest ++ s.value.pass ∷ [] ≡ map new_state (new_passes turns 1 count))) }
+{
+    let Some(pass) = passes.pop() else {
+        unreachable!()
+    };
+    let Ok(turns) = Arc::new(alloc, turns) else {
+        return Err(Memory);
+    };
+    let seat = Seat {
+        turns,
+        pass,
+        rest: passes,
+    };
+    Ok(Box::new(alloc, seat)?)
+}
+
+// Opens a service, with a seat that has all its passes.
+fn opened<L: Crew>(alloc: Global, blank: Blank, draft: &Draft) -> Result<Box<Seat<L>>, Memory>
+    requires name { blank.name ≡ L.name }
+    requires parts { (blank.parts ≡ L.parts) × (L.parts ≡ draft.now.passes) }
+    requires crew { (L.passes ≡ draft.now.passes) × (L.monitors ≡ draft.now.monitors)
+        × (L.places ≡ draft.now.places) }
+    requires objects { length draft.now.lows.items ≤ 65535 }
+    requires some { 1 ≤ draft.now.passes }
+    requires few { draft.now.passes ≤ 64 }
+    requires monitors { draft.now.monitors ≤ 8388608 }
+    ensures { IfOk result (λ s. IsOpened draft.now s.value) }
+{
+    let (turns, passes) = Turns::<L>::open(
+        alloc,
+        blank,
+        draft.lows.as_slice(),
+        draft.monitors,
+        draft.passes,
+        draft.places,
+    )?;
+    seated(alloc, turns, passes, draft.passes)
+}
+
+/// The seat of a service that was opened, taken apart, if there was memory for it.
+pub struct Opened<L: Crew> {
+    pub seat: MaybeParts<Seat<L>, Global>,
+    /// Whether there is one.
+    pub found: bool,
+}
+
+/// Opens a service: the seat has the last pass, and is left the others. There is none only where the
+/// system refused memory.
+pub fn open_at<L: Crew>(alloc: Global, blank: Blank, draft: Draft) -> Opened<L>
+    requires name { blank.name ≡ L.name }
+    requires parts { (blank.parts ≡ L.parts) × (L.parts ≡ draft.passes) }
+    requires crew { (L.passes ≡ draft.passes) × (L.monitors ≡ draft.monitors)
+        × (L.places ≡ draft.places) }
+    requires objects { length draft.lows.items ≤ 65535 }
+    requires some { 1 ≤ draft.passes }
+    requires few { draft.passes ≤ 64 }
+    requires monitors { draft.monitors ≤ 8388608 }
+    ensures { HasOpened draft result.found result.seat.value }
+{
+    match opened(alloc, blank, &draft) {
+        Ok(seat) => Opened {
+            seat: MaybeParts::of(Parts::of(seat)),
+            found: true,
+        },
+        Err(_) => Opened {
+            seat: MaybeParts::none(alloc),
+            found: false,
+        },
+    }
+}

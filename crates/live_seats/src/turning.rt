@@ -1,0 +1,83 @@
+//! Orders that a pass carries out by one turn.
+
+ghost use Rattle.std.specs.Prelude.{◌≡◌, false, true};
+ghost use Rattle.live_turns.specs.Ways.{Belongs};
+ghost use Rattle.step_core.specs.declared.places.Place.TheVariants.{Idle};
+ghost use Rattle.step_core.specs.declared.paths.Point.TheVariants.{At};
+ghost use Rattle.live_seats.specs.Seats.{Serves};
+ghost use Rattle.live_seats.specs.declared.orders.Order.TheVariants.{BeginOn, BeginAbout, Turn, Tick};
+
+use crate::orders::Told;
+use fast_path::{InterruptCall, MonitorCall};
+use live_turns::{Crew, TurnPass, Turns};
+use step_core::{Place, Point};
+
+fn is_idle<L: Crew>(pass: &TurnPass<L>) -> bool
+    ensures idle { result ≡ true → pass.now.point ≡ At Idle }
+    ensures busy { result ≡ false → pass.now.point ≡ At Idle → ⊥ }
+{
+    match pass.point() {
+        Point::At(Place::Idle) => true,
+        _ => false,
+    }
+}
+
+/// The first turn of a call on an object.
+pub(crate) fn begin_on<L: Crew>(turns: &Turns<L>, pass: &mut TurnPass<L>, call: MonitorCall) -> Told
+    requires belongs { Belongs turns.now false pass.old.holding }
+    ensures belongs { Belongs turns.now false pass.new.holding }
+    ensures serves { Serves turns.now (BeginOn call) result pass.old pass.new }
+{
+    if !is_idle(pass) {
+        return Told::InCall;
+    }
+    match turns.begin_on(pass, call) {
+        Ok(turned) => Told::Turned(turned),
+        Err(fault) => Told::Fault(fault),
+    }
+}
+
+/// The first turn of a call about interrupts.
+pub(crate) fn begin_about<L: Crew>(turns: &Turns<L>, pass: &mut TurnPass<L>, call: InterruptCall) -> Told
+    requires belongs { Belongs turns.now false pass.old.holding }
+    ensures belongs { Belongs turns.now false pass.new.holding }
+    ensures serves { Serves turns.now (BeginAbout call) result pass.old pass.new }
+{
+    if !is_idle(pass) {
+        return Told::InCall;
+    }
+    match turns.begin_about(pass, call) {
+        Ok(turned) => Told::Turned(turned),
+        Err(fault) => Told::Fault(fault),
+    }
+}
+
+/// One more turn.
+pub(crate) fn turn<L: Crew>(turns: &Turns<L>, pass: &mut TurnPass<L>) -> Told
+    requires belongs { Belongs turns.now false pass.old.holding }
+    ensures belongs { Belongs turns.now false pass.new.holding }
+    ensures serves { Serves turns.now Turn result pass.old pass.new }
+{
+    if is_idle(pass) {
+        return Told::NotCalling;
+    }
+    match turns.turn(pass) {
+        Ok(turned) => Told::Turned(turned),
+        Err(fault) => Told::Fault(fault),
+    }
+}
+
+/// Tells the moment.
+pub(crate) fn tick<L: Crew>(turns: &Turns<L>, pass: &mut TurnPass<L>, now: u64) -> Told
+    requires belongs { Belongs turns.now false pass.old.holding }
+    ensures belongs { Belongs turns.now false pass.new.holding }
+    ensures serves { Serves turns.now (Tick now) result pass.old pass.new }
+{
+    if !is_idle(pass) {
+        return Told::InCall;
+    }
+    match turns.tick(pass, now) {
+        Ok(told) => Told::Ticked(told),
+        Err(fault) => Told::Fault(fault),
+    }
+}

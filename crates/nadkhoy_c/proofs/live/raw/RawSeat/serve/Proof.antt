@@ -1,0 +1,68 @@
+-- `serve` calls the function of the crew whose numbers the seat has.
+use Rattle.nadkhoy_c.proofs.Steps.{◌≡◌, ℕ, List, [], ◌∷◌, refl, sym, ap, proved, full_share, id⊢, ftrue, flft, Val, tables, fact, ‵, raw, ◌⊛◌, some, later, ◌$◌, ◌∵◌, !, qed, done, drop, move, use0, use1, split, join, fjoin, pick, await, rewrite, suffices, enter, of_opd, no_more, and_then, returns, alloc_all, pass_all, free_all, look_at, get, get_in, fld, stop, sub, whole, agg, sets, lands_as, yes, no, plain, nothing, heard, only, calls_at, lasts, Lasts, triple_of, Stays, says, stay_dropped, Goes-dropped, ends_at, framed, peeks, shows, lft_new, lft_end, walk_of, pair_Typed, ⊑_static, rawptr_Lawful, fact_i, emp, type_at, T, has_ty, WT, subst, Typed}
+use Rattle.std.specs.Prelude.{IsSome}
+use Rattle.std.specs.declared.option.Option.{Option}
+use Rattle.std.specs.declared.option.Option.TheVariants.{None, Some}
+use Rattle.std.proofs.Common.{true≢false}
+use Rattle.nadkhoy_c.specs.contracts.live.raw.RawSeat as Sealed
+use Rattle.nadkhoy_c.specs.contracts.live.raw.Answered as Result
+use Rattle.nadkhoy_c.proofs.live.raw.RawSeat.TheLaws as sealed
+use Rattle.nadkhoy_c.proofs.live.raw.Answered.TheLaws as result
+use Rattle.live_seats.specs.contracts.orders.Order as Asked
+use Rattle.live_seats.proofs.orders.Order.TheLaws as asked
+use Rattle.live_seats.specs.contracts.orders.Told as Said
+use Rattle.live_seats.proofs.orders.Told.TheLaws as said
+use Rattle.live_seats.specs.Seats.{SeatState, SeatServes}
+use Rattle.nadkhoy_c.specs.RawSeat.{Numbers, marker, crew_of, ledger_of}
+use Rattle.core.proofs.marker.Brand.TheLaws as Brand
+use Rattle.core.specs.contracts.marker.Brand as brand
+use Rattle.live_turns.specs.contracts.desks.BrandCrew.TheImpl as crew
+use Rattle.core.specs.contracts.ledger.BrandLedger.TheImpl as ledger
+use Rattle.std_heap.proofs.Global.TheLaws as heap
+use Rattle.std_heap.specs.contracts.Global as Heap
+use denote.Param.{layout}
+use denote.Struct.Struct.{as_fields}
+use denote.Param.Laws.{Laws, arg_laws}
+use mir.Syntax.{ty_struct, ty_ptr, tnil}
+use Rattle.live_seats.specs.contracts.serving.serve_at as g
+use Rattle.live_seats.proofs.serving.serve_at.Met.{met}
+use Rattle.nadkhoy_c.specs.contracts.live.raw.RawSeat.serve as f
+use Rattle.nadkhoy_c.proofs.live.raw.RawSeat.serve.Statement.{statement}
+use Rattle.nadkhoy_c.proofs.live.raw.RawSeat.serve.Code as code
+
+-- the value of a full seat
+some_is : {X : Type 0} (o : Option X) → IsSome o → (x : X) × (o ≡ Some x)
+some_is None p = absurd (true≢false (sym p))
+some_is (Some x) p = (x, refl)
+
+abbrev stayed : Stays f.ended.signature.params f.ended.kept
+stayed = (stay_dropped _ yes, (stay_dropped _ yes, (stay_dropped _ yes, tt)))
+
+abbrev marker_laws : Laws marker
+marker_laws = arg_laws (ty_struct [] tnil) no brand.the_row Brand.the_row_laws refl
+
+pub serve_spec : {M : Type 1} → statement M
+serve_spec 𝓤 𝓛 𝓜 𝓡 wired =
+    let c = f.clauses 𝓛 𝓜.mem 𝓡.returns in
+    proved 𝓛 f.ended stayed c 𝓜 𝓡 (Goes-dropped 𝓛 0 (plain (λ _. Sealed.the_row)) yes (λ κs x w. refl), (Goes-dropped 𝓛 0 (plain (λ _. Heap.the_row)) yes (λ κs x w. refl), (Goes-dropped 𝓛 0 (plain (λ _. Asked.the_row)) yes (λ κs x w. refl), tt)))
+    f.Key.name code.function (code.unfolded 𝓤 𝓛.H 𝓜 𝓡 wired)
+    (λ κs. ((λ x. sealed.lowered x ∷ []), ((λ x. heap.lowered x ∷ []), ((λ x. asked.lowered x ∷ []), tt)))) (λ κs. (sealed.lowers.val_is, (heap.lowers.val_is, (asked.lowers.val_is, tt)))) (λ κs qs bounds a _ are.
+    let d = a.0 in let h = a.1.0 in let order = a.1.1.0 in let n : Numbers = d.numbers in
+    let z : (walk_of 𝓛 f.ended stayed c).Ghost = ((κs, qs, bounds, a, (sealed.lowered d ∷ [], (heap.lowered h ∷ [], (asked.lowered order ∷ [], tt)))), tt) in
+    let G = triple_of 𝓛 (g.signature marker (crew_of n) crew.dict (ledger_of n) ledger.dict) (g.spec marker (crew_of n) crew.dict (ledger_of n) ledger.dict 𝓛 𝓜.mem 𝓡.returns) in
+    let GE = g.ended marker (crew_of n) crew.dict (ledger_of n) ledger.dict in
+    let meets = met 𝓤 𝓛 𝓜 𝓡 (code.calls-live_seats::serving::serve_at 𝓡.env wired) marker marker_laws (crew_of n) crew.dict (ledger_of n) ledger.dict record {} record {} in
+    let handle : T (has_ty (layout Heap.the_row) (heap.lowered h)) × WT (heap.lowered h) = (tt, ((tt, tt), tt)) in
+    let pointer = ((rawptr_Lawful 𝓛).typed d.at _ refl).0 in
+    let whole_typed = pair_Typed ty_ptr (layout Heap.the_row) _ (heap.lowered d.alloc) pointer (tt, ((tt, tt), tt)) in
+    let order_typed = ((asked.the_row_laws.lawful 𝓛).typed order _ are.1.1.0).0 in
+    qed 𝓛 ((‵ ftrue ⊛ (‵ (Sealed.the_row.own_val d (sealed.lowered d ∷ [])) ⊛ (‵ (Heap.the_row.own_val h (heap.lowered h ∷ [])) ⊛ (‵ (Asked.the_row.own_val order (asked.lowered order ∷ [])) ⊛ ‵ ftrue)))) ∷ raw (fact 𝓤 (IsSome d.value)) ∷ []) ∵
+    move ! (1 ∷ []) $ heard ! _ (λ full. let found = some_is d.value full in
+    split ! $ drop ! $ split ! $
+    rewrite ! 0 (λ (o : Option SeatState). ‵ (Sealed.the_row.own_val (record d { value = o }) (sealed.lowered d ∷ []))) found.1 refl $ move ! (1 ∷ []) $ split ! $
+    -- [the handle; the order; the seat]
+    enter ! _ _ _ _ _ $ alloc_all ! (λ l. pass_all ! refl (whole_typed, (handle, (order_typed, tt))) $
+    sets ! (of_opd ! (get_in ! (fld ! refl (stop !)) (sub ! 0 refl (whole !)))) refl pointer $
+    sets ! (of_opd ! (get_in ! (fld ! refl (stop !)) (sub ! 1 refl (whole !)))) refl (tt, ((tt, tt), tt)) $
+    sets ! (of_opd ! (get ! refl)) refl pointer $
+    ?)))

@@ -1,0 +1,99 @@
+//! A seat at a live service behind a pointer that C may keep.
+
+ghost use Rattle.std.specs.Prelude.{◌≡◌, ◌≤◌, Option, Some, None, IsSome, length};
+ghost use Rattle.live_seats.specs.Seats.{SeatState, HasOpened};
+ghost use Rattle.nadkhoy_c.specs.RawSeat.{Numbers, seat_owns, HasServed};
+
+use c_slots::{MaybeParts, Parts};
+use live_seats::{Draft, Opened, Order, Seat, Served, Told, open_at, serve_at};
+use std::alloc::Global;
+use std::marker::{Brand, Model};
+use std::ptr;
+use std::sync::ledger::Blank;
+
+/// A boxed seat, or nothing. One that is dropped gives nothing back. The numbers of its crew were
+/// picked when its service was opened.
+#[repr(C)]
+#[derive(Drop)]
+pub struct RawSeat {
+    at: *mut (),
+    alloc: Global,
+    pub ghost numbers: { Numbers },
+    pub ghost value: { Option SeatState },
+}
+
+impl Model for RawSeat {
+    ghost also_owns = { λ r. seat_owns r.numbers r.alloc r.at r.value };
+}
+
+/// The seat of a service that was opened, if there was memory for it.
+#[derive(Drop)]
+pub struct Started {
+    pub seat: RawSeat,
+    /// Whether there is one.
+    pub found: bool,
+}
+
+/// What came of an order: the seat afterwards, a new one if there is one, and what is told.
+#[derive(Drop)]
+pub struct Answered {
+    pub seat: RawSeat,
+    pub other: RawSeat,
+    pub told: Told,
+}
+
+impl RawSeat {
+    /// Opens a service. There is no seat only where the system refused memory.
+    pub fn open(alloc: Global, blank: Blank, draft: Draft) -> Started
+        requires parts { blank.parts ≡ draft.passes }
+        requires objects { length draft.lows.items ≤ 65535 }
+        requires some { 1 ≤ draft.passes }
+        requires few { draft.passes ≤ 64 }
+        requires monitors { draft.monitors ≤ 8388608 }
+        ensures { HasOpened draft result.found result.seat.value }
+    {
+        let Opened { seat, found } = open_at::<Brand>(alloc, blank, draft);
+        let MaybeParts { ptr, alloc } = seat;
+        Started {
+            seat: RawSeat {
+                at: ptr as *mut (),
+                alloc,
+            },
+            found,
+        }
+    }
+
+    /// Carries out an order of a seat.
+    pub fn serve(self, alloc: Global, order: Order) -> Answered
+        requires { IsSome self.value }
+        ensures { HasServed self.value order result.told result.seat.value result.other.value }
+    {
+        let RawSeat { at, alloc: heap } = self;
+        let ptr = at as *mut Seat<Brand>;
+        let Served { seat, other, told } =
+            serve_at::<Brand>(alloc, Parts { ptr, alloc: heap }, order);
+        let MaybeParts { ptr: at, alloc: heap } = seat;
+        let MaybeParts { ptr: next, alloc: with } = other;
+        Answered {
+            seat: RawSeat {
+                at: at as *mut (),
+                alloc: heap,
+            },
+            other: RawSeat {
+                at: next as *mut (),
+                alloc: with,
+            },
+            told,
+        }
+    }
+
+    /// No seat: the pointer is null.
+    pub fn none(alloc: Global) -> RawSeat
+        ensures { result.value ≡ None }
+    {
+        RawSeat {
+            at: ptr::null_mut(),
+            alloc,
+        }
+    }
+}
