@@ -1,8 +1,8 @@
 //! The opening of a service.
 
-ghost use Rattle.std.specs.Prelude.{◌≡◌, ◌≤◌, ◌++◌, ◌∷◌, IfOk, length, map, []};
+ghost use Rattle.std.specs.Prelude.{◌≡◌, ◌≤◌, ◌++◌, ◌∷◌, IfOk, IfSome, IfNone, All, length, map, [], false};
 ghost use Rattle.header_words.specs.Passes.{new_passes};
-ghost use Rattle.live_turns.specs.Ways.{new_state};
+ghost use Rattle.live_turns.specs.Ways.{Belongs, new_state};
 ghost use Rattle.live_seats.specs.Seats.{HasOpened, IsOpened};
 
 use crate::seat::Seat;
@@ -23,6 +23,18 @@ pub struct Draft {
     pub places: u32,
 }
 
+// The last of these passes of a service, if there is one.
+fn last_pass<L: Crew>(turns: &Turns<L>, passes: &mut Vec<TurnPass<L>>) -> Option<TurnPass<L>>
+    requires all { All (λ p. Belongs turns.now false p.holding) passes.old.items }
+    ensures all { All (λ p. Belongs turns.entry.now false p.holding) passes.new.items }
+    ensures this { IfSome result (λ p. Belongs turns.entry.now false p.holding) }
+    ensures items { IfSome result (λ p. passes.old.items ≡ passes.new.items ++ p ∷ []) }
+    ensures none { IfNone result (passes.old.items ≡ []) }
+{
+    let _ = turns;
+    passes.pop()
+}
+
 // A seat with the last of these passes.
 #[tactic(auto, using(crate::proofs::Passes::new_states_belong))]
 fn seated<L: Crew>(
@@ -36,7 +48,7 @@ fn seated<L: Crew>(
     ensures { IfOk result (λ s. (s.value.opening ≡ turns)
         × (s.value.rest ++ s.value.pass ∷ [] ≡ map new_state (new_passes turns 1 count))) }
 {
-    let Some(pass) = passes.pop() else {
+    let Some(pass) = last_pass(&turns, &mut passes) else {
         unreachable!()
     };
     let Ok(turns) = Arc::new(alloc, turns) else {
@@ -51,7 +63,7 @@ fn seated<L: Crew>(
 }
 
 // Opens a service, with a seat that has all its passes.
-fn opened<L: Crew>(alloc: Global, blank: Blank, draft: &Draft) -> Result<Box<Seat<L>>, Memory>
+fn first_seat<L: Crew>(alloc: Global, blank: Blank, draft: &Draft) -> Result<Box<Seat<L>>, Memory>
     requires name { blank.name ≡ L.name }
     requires parts { (blank.parts ≡ L.parts) × (L.parts ≡ draft.now.passes) }
     requires crew { (L.passes ≡ draft.now.passes) × (L.monitors ≡ draft.now.monitors)
@@ -93,7 +105,7 @@ pub fn open_at<L: Crew>(alloc: Global, blank: Blank, draft: Draft) -> Opened<L>
     requires monitors { draft.monitors ≤ 8388608 }
     ensures { HasOpened draft result.found result.seat.value }
 {
-    match opened(alloc, blank, &draft) {
+    match first_seat(alloc, blank, &draft) {
         Ok(seat) => Opened {
             seat: MaybeParts::of(Parts::of(seat)),
             found: true,

@@ -6,7 +6,7 @@ ghost use Rattle.live_seats.specs.Seats.{SeatServes, IsOfPass, HasShared, Shares
 
 use crate::orders::{Order, Told};
 use crate::seat::Seat;
-use crate::turning::{begin_about, begin_on, tick, turn};
+use crate::turning::carry_out;
 use c_slots::{MaybeParts, Parts};
 use live_turns::{Crew, TurnPass};
 use std::alloc::Global;
@@ -27,19 +27,9 @@ impl<L: Crew> Seat<L> {
         requires { IsOfPass order }
         ensures { SeatServes self.old order result (Some self.new) None }
     {
-        let turns = Deref::deref(&self.turns);
-        match order {
-            Order::BeginOn(call) => begin_on(turns, &mut self.pass, call),
-            Order::BeginAbout(call) => begin_about(turns, &mut self.pass, call),
-            Order::Turn => turn(turns, &mut self.pass),
-            Order::Tick(now) => tick(turns, &mut self.pass, now),
-            Order::Thread => Told::Thread(self.pass.thread()),
-            Order::Share | Order::Leave => unreachable!(),
-        }
+        carry_out(Deref::deref(&self.turns), &mut self.pass, order)
     }
-}
 
-impl<L: Crew> Seat<L> {
     // A new seat with this pass; where the system refuses memory for it, the pass comes back.
     fn beside(&self, alloc: Global, pass: TurnPass<L>) -> Result<Box<Seat<L>>, TurnPass<L>>
         requires { Belongs self.now.opening false pass.holding }

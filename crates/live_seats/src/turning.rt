@@ -4,10 +4,10 @@ ghost use Rattle.std.specs.Prelude.{◌≡◌, false, true};
 ghost use Rattle.live_turns.specs.Ways.{Belongs};
 ghost use Rattle.step_core.specs.declared.places.Place.TheVariants.{Idle};
 ghost use Rattle.step_core.specs.declared.paths.Point.TheVariants.{At};
-ghost use Rattle.live_seats.specs.Seats.{Serves};
+ghost use Rattle.live_seats.specs.Seats.{IsOfPass, Serves};
 ghost use Rattle.live_seats.specs.declared.orders.Order.TheVariants.{BeginOn, BeginAbout, Turn, Tick};
 
-use crate::orders::Told;
+use crate::orders::{Order, Told};
 use fast_path::{InterruptCall, MonitorCall};
 use live_turns::{Crew, TurnPass, Turns};
 use step_core::{Place, Point};
@@ -22,8 +22,8 @@ fn is_idle<L: Crew>(pass: &TurnPass<L>) -> bool
     }
 }
 
-/// The first turn of a call on an object.
-pub(crate) fn begin_on<L: Crew>(turns: &Turns<L>, pass: &mut TurnPass<L>, call: MonitorCall) -> Told
+// The first turn of a call on an object.
+fn begin_on<L: Crew>(turns: &Turns<L>, pass: &mut TurnPass<L>, call: MonitorCall) -> Told
     requires belongs { Belongs turns.now false pass.old.holding }
     ensures belongs { Belongs turns.now false pass.new.holding }
     ensures serves { Serves turns.now (BeginOn call) result pass.old pass.new }
@@ -37,8 +37,8 @@ pub(crate) fn begin_on<L: Crew>(turns: &Turns<L>, pass: &mut TurnPass<L>, call: 
     }
 }
 
-/// The first turn of a call about interrupts.
-pub(crate) fn begin_about<L: Crew>(turns: &Turns<L>, pass: &mut TurnPass<L>, call: InterruptCall) -> Told
+// The first turn of a call about interrupts.
+fn begin_about<L: Crew>(turns: &Turns<L>, pass: &mut TurnPass<L>, call: InterruptCall) -> Told
     requires belongs { Belongs turns.now false pass.old.holding }
     ensures belongs { Belongs turns.now false pass.new.holding }
     ensures serves { Serves turns.now (BeginAbout call) result pass.old pass.new }
@@ -52,8 +52,8 @@ pub(crate) fn begin_about<L: Crew>(turns: &Turns<L>, pass: &mut TurnPass<L>, cal
     }
 }
 
-/// One more turn.
-pub(crate) fn turn<L: Crew>(turns: &Turns<L>, pass: &mut TurnPass<L>) -> Told
+// One more turn.
+fn turn<L: Crew>(turns: &Turns<L>, pass: &mut TurnPass<L>) -> Told
     requires belongs { Belongs turns.now false pass.old.holding }
     ensures belongs { Belongs turns.now false pass.new.holding }
     ensures serves { Serves turns.now Turn result pass.old pass.new }
@@ -67,8 +67,8 @@ pub(crate) fn turn<L: Crew>(turns: &Turns<L>, pass: &mut TurnPass<L>) -> Told
     }
 }
 
-/// Tells the moment.
-pub(crate) fn tick<L: Crew>(turns: &Turns<L>, pass: &mut TurnPass<L>, now: u64) -> Told
+// Tells the moment.
+fn tick<L: Crew>(turns: &Turns<L>, pass: &mut TurnPass<L>, now: u64) -> Told
     requires belongs { Belongs turns.now false pass.old.holding }
     ensures belongs { Belongs turns.now false pass.new.holding }
     ensures serves { Serves turns.now (Tick now) result pass.old pass.new }
@@ -79,5 +79,22 @@ pub(crate) fn tick<L: Crew>(turns: &Turns<L>, pass: &mut TurnPass<L>, now: u64) 
     match turns.tick(pass, now) {
         Ok(told) => Told::Ticked(told),
         Err(fault) => Told::Fault(fault),
+    }
+}
+
+/// What a pass does at an order that it carries out itself.
+pub(crate) fn carry_out<L: Crew>(turns: &Turns<L>, pass: &mut TurnPass<L>, order: Order) -> Told
+    requires belongs { Belongs turns.now false pass.old.holding }
+    requires own { IsOfPass order }
+    ensures belongs { Belongs turns.now false pass.new.holding }
+    ensures serves { Serves turns.now order result pass.old pass.new }
+{
+    match order {
+        Order::BeginOn(call) => begin_on(turns, pass, call),
+        Order::BeginAbout(call) => begin_about(turns, pass, call),
+        Order::Turn => turn(turns, pass),
+        Order::Tick(now) => tick(turns, pass, now),
+        Order::Thread => Told::Thread(pass.thread()),
+        Order::Share | Order::Leave => unreachable!(),
     }
 }
