@@ -8,7 +8,7 @@ mod seat;
 mod serving;
 mod turning;
 
-pub use opening::{Draft, Opened, open_at};
+pub use opening::{Draft, Opened};
 pub use orders::{Order, Told};
 pub use seat::Seat;
-pub use serving::{Served, serve_at};
+pub use serving::Served;

@@ -92,27 +92,29 @@ pub struct Opened<L: Crew> {
     pub found: bool,
 }
 
-/// Opens a service: the seat has the last pass, and is left the others. There is none only where the
-/// system refused memory.
-pub fn open_at<L: Crew>(alloc: Global, blank: Blank, draft: Draft) -> Opened<L>
-    requires name { blank.name ≡ L.name }
-    requires parts { (blank.parts ≡ L.parts) × (L.parts ≡ draft.passes) }
-    requires crew { (L.passes ≡ draft.passes) × (L.monitors ≡ draft.monitors)
-        × (L.places ≡ draft.places) }
-    requires objects { length draft.lows.items ≤ 65535 }
-    requires some { 1 ≤ draft.passes }
-    requires few { draft.passes ≤ 64 }
-    requires monitors { draft.monitors ≤ 8388608 }
-    ensures { HasOpened draft result.found result.seat.value }
-{
-    match first_seat(alloc, blank, &draft) {
-        Ok(seat) => Opened {
-            seat: MaybeParts::of(Parts::of(seat)),
-            found: true,
-        },
-        Err(_) => Opened {
-            seat: MaybeParts::none(alloc),
-            found: false,
-        },
+impl<L: Crew> Seat<L> {
+    /// Opens a service: the seat has the last pass, and is left the others. There is none only where the
+    /// system refused memory.
+    pub fn open(alloc: Global, blank: Blank, draft: Draft) -> Opened<L>
+        requires name { blank.name ≡ L.name }
+        requires parts { (blank.parts ≡ L.parts) × (L.parts ≡ draft.passes) }
+        requires crew { (L.passes ≡ draft.passes) × (L.monitors ≡ draft.monitors)
+            × (L.places ≡ draft.places) }
+        requires objects { length draft.lows.items ≤ 65535 }
+        requires some { 1 ≤ draft.passes }
+        requires few { draft.passes ≤ 64 }
+        requires monitors { draft.monitors ≤ 8388608 }
+        ensures { HasOpened draft result.found result.seat.value }
+    {
+        match first_seat(alloc, blank, &draft) {
+            Ok(seat) => Opened {
+                seat: MaybeParts::of(Parts::of(seat)),
+                found: true,
+            },
+            Err(_) => Opened {
+                seat: MaybeParts::none(alloc),
+                found: false,
+            },
+        }
     }
 }

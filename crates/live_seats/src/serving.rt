@@ -96,22 +96,24 @@ fn shared<L: Crew>(alloc: Global, mut seat: Box<Seat<L>>) -> Served<L>
     }
 }
 
-/// Carries out an order of a seat that is taken apart: by one turn of a call at most, and without
-/// waiting. Only a new seat asks for memory.
-pub fn serve_at<L: Crew>(alloc: Global, seat: Parts<Seat<L>, Global>, order: Order) -> Served<L>
-    ensures { SeatServes seat.value order result.told result.seat.value result.other.value }
-{
-    let seat = seat.into_box();
-    match order {
-        Order::Share => shared(alloc, seat),
-        Order::Leave => {
-            drop(seat);
-            Served {
-                seat: MaybeParts::none(alloc),
-                other: MaybeParts::none(alloc),
-                told: Told::Left,
+impl<L: Crew> Seat<L> {
+    /// Carries out an order of a seat that is taken apart: by one turn of a call at most, and without
+    /// waiting. Only a new seat asks for memory.
+    pub fn serve(alloc: Global, seat: Parts<Seat<L>, Global>, order: Order) -> Served<L>
+        ensures { SeatServes seat.value order result.told result.seat.value result.other.value }
+    {
+        let seat = seat.into_box();
+        match order {
+            Order::Share => shared(alloc, seat),
+            Order::Leave => {
+                drop(seat);
+                Served {
+                    seat: MaybeParts::none(alloc),
+                    other: MaybeParts::none(alloc),
+                    told: Told::Left,
+                }
             }
+            _ => turned(alloc, seat, order),
         }
-        _ => turned(alloc, seat, order),
     }
 }

@@ -11,12 +11,11 @@ mod raw;
 mod slot;
 mod telling;
 
-pub use raw::{Answered, RawSeat, Started};
-pub use slot::LiveSlot;
-
 use crate::plain::{PlainCall, PlainTurned};
 use crate::status::Status;
 use live_seats::{Draft, Order, Told};
+pub use raw::{Answered, RawSeat, Started};
+pub use slot::LiveSlot;
 use std::alloc::Global;
 use std::sync::ledger::Blank;
 use telling::{order_of, told_status, write_number, write_turned};

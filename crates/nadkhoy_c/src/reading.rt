@@ -6,7 +6,8 @@ ghost use Rattle.nadkhoy_c.specs.Reading.{call_of, step_of, split_of};
 use crate::plain::{PlainCall, PlainStep};
 use step_core::{Call, ObjectId, Split, Step, ThreadId};
 
-fn call_of(plain: &PlainCall) -> Option<Call>
+/// The call that the numbers name; None where its kind is none.
+pub(crate) fn call_of(plain: &PlainCall) -> Option<Call>
     ensures { result ≡ call_of plain.now }
 {
     let object = ObjectId(plain.target);

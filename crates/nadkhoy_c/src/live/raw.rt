@@ -5,7 +5,7 @@ ghost use Rattle.live_seats.specs.Seats.{SeatState, HasOpened};
 ghost use Rattle.nadkhoy_c.specs.RawSeat.{Numbers, seat_owns, HasServed};
 
 use c_slots::{MaybeParts, Parts};
-use live_seats::{Draft, Opened, Order, Seat, Served, Told, open_at, serve_at};
+use live_seats::{Draft, Opened, Order, Seat, Served, Told};
 use std::alloc::Global;
 use std::marker::{Brand, Model};
 use std::ptr;
@@ -52,7 +52,7 @@ impl RawSeat {
         requires monitors { draft.monitors ≤ 8388608 }
         ensures { HasOpened draft result.found result.seat.value }
     {
-        let Opened { seat, found } = open_at::<Brand>(alloc, blank, draft);
+        let Opened { seat, found } = Seat::<Brand>::open(alloc, blank, draft);
         let MaybeParts { ptr, alloc } = seat;
         Started {
             seat: RawSeat {
@@ -70,10 +70,19 @@ impl RawSeat {
     {
         let RawSeat { at, alloc: heap } = self;
         let ptr = at as *mut Seat<Brand>;
-        let Served { seat, other, told } =
-            serve_at::<Brand>(alloc, Parts { ptr, alloc: heap }, order);
-        let MaybeParts { ptr: at, alloc: heap } = seat;
-        let MaybeParts { ptr: next, alloc: with } = other;
+        let Served { seat, other, told } = Seat::<Brand>::serve(
+            alloc,
+            Parts { ptr, alloc: heap },
+            order,
+        );
+        let MaybeParts {
+            ptr: at,
+            alloc: heap,
+        } = seat;
+        let MaybeParts {
+            ptr: next,
+            alloc: with,
+        } = other;
         Answered {
             seat: RawSeat {
                 at: at as *mut (),

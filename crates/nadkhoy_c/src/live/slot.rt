@@ -64,7 +64,11 @@ impl LiveSlot {
         ensures seat { IfSome result (λ r. (self.raw.value ≡ r.value) × IsSome r.value) }
         ensures none { result ≡ None → self.raw.value ≡ None }
     {
-        let LiveSlot { raw, full, .. } = self;
+        let LiveSlot {
+            raw,
+            full,
+            alloc: _,
+        } = self;
         if full { Some(raw) } else { None }
     }
 }

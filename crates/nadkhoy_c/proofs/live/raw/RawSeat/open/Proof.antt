@@ -1,9 +1,6 @@
 -- `open` calls the function of the crew whose numbers it picks.
 use Rattle.nadkhoy_c.proofs.Steps.{◌≡◌, ℕ, List, [], ◌∷◌, refl, sym, ap, proved, full_share, id⊢, ftrue, flft, Val, tables, fact, ‵, raw, ◌⊛◌, some, later, ◌$◌, ◌∵◌, !, qed, done, drop, move, use0, use1, split, join, fjoin, pick, await, rewrite, suffices, enter, of_opd, no_more, and_then, returns, alloc_all, pass_all, free_all, look_at, get, get_in, fld, stop, sub, whole, agg, sets, lands_as, yes, no, plain, nothing, heard, only, calls_at, lasts, Lasts, triple_of, Stays, says, stay_dropped, Goes-dropped, ends_at, framed, peeks, shows, lft_new, lft_end, walk_of, pair_Typed, ⊑_static, rawptr_Lawful, fact_i, emp, type_at, T, has_ty, WT, subst, Typed}
-use Rattle.std.specs.Prelude.{IsSome, IfSome}
-use Rattle.std.specs.declared.option.Option.{Option}
-use Rattle.std.specs.declared.option.Option.TheVariants.{None, Some}
-use Rattle.std.proofs.Common.{true≢false}
+use Rattle.std.specs.Prelude.{◌≤◌, length}
 use Rattle.nadkhoy_c.specs.contracts.live.raw.RawSeat as Sealed
 use Rattle.nadkhoy_c.specs.contracts.live.raw.Started as Result
 use Rattle.nadkhoy_c.proofs.live.raw.RawSeat.TheLaws as sealed
@@ -12,7 +9,7 @@ use Rattle.live_seats.specs.contracts.opening.Draft as Draft
 use Rattle.live_seats.proofs.opening.Draft.TheLaws as draft
 use Rattle.core.specs.contracts.ledger.Blank as Blank
 use Rattle.core.proofs.ledger.Blank.TheLaws as blank
-use Rattle.live_seats.specs.Seats.{SeatState, SeatServes}
+use Rattle.live_seats.specs.Seats.{HasOpened}
 use Rattle.nadkhoy_c.specs.RawSeat.{Numbers, marker, crew_of, ledger_of}
 use Rattle.core.proofs.marker.Brand.TheLaws as Brand
 use Rattle.core.specs.contracts.marker.Brand as brand
@@ -24,8 +21,8 @@ use denote.Param.{layout}
 use Rattle.core.proofs.alloc.Calls.{Goes-blank}
 use denote.Param.Laws.{Laws, arg_laws}
 use mir.Syntax.{ty_struct, ty_ptr, tnil}
-use Rattle.live_seats.specs.contracts.opening.open_at as g
-use Rattle.live_seats.proofs.opening.open_at.Met.{met}
+use Rattle.live_seats.specs.contracts.seat.Seat.open as g
+use Rattle.live_seats.proofs.seat.Seat.open.Met.{met}
 use Rattle.nadkhoy_c.specs.contracts.live.raw.RawSeat.open as f
 use Rattle.nadkhoy_c.proofs.live.raw.RawSeat.open.Statement.{statement}
 use Rattle.nadkhoy_c.proofs.live.raw.RawSeat.open.Code as code
@@ -42,43 +39,55 @@ open_spec 𝓤 𝓛 𝓜 𝓡 wired =
     proved 𝓛 f.ended stayed c 𝓜 𝓡 (Goes-dropped 𝓛 0 (plain (λ _. Heap.the_row)) yes (λ κs x w. refl), (Goes-dropped 𝓛 0 (plain (λ _. Blank.the_row)) yes (λ κs x w. refl), (Goes-blank 𝓛 0 (plain (λ _. Draft.the_row)) yes (λ κs x w. tt), tt)))
     f.Key.name code.function (code.unfolded 𝓤 𝓛.H 𝓜 𝓡 wired)
     (λ κs. ((λ x. heap.lowered x ∷ []), ((λ x. blank.lowered x ∷ []), ((λ x. draft.lowered x ∷ []), tt)))) (λ κs. (heap.lowers.val_is, (blank.lowers.val_is, (draft.lowers.val_is, tt)))) (λ κs qs bounds a _ are.
-    let h = a.0 in let b = a.1.0 in let d = a.1.1.0 in let n : Numbers = record { name = b.name; parts = b.parts; places = d.places } in
+    let h = a.0 in let b = a.1.0 in let d = a.1.1.0 in
+    let n : Numbers = record { name = b.name; parts = b.parts; monitors = d.monitors; passes = d.passes; places = d.places } in
     let z : (walk_of 𝓛 f.ended stayed c).Ghost = ((κs, qs, bounds, a, (heap.lowered h ∷ [], (blank.lowered b ∷ [], (draft.lowered d ∷ [], tt)))), tt) in
     let G = triple_of 𝓛 (g.signature marker (crew_of n) crew.dict (ledger_of n) ledger.dict) (g.spec marker (crew_of n) crew.dict (ledger_of n) ledger.dict 𝓛 𝓜.mem 𝓡.returns) in
     let GE = g.ended marker (crew_of n) crew.dict (ledger_of n) ledger.dict in
-    let meets = met 𝓤 𝓛 𝓜 𝓡 (code.calls-live_seats::opening::open_at 𝓡.env wired) marker marker_laws (crew_of n) crew.dict (ledger_of n) ledger.dict record {} record {} in
+    let meets = met 𝓤 𝓛 𝓜 𝓡 (code.calls-live_seats::seat::Seat::open 𝓡.env wired) marker marker_laws (crew_of n) crew.dict (ledger_of n) ledger.dict record {} record {} in
     let blank_typed = ((blank.the_row_laws.lawful 𝓛).typed b _ are.1.0).0 in
     let draft_typed = ((draft.the_row_laws.lawful 𝓛).typed d _ are.1.1.0).0 in
     let Owned = ‵ (Heap.the_row.own_val h (heap.lowered h ∷ [])) ⊛ (‵ (Blank.the_row.own_val b (blank.lowered b ∷ [])) ⊛ (‵ (Draft.the_row.own_val d (draft.lowered d ∷ [])) ⊛ ‵ ftrue)) in
-    qed 𝓛 ((‵ ftrue ⊛ Owned) ∷ raw (emp 𝓤) ∷ []) ∵
-    move ! (1 ∷ []) $ drop ! $ split ! $ drop ! $
+    qed 𝓛 ((‵ ftrue ⊛ Owned) ∷ (raw (fact 𝓤 (b.parts ≡ d.passes)) ⊛ raw (fact 𝓤 (length d.lows.items ≤ 65535)) ⊛ raw (fact 𝓤 (1 ≤ d.passes)) ⊛ raw (fact 𝓤 (d.passes ≤ 64)) ⊛ raw (fact 𝓤 (d.monitors ≤ 8388608))) ∷ []) ∵
+    move ! (1 ∷ []) $ split ! $ heard ! _ (λ parts. split ! $ heard ! _ (λ objects. split ! $ heard ! _ (λ one. split ! $ heard ! _ (λ most. heard ! _ (λ monitors.
+    split ! $ drop ! $
     enter ! _ _ _ _ _ $ alloc_all ! (λ l. pass_all ! refl ((tt, ((tt, tt), tt)), (blank_typed, (draft_typed, tt))) $
     sets ! (of_opd ! (get ! refl)) refl blank_typed $
     sets ! (of_opd ! (get ! refl)) refl draft_typed $
     lft_new ! tt (λ α.
     let y : G.Ghost = (((α ∷ [], tt), (full_share, tt), tt, (h, (b, (d, tt))), (heap.lowered h ∷ [], (blank.lowered b ∷ [], (draft.lowered d ∷ [], tt)))), tt) in
     nothing ! $ move ! (1 ∷ 0 ∷ []) $ join ! $ join ! $
-    use0 𝓛 (raw (fact 𝓤 (d.places ≡ n.places))) (fact_i 𝓤 _ (emp 𝓤) refl) $ use0 𝓛 (raw (fact 𝓤 (b.parts ≡ n.parts))) (fact_i 𝓤 _ (emp 𝓤) refl) $ join ! $
+    use0 𝓛 (raw (fact 𝓤 (d.monitors ≤ 8388608))) (fact_i 𝓤 _ (emp 𝓤) monitors) $ use0 𝓛 (raw (fact 𝓤 (d.passes ≤ 64))) (fact_i 𝓤 _ (emp 𝓤) most) $ join ! $
+    use0 𝓛 (raw (fact 𝓤 (1 ≤ d.passes))) (fact_i 𝓤 _ (emp 𝓤) one) $ join ! $
+    use0 𝓛 (raw (fact 𝓤 (length d.lows.items ≤ 65535))) (fact_i 𝓤 _ (emp 𝓤) objects) $ join ! $
+    use0 𝓛 (raw (fact 𝓤 ((n.passes ≡ d.passes) × (n.monitors ≡ d.monitors) × (n.places ≡ d.places)))) (fact_i 𝓤 _ (emp 𝓤) (refl, refl, refl)) $ join ! $
+    use0 𝓛 (raw (fact 𝓤 ((b.parts ≡ n.parts) × (n.parts ≡ d.passes)))) (fact_i 𝓤 _ (emp 𝓤) (refl, parts)) $ join ! $
     use0 𝓛 (raw (fact 𝓤 (b.name ≡ n.name))) (fact_i 𝓤 _ (emp 𝓤) refl) $ join ! $
     use0 𝓛 (raw (fact 𝓤 (contract.BorrowLft.◌⊑◌ (α ∷ []) marker.lives))) (fact_i 𝓤 _ (emp 𝓤) (⊑_static _)) $ join ! $ move ! (1 ∷ 0 ∷ []) $ join ! $
     use1 𝓛 (raw (G.pre y)) (id⊢ 𝓤 _) $
     calls_at ! (framed 𝓤 𝓛.H 𝓜 (tables 𝓤 𝓛.H 𝓜 𝓡 𝓡.env)) G meets y (and_then ! (get ! refl) (and_then ! (get ! refl) (and_then ! (get ! refl) (no_more !)))) (λ v.
     use1 𝓛 (later (some (λ (r : (type_at (GE.signature).result (α ∷ [], tt)).Denot). ((‵ (flft (α ∷ []) full_share) ⊛ ‵ ftrue) ⊛ ‵ ((type_at (GE.signature).result (α ∷ [], tt)).own_val r (v ∷ []))) ⊛
-    some (λ (ws : Lasts GE y.0.0 y.0.3). ‵ (lasts GE y.0.0 y.0.3 ws) ⊛ raw (fact 𝓤 (IfSome r.value (λ v. v.parts ≡ n.parts))))))) (id⊢ 𝓤 _) $
+    some (λ (ws : Lasts GE y.0.0 y.0.3). ‵ (lasts GE y.0.0 y.0.3 ws) ⊛ raw (fact 𝓤 (HasOpened d r.found r.seat.value)))))) (id⊢ 𝓤 _) $
     await ! tt $ pick ! (λ r. split ! $ split ! $ split ! $ lft_end ! tt $
-    move ! (3 ∷ []) $ pick ! (λ ws. split ! $ drop ! $ heard ! _ (λ same. drop ! $ drop ! $
-    let made : Sealed.the_row.Denot = record { at = r.ptr; alloc = r.alloc; numbers = n; value = r.value } in
-    use1 𝓛 (‵ (Sealed.the_row.own_val made (v ∷ []))) (id⊢ 𝓤 _) $
-    peeks ! Sealed.the_row _ (shows 𝓛 Sealed.the_row) made (v ∷ []) (λ is.
-    let word = sealed.lowers.val_is made (v ∷ []) is in
-    let back = ((rawptr_Lawful 𝓛).typed made.at _ refl).0 in
-    let back_typed = pair_Typed ty_ptr (layout Heap.the_row) _ (heap.lowered made.alloc) back (tt, ((tt, tt), tt)) in
-    rewrite ! 0 (λ (vs : List Val). ‵ (Sealed.the_row.own_val made vs)) word refl $
-    lands_as ! (ap only word) refl back_typed $
-    sets ! (of_opd ! (get_in ! (fld ! refl (stop !)) (sub ! 0 refl (whole !)))) refl back $
+    move ! (3 ∷ []) $ pick ! (λ ws. split ! $ drop ! $ heard ! _ (λ opens. drop ! $ drop ! $
+    let seat : Sealed.the_row.Denot = record { at = r.seat.ptr; alloc = r.seat.alloc; numbers = n; value = r.seat.value } in
+    let made : Result.the_row.Denot = record { seat = seat; found = r.found } in
+    use1 𝓛 (‵ (Result.the_row.own_val made (v ∷ []))) (id⊢ 𝓤 _) $
+    peeks ! Result.the_row _ (shows 𝓛 Result.the_row) made (v ∷ []) (λ is.
+    let word = result.lowers.val_is made (v ∷ []) is in
+    let at = λ (w : Val). T (has_ty (layout Result.the_row) w) × WT w in
+    let all = subst at (ap only word) ((result.the_row_laws.lawful 𝓛).typed made (v ∷ []) is).0 in
+    let here = ((rawptr_Lawful 𝓛).typed seat.at _ refl).0 in
+    let seat_typed = pair_Typed ty_ptr (layout Heap.the_row) _ (heap.lowered seat.alloc) here (tt, ((tt, tt), tt)) in
+    rewrite ! 0 (λ (vs : List Val). ‵ (Result.the_row.own_val made vs)) word refl $
+    lands_as ! (ap only word) refl all $
+    sets ! (of_opd ! (get_in ! (fld ! refl (stop !)) (sub ! 0 refl (whole !)))) refl seat_typed $
+    sets ! (of_opd ! (get_in ! (fld ! refl (stop !)) (sub ! 1 refl (whole !)))) refl (tt, tt) $
+    sets ! (of_opd ! (get_in ! (fld ! refl (stop !)) (sub ! 0 refl (whole !)))) refl here $
     sets ! (of_opd ! (get_in ! (fld ! refl (stop !)) (sub ! 1 refl (whole !)))) refl (tt, ((tt, tt), tt)) $
-    sets ! (of_opd ! (get ! refl)) refl back $
-    sets ! (agg ! (and_then ! (get ! refl) (and_then ! (get ! refl) (no_more !)))) refl back_typed $
+    sets ! (of_opd ! (get ! refl)) refl here $
+    sets ! (agg ! (and_then ! (get ! refl) (and_then ! (get ! refl) (no_more !)))) refl seat_typed $
+    sets ! (agg ! (and_then ! (get ! refl) (and_then ! (get ! refl) (no_more !)))) refl all $
     returns ! (look_at ! 0 refl) $ free_all ! refl $
-    suffices ! _ (ends_at 𝓛 f.ended stayed c z (sealed.lowered made) made (tt, (tt, ((tt, tt), tt))) (tt, (tt, (tt, tt)))) $ says ! same $
-    nothing ! $ nothing ! $ fjoin ! $ nothing ! $ fjoin ! $ nothing ! $ fjoin ! $ join ! $ nothing ! $ join ! $ done !))))))))
+    suffices ! _ (ends_at 𝓛 f.ended stayed c z (result.lowered made) made (tt, (tt, ((tt, tt), tt))) (tt, (tt, (tt, tt)))) $ says ! opens $
+    nothing ! $ nothing ! $ fjoin ! $ nothing ! $ fjoin ! $ nothing ! $ fjoin ! $ join ! $ nothing ! $ join ! $ done !)))))))))))))
