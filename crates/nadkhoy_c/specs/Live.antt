@@ -1,5 +1,5 @@
 -- What the calls on a seat of a live service answer and leave.
-use Rattle.std.specs.Prelude.{◌≡◌, ◌⊎◌, ℕ, Bool, true, false, ◌||◌, nat_lt, if◌then◌else◌, List, length, Option, Some, None}
+use Rattle.std.specs.Prelude.{◌≡◌, ◌⊎◌, ℕ, Bool, true, false, ◌||◌, nat_lt, List, length, Option, Some, None}
 use Rattle.lock_word.specs.declared.ThreadId.{ThreadId}
 use Rattle.fat_monitor.specs.declared.actions.Reply.{Reply}
 use Rattle.fast_path.specs.declared.calls.Call.{Call}
@@ -132,13 +132,16 @@ IsNewService lows passes n s' =
     ((n ≡ 0) × ((v : SeatState) × (s' ≡ Some v) × IsOpenedWith lows passes v))
     ⊎ ((n ≡ status_number status.Memory) × (s' ≡ None))
 
+-- where the sizes are out of range, or are not
+abbrev pub OpensWithin : Bool → List ℕ → ℕ → ℕ → Option SeatState → Type 0
+OpensWithin true lows passes n s' = (n ≡ status_number status.Range) × (s' ≡ None)
+OpensWithin false lows passes n s' = IsNewService lows passes n s'
+
 -- what an opening answers, and the seat in the slot then
 abbrev pub Opens : Option SeatState → List ℕ → ℕ → ℕ → ℕ → ℕ → Option SeatState → Type 0
 Opens (Some v) lows monitors passes places n s' = (n ≡ status_number status.InUse) × (s' ≡ Some v)
 Opens None lows monitors passes places n s' =
-    if is_out_of_range (length lows) monitors passes places
-    then ((n ≡ status_number status.Range) × (s' ≡ None))
-    else IsNewService lows passes n s'
+    OpensWithin (is_out_of_range (length lows) monitors passes places) lows passes n s'
 
 -- One more seat of the service of a slot, for an empty one: what is answered, and the seats in the two then.
 abbrev pub SharesSeat : Option SeatState → Option SeatState → ℕ → Option SeatState → Option SeatState → Type 0

@@ -1,8 +1,8 @@
 //! The live service for programs in C: seats at a service, each in a slot of its own, that several
 //! threads of the system may use at once.
 
-ghost use Rattle.std.specs.Prelude.{◌≡◌, ◌≤◌, Some, None, length, IsSome};
-ghost use Rattle.live_seats.specs.Seats.{SeatState};
+ghost use Rattle.std.specs.Prelude.{◌≡◌, ◌≤◌, Option, Some, None, length};
+ghost use Rattle.live_seats.specs.Seats.{SeatState, Shares};
 ghost use Rattle.live_seats.specs.declared.orders.Order.TheVariants as order;
 ghost use Rattle.nadkhoy_c.specs.Live.{Answers, IsNewService, Opens, SharesSeat, leave_status, order_of, turned_out, number_out};
 ghost use Rattle.nadkhoy_c.specs.RawSeat.{HasServed};
@@ -84,6 +84,19 @@ pub extern "C" fn nadkhoy_live_open(
     open(alloc, lows, monitors, passes, places, slot)
 }
 
+// Puts a new seat into an empty slot, if there is one.
+fn place(alloc: Global, slot: &mut LiveSlot, told: Told, seat: RawSeat)
+    requires empty { slot.old.raw.value ≡ None }
+    requires shares { (v : SeatState) × (q : Option SeatState) × Shares v told q seat.value }
+    ensures { slot.new.raw.value ≡ seat.value }
+{
+    match told {
+        Told::Shared => *slot = LiveSlot::of(alloc, seat),
+        Told::InCall | Told::NotCalling | Told::Turned(_) | Told::Ticked(_) | Told::Fault(_) => {}
+        Told::Thread(_) | Told::NoPass | Told::Memory | Told::Left => {}
+    }
+}
+
 /// Makes a seat of the same service in an empty slot, with the highest pass that is left to the
 /// seat.
 ///
@@ -104,12 +117,14 @@ pub extern "C" fn nadkhoy_live_share(
         *slot = LiveSlot::of(alloc, seat);
         return Status::InUse.number();
     }
-    let answered = seat.serve(alloc, Order::Share);
-    *slot = LiveSlot::of(alloc, answered.seat);
-    if answered.told == Told::Shared {
-        *other = LiveSlot::of(alloc, answered.other);
-    }
-    told_status(answered.told)
+    let Answered {
+        seat,
+        other: next,
+        told,
+    } = seat.serve(alloc, Order::Share);
+    *slot = LiveSlot::of(alloc, seat);
+    place(alloc, other, told, next);
+    told_status(told)
 }
 
 /// Begins a call and takes its first turn. It does at once all that can be done at once, and never
