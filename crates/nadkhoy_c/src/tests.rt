@@ -1,5 +1,7 @@
 //! Each call from the Rattle side: what is refused, and a step that is taken.
 
+mod live;
+
 use crate::writing::{NO_CALL, NO_CHANGE, NO_MOVE};
 use crate::{
     PlainCall, PlainDid, PlainDoing, PlainObject, PlainSizes, PlainStep, PlainThread, WorldSlot,
