@@ -1,5 +1,5 @@
-//! A world of the C library behind a safe type, and a scenario over it: enter, contend, exit, end. Then
-//! the same of a seat at a live service.
+//! A world of the C library behind a safe type, and a scenario over it: enter, contend, exit, end.
+//! Then the same of a seat at a live service.
 
 mod live;
 
