@@ -1,6 +1,6 @@
 #!/usr/bin/env python3
 """Compares include/nadkhoy.h with the Rattle side: each number of its enums, each field of its
-structs, and the parameters of each function."""
+structs and slots, and the parameters of each function."""
 import re
 import sys
 from pathlib import Path
@@ -21,6 +21,7 @@ TABLES = {
     "doing_kind": ("plain_doing", "Showing"),
     "why": ("why_number", "Showing"),
     "step_kind": ("step_of", "Reading"),
+    "standing": ("standing_number", "Live"),
 }
 STRUCTS = {
     "call": "PlainCall",
@@ -32,11 +33,14 @@ STRUCTS = {
     "object_shown": "PlainObject",
     "doing": "PlainDoing",
     "thread_shown": "PlainThread",
+    "turned": "PlainTurned",
 }
 TYPES = {"u64": "uint64_t", "u32": "uint32_t", "u16": "uint16_t"}
 TYPES |= {"i64": "int64_t", "i32": "int32_t"}
 TYPES |= {rattle: f"nadkhoy_{name}" for name, rattle in STRUCTS.items()}
-TYPES["WorldSlot"] = "nadkhoy_slot"
+# The slots, each with what has its pointer, and the folder of both.
+SLOTS = {"slot": ("WorldSlot", "RawWorld", ""), "live_slot": ("LiveSlot", "RawSeat", "live/")}
+TYPES |= {slot: f"nadkhoy_{name}" for name, (slot, _, _) in SLOTS.items()}
 
 
 def constant(name):
@@ -92,6 +96,10 @@ def numbers_differ():
     fault["MISSING_OBJECT"] = fault.pop("NO_OBJECT")
     fault |= enum_of_source("crates/step_core/src/worlds/relayout.rt", "RelayoutFault")
     fault |= enum_of_source("crates/nadkhoy_c/src/status.rt", "Status")
+    live = enum_of_source("crates/live_turns/src/faults.rt", "LiveFault")
+    for name in ("NO_OBJECT", "NO_THREAD"):
+        live[f"LIVE_{name}"] = live.pop(name)
+    fault |= live
     yield "status", header_enum("status"), fault
 
 
@@ -99,13 +107,21 @@ def constant_prefix(name):
     return name.removesuffix("_kind").upper() + "_"
 
 
+def header_struct(name):
+    struct = rf"typedef struct nadkhoy_{name} \{{(.*?)\}} nadkhoy_{name};"
+    return re.search(struct, HEADER, re.S)[1]
+
+
+def source_struct(source, name):
+    return re.search(rf"pub struct {name} \{{(.*?)\n\}}", source, re.S)[1]
+
+
 def fields_differ():
     source = (CRATE / "src/plain.rt").read_text()
     for name, rattle in STRUCTS.items():
-        struct = rf"typedef struct nadkhoy_{name} \{{(.*?)\}} nadkhoy_{name};"
-        body = re.search(struct, HEADER, re.S)[1]
+        body = header_struct(name)
         ours = re.findall(r"(?m)^    (\w+) (\w+(?:\[\d\])?);", body)
-        body = re.search(rf"pub struct {rattle} \{{(.*?)\n\}}", source, re.S)[1]
+        body = source_struct(source, rattle)
         theirs = []
         for field, kind in re.findall(r"pub (\w+): ([^,]+),", body):
             many = re.fullmatch(r"\[(\w+); (\d)\]", kind)
@@ -113,8 +129,25 @@ def fields_differ():
         yield name, ours, theirs
 
 
+def laid_out(path, name):
+    """The types of the fields of a struct, but for what takes no bytes: allocators and ghosts."""
+    body = source_struct((CRATE / path).read_text(), name)
+    kinds = re.findall(r"(?m)^    (?:pub )?\w+: ([^{\n]+),$", body)
+    return [kind for kind in kinds if kind != "Global"]
+
+
+def slots_differ():
+    for name, (slot, raw, folder) in SLOTS.items():
+        ours = re.findall(r"(?m)^    (void \*|bool )\w+;", header_struct(name))
+        theirs = []
+        for kind in laid_out(f"src/{folder}slot.rt", slot):
+            theirs += laid_out(f"src/{folder}raw.rt", raw) if kind == raw else [kind]
+        spelled = {"*mut ()": "void *", "bool": "bool "}
+        yield name, ours, [spelled[kind] for kind in theirs]
+
+
 def parameters_differ():
-    source = (CRATE / "src/lib.rt").read_text()
+    source = "".join((CRATE / f"src/{name}.rt").read_text() for name in ("lib", "live"))
     for name, inside in re.findall(r'extern "C" fn (nadkhoy_\w+)\(([^)]*)\) -> u32', source):
         theirs = []
         for field, kind in re.findall(r"(\w+): ([^,]+)", inside):
@@ -134,14 +167,14 @@ def parameters_differ():
 
 def main():
     compared, wrong = 0, 0
-    for pairs in (numbers_differ(), fields_differ(), parameters_differ()):
+    for pairs in (numbers_differ(), fields_differ(), slots_differ(), parameters_differ()):
         for name, ours, theirs in pairs:
             compared += 1
             if ours != theirs or not ours:
                 wrong += 1
                 print(f"{name}: the header has {ours}, the library {theirs}", file=sys.stderr)
     print(f"{compared} compared, {wrong} differ")
-    return 1 if wrong or compared != 30 else 0
+    return 1 if wrong or compared != 41 else 0
 
 
 sys.exit(main())

@@ -1,30 +1,41 @@
-/* The core of the monitor service of a Java virtual machine, for programs in C and C++.
+/* The monitor service of a Java virtual machine, for programs in C and C++: its core, and its live
+ * service.
  *
- * A world has objects, threads and fat monitors, and does one atomic step at a time. docs/C.md has
- * the loop of an interpreter over it, docs/EMBEDDING.md what each step means, and which faults it
+ * The core (nadkhoy_open and what follows it): a world has objects, threads and fat monitors, and
+ * does one atomic step at a time. docs/EMBEDDING.md says what each step means, and which faults it
  * has.
  *
- * Each function answers a status. A call that is refused (a status other than NADKHOY_DONE) leaves
- * the world as it is, and does not write what it would have written.
+ * The live service (nadkhoy_live_open and what follows it): several threads of the system share it.
+ * Each has a seat at it, in a slot of its own, and drives its calls turn by turn. docs/LIVE.md says
+ * what a turn does, and which faults it has. docs/C.md has the loop of an interpreter over each.
  *
- * A world knows nothing of threads of the system: any of them may call any of these functions, one
- * at a time for one slot. None of them waits, and none calls back.
+ * Each function answers a status. A call that is refused (a status other than NADKHOY_DONE) does
+ * not write what it would have written. On a world, it leaves the world as it is; on a seat, what
+ * it leaves is said at each function.
+ *
+ * None of the functions waits, and none calls back. Any thread of the system may call any of them,
+ * one at a time for one slot, and at once for different slots, those of one service too.
  *
  * What the library cannot see, and the caller promises:
  *
- *   1. A slot is all zeros, or as the library left it. It is not copied, and its fields are not
- *      written.
- *   2. One call at a time has a slot; where it changes threads, a lock, a join or a sequentially
- *      consistent atomic orders the calls. The library takes no lock of its own.
+ *   1. A slot, of a world or of a seat, is all zeros, or as the library left it. It is not copied,
+ *      and its fields are not written. It may be moved, and its old place is then no slot any more.
+ *   2. One call at a time has a slot; a call that is given two has both. Where a slot changes
+ *      threads, a lock, the start or the join of a thread, or a sequentially consistent atomic
+ *      orders the calls. Calls on different slots need no order, those of one service neither. The
+ *      library takes no lock of its own.
  *   3. Each pointer is to a whole struct or number of its type, aligned, and may be written where
- *      it is not const. What one call is given does not overlap.
+ *      it is not const. What one call is given does not overlap. Meanwhile nobody else writes it,
+ *      or reads what is not const.
  *   4. `lows` is to at least `objects` bytes; it may be anything that is not null where `objects`
  *      is 0.
- *   5. `malloc`, `realloc` and `free` are those of one allocator, and stay so.
- *   6. No call is made from a signal handler, or in a forked child of a thread that was inside
- *      one.
+ *   5. `malloc`, `realloc` and `free` are those of one allocator, and stay so; several threads may
+ *      call them at once, where several call this library.
+ *   6. No call is made from a signal handler, or left before it returns. A forked child uses no
+ *      world and no service that another thread was inside of at the fork.
  *   7. There is enough stack.
- *   8. A world that is not freed keeps its memory.
+ *   8. A world that is not freed, and a service that one of its seats has not left, keep their
+ *      memory.
  */
 #ifndef NADKHOY_H
 #define NADKHOY_H
@@ -37,30 +48,35 @@
 extern "C" {
 #endif
 
-/* What a call answers. A number below 101 is that of a fault of the core. */
+/* What a call answers. A number below 101 is that of a fault of the core or of the live service. */
 enum nadkhoy_status {
     NADKHOY_DONE = 0,
     NADKHOY_NO_INDEX = 1,        /* attach: every index is a live thread's */
-    NADKHOY_MEMORY = 2,          /* open, attach, relayout: the system has no memory for it */
+    NADKHOY_MEMORY = 2,          /* open, attach, relayout; live open, share: no memory for it */
     NADKHOY_KNOWN = 3,           /* attach: the thread is live */
     NADKHOY_NOT_LIVE = 4,        /* begin, go, expire, spurious: the thread is not live */
     NADKHOY_MISSING_OBJECT = 5,  /* begin: the call names an object that the world does not have */
-    NADKHOY_IN_CALL = 6,         /* begin: the thread is in a call */
-    NADKHOY_NOT_CALLING = 7,     /* go: the thread is in no call */
+    NADKHOY_IN_CALL = 6,         /* begin: the thread is in a call; live begin, tick: the seat is */
+    NADKHOY_NOT_CALLING = 7,     /* go: the thread is in no call; live turn: the seat is in none */
     NADKHOY_PARKED = 8,          /* go: the thread stands in an entry line or a wait set */
     NADKHOY_NOT_DUE = 9,         /* expire: it does not wait, has no deadline, or is before it */
-    NADKHOY_BACKWARDS = 10,      /* tick: the moment would fall */
+    NADKHOY_BACKWARDS = 10,      /* tick, live tick: the moment would fall */
     NADKHOY_NO_MONITOR = 11,     /* relayout: too few monitors are left */
+    NADKHOY_RECORD_FULL = 16,    /* live begin, turn, tick: too few places are free in the record */
+    NADKHOY_TORN = 18,           /* live begin, turn, tick: the pass is not where the book has it */
+    NADKHOY_LIVE_NO_OBJECT = 19, /* live begin: the service has no such object */
+    NADKHOY_LIVE_NO_THREAD = 20, /* live begin: the service has no such thread */
     NADKHOY_NOT_WAITING = 28,    /* spurious: the thread does not wait */
     NADKHOY_NOT_AT_REST = 29,    /* relayout: a live thread is in a call, and does not wait */
     NADKHOY_INDEX_TOO_WIDE = 30, /* relayout: more indices than the split can write */
-    NADKHOY_CLOSED = 101,        /* the slot has no world */
-    NADKHOY_IN_USE = 102,        /* open: the slot has a world already */
+    NADKHOY_CLOSED = 101,        /* the slot is empty */
+    NADKHOY_IN_USE = 102,        /* open, live open, share: the slot is full already */
     NADKHOY_NO_OBJECT = 103,     /* a reader: the world has no such object */
     NADKHOY_NO_THREAD = 104,     /* a reader: no such thread is live, or nobody has the index */
-    NADKHOY_NO_STEP = 105,       /* step: the number of the step, or of its call, is none */
+    NADKHOY_NO_STEP = 105,       /* step, live begin: the number of the step or call is none */
     NADKHOY_NO_SPLIT = 106,      /* open, relayout: the number of the split is none */
-    NADKHOY_RANGE = 107          /* open: too many objects or monitors; indices out of range */
+    NADKHOY_RANGE = 107,         /* open, live open: a size is out of range */
+    NADKHOY_NO_PASS = 108        /* share: no pass is left to the seat */
 };
 
 /* How a thin word divides its bits between index and count. */
@@ -192,11 +208,26 @@ enum nadkhoy_why {
     NADKHOY_WHY_SPURIOUS = 4
 };
 
+/* Where the call of a seat stands after a turn: what its thread does before the next turn. */
+enum nadkhoy_standing {
+    NADKHOY_STANDING_SAID = 1,       /* the call is over, with its reply: no turn is left */
+    NADKHOY_STANDING_CONTENDED = 2,  /* another thread owns the object: back off, and turn again */
+    NADKHOY_STANDING_GATE_TAKEN = 3, /* another seat acts on a monitor, for a few steps: the same */
+    NADKHOY_STANDING_PARKED = 4      /* sleep until a turn has `granted` this thread, or a tick */
+};
+
 /* The place of a world. All zeros is the empty slot; the fields are the library's own. */
 typedef struct nadkhoy_slot {
     void *world;
     bool full;
 } nadkhoy_slot;
+
+/* The place of a seat at a live service. All zeros is the empty slot; the fields are the library's
+ * own. */
+typedef struct nadkhoy_live_slot {
+    void *seat;
+    bool full;
+} nadkhoy_live_slot;
 
 #define NADKHOY_EMPTY {0, false}
 
@@ -281,6 +312,15 @@ typedef struct nadkhoy_thread_shown {
     nadkhoy_doing doing;
 } nadkhoy_thread_shown;
 
+/* What a turn of the call of a seat came to. It may make another thread an owner wherever its own
+ * call stands. */
+typedef struct nadkhoy_turned {
+    uint32_t standing; /* enum nadkhoy_standing */
+    uint32_t reply;    /* enum nadkhoy_reply; 0 where the call goes on */
+    uint32_t cause;    /* enum nadkhoy_cause, of a REFUSED */
+    uint32_t granted;  /* the thread that the turn made an owner, to be woken; 0 is none */
+} nadkhoy_turned;
+
 /* Makes a world in an empty slot: an object for each low byte, 0 to 65535 of them, at most
  * `monitors` fat monitors, 0 to 8388608, and at most `indices` live threads at once, 1 to 32767 or
  * 2047 by the split. Answers the first of IN_USE, NO_SPLIT, RANGE and MEMORY that holds. */
@@ -312,6 +352,66 @@ uint32_t nadkhoy_waiting(nadkhoy_slot *slot, uint32_t object, uint32_t thread, u
 
 /* Writes the thread that has an index. May answer NO_THREAD. */
 uint32_t nadkhoy_holder(nadkhoy_slot *slot, uint16_t index, uint32_t *thread);
+
+/* Opens a live service, and puts a seat at it into an empty slot. The service has a free object
+ * for each low byte, 0 to 65535 of them; at most `monitors` fat monitors, 0 to 8388608; a pass
+ * for each of the threads 1 to `passes`, 1 to 64; and a record of `places` places, 0 to 1048576,
+ * of which each deed at a fat monitor uses one for good. The seat is that of the thread `passes`,
+ * and the other passes are left to it, to be shared.
+ *
+ * Answers the first of IN_USE, RANGE and MEMORY that holds, and the slot is then as it was.
+ * Memory for all calls is asked for here. Any thread that has the slot may call it. */
+uint32_t nadkhoy_live_open(const uint8_t *lows, size_t objects, uint32_t monitors, uint16_t passes,
+                           uint32_t places, nadkhoy_live_slot *slot);
+
+/* Puts one more seat at the service into the slot `other`, which is empty, with the highest pass
+ * that is left to the seat in `slot`. To the new seat none is left. It may stand for a thread of
+ * the system that has not started.
+ *
+ * Answers the first of CLOSED, IN_USE (where `other` is full), NO_PASS and MEMORY that holds, and
+ * both slots are then as they were. Any thread that has both slots may call it, and the seat may
+ * be in a call, which stays where it is. */
+uint32_t nadkhoy_live_share(nadkhoy_live_slot *slot, nadkhoy_live_slot *other);
+
+/* Begins a call of the seat's thread, takes its first turn, and writes what that came to. The
+ * turn does at once all that can be done at once. Where it is not SAID, the seat is in the call
+ * then.
+ *
+ * Answers CLOSED, NO_STEP (also for the call END, which a live service does not have) or IN_CALL,
+ * where all is as it was; LIVE_NO_OBJECT or LIVE_NO_THREAD, where nothing was done; or
+ * RECORD_FULL or TORN, where the call is given up before its bind or its action on a monitor.
+ * After these four the seat is in no call. A RECORD_FULL leaves owners, holds, wait sets and
+ * flags as they were before the call, and may leave a word inflated.
+ *
+ * Any thread that has the slot may call it. The turns of one call may be those of several. */
+uint32_t nadkhoy_live_begin(nadkhoy_live_slot *slot, const nadkhoy_call *call,
+                            nadkhoy_turned *turned);
+
+/* Takes one more turn of the call that the seat is in, and writes what it came to. One that is
+ * taken too early costs time, and nothing else.
+ *
+ * Answers CLOSED or NOT_CALLING, where all is as it was, or RECORD_FULL or TORN, where the call
+ * is given up as by a begin. Any thread that has the slot may call it. */
+uint32_t nadkhoy_live_turn(nadkhoy_live_slot *slot, nadkhoy_turned *turned);
+
+/* Tells the service the moment, in nanoseconds, and writes 1; or writes 0 where another seat has
+ * the gate, and nothing was told: tell it again. A timed wait ends at its first turn after its
+ * deadline was told, so all sleepers are to be woken then.
+ *
+ * Answers CLOSED, IN_CALL, BACKWARDS, RECORD_FULL or TORN, where no moment was told and all is as
+ * it was. Any thread may call it that has the slot of a seat in no call. */
+uint32_t nadkhoy_live_tick(nadkhoy_live_slot *slot, uint64_t now, uint32_t *told);
+
+/* Writes the number of the thread as which the seat makes its calls, 1 to the number of passes.
+ * The seat stays as it is. May answer CLOSED. Any thread that has the slot may call it. */
+uint32_t nadkhoy_live_thread(nadkhoy_live_slot *slot, uint32_t *thread);
+
+/* Gives the seat up, with the passes that are left to it, and leaves the slot empty. The last
+ * seat that leaves gives back the memory of the service. What the thread of the seat owns stays
+ * owned, and a call that it is in stays where it stands: nobody ends either afterwards.
+ *
+ * Answers CLOSED where the slot is empty. Any thread that has the slot may call it. */
+uint32_t nadkhoy_live_leave(nadkhoy_live_slot *slot);
 
 #ifdef __cplusplus
 }

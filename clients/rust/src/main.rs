@@ -1,4 +1,7 @@
 //! A world of the C library behind a safe type, and a scenario over it: enter, contend, exit, end.
+//! Then the same of a seat at a live service.
+
+mod live;
 
 use std::ffi::c_void;
 use std::ptr;
@@ -152,5 +155,6 @@ fn main() {
     assert_eq!(world.turn(8), Ok(Some(ENTERED)));
     assert_eq!(world.call(8, EXIT, 0), Ok(Some(EXITED)));
     assert_eq!(world.call(7, END, 0), Ok(Some(ENDED)));
+    live::run();
     println!("as wanted");
 }

@@ -1,0 +1,499 @@
+/* Two threads of the system at one live service. They count to 2000000 under one monitor; they hand
+ * 100000 items on by wait and notify; then one thread drives both seats turn by turn, through waits
+ * that a tick and an interrupt end, and through each mistake that has a status. With the argument
+ * `time` it prints what a pair of enter and exit costs, too. */
+#define _POSIX_C_SOURCE 200809L
+#include "nadkhoy.h"
+
+#include <pthread.h>
+#include <sched.h>
+#include <stdio.h>
+#include <stdlib.h>
+#include <string.h>
+#include <sys/resource.h>
+#include <time.h>
+
+#ifdef __cplusplus
+#include <atomic>
+typedef std::atomic<uint32_t> shared_word;
+#else
+#include <stdatomic.h>
+typedef _Atomic uint32_t shared_word;
+#endif
+
+#define WANT(got, wanted) want(__LINE__, (long)(got), (long)(wanted))
+
+/* A record has places for one round, so each round has a service of its own. A count uses three
+ * places at most: its enter, the collect where that parked, and its exit. An item uses twelve: on
+ * each side an enter and its collect, a wait and its collect, a notify and an exit. Some more are
+ * for the bind, and for the three that an enter or a wait needs free. */
+enum {
+    COUNTING_ROUNDS = 8,
+    COUNTS = 125000,
+    COUNTING_PLACES = 3 * 2 * COUNTS + 16,
+    BUFFER_ROUNDS = 2,
+    ITEMS = 50000,
+    BUFFER_PLACES = 12 * ITEMS + 16
+};
+
+static const uint8_t lows[1] = {0xA5};
+
+static void want(int line, long got, long wanted) {
+    if (got != wanted) {
+        fprintf(stderr, "line %d: %ld, wanted %ld\n", line, got, wanted);
+        exit(1);
+    }
+}
+
+static nadkhoy_call call_of(uint32_t kind, uint32_t target) {
+    nadkhoy_call call = {0, 0, kind, target};
+    return call;
+}
+
+/* The bell of a thread. A ring that comes before the sleep is kept until the sleeper looks. */
+typedef struct bell {
+    pthread_mutex_t lock;
+    pthread_cond_t heard;
+    shared_word rung;
+} bell;
+
+static bell bells[3]; /* by the number of the thread */
+
+static void make_bells(void) {
+    pthread_condattr_t by_clock;
+    WANT(pthread_condattr_init(&by_clock), 0);
+    WANT(pthread_condattr_setclock(&by_clock, CLOCK_MONOTONIC), 0);
+    for (int thread = 1; thread <= 2; thread++) {
+        WANT(pthread_mutex_init(&bells[thread].lock, NULL), 0);
+        WANT(pthread_cond_init(&bells[thread].heard, &by_clock), 0);
+    }
+    WANT(pthread_condattr_destroy(&by_clock), 0);
+}
+
+static void ring(uint32_t thread) {
+    bell *its = &bells[thread];
+    WANT(pthread_mutex_lock(&its->lock), 0);
+    atomic_store(&its->rung, 1u);
+    WANT(pthread_cond_signal(&its->heard), 0);
+    WANT(pthread_mutex_unlock(&its->lock), 0);
+}
+
+/* Looks at the bell of the thread some times, and then sleeps by it, 10 milliseconds at most. */
+static void sleep_until_rung(uint32_t thread) {
+    bell *its = &bells[thread];
+    struct timespec until;
+    for (int looks = 0; looks < 64; looks++) {
+        if (atomic_exchange(&its->rung, 0u) != 0) return;
+        sched_yield();
+    }
+    clock_gettime(CLOCK_MONOTONIC, &until);
+    until.tv_nsec += 10000000;
+    until.tv_sec += until.tv_nsec / 1000000000;
+    until.tv_nsec %= 1000000000;
+    WANT(pthread_mutex_lock(&its->lock), 0);
+    while (atomic_exchange(&its->rung, 0u) == 0 &&
+           pthread_cond_timedwait(&its->heard, &its->lock, &until) == 0) {
+    }
+    WANT(pthread_mutex_unlock(&its->lock), 0);
+}
+
+static void back_off(int tries) {
+    static const struct timespec moment = {0, 50000};
+    if (tries < 20)
+        sched_yield();
+    else
+        nanosleep(&moment, NULL);
+}
+
+/* A thread of the system, with its seat and the number that this has. */
+typedef struct player {
+    nadkhoy_live_slot seat;
+    uint32_t thread;
+    uint32_t first_item;
+} player;
+
+/* Makes a call, and answers its reply. Whoever a turn makes an owner has its bell rung, also where
+ * that is the thread itself. */
+static uint32_t make_call(player *me, nadkhoy_call call) {
+    nadkhoy_turned turned;
+    uint32_t status = nadkhoy_live_begin(&me->seat, &call, &turned);
+    for (int tries = 0;; tries++) {
+        WANT(status, NADKHOY_DONE);
+        if (turned.granted != 0) ring(turned.granted);
+        if (turned.standing == NADKHOY_STANDING_SAID) return turned.reply;
+        if (turned.standing == NADKHOY_STANDING_PARKED)
+            sleep_until_rung(me->thread);
+        else
+            back_off(tries);
+        status = nadkhoy_live_turn(&me->seat, &turned);
+    }
+}
+
+/* Runs two threads to their ends, each with a seat at one new service. */
+static void play(void *(*first)(void *), void *(*second)(void *), uint32_t places, uint32_t item) {
+    player players[2] = {{NADKHOY_EMPTY, 0, item}, {NADKHOY_EMPTY, 0, item}};
+    pthread_t threads[2];
+    WANT(nadkhoy_live_open(lows, 1, 1, 2, places, &players[0].seat), NADKHOY_DONE);
+    WANT(nadkhoy_live_share(&players[0].seat, &players[1].seat), NADKHOY_DONE);
+    for (int i = 0; i < 2; i++) {
+        WANT(nadkhoy_live_thread(&players[i].seat, &players[i].thread), NADKHOY_DONE);
+        WANT(players[i].thread, 2 - i);
+    }
+    WANT(pthread_create(&threads[0], NULL, first, &players[0]), 0);
+    WANT(pthread_create(&threads[1], NULL, second, &players[1]), 0);
+    for (int i = 0; i < 2; i++) {
+        WANT(pthread_join(threads[i], NULL), 0);
+        WANT(nadkhoy_live_leave(&players[i].seat), NADKHOY_DONE);
+    }
+}
+
+/* What the owner of the object alone reads and writes, by plain loads and stores. */
+static uint64_t counted;
+static bool is_there;
+static uint32_t item_there;
+
+static void *count_up(void *mine) {
+    player *me = (player *)mine;
+    for (int i = 0; i < COUNTS; i++) {
+        WANT(make_call(me, call_of(NADKHOY_CALL_ENTER, 0)), NADKHOY_REPLY_ENTERED);
+        counted = counted + 1;
+        WANT(make_call(me, call_of(NADKHOY_CALL_EXIT, 0)), NADKHOY_REPLY_EXITED);
+    }
+    return NULL;
+}
+
+/* Waits as the owner until there is an item, or none; there is no wait more than one. */
+static void wait_until(player *me, bool there) {
+    int waits = 0;
+    while (is_there != there) {
+        waits++;
+        WANT(make_call(me, call_of(NADKHOY_CALL_WAIT, 0)), NADKHOY_REPLY_WAIT_OVER);
+    }
+    WANT(waits > 1, 0);
+}
+
+static void *produce(void *mine) {
+    player *me = (player *)mine;
+    for (uint32_t i = 0; i < ITEMS; i++) {
+        WANT(make_call(me, call_of(NADKHOY_CALL_ENTER, 0)), NADKHOY_REPLY_ENTERED);
+        wait_until(me, false);
+        item_there = me->first_item + i;
+        is_there = true;
+        WANT(make_call(me, call_of(NADKHOY_CALL_NOTIFY, 0)), NADKHOY_REPLY_NOTIFIED);
+        WANT(make_call(me, call_of(NADKHOY_CALL_EXIT, 0)), NADKHOY_REPLY_EXITED);
+    }
+    return NULL;
+}
+
+static void *consume(void *mine) {
+    player *me = (player *)mine;
+    for (uint32_t i = 0; i < ITEMS; i++) {
+        WANT(make_call(me, call_of(NADKHOY_CALL_ENTER, 0)), NADKHOY_REPLY_ENTERED);
+        wait_until(me, true);
+        WANT(item_there, me->first_item + i);
+        is_there = false;
+        WANT(make_call(me, call_of(NADKHOY_CALL_NOTIFY, 0)), NADKHOY_REPLY_NOTIFIED);
+        WANT(make_call(me, call_of(NADKHOY_CALL_EXIT, 0)), NADKHOY_REPLY_EXITED);
+    }
+    return NULL;
+}
+
+static void run_threads(void) {
+    for (int round = 0; round < COUNTING_ROUNDS; round++)
+        play(count_up, count_up, COUNTING_PLACES, 0);
+    WANT(counted, 2000000);
+    printf("%lu counted\n", (unsigned long)counted);
+    for (uint32_t round = 0; round < BUFFER_ROUNDS; round++)
+        play(produce, consume, BUFFER_PLACES, round * ITEMS);
+    WANT(is_there, false);
+    printf("%d items handed on\n", BUFFER_ROUNDS * ITEMS);
+}
+
+/* Here one thread of the system drives both seats: that of thread 2, which waits, and thread 1's. */
+static nadkhoy_live_slot waiter = NADKHOY_EMPTY;
+static nadkhoy_live_slot other = NADKHOY_EMPTY;
+static nadkhoy_turned turned;
+
+static void open_both(uint32_t places) {
+    WANT(nadkhoy_live_open(lows, 1, 1, 2, places, &waiter), NADKHOY_DONE);
+    WANT(nadkhoy_live_share(&waiter, &other), NADKHOY_DONE);
+}
+
+static void leave_both(void) {
+    WANT(nadkhoy_live_leave(&waiter), NADKHOY_DONE);
+    WANT(nadkhoy_live_leave(&other), NADKHOY_DONE);
+}
+
+static uint32_t begin(nadkhoy_live_slot *seat, uint32_t kind, uint32_t target) {
+    nadkhoy_call call = call_of(kind, target);
+    return nadkhoy_live_begin(seat, &call, &turned);
+}
+
+/* A call that has its reply at its first turn. */
+static void says(nadkhoy_live_slot *seat, uint32_t kind, uint32_t target, uint32_t reply) {
+    WANT(begin(seat, kind, target), NADKHOY_DONE);
+    WANT(turned.standing, NADKHOY_STANDING_SAID);
+    WANT(turned.reply, reply);
+}
+
+static void parks(nadkhoy_live_slot *seat, const nadkhoy_call *call) {
+    WANT(nadkhoy_live_begin(seat, call, &turned), NADKHOY_DONE);
+    WANT(turned.standing, NADKHOY_STANDING_PARKED);
+    WANT(turned.reply, 0);
+}
+
+static void tells(nadkhoy_live_slot *seat, uint64_t now) {
+    uint32_t told = 77;
+    WANT(nadkhoy_live_tick(seat, now, &told), NADKHOY_DONE);
+    WANT(told, 1);
+}
+
+static void turns_to(nadkhoy_live_slot *seat, uint32_t standing, uint32_t reply, uint32_t granted) {
+    WANT(nadkhoy_live_turn(seat, &turned), NADKHOY_DONE);
+    WANT(turned.standing, standing);
+    WANT(turned.reply, reply);
+    WANT(turned.granted, granted);
+}
+
+static void a_tick_ends_a_wait(void) {
+    nadkhoy_call wait = {5, 7, NADKHOY_CALL_WAIT, 0};
+    uint32_t told = 77;
+    open_both(32);
+    tells(&other, 1000);
+    says(&waiter, NADKHOY_CALL_ENTER, 0, NADKHOY_REPLY_ENTERED);
+    parks(&waiter, &wait);
+    WANT(nadkhoy_live_tick(&waiter, 5001007, &told), NADKHOY_IN_CALL);
+    WANT(told, 77);
+    tells(&other, 5001006);
+    turns_to(&waiter, NADKHOY_STANDING_PARKED, 0, 0);
+    tells(&other, 5001007);
+    /* The wait is over and the monitor free, so the thread has it again; then it has its reply. */
+    turns_to(&waiter, NADKHOY_STANDING_PARKED, 0, 2);
+    turns_to(&waiter, NADKHOY_STANDING_SAID, NADKHOY_REPLY_WAIT_OVER, 0);
+    says(&waiter, NADKHOY_CALL_HOLDS, 0, NADKHOY_REPLY_YES);
+    says(&other, NADKHOY_CALL_HOLDS, 0, NADKHOY_REPLY_NO);
+    says(&waiter, NADKHOY_CALL_EXIT, 0, NADKHOY_REPLY_EXITED);
+    WANT(nadkhoy_live_tick(&other, 5001006, &told), NADKHOY_BACKWARDS);
+    WANT(told, 77);
+    leave_both();
+}
+
+static void an_interrupt_ends_a_wait(void) {
+    nadkhoy_call wait = call_of(NADKHOY_CALL_WAIT, 0);
+    open_both(32);
+    says(&waiter, NADKHOY_CALL_ENTER, 0, NADKHOY_REPLY_ENTERED);
+    parks(&waiter, &wait);
+    says(&other, NADKHOY_CALL_ENTER, 0, NADKHOY_REPLY_ENTERED);
+    says(&other, NADKHOY_CALL_INTERRUPT, 2, NADKHOY_REPLY_DONE);
+    WANT(turned.granted, 0);
+    turns_to(&waiter, NADKHOY_STANDING_PARKED, 0, 0);
+    says(&other, NADKHOY_CALL_EXIT, 0, NADKHOY_REPLY_EXITED);
+    WANT(turned.granted, 2);
+    turns_to(&waiter, NADKHOY_STANDING_SAID, NADKHOY_REPLY_INTERRUPTED, 0);
+    says(&other, NADKHOY_CALL_IS_INTERRUPTED, 2, NADKHOY_REPLY_NO);
+    says(&waiter, NADKHOY_CALL_EXIT, 0, NADKHOY_REPLY_EXITED);
+    says(&waiter, NADKHOY_CALL_EXIT, 0, NADKHOY_REPLY_ILLEGAL_MONITOR_STATE);
+    leave_both();
+}
+
+/* A thin word that another thread owns, and the inflation by the one that met it. */
+static void a_thread_meets_another(void) {
+    open_both(32);
+    says(&other, NADKHOY_CALL_ENTER, 0, NADKHOY_REPLY_ENTERED);
+    WANT(begin(&waiter, NADKHOY_CALL_ENTER, 0), NADKHOY_DONE);
+    WANT(turned.standing, NADKHOY_STANDING_CONTENDED);
+    turns_to(&waiter, NADKHOY_STANDING_CONTENDED, 0, 0);
+    says(&other, NADKHOY_CALL_EXIT, 0, NADKHOY_REPLY_EXITED);
+    turns_to(&waiter, NADKHOY_STANDING_SAID, NADKHOY_REPLY_ENTERED, 0);
+    WANT(begin(&other, NADKHOY_CALL_ENTER, 0), NADKHOY_DONE);
+    WANT(turned.standing, NADKHOY_STANDING_PARKED);
+    says(&waiter, NADKHOY_CALL_EXIT, 0, NADKHOY_REPLY_EXITED);
+    WANT(turned.granted, 1);
+    turns_to(&other, NADKHOY_STANDING_SAID, NADKHOY_REPLY_ENTERED, 0);
+    leave_both();
+}
+
+static void an_empty_slot(void) {
+    uint32_t number = 77;
+    turned.reply = 99;
+    WANT(begin(&waiter, NADKHOY_CALL_ENTER, 0), NADKHOY_CLOSED);
+    WANT(begin(&waiter, 0, 0), NADKHOY_CLOSED);
+    WANT(nadkhoy_live_turn(&waiter, &turned), NADKHOY_CLOSED);
+    WANT(turned.reply, 99);
+    WANT(nadkhoy_live_tick(&waiter, 1, &number), NADKHOY_CLOSED);
+    WANT(nadkhoy_live_thread(&waiter, &number), NADKHOY_CLOSED);
+    WANT(number, 77);
+    WANT(nadkhoy_live_share(&waiter, &other), NADKHOY_CLOSED);
+    WANT(nadkhoy_live_leave(&waiter), NADKHOY_CLOSED);
+}
+
+static void sizes_out_of_range(void) {
+    static const uint8_t many[65536] = {0};
+    WANT(nadkhoy_live_open(many, 65536, 1, 2, 9, &waiter), NADKHOY_RANGE);
+    WANT(nadkhoy_live_open(lows, 1, 8388609, 2, 9, &waiter), NADKHOY_RANGE);
+    WANT(nadkhoy_live_open(lows, 1, 1, 0, 9, &waiter), NADKHOY_RANGE);
+    WANT(nadkhoy_live_open(lows, 1, 1, 65, 9, &waiter), NADKHOY_RANGE);
+    WANT(nadkhoy_live_open(lows, 1, 1, 2, 1048577, &waiter), NADKHOY_RANGE);
+    WANT(nadkhoy_live_leave(&waiter), NADKHOY_CLOSED);
+    WANT(nadkhoy_live_open(many, 65535, 1, 64, 0, &waiter), NADKHOY_DONE);
+    says(&waiter, NADKHOY_CALL_HOLDS, 65534, NADKHOY_REPLY_NO);
+    WANT(nadkhoy_live_leave(&waiter), NADKHOY_DONE);
+}
+
+/* The largest service asks for more than the address space that is left. */
+static void no_memory(void) {
+    struct rlimit before, small;
+    WANT(getrlimit(RLIMIT_AS, &before), 0);
+    small = before;
+    small.rlim_cur = 1u << 28;
+    WANT(setrlimit(RLIMIT_AS, &small), 0);
+    WANT(nadkhoy_live_open(lows, 1, 1, 64, 1048576, &waiter), NADKHOY_MEMORY);
+    WANT(setrlimit(RLIMIT_AS, &before), 0);
+    WANT(nadkhoy_live_leave(&waiter), NADKHOY_CLOSED);
+}
+
+static void slots_and_passes(void) {
+    nadkhoy_live_slot third = NADKHOY_EMPTY;
+    uint32_t thread;
+    open_both(9);
+    WANT(nadkhoy_live_open(lows, 1, 1, 0, 9, &waiter), NADKHOY_IN_USE);
+    WANT(nadkhoy_live_share(&waiter, &other), NADKHOY_IN_USE);
+    WANT(nadkhoy_live_share(&waiter, &third), NADKHOY_NO_PASS);
+    WANT(nadkhoy_live_share(&other, &third), NADKHOY_NO_PASS);
+    WANT(nadkhoy_live_leave(&third), NADKHOY_CLOSED);
+    WANT(nadkhoy_live_thread(&waiter, &thread), NADKHOY_DONE);
+    WANT(thread, 2);
+    /* The service lasts until the last seat leaves it. */
+    WANT(nadkhoy_live_leave(&waiter), NADKHOY_DONE);
+    WANT(nadkhoy_live_leave(&waiter), NADKHOY_CLOSED);
+    says(&other, NADKHOY_CALL_ENTER, 0, NADKHOY_REPLY_ENTERED);
+    WANT(nadkhoy_live_thread(&other, &thread), NADKHOY_DONE);
+    WANT(thread, 1);
+    WANT(nadkhoy_live_leave(&other), NADKHOY_DONE);
+}
+
+static void calls_that_are_refused(void) {
+    nadkhoy_call wait = call_of(NADKHOY_CALL_WAIT, 0);
+    open_both(32);
+    says(&waiter, NADKHOY_CALL_ENTER, 0, NADKHOY_REPLY_ENTERED);
+    turned.reply = 99;
+    WANT(nadkhoy_live_turn(&waiter, &turned), NADKHOY_NOT_CALLING);
+    WANT(begin(&waiter, 0, 0), NADKHOY_NO_STEP);
+    WANT(begin(&waiter, NADKHOY_CALL_END, 0), NADKHOY_NO_STEP);
+    WANT(begin(&waiter, 11, 0), NADKHOY_NO_STEP);
+    WANT(begin(&waiter, NADKHOY_CALL_ENTER, 1), NADKHOY_LIVE_NO_OBJECT);
+    WANT(begin(&waiter, NADKHOY_CALL_INTERRUPT, 0), NADKHOY_LIVE_NO_THREAD);
+    WANT(begin(&waiter, NADKHOY_CALL_IS_INTERRUPTED, 3), NADKHOY_LIVE_NO_THREAD);
+    WANT(turned.reply, 99);
+    wait.millis = -1;
+    WANT(nadkhoy_live_begin(&waiter, &wait, &turned), NADKHOY_DONE);
+    WANT(turned.reply, NADKHOY_REPLY_ILLEGAL_ARGUMENT);
+    wait.millis = 0;
+    parks(&waiter, &wait);
+    turned.reply = 99;
+    WANT(begin(&waiter, NADKHOY_CALL_NOTIFY, 0), NADKHOY_IN_CALL);
+    WANT(begin(&waiter, NADKHOY_CALL_INTERRUPTED, 0), NADKHOY_IN_CALL);
+    WANT(turned.reply, 99);
+    turns_to(&waiter, NADKHOY_STANDING_PARKED, 0, 0);
+    leave_both();
+}
+
+/* A wait finds places for its bind, and none for its action; the owner leaves all the same. */
+static void a_small_record(void) {
+    nadkhoy_call wait = call_of(NADKHOY_CALL_WAIT, 0);
+    uint32_t told = 77;
+    open_both(2);
+    says(&waiter, NADKHOY_CALL_ENTER, 0, NADKHOY_REPLY_ENTERED);
+    turned.reply = 99;
+    WANT(nadkhoy_live_begin(&waiter, &wait, &turned), NADKHOY_RECORD_FULL);
+    WANT(begin(&waiter, NADKHOY_CALL_NOTIFY, 0), NADKHOY_RECORD_FULL);
+    WANT(begin(&other, NADKHOY_CALL_ENTER, 0), NADKHOY_RECORD_FULL);
+    WANT(nadkhoy_live_tick(&other, 1, &told), NADKHOY_RECORD_FULL);
+    WANT(turned.reply, 99);
+    WANT(told, 77);
+    says(&waiter, NADKHOY_CALL_EXIT, 0, NADKHOY_REPLY_EXITED);
+    leave_both();
+}
+
+static double seconds(void) {
+    struct timespec now;
+    clock_gettime(CLOCK_MONOTONIC, &now);
+    return (double)now.tv_sec + (double)now.tv_nsec / 1e9;
+}
+
+static void pairs_by_calls(long rounds) {
+    const nadkhoy_call enter = {0, 0, NADKHOY_CALL_ENTER, 0};
+    const nadkhoy_call leave = {0, 0, NADKHOY_CALL_EXIT, 0};
+    long said = 0;
+    for (long i = 0; i < rounds; i++) {
+        nadkhoy_live_begin(&waiter, &enter, &turned);
+        said += turned.reply == NADKHOY_REPLY_ENTERED;
+        nadkhoy_live_begin(&waiter, &leave, &turned);
+        said += turned.reply == NADKHOY_REPLY_EXITED;
+    }
+    WANT(said, 2 * rounds);
+}
+
+static shared_word bare;
+
+static void bare_firsts(long rounds) {
+    long won = 0;
+    for (long i = 0; i < rounds; i++) {
+        uint32_t free_word = 0;
+        won += atomic_compare_exchange_strong(&bare, &free_word, 0x10000u);
+        atomic_store(&bare, 0u);
+    }
+    WANT(won, rounds);
+}
+
+static void bare_nests(long rounds) {
+    for (long i = 0; i < rounds; i++) {
+        atomic_store(&bare, 0x10100u);
+        atomic_store(&bare, 0x10000u);
+    }
+    atomic_store(&bare, 0u);
+}
+
+static double faster(double before, void (*work)(long), long rounds) {
+    double start = seconds();
+    work(rounds);
+    double took = (seconds() - start) * 1e9 / (double)rounds;
+    return took < before ? took : before;
+}
+
+static void print_pair(const char *name, void (*plain)(long)) {
+    const long rounds = 1000000;
+    double calls = 1e9, atomics = 1e9;
+    for (int run = 0; run < 9; run++) {
+        calls = faster(calls, pairs_by_calls, rounds);
+        atomics = faster(atomics, plain, rounds);
+    }
+    printf("a pair of enter and exit, %s: %.1f ns by calls, %.1f ns bare, %.2f times\n", name,
+           calls, atomics, calls / atomics);
+}
+
+static void time_pairs(void) {
+    open_both(0);
+    print_pair("first", bare_firsts);
+    says(&waiter, NADKHOY_CALL_ENTER, 0, NADKHOY_REPLY_ENTERED);
+    print_pair("nested", bare_nests);
+    says(&waiter, NADKHOY_CALL_EXIT, 0, NADKHOY_REPLY_EXITED);
+    leave_both();
+}
+
+int main(int count, char **arguments) {
+    an_empty_slot();
+    sizes_out_of_range();
+    no_memory();
+    slots_and_passes();
+    calls_that_are_refused();
+    a_small_record();
+    a_thread_meets_another();
+    a_tick_ends_a_wait();
+    an_interrupt_ends_a_wait();
+    make_bells();
+    run_threads();
+    if (count > 1 && strcmp(arguments[1], "time") == 0) time_pairs();
+    puts("as wanted");
+    return 0;
+}
