@@ -7,7 +7,7 @@ use Rattle.step_core.specs.declared.paths.Point.{Point}
 use Rattle.step_core.specs.declared.paths.Point.TheVariants.{At}
 use Rattle.live_turns.specs.Asked.{IsTickFault}
 use Rattle.live_turns.specs.Log.{thread_numbered}
-use Rattle.live_turns.specs.Points.{resting, GivenUpOn, GivenUpAbout}
+use Rattle.live_turns.specs.Points.{resting, standing_of, GivenUpOn, GivenUpAbout}
 use Rattle.live_turns.specs.Ways.{PassState, Went, Halted, AddsNoEvent, ticked_by, new_state}
 use Rattle.live_turns.specs.declared.turned.Turned.{Turned}
 use Rattle.live_turns.specs.declared.faults.LiveFault.{LiveFault}
@@ -95,8 +95,9 @@ IsBegin Leave = ⊥
 abbrev pub Serves : Opening → Order → Told → PassState → PassState → Type 0
 Serves z o told.InCall p q = IsBegin o × (p.point ≢ At Idle) × (q ≡ p)
 Serves z o told.NotCalling p q = (o ≡ Turn) × IsIdle p × (q ≡ p)
-Serves z o (told.Turned t) p q =
-    IsTurn o × IsTaken o p × Went (begun_at o p.point) t.point p.holding q.holding × (q.point ≡ resting t.point)
+Serves z o (told.Turned s g) p q =
+    IsTurn o × IsTaken o p × ((t : Turned) × (s ≡ standing_of t) × (g ≡ t.granted)
+    × Went (begun_at o p.point) t.point p.holding q.holding × (q.point ≡ resting t.point))
 Serves z o (told.Ticked b) p q = IsIdle p × Ticks o b p q
 Serves z o (told.Fault f) p q = IsTaken o p × GaveUp z o f p q
 Serves z o (told.Thread t) p q =
@@ -125,7 +126,7 @@ HasShared s (Some q) (Some u) =
 abbrev pub Shares : SeatState → Told → Option SeatState → Option SeatState → Type 0
 Shares s told.InCall q u = ⊥
 Shares s told.NotCalling q u = ⊥
-Shares s (told.Turned t) q u = ⊥
+Shares s (told.Turned t g) q u = ⊥
 Shares s (told.Ticked b) q u = ⊥
 Shares s (told.Fault f) q u = ⊥
 Shares s (told.Thread t) q u = ⊥

@@ -1,7 +1,7 @@
 //! What a seat is asked to do, and what came of it.
 
 use fast_path::{InterruptCall, MonitorCall};
-use live_turns::{LiveFault, Turned};
+use live_turns::{LiveFault, Standing};
 use lock_word::ThreadId;
 
 /// What a seat is asked to do.
@@ -30,8 +30,11 @@ pub enum Told {
     InCall,
     /// The seat is in no call of which a turn could be taken.
     NotCalling,
-    /// A turn was taken.
-    Turned(Turned),
+    /// A turn was taken: where the call stands, and the thread that the turn made an owner.
+    Turned {
+        standing: Standing,
+        granted: Option<ThreadId>,
+    },
     /// The moment was told; or not, since another pass had the gate.
     Ticked(bool),
     /// The call has ended, or the moment was not told, for this fault.

@@ -1,6 +1,7 @@
 //! Orders that a pass carries out by one turn.
 
 ghost use Rattle.std.specs.Prelude.{◌≡◌, false, true};
+ghost use Rattle.live_turns.specs.Points.{standing_of};
 ghost use Rattle.live_turns.specs.Ways.{Belongs};
 ghost use Rattle.step_core.specs.declared.places.Place.TheVariants.{Idle};
 ghost use Rattle.step_core.specs.declared.paths.Point.TheVariants.{At};
@@ -9,7 +10,7 @@ ghost use Rattle.live_seats.specs.declared.orders.Order.TheVariants.{BeginOn, Be
 
 use crate::orders::{Order, Told};
 use fast_path::{InterruptCall, MonitorCall};
-use live_turns::{Crew, TurnPass, Turns};
+use live_turns::{Crew, TurnPass, Turned, Turns};
 use step_core::{Place, Point};
 
 fn is_idle<L: Crew>(pass: &TurnPass<L>) -> bool
@@ -19,6 +20,16 @@ fn is_idle<L: Crew>(pass: &TurnPass<L>) -> bool
     match pass.point() {
         Point::At(Place::Idle) => true,
         _ => false,
+    }
+}
+
+// What a turn came to.
+fn told(turned: Turned) -> Told
+    ensures { result ≡ Told.Turned (standing_of turned) turned.granted }
+{
+    Told::Turned {
+        standing: turned.standing(),
+        granted: turned.granted,
     }
 }
 
@@ -32,7 +43,7 @@ fn begin_on<L: Crew>(turns: &Turns<L>, pass: &mut TurnPass<L>, call: MonitorCall
         return Told::InCall;
     }
     match turns.begin_on(pass, call) {
-        Ok(turned) => Told::Turned(turned),
+        Ok(turned) => told(turned),
         Err(fault) => Told::Fault(fault),
     }
 }
@@ -47,7 +58,7 @@ fn begin_about<L: Crew>(turns: &Turns<L>, pass: &mut TurnPass<L>, call: Interrup
         return Told::InCall;
     }
     match turns.begin_about(pass, call) {
-        Ok(turned) => Told::Turned(turned),
+        Ok(turned) => told(turned),
         Err(fault) => Told::Fault(fault),
     }
 }
@@ -62,7 +73,7 @@ fn turn<L: Crew>(turns: &Turns<L>, pass: &mut TurnPass<L>) -> Told
         return Told::NotCalling;
     }
     match turns.turn(pass) {
-        Ok(turned) => Told::Turned(turned),
+        Ok(turned) => told(turned),
         Err(fault) => Told::Fault(fault),
     }
 }

@@ -8,8 +8,6 @@ use Rattle.fast_path.specs.declared.calls.Subject.{Subject}
 use Rattle.fast_path.specs.declared.calls.Subject.TheVariants as subject
 use Rattle.fast_path.specs.Calls.{subject_of}
 use Rattle.live_turns.specs.Names.{live_fault_number}
-use Rattle.live_turns.specs.Points.{standing_of}
-use Rattle.live_turns.specs.declared.turned.Turned.{Turned}
 use Rattle.live_turns.specs.declared.turned.Standing.{Standing}
 use Rattle.live_turns.specs.declared.turned.Standing.TheVariants as standing
 use Rattle.live_seats.specs.Seats.{SeatState, IsOpenedWith}
@@ -61,19 +59,19 @@ abbrev pub granted_number : Option ThreadId → ℕ
 granted_number None = 0
 granted_number (Some t) = t.0
 
-abbrev pub plain_turned : Turned → PlainTurned
-plain_turned t = record {
-  standing = standing_number (standing_of t);
-  reply = reply_in (standing_of t);
-  cause = cause_in (standing_of t);
-  granted = granted_number t.granted;
+abbrev pub plain_turned : Standing → Option ThreadId → PlainTurned
+plain_turned s g = record {
+  standing = standing_number s;
+  reply = reply_in s;
+  cause = cause_in s;
+  granted = granted_number g;
 }
 
 -- the status of what a seat tells: a fault of the live service keeps its own number
 abbrev pub told_status : Told → ℕ
 told_status told.InCall = 6
 told_status told.NotCalling = 7
-told_status (told.Turned t) = 0
+told_status (told.Turned s g) = 0
 told_status (told.Ticked b) = 0
 told_status (told.Fault f) = live_fault_number f
 told_status (told.Thread t) = 0
@@ -86,7 +84,7 @@ told_status told.Left = 0
 abbrev pub turned_out : Told → PlainTurned → PlainTurned
 turned_out told.InCall x = x
 turned_out told.NotCalling x = x
-turned_out (told.Turned t) x = plain_turned t
+turned_out (told.Turned s g) x = plain_turned s g
 turned_out (told.Ticked b) x = x
 turned_out (told.Fault f) x = x
 turned_out (told.Thread t) x = x
@@ -103,7 +101,7 @@ one_if false = 0
 abbrev pub number_out : Told → ℕ → ℕ
 number_out told.InCall x = x
 number_out told.NotCalling x = x
-number_out (told.Turned t) x = x
+number_out (told.Turned s g) x = x
 number_out (told.Ticked b) x = one_if b
 number_out (told.Fault f) x = x
 number_out (told.Thread t) x = t.0

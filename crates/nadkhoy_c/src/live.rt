@@ -92,7 +92,8 @@ fn place(alloc: Global, slot: &mut LiveSlot, told: Told, seat: RawSeat)
 {
     match told {
         Told::Shared => *slot = LiveSlot::of(alloc, seat),
-        Told::InCall | Told::NotCalling | Told::Turned(_) | Told::Ticked(_) | Told::Fault(_) => {}
+        Told::InCall | Told::NotCalling | Told::Turned { .. } | Told::Ticked(_) | Told::Fault(_) =>
+            {}
         Told::Thread(_) | Told::NoPass | Told::Memory | Told::Left => {}
     }
 }

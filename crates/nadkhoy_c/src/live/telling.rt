@@ -9,7 +9,7 @@ use crate::status::Status;
 use crate::writing::{cause_of, reply_number};
 use fast_path::Subject;
 use live_seats::{Order, Told};
-use live_turns::{Standing, Turned};
+use live_turns::Standing;
 use step_core::ThreadId;
 
 /// The order that begins the call that the numbers name; None where they name none, or the end of a
@@ -44,11 +44,10 @@ fn granted_number(granted: Option<ThreadId>) -> u32
     }
 }
 
-/// What a turn came to, as numbers.
-fn plain_turned(turned: &Turned) -> PlainTurned
-    ensures { result ≡ plain_turned turned.now }
+// What a turn came to, as numbers.
+fn plain_turned(standing: Standing, granted: Option<ThreadId>) -> PlainTurned
+    ensures { result ≡ plain_turned standing granted }
 {
-    let standing = turned.standing();
     let (reply, cause) = match standing {
         Standing::Said(reply) => (reply_number(reply), cause_of(reply)),
         _ => (0, 0),
@@ -57,7 +56,7 @@ fn plain_turned(turned: &Turned) -> PlainTurned
         standing: standing_number(standing),
         reply,
         cause,
-        granted: granted_number(turned.granted),
+        granted: granted_number(granted),
     }
 }
 
@@ -71,7 +70,7 @@ pub(crate) fn told_status(told: Told) -> u32
         Told::Fault(fault) => u32::from(fault.number()),
         Told::NoPass => Status::NoPass.number(),
         Told::Memory => Status::Memory.number(),
-        Told::Turned(_) | Told::Ticked(_) | Told::Thread(_) | Told::Shared | Told::Left => {
+        Told::Turned { .. } | Told::Ticked(_) | Told::Thread(_) | Told::Shared | Told::Left => {
             Status::Done.number()
         }
     }
@@ -81,8 +80,8 @@ pub(crate) fn told_status(told: Told) -> u32
 pub(crate) fn write_turned(told: Told, turned: &mut PlainTurned)
     ensures { turned.new ≡ turned_out told turned.old }
 {
-    if let Told::Turned(it) = told {
-        *turned = plain_turned(&it);
+    if let Told::Turned { standing, granted } = told {
+        *turned = plain_turned(standing, granted);
     }
 }
 
