@@ -95,7 +95,7 @@ static void sleep_until_rung(uint32_t thread) {
     WANT(pthread_mutex_unlock(&its->lock), 0);
 }
 
-/* Before the next turn of a call that met another thread: turns at once, yields, and then sleeps. */
+/* Before the next turn of a call that met another: turns at once, then yields, then sleeps. */
 static void back_off(int tries) {
     static const struct timespec moment = {0, 50000};
     if (tries < 8) return;
@@ -209,7 +209,7 @@ static void run_threads(void) {
     printf("%d items handed on\n", BUFFER_ROUNDS * ITEMS);
 }
 
-/* Here one thread of the system drives both seats: that of thread 2, which waits, and thread 1's. */
+/* Here one thread of the system drives both seats: thread 2 waits, and thread 1 does not. */
 static nadkhoy_live_slot waiter = NADKHOY_EMPTY;
 static nadkhoy_live_slot other = NADKHOY_EMPTY;
 static nadkhoy_turned turned;
