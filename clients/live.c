@@ -82,10 +82,8 @@ static void ring(uint32_t thread) {
 static void sleep_until_rung(uint32_t thread) {
     bell *its = &bells[thread];
     struct timespec until;
-    for (int looks = 0; looks < 64; looks++) {
-        if (atomic_exchange(&its->rung, 0u) != 0) return;
-        sched_yield();
-    }
+    for (int looks = 0; looks < 1000; looks++)
+        if (atomic_load(&its->rung) != 0) break;
     clock_gettime(CLOCK_MONOTONIC, &until);
     until.tv_nsec += 10000000;
     until.tv_sec += until.tv_nsec / 1000000000;
@@ -97,9 +95,11 @@ static void sleep_until_rung(uint32_t thread) {
     WANT(pthread_mutex_unlock(&its->lock), 0);
 }
 
+/* Before the next turn of a call that met another: turns at once, then yields, then sleeps. */
 static void back_off(int tries) {
     static const struct timespec moment = {0, 50000};
-    if (tries < 20)
+    if (tries < 8) return;
+    if (tries < 28)
         sched_yield();
     else
         nanosleep(&moment, NULL);
@@ -209,7 +209,7 @@ static void run_threads(void) {
     printf("%d items handed on\n", BUFFER_ROUNDS * ITEMS);
 }
 
-/* Here one thread of the system drives both seats: that of thread 2, which waits, and thread 1's. */
+/* Here one thread of the system drives both seats: thread 2 waits, and thread 1 does not. */
 static nadkhoy_live_slot waiter = NADKHOY_EMPTY;
 static nadkhoy_live_slot other = NADKHOY_EMPTY;
 static nadkhoy_turned turned;

@@ -19,18 +19,20 @@ fi
 archive=crates/nadkhoy_c/out/libnadkhoy_c.a
 strict=(-O2 -Wall -Wextra -Werror -pedantic -Iinclude -pthread)
 
-for client in client live; do
-    if has "${CC:-cc}"; then
+if has "${CC:-cc}"; then
+    for client in client live; do
         "${CC:-cc}" -std=c11 "${strict[@]}" clients/$client.c "$archive" "$kit/c/liblibc_c.a" \
             -o "$made/$client"
         timeout 120 "$made/$client" "$@"
-    fi
-    if has "${CXX:-c++}"; then
+    done
+fi
+if has "${CXX:-c++}"; then
+    for client in client live; do
         "${CXX:-c++}" -std=c++11 "${strict[@]}" -x c++ clients/$client.c -x none "$archive" \
             "$kit/c/liblibc_c.a" -o "$made/${client}_as_cpp"
         timeout 120 "$made/${client}_as_cpp"
-    fi
-done
+    done
+fi
 if has cargo; then
     cp "$archive" "$made/"
     cp "$kit/c/liblibc_c.a" "$made/liblibc_c.a"

@@ -360,7 +360,8 @@ uint32_t nadkhoy_holder(nadkhoy_slot *slot, uint16_t index, uint32_t *thread);
  * and the other passes are left to it, to be shared.
  *
  * Answers the first of IN_USE, RANGE and MEMORY that holds, and the slot is then as it was.
- * Memory for all calls is asked for here. Any thread that has the slot may call it. */
+ * Memory for all calls is asked for here: 48 bytes for each place, once for the record and once
+ * for each pass, is the most of it. Any thread that has the slot may call it. */
 uint32_t nadkhoy_live_open(const uint8_t *lows, size_t objects, uint32_t monitors, uint16_t passes,
                            uint32_t places, nadkhoy_live_slot *slot);
 
