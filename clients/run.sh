@@ -2,11 +2,14 @@
 # Builds the library for C, and builds and runs the clients over it, as C, as C++ and from Rust: the core
 # (client) and the live service (live). It needs no rights, and says what it skips where a compiler is
 # missing. `run.sh time` prints what a step of the core costs, and a pair of calls of the live service.
+# `run.sh compile` compares the header with the exports and compiles the clients, and no more: the library
+# is not built, which takes as long as its proof where none is kept.
 set -euo pipefail
 cd "$(dirname "$0")/.."
 kit=$(dirname "$(rt doc)")
 made=$(mktemp -d)
 trap 'rm -rf "$made"' EXIT
+strict=(-O2 -Wall -Wextra -Werror -pedantic -Iinclude -pthread)
 
 has() {
     command -v "$1" >/dev/null || { echo "skipped: no $1"; return 1; }
@@ -15,9 +18,20 @@ has() {
 if has python3; then
     python3 clients/compare_header.py
 fi
+if [ "${1:-}" = compile ]; then
+    for client in client live; do
+        if has "${CC:-cc}"; then
+            "${CC:-cc}" -std=c11 "${strict[@]}" -c clients/$client.c -o "$made/$client.o"
+        fi
+        if has "${CXX:-c++}"; then
+            "${CXX:-c++}" -std=c++11 "${strict[@]}" -x c++ -c clients/$client.c -o "$made/$client.o"
+        fi
+    done
+    echo "the clients compile"
+    exit
+fi
 (cd crates/nadkhoy_c && rt lib)
 archive=crates/nadkhoy_c/out/libnadkhoy_c.a
-strict=(-O2 -Wall -Wextra -Werror -pedantic -Iinclude -pthread)
 
 if has "${CC:-cc}"; then
     for client in client live; do
