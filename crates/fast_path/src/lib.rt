@@ -38,7 +38,8 @@ pub enum Next {
 /// What a loaded lock calls for, where `me` is the index of the thread that calls.
 pub fn decide(split: Split, call: Call, lock: Lock, me: u16) -> Next
     requires { IsSome (object_of call) }
-    ensures { (c : MonitorCall) → subject_of call ≡ Monitor c → result ≡ next_of split c.operation lock me }
+    ensures { (c : MonitorCall) → subject_of call ≡ Monitor c
+        → result ≡ next_of split c.operation lock me }
 {
     match call.subject() {
         Subject::Monitor(call) => call.operation.next(split, lock, me),

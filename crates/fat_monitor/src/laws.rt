@@ -13,13 +13,17 @@ ghost use Rattle.fat_monitor.specs.Acting.{removed, served, rejoined, handed_if_
 /// once, which is the same.
 #[tactic(auto, using(crate::proofs::Removals::removed_rejoins, crate::proofs::Removals::interrupted_rejoins, crate::proofs::Removals::served_next))]
 pub fn a_removed_thread_joins_the_entry_line()
-    ensures removed { (f : FatState) (u : ThreadId) (m n : ℕ) (d : Option ℕ) (w : Why) → IsSound f → post_of f u
-        ≡ Some (Waiting m n d) → removed f u w (Waiting m n d)
+    ensures removed { (f : FatState) (u : ThreadId) (m n : ℕ) (d : Option ℕ) (w : Why)
+        → IsSound f → post_of f u ≡ Some (Waiting m n d)
+        → removed f u w (Waiting m n d)
         ≡ handed_if_free (rejoined f u m (Back m n w)) m (monitor_at f m).owner }
-    ensures interrupted { (f : FatState) (u : ThreadId) (m n : ℕ) (d : Option ℕ) → IsSound f → post_of f u
-        ≡ Some (Waiting m n d) → removed (with_flag f u true) u Interrupted (Waiting m n d)
-        ≡ handed_if_free (rejoined (with_flag f u true) u m (Back m n Interrupted)) m (monitor_at f m).owner }
-    ensures served { (f : FatState) (u : ThreadId) (m n : ℕ) (d : Option ℕ) (w : Why) → IsSound f → post_of f u
-        ≡ Some (Waiting m n d) → served f u (Waiting m n d)
+    ensures interrupted { (f : FatState) (u : ThreadId) (m n : ℕ) (d : Option ℕ)
+        → IsSound f → post_of f u ≡ Some (Waiting m n d)
+        → removed (with_flag f u true) u Interrupted (Waiting m n d)
+        ≡ handed_if_free (rejoined (with_flag f u true) u m (Back m n Interrupted)) m
+        (monitor_at f m).owner }
+    ensures served { (f : FatState) (u : ThreadId) (m n : ℕ) (d : Option ℕ) (w : Why)
+        → IsSound f → post_of f u ≡ Some (Waiting m n d)
+        → served f u (Waiting m n d)
         ≡ next_if_free (rejoined f u m (Back m n w)) m (monitor_at f m).owner }
 {}

@@ -195,7 +195,12 @@ impl Fats {
         requires attached { IsAttached self.old owner }
         requires low { 1 ≤ holds }
         requires high { holds ≤ 4096 }
-        ensures receipt { IfOk result (λ r. r ≡ record { object = object; owner = owner; holds = holds; monitor = length self.old.monitors }) }
+        ensures receipt { IfOk result (λ r. r ≡ record {
+          object = object;
+          owner = owner;
+          holds = holds;
+          monitor = length self.old.monitors;
+        }) }
         ensures bound { OnOk result (self.new ≡ bound_with self.old object owner holds) }
         ensures objects { OnOk result (objects_of self.new ≡ objects_of self.old ++ object ∷ []) }
         ensures room { OnOk result (length self.old.monitors < self.old.limit) }
@@ -245,7 +250,8 @@ impl Fats {
     pub fn act(&mut self, thread: ThreadId, action: Action) -> Result<Done, ActFault>
         requires ready { MayAct self.old thread action }
         requires bound { NamesBound self.old action }
-        ensures table { record { answer = result; after = self.new } ≡ acted self.old thread action }
+        ensures table { record { answer = result; after = self.new }
+            ≡ acted self.old thread action }
         ensures objects { objects_of self.new ≡ objects_of self.old }
         ensures behind { StandBehindOwners self.new }
         ensures sound { IsSound self.new }
@@ -257,7 +263,8 @@ impl Fats {
         requires ready { MayAct self.old thread action }
         requires bound { NamesBound self.old action }
         ensures was { IsSound self.old }
-        ensures table { record { answer = result; after = self.new } ≡ acted self.old thread action }
+        ensures table { record { answer = result; after = self.new }
+            ≡ acted self.old thread action }
     {
         // What follows rests on what always holds of these fields.
         let _ = &self.monitors;

@@ -52,7 +52,8 @@ impl Model for Posts {
 
     ghost view = { λ p. posted_in p.records p.keys.entries };
 
-    ghost invariant = { λ p. LeadToRecords p.records p.keys.entries × HaveKeys p.records p.keys.entries
+    ghost invariant = { λ p. LeadToRecords p.records p.keys.entries
+        × HaveKeys p.records p.keys.entries
         × (p.waiting ≡ wait_count (posts_in p.records p.keys.entries)) };
 }
 
@@ -135,7 +136,8 @@ impl Posts {
         ensures nodeless { OnOk result (map.get self.old.nodes thread.0 ≡ None) }
         ensures flagless { OnOk result (map.get self.old.flags thread.0 ≡ None) }
         ensures uncounted { OnOk result (map.get self.old.owned thread.0 ≡ None) }
-        ensures known { IsErrOf result AttachFault.Known ↔ IsSome (map.get self.old.posts thread.0) }
+        ensures known { IsErrOf result AttachFault.Known
+            ↔ IsSome (map.get self.old.posts thread.0) }
         ensures err { OnErr result (self.new ≡ self.old) }
     {
         if self.keys.contains_key(&thread.0) {

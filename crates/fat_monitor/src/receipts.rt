@@ -21,11 +21,13 @@ impl Model for Receipt {
 
     ghost Value = { Binding };
 
-    ghost view = { λ r. record { object = r.object; owner = r.owner; holds = r.holds; monitor = r.monitor } };
+    ghost view = { λ r.
+        record { object = r.object; owner = r.owner; holds = r.holds; monitor = r.monitor } };
 
     ghost invariant = { λ r. (1 ≤ r.holds) × (r.holds ≤ 4096) × (r.monitor ≤ 8388607) };
 
-    ghost inverse = { λ b. record { object = b.object; owner = b.owner; holds = b.holds; monitor = b.monitor } };
+    ghost inverse = { λ b.
+        record { object = b.object; owner = b.owner; holds = b.holds; monitor = b.monitor } };
 }
 
 impl Receipt {
@@ -34,7 +36,8 @@ impl Receipt {
         requires low { 1 ≤ holds }
         requires high { holds ≤ 4096 }
         requires numbered { monitor ≤ 8388607 }
-        ensures { result ≡ record { object = object; owner = owner; holds = holds; monitor = monitor } }
+        ensures { result
+            ≡ record { object = object; owner = owner; holds = holds; monitor = monitor } }
     {
         Receipt {
             object,

@@ -15,6 +15,7 @@ use crate::printing::print_lines;
 use crate::reading::line_of;
 use history_streams::FileFault;
 use indexmap::IndexSet;
+use lock_word::Memory;
 use std::alloc::{AllocError, Global};
 use std::marker::Model;
 
@@ -213,10 +214,10 @@ pub fn read_script<'a>(alloc: Global, bytes: &'a [u8]) -> Result<Script<'a>, Fil
 }
 
 /// The one text of the script.
-pub fn print_script(alloc: Global, script: &Script<'_>) -> Result<String, AllocError>
+pub fn print_script(alloc: Global, script: &Script<'_>) -> Result<String, Memory>
     ensures { IfOk result (λ text. string_bytes text ≡ script_text script.now) }
 {
-    print_lines(alloc, &script.lines)
+    Ok(print_lines(alloc, &script.lines)?)
 }
 
 /// No bytes have two first bad lines, and none that have one are a script.

@@ -26,7 +26,7 @@ use Rattle.step_core.specs.declared.paths.Point.TheVariants.{At, Expired, Said}
 use Rattle.step_core.specs.declared.steps.Atomic.{Atomic}
 use Rattle.step_core.specs.declared.steps.Atomic.TheVariants as atomic
 use Rattle.step_core.specs.Go.{action_on, action_about, entering}
-use Rattle.step_core.specs.Path.{IsTold, Follows, Leads, point_after, point_published, point_told, point_waited}
+use Rattle.step_core.specs.Path.{IsBindCause, IsTold, Follows, Leads, point_after, point_published, point_told, point_waited}
 use Rattle.live_turns.specs.declared.deeds.Deed.TheVariants as deed
 use Rattle.live_turns.specs.declared.faults.LiveFault.{LiveFault}
 use Rattle.live_turns.specs.Log.{thread_numbered}
@@ -181,14 +181,15 @@ pub won_bound_way : (o : ObjectId) (m : ℕ) (p q : Holding) → q.words ≡ p.w
     → Went (At (InCall (Won o))) (At (InCall (Bound (entering o) true m))) p q
 won_bound_way o m p q same own = went_deed (At (InCall (Won o))) (atomic.Bound o m) p q refl refl same own
 
-pub refused_way : (c : MonitorCall) (n : ℕ) (cause : Cause) (p q : Holding) → q.words ≡ p.words → q.own ≡ p.own
+pub refused_way : (c : MonitorCall) (n : ℕ) (cause : Cause) (p q : Holding) → IsBindCause cause → q.words ≡ p.words → q.own ≡ p.own
     → Went (At (InCall (Binding c n))) (Said (reply.Refused cause)) p q
-refused_way c n cause p q same own = went_deed (At (InCall (Binding c n))) (atomic.NotBound c.object cause) p q refl refl same (own ∙ sym (append-nil p.own))
+refused_way c n cause p q may same own =
+    went_deed (At (InCall (Binding c n))) (atomic.NotBound c.object cause) p q (refl, may) refl same (own ∙ sym (append-nil p.own))
 
 -- a contended enter drops the inflation
-pub dropped_way : (o : ObjectId) (cause : Cause) (p q : Holding) → q.words ≡ p.words → q.own ≡ p.own
+pub dropped_way : (o : ObjectId) (cause : Cause) (p q : Holding) → IsBindCause cause → q.words ≡ p.words → q.own ≡ p.own
     → Went (At (InCall (Won o))) (Said reply.Entered) p q
-dropped_way o cause p q same own = went_deed (At (InCall (Won o))) (atomic.NotBound o cause) p q refl refl same (own ∙ sym (append-nil p.own))
+dropped_way o cause p q may same own = went_deed (At (InCall (Won o))) (atomic.NotBound o cause) p q (refl, may) refl same (own ∙ sym (append-nil p.own))
 
 -- an inflation: the bind, and the store of the word of the monitor that it gave
 pub inflated_way : (c : MonitorCall) (n m k : ℕ) (p q u : Holding) → k ≡ m → q.words ≡ p.words

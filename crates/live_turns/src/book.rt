@@ -50,9 +50,11 @@ impl Model for Book {
 
     ghost coded = { Prim.hlevel (codes, map.code) };
 
-    ghost view = { λ b. record { fats = b.fats; log = b.log.items; passes = b.passes; places = b.places } };
+    ghost view = { λ b.
+        record { fats = b.fats; log = b.log.items; passes = b.passes; places = b.places } };
 
-    ghost invariant = { λ b. IsBook (record { fats = b.fats; log = b.log.items; passes = b.passes; places = b.places })
+    ghost invariant = { λ b.
+        IsBook (record { fats = b.fats; log = b.log.items; passes = b.passes; places = b.places })
         × (b.kept ≡ kept_of b.fats) × (b.places ≤ vec_capacity b.log) };
 }
 
@@ -198,7 +200,8 @@ impl Book {
     /// pass has a list of its own deeds with as many places as the record, and `full` says that it
     /// has none left. `Err` is [`Torn`](LiveFault::Torn).
     pub fn check(&self, thread: ThreadId, parked: bool, full: bool) -> Result<(), LiveFault>
-        ensures torn { IsErrOf result LiveFault.Torn ↔ (is_torn self.now thread parked full ≡ true) }
+        ensures torn { IsErrOf result LiveFault.Torn
+            ↔ (is_torn self.now thread parked full ≡ true) }
         ensures whole { IsOk result ↔ (is_torn self.now thread parked full ≡ false) }
         ensures thread { OnOk result (IsThreadOf self.now.passes thread) }
     {

@@ -89,7 +89,8 @@ impl<L: Crew> Desk<L> {
     fn check(&self, own: &Own<L>, thread: ThreadId, parked: bool) -> Result<(), LiveFault>
         ensures thread { OnOk result (IsThreadOf self.now.book.passes thread) }
         ensures out { OnOk result (parked ≡ false → post_of self.now.book.fats thread ≡ Some Out) }
-        ensures room { OnOk result (length self.now.book.log < self.now.book.places → vec_len own.now.list < vec_capacity own.now.list) }
+        ensures room { OnOk result (length self.now.book.log < self.now.book.places
+            → vec_len own.now.list < vec_capacity own.now.list) }
         ensures torn { IfErr result (λ f. f ≡ LiveFault.Torn) }
     {
         let full = own.list.len() >= self.book.places() as usize;

@@ -24,7 +24,8 @@ impl<L: Crew> Turns<L> {
         ensures idle { pass.new.point ≡ At Idle }
         ensures words { AddsNoEvent pass.old.holding.words pass.new.holding.words }
         ensures own { pass.new.holding.own ≡ pass.old.holding.own }
-        ensures told { IfOk result (λ told. IsLookedAt (λ book. FnOnceReturnsAt F.FnOnce f book told)) }
+        ensures told { IfOk result (λ told.
+            IsLookedAt (λ book. FnOnceReturnsAt F.FnOnce f book told)) }
         ensures back { IfErr result (λ g. g ≡ f) }
     {
         self.lend(&mut pass.holder, f)
@@ -36,7 +37,8 @@ impl<L: Crew> Turns<L> {
         ensures belongs { Belongs self.now false holder.new }
         ensures words { AddsNoEvent holder.old.words holder.new.words }
         ensures own { holder.new.own ≡ holder.old.own }
-        ensures told { IfOk result (λ told. IsLookedAt (λ book. FnOnceReturnsAt F.FnOnce f book told)) }
+        ensures told { IfOk result (λ told.
+            IsLookedAt (λ book. FnOnceReturnsAt F.FnOnce f book told)) }
         ensures back { IfErr result (λ g. g ≡ f) }
     {
         let Some(desk) = self.take(holder) else {

@@ -5,6 +5,7 @@ use Rattle.lock_word.specs.declared.Lock.{Lock}
 use Rattle.lock_word.specs.declared.Lock.TheVariants.{Free, Thin, Fat}
 use Rattle.lock_word.specs.declared.Split.{Split}
 use Rattle.lock_word.specs.Layout.{lock_of, with_lock, count_of}
+use Rattle.fat_monitor.specs.declared.actions.Cause.{Cause}
 use Rattle.fat_monitor.specs.declared.actions.Cause.TheVariants as cause
 use Rattle.fat_monitor.specs.declared.actions.Reply.{Reply}
 use Rattle.fat_monitor.specs.declared.actions.Reply.TheVariants as reply
@@ -60,10 +61,16 @@ IsPublish z me o m (atomic.Stored p x y) =
     (p ≡ o) × ((n : ℕ) × (lock_of z x.0 ≡ Thin me n)) × (y.0 ≡ with_lock z x.0 (Fat m))
 IsPublish z me o m a = ⊥
 
+-- why a bind is refused: no monitor is left to bind, or memory runs out
+abbrev pub IsBindCause : Cause → Type 0
+IsBindCause cause.NoMonitor = Unit {0}
+IsBindCause cause.Memory = Unit {0}
+IsBindCause x = ⊥
+
 -- a bind for o, refused or not
 abbrev pub IsBind : ObjectId → Atomic → Type 0
 IsBind o (atomic.Bound p m) = p ≡ o
-IsBind o (atomic.NotBound p x) = p ≡ o
+IsBind o (atomic.NotBound p x) = (p ≡ o) × IsBindCause x
 IsBind o a = ⊥
 
 -- this fat action, which replies or parks

@@ -34,8 +34,10 @@ pub(crate) fn attach(
     requires counted { thread_count fats.old ≡ count_by is_some indices.old }
     requires few { length indices.old ≤ 32767 }
     ensures { (split : Split) → (words : List Word) → (room : Bool)
-        × (record { answer = result; after = world_of split words indices.new places.new.items fats.new }
-        ≡ step_of room (world_of split words indices.old places.old.items fats.old)
+        × (record {
+          answer = result;
+          after = world_of split words indices.new places.new.items fats.new;
+        } ≡ step_of room (world_of split words indices.old places.old.items fats.old)
         (step.Attach thread)) }
 {
     let index = match indices.take(thread) {
@@ -67,8 +69,10 @@ pub(crate) fn begin(
 ) -> Result<Did, Fault>
     requires { length places.old.items ≡ length indices.now }
     ensures { (split : Split) → (fats : FatState)
-        → record { answer = result; after = world_of split words.now indices.now places.new.items fats }
-        ≡ step_of true (world_of split words.now indices.now places.old.items fats)
+        → record {
+          answer = result;
+          after = world_of split words.now indices.now places.new.items fats;
+        } ≡ step_of true (world_of split words.now indices.now places.old.items fats)
         (step.Begin thread call) }
 {
     let Some(index) = indices.index_of(thread) else {
@@ -157,7 +161,8 @@ fn end_of_wait(fats: &Fats, action: Action, made: Move, done: Done) -> Did
 /// Tells the moment.
 #[inline(always)]
 pub(crate) fn tick(fats: &mut Fats, now: u64) -> Result<Did, Fault>
-    ensures { (split : Split) → (words : List Word) → (seats : List (Option ThreadId)) → (places : List Place)
+    ensures { (split : Split) → (words : List Word) → (seats : List (Option ThreadId))
+        → (places : List Place)
         → record { answer = result; after = world_of split words seats places fats.new }
         ≡ step_of true (world_of split words seats places fats.old) (step.Tick now) }
 {

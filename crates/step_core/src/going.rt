@@ -35,8 +35,11 @@ pub(crate) fn go(
     requires { IsSound (world_of split words.old indices.old places.old fats.old) }
     ensures sound { IsSound (world_of split words.new indices.new places.new fats.new) }
     ensures exact { (room : Bool)
-        × (record { answer = result; after = world_of split words.new indices.new places.new fats.new }
-        ≡ step_of room (world_of split words.old indices.old places.old fats.old) (step.Go thread)) }
+        × (record {
+          answer = result;
+          after = world_of split words.new indices.new places.new fats.new;
+        } ≡ step_of room (world_of split words.old indices.old places.old fats.old)
+        (step.Go thread)) }
 {
     let Some(index) = indices.index_of(thread) else {
         return Err(Fault::NoThread);
@@ -98,8 +101,10 @@ fn end(
     requires here { seat_of indices.old thread ≡ Some seat }
     requires out { post_of fats.old thread ≡ Some Out }
     ensures { (split : Split) (words : List Word)
-        → record { answer = Ok result; after = world_of split words indices.new places.new fats.new }
-        ≡ after_end (world_of split words indices.old places.old fats.old) seat thread
+        → record {
+          answer = Ok result;
+          after = world_of split words indices.new places.new fats.new;
+        } ≡ after_end (world_of split words indices.old places.old fats.old) seat thread
         (acted fats.old thread action.End).answer (acted fats.old thread action.End).after }
 {
     places[seat] = Place::Idle;

@@ -28,8 +28,10 @@ ghost use Rattle.step_core.specs.Laws.{OfEveryList};
 /// state that the world shows then; and the labels of the run are exactly those of the accepted steps.
 #[tactic(auto, using(crate::proofs::Lists::Reached::reached_run, crate::proofs::Lists::Reached::reached_labels))]
 pub fn every_list_of_steps_is_a_run()
-    ensures run { OfEveryList (λ lows w steps v. Run (opening (length lows)) (moves_after w steps) (shown v)) }
-    ensures labels { OfEveryList (λ lows w steps v. labels_of (moves_after w steps) ≡ labels_after w steps) }
+    ensures run { OfEveryList (λ lows w steps v.
+        Run (opening (length lows)) (moves_after w steps) (shown v)) }
+    ensures labels { OfEveryList (λ lows w steps v.
+        labels_of (moves_after w steps) ≡ labels_after w steps) }
 {}
 
 /// Live threads have distinct indices; the objects, and bits 7 to 0 of each word, are those of the opening.
@@ -93,19 +95,23 @@ pub fn no_notification_is_lost()
 /// interrupt forgotten.
 #[tactic(auto, using(crate::proofs::Lists::Waiters::first_interrupted, crate::proofs::Lists::Waiters::not_chosen, crate::proofs::Lists::Waiters::another, crate::proofs::Lists::Waiters::thrown, crate::proofs::Lists::Waiters::first_notified, crate::proofs::Lists::Waiters::pending, crate::proofs::Lists::Waiters::returned, crate::proofs::Lists::Waiters::never_lost))]
 pub fn a_waiter_throws_or_keeps_its_interrupt()
-    ensures first_interrupted { (s s' : State) (t u : ThreadId) (mine theirs : Bool) (o : ObjectId) (n : ℕ) (d : Option ℕ)
+    ensures first_interrupted { (s s' : State) (t u : ThreadId) (mine theirs : Bool)
+        (o : ObjectId) (n : ℕ) (d : Option ℕ)
         → Calls s t mine (call.Interrupt u) → Is s u theirs (doing.Waits o n d)
         → Steps s (move.Interrupt t) s' → Is s' u true (doing.Back o n Interrupted) }
-    ensures not_chosen { (s s' : State) (t u v : ThreadId) (flag : Bool) (o : ObjectId) (n : ℕ) (w : Why)
+    ensures not_chosen { (s s' : State) (t u v : ThreadId) (flag : Bool)
+        (o : ObjectId) (n : ℕ) (w : Why)
         → Is s u flag (doing.Back o n w) → Steps s (move.Notify t (Some v)) s' → v.0 ≡ u.0
         → ⊥ }
-    ensures another { (s s' : State) (t v : ThreadId) (f g : Bool) (o : ObjectId) (n : ℕ) (d : Option ℕ)
+    ensures another { (s s' : State) (t v : ThreadId) (f g : Bool)
+        (o : ObjectId) (n : ℕ) (d : Option ℕ)
         → Calls s t f (call.Notify o) → Is s v g (doing.Waits o n d)
         → Steps s (move.Notify t None) s' → ⊥ }
     ensures thrown { (s s' : State) (m : Move) (u : ThreadId) (flag : Bool) (o : ObjectId) (n : ℕ)
         → Steps s m s' → Is s u flag (doing.Back o n Interrupted)
         → IsBack s' u o n Interrupted ⊎ Is s' u false (doing.Has Throws) }
-    ensures first_notified { (s s' : State) (t u : ThreadId) (mine theirs : Bool) (o : ObjectId) (n : ℕ)
+    ensures first_notified { (s s' : State) (t u : ThreadId) (mine theirs : Bool)
+        (o : ObjectId) (n : ℕ)
         → Calls s t mine (call.Interrupt u) → Is s u theirs (doing.Back o n Notified)
         → Steps s (move.Interrupt t) s' → Is s' u true (doing.Back o n Notified) }
     ensures pending { (s s' : State) (m : Move) (u : ThreadId) (o : ObjectId) (n : ℕ) → Steps s m s'

@@ -209,7 +209,8 @@ impl World {
     #[inline(always)]
     fn tick(&mut self, now: u64) -> Result<Did, Fault>
         ensures was { IsSound self.old }
-        ensures exact { record { answer = result; after = self.new } ≡ step_of true self.old (step.Tick now) }
+        ensures exact { record { answer = result; after = self.new }
+            ≡ step_of true self.old (step.Tick now) }
     {
         control::tick(&mut self.fats, now)
     }
@@ -283,7 +284,8 @@ impl World {
 
     /// What a live thread is doing; None where it is not live.
     pub fn doing(&self, thread: ThreadId) -> Option<Doing>
-        ensures shown { result ≡ option_map (λ (x : Thread). x.act) ((shown self.now).thread thread) }
+        ensures shown { result
+            ≡ option_map (λ (x : Thread). x.act) ((shown self.now).thread thread) }
         ensures exists { IfSome result (ActExists (length self.now.words)) }
     {
         self.act(thread)
@@ -291,7 +293,8 @@ impl World {
 
     fn act(&self, thread: ThreadId) -> Option<Doing>
         ensures was { IsSound self.now }
-        ensures shown { result ≡ option_map (λ (x : Thread). x.act) ((shown self.now).thread thread) }
+        ensures shown { result
+            ≡ option_map (λ (x : Thread). x.act) ((shown self.now).thread thread) }
     {
         let index = self.indices.index_of(thread)?;
         let doing = match self.fats.post(thread) {

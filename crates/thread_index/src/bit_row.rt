@@ -47,7 +47,8 @@ impl BitRow {
     pub(crate) fn make_word(&mut self, j: usize) -> Result<(), AllocError>
         requires { j ≤ length self.old.words.items }
         ensures ok { OnOk result (j < length self.new.words.items) }
-        ensures words { (i : ℕ) → slice_index self.new.words.items i ≡ slice_index self.old.words.items i }
+        ensures words { (i : ℕ)
+            → slice_index self.new.words.items i ≡ slice_index self.old.words.items i }
         ensures longer { length self.old.words.items ≤ length self.new.words.items }
         ensures few { length self.new.words.items ≤ max (length self.old.words.items) (j + 1) }
     {

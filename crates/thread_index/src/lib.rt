@@ -144,7 +144,7 @@ impl Indices {
         Ok(seat as u16 + 1)
     }
 
-    /// Takes a thread's index back, if it has one, and says which it was.
+    /// Frees a thread's index, if it has one, and says which it was.
     pub fn give(&mut self, id: ThreadId) -> Option<u16>
         ensures index { result ≡ index_of self.old id }
         ensures given { self.new ≡ given_back self.old (seat_of self.old id) }
@@ -203,7 +203,8 @@ impl Indices {
     fn put(&mut self, seat: usize, id: ThreadId) -> Result<(), TakeFault>
         requires unknown { seat_of self.old id ≡ None }
         requires free { free_seat self.old ≡ Some seat }
-        ensures value { self.new ≡ (if is_ok result then slice_set self.old seat (Some id) else self.old) }
+        ensures value { self.new
+            ≡ (if is_ok result then slice_set self.old seat (Some id) else self.old) }
         ensures memory { IfErr result (λ fault. fault ≡ TakeFault.Memory) }
     {
         self.bits.make_room(seat)?;

@@ -214,3 +214,7 @@ found-somewhere c t (Some n) f = stands-somewhere (arrivals_of c) t n.0 f
 pub none-nowhere : (c : Chart) (t : ThreadId) (h : IsKept c) (o : Option Node) → IfNone o ((k : ℕ) → k < length c.ends → node_from (length c.spots) c.spots t (ends_at c k).first ≡ None) → IfNone o (StandsNowhere (lines_of (arrivals_of c)) t)
 none-nowhere c t h None f = nowhere-count (arrivals_of c) t (none-stands c t h f)
 none-nowhere c t h (Some n) f = f
+
+pub none-at : (c : Chart) (t : ThreadId) (o : Option Node) → IfNone o (StandsNowhere (lines_of (arrivals_of c)) t) → IfNone o ((n : ℕ) → ¬ StandsAt (nodes_of (arrivals_of c)) t n)
+none-at c t None f = λ n at. let s = stands-somewhere (arrivals_of c) t n at in f s.0 s.1 s.2
+none-at c t (Some n) f = f

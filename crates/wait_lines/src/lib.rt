@@ -111,6 +111,8 @@ impl Lines {
         ensures stood { IsTrue result ↔ Stands self.old.lines thread }
         ensures left { (m : ℕ) (r : Role) → StandsIn self.old.lines thread m r
             → self.new.lines ≡ left self.old.lines thread m r }
+        ensures nodes { (n : ℕ) → StandsAt self.old.nodes thread n
+            → self.new.nodes ≡ map.remove self.old.nodes thread.0 }
         ensures gone { StandsNowhere self.new.lines thread }
         ensures stays { OnFalse result (self.new ≡ self.old) }
         ensures reservations { self.new.reservations ≡ self.old.reservations }
@@ -130,6 +132,7 @@ impl Lines {
         ensures found { IfSome result (λ n. StandsAt self.now.nodes thread n.0) }
         ensures stands { IfSome result (λ n. Stands self.now.lines thread) }
         ensures none { IfNone result (StandsNowhere self.now.lines thread) }
+        ensures no_node { IfNone result ((n : ℕ) → ¬ StandsAt self.now.nodes thread n) }
         ensures orderly { IsOrderly (standing self.now) }
     {
         self.links.node_of(thread)

@@ -125,7 +125,8 @@ impl Table {
     /// Moves a record to the end of the row of its line's bucket.
     pub(crate) fn put(&mut self, line: u32, place: u32, role: Role)
         requires { line < self.old.size }
-        ensures moved { self.new ≡ with_move self.old line (suc (bucket_of self.old.buckets place role)) }
+        ensures moved { self.new
+            ≡ with_move self.old line (suc (bucket_of self.old.buckets place role)) }
         ensures here { IsInRow self.new.rows line (suc (bucket_of self.old.buckets place role)) }
     {
         let bucket = self.bucket(place, role);

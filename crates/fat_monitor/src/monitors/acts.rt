@@ -22,7 +22,8 @@ impl Fats {
     pub(super) fn enter(&mut self, thread: ThreadId, monitor: u32) -> Done
         requires out { post_of self.old thread ≡ Some Post.Out }
         requires bound { monitor < length self.old.monitors }
-        ensures { record { answer = Ok result; after = self.new } ≡ acted self.old thread (Action.Enter monitor) }
+        ensures { record { answer = Ok result; after = self.new }
+            ≡ acted self.old thread (Action.Enter monitor) }
     {
         let Some(owner) = self.owner(monitor) else {
             self.monitors[monitor as usize].give(Some(thread), 1);
@@ -45,7 +46,8 @@ impl Fats {
     pub(super) fn exit(&mut self, thread: ThreadId, monitor: u32) -> Done
         requires out { post_of self.old thread ≡ Some Post.Out }
         requires bound { monitor < length self.old.monitors }
-        ensures { record { answer = Ok result; after = self.new } ≡ acted self.old thread (Action.Exit monitor) }
+        ensures { record { answer = Ok result; after = self.new }
+            ≡ acted self.old thread (Action.Exit monitor) }
     {
         if !self.is_owner(monitor, thread) {
             return reply_with(Reply::IllegalMonitorState);
@@ -62,7 +64,8 @@ impl Fats {
     pub(super) fn wait(&mut self, thread: ThreadId, monitor: u32, millis: i64, nanos: i32) -> Done
         requires out { post_of self.old thread ≡ Some Post.Out }
         requires bound { monitor < length self.old.monitors }
-        ensures { record { answer = Ok result; after = self.new } ≡ acted self.old thread (Action.Wait monitor millis nanos) }
+        ensures { record { answer = Ok result; after = self.new }
+            ≡ acted self.old thread (Action.Wait monitor millis nanos) }
     {
         if !self.is_owner(monitor, thread) {
             return reply_with(Reply::IllegalMonitorState);
@@ -86,7 +89,8 @@ impl Fats {
     }
 
     pub(super) fn notify(&mut self, thread: ThreadId, monitor: u32) -> Done
-        ensures { record { answer = Ok result; after = self.new } ≡ acted self.old thread (Action.Notify monitor) }
+        ensures { record { answer = Ok result; after = self.new }
+            ≡ acted self.old thread (Action.Notify monitor) }
     {
         if !self.is_owner(monitor, thread) {
             return reply_with(Reply::IllegalMonitorState);
@@ -99,7 +103,8 @@ impl Fats {
     }
 
     pub(super) fn notify_all(&mut self, thread: ThreadId, monitor: u32) -> Done
-        ensures { record { answer = Ok result; after = self.new } ≡ acted self.old thread (Action.NotifyAll monitor) }
+        ensures { record { answer = Ok result; after = self.new }
+            ≡ acted self.old thread (Action.NotifyAll monitor) }
     {
         if !self.is_owner(monitor, thread) {
             return reply_with(Reply::IllegalMonitorState);
@@ -112,7 +117,8 @@ impl Fats {
 
     /// Sets the flag of a thread, and takes it out of the wait set that it stands in.
     pub(super) fn interrupt(&mut self, target: ThreadId) -> Done
-        ensures { (t : ThreadId) → record { answer = Ok result; after = self.new } ≡ acted self.old t (Action.Interrupt target) }
+        ensures { (t : ThreadId) → record { answer = Ok result; after = self.new }
+            ≡ acted self.old t (Action.Interrupt target) }
     {
         let Some(post) = self.posts.get(target) else {
             return reply_with(Reply::Refused(Cause::NoThread));
@@ -128,7 +134,8 @@ impl Fats {
     /// Answers whether the thread is interrupted, and clears its flag.
     pub(super) fn test_and_clear(&mut self, thread: ThreadId) -> Done
         requires { IsAttached self.old thread }
-        ensures { record { answer = Ok result; after = self.new } ≡ acted self.old thread Action.Interrupted }
+        ensures { record { answer = Ok result; after = self.new }
+            ≡ acted self.old thread Action.Interrupted }
     {
         let flag = self.posts.flag(thread);
         self.posts.set_flag(thread, false);
@@ -137,7 +144,8 @@ impl Fats {
 
     /// Answers whether that thread is interrupted.
     pub(super) fn is_interrupted(&self, target: ThreadId) -> Done
-        ensures { (t : ThreadId) → record { answer = Ok result; after = self.now } ≡ acted self.now t (Action.IsInterrupted target) }
+        ensures { (t : ThreadId) → record { answer = Ok result; after = self.now }
+            ≡ acted self.now t (Action.IsInterrupted target) }
     {
         match self.flag(target) {
             Some(flag) => reply_with(yes_or_no(flag)),
@@ -147,7 +155,8 @@ impl Fats {
 
     /// Takes the thread out of the wait set that it stands in, if its deadline has come.
     pub(super) fn expire(&mut self, thread: ThreadId) -> Result<Done, ActFault>
-        ensures { record { answer = result; after = self.new } ≡ acted self.old thread Action.Expire }
+        ensures { record { answer = result; after = self.new }
+            ≡ acted self.old thread Action.Expire }
     {
         let Some(
             Post::Waiting {
@@ -166,7 +175,8 @@ impl Fats {
 
     /// Takes the thread out of the wait set that it stands in, for no reason that a program can see.
     pub(super) fn wake(&mut self, thread: ThreadId) -> Result<Done, ActFault>
-        ensures { record { answer = result; after = self.new } ≡ acted self.old thread Action.Spurious }
+        ensures { record { answer = result; after = self.new }
+            ≡ acted self.old thread Action.Spurious }
     {
         let Some(Post::Waiting { .. }) = self.posts.get(thread) else {
             return Err(ActFault::NotWaiting);
@@ -176,7 +186,8 @@ impl Fats {
 
     /// Ends the wait of a thread by itself, for this reason.
     fn end_wait(&mut self, thread: ThreadId, why: Why) -> Done
-        requires waits { (m : ℕ) × (n : ℕ) × (d : Option ℕ) × (post_of self.old thread ≡ Some (Post.Waiting m n d)) }
+        requires waits { (m : ℕ) × (n : ℕ) × (d : Option ℕ)
+            × (post_of self.old thread ≡ Some (Post.Waiting m n d)) }
         ensures { record { answer = Ok result; after = self.new }
             ≡ told (removed self.old thread why (post_at self.old thread)) Answer.Quiet
             (served self.old thread (post_at self.old thread)) None }
@@ -188,7 +199,8 @@ impl Fats {
     /// Takes the reply that the thread was granted, if it was granted one.
     pub(super) fn collect(&mut self, thread: ThreadId) -> Result<Done, ActFault>
         requires { IsAttached self.old thread }
-        ensures { record { answer = result; after = self.new } ≡ acted self.old thread Action.Collect }
+        ensures { record { answer = result; after = self.new }
+            ≡ acted self.old thread Action.Collect }
     {
         let Some(Post::Granted(reply)) = self.posts.get(thread) else {
             return Err(ActFault::Parked);
@@ -200,7 +212,8 @@ impl Fats {
     /// Removes an attached thread, unless it owns a monitor.
     pub(super) fn end(&mut self, thread: ThreadId) -> Done
         requires { post_of self.old thread ≡ Some Post.Out }
-        ensures { record { answer = Ok result; after = self.new } ≡ acted self.old thread Action.End }
+        ensures { record { answer = Ok result; after = self.new }
+            ≡ acted self.old thread Action.End }
     {
         if self.owns_one(thread) {
             return reply_with(Reply::Refused(Cause::StillOwner));
@@ -213,7 +226,8 @@ impl Fats {
     fn hand_on(&mut self, monitor: u32) -> Option<ThreadId>
         requires { monitor < length self.old.monitors }
         ensures granted { result ≡ first_of self.old monitor Role.Entry }
-        ensures after { self.new ≡ handed_on self.old monitor (first_of self.old monitor Role.Entry) }
+        ensures after { self.new
+            ≡ handed_on self.old monitor (first_of self.old monitor Role.Entry) }
     {
         let Some(next) = self.lines.first(monitor, Role::Entry) else {
             let owner = self.owner(monitor);
@@ -232,7 +246,8 @@ impl Fats {
         requires bound { monitor < length self.old.monitors }
         requires stands { (r : Role) × (place_of (post_at self.old thread) ≡ Some (key monitor r)) }
         requires comes { ComesBack post }
-        ensures { (r : Role) → place_of (post_at self.old thread) ≡ Some (key monitor r) → self.new ≡ granted self.old monitor thread post r }
+        ensures { (r : Role) → place_of (post_at self.old thread) ≡ Some (key monitor r)
+            → self.new ≡ granted self.old monitor thread post r }
     {
         let owner = self.owner(monitor);
         self.lines.leave_at(self.posts.node(thread));
@@ -248,7 +263,8 @@ impl Fats {
     /// Takes a thread out of its wait set: behind an owner it goes to the end of the entry line, and a
     /// monitor that nobody owns it gets at once. It answers the thread where it got the monitor.
     fn call_back(&mut self, thread: ThreadId, why: Why) -> Option<ThreadId>
-        requires waits { (m : ℕ) × (n : ℕ) × (d : Option ℕ) × (post_of self.old thread ≡ Some (Post.Waiting m n d)) }
+        requires waits { (m : ℕ) × (n : ℕ) × (d : Option ℕ)
+            × (post_of self.old thread ≡ Some (Post.Waiting m n d)) }
         ensures after { self.new ≡ removed self.old thread why (post_at self.old thread) }
         ensures granted { result ≡ served self.old thread (post_at self.old thread) }
     {

@@ -1,5 +1,5 @@
 -- A Go is one step on the path of its call.
-use Rattle.std.specs.Prelude.{◌≡◌, ℕ, ◌+◌, Bool, true, false, Option, Some, None, Result, Ok, Err, IfOk, MatchResult}
+use Rattle.std.specs.Prelude.{◌≡◌, ℕ, ◌+◌, Bool, true, false, Option, Some, None, Result, Ok, Err, IfOk, MatchResult, MatchOption, nat_lt, length}
 use Rattle.std.proofs.Common.{refl, sym, ◌∙◌, get_or-set_same}
 use Rattle.std.proofs.lemmas.Bool.{cond_both}
 use Rattle.lock_word.specs.declared.ThreadId.{ThreadId}
@@ -38,7 +38,7 @@ use Rattle.step_core.specs.Ready.{IsOwnAction}
 use Rattle.step_core.specs.Did.{is_wait, did_action}
 use Rattle.step_core.specs.Go.{AfterGo, with_go, after_load, after_take, after_store, after_bind, after_publish, after_told, after_act, after_look_as, after_stage, action_on, action_about, entering, bind_cause, fats_changed}
 use Rattle.step_core.specs.Step.{AfterStep, accept, after_go, after_look, step_of}
-use Rattle.step_core.specs.Path.{IsTold, IsAct, Follows, point_acted, point_after, point_of, StepsOnPath}
+use Rattle.step_core.specs.Path.{IsBindCause, IsTold, IsAct, Follows, point_acted, point_after, point_of, StepsOnPath}
 use Rattle.step_core.proofs.Facts.Cases.{ended_as, did_return, go_cases}
 use Rattle.step_core.proofs.Facts.OneThread.{within}
 use Rattle.step_core.proofs.Clauses.Patient.{done, own_on, own_about}
@@ -69,13 +69,22 @@ module _ (w : WorldState) (k : ℕ) (t : ThreadId) where
   takes o true (Fat m) e = ((refl, λ free. let never = sym e ∙ free in cc), refl)
   takes o false (Fat m) e = ((refl, λ free. let never = sym e ∙ free in cc), refl)
 
-  binds : (c : MonitorCall) (n : ℕ) (refusal : Option Cause) → Goes (At (InCall (Binding c n))) (after_bind w t c false (n + 1) refusal)
-  binds c n None = (refl, refl)
-  binds c n (Some x) = (refl, refl)
+  -- if a bind is refused, then for one of its causes
+  abbrev MayBind : Option Cause → Type 0
+  MayBind refusal = MatchOption refusal (Unit {0}) IsBindCause
 
-  binds_won : (o : ObjectId) (refusal : Option Cause) → Goes (At (InCall (Won o))) (after_bind w t (entering o) true 1 refusal)
-  binds_won o None = (refl, refl)
-  binds_won o (Some x) = (refl, refl)
+  causes : (room : Bool) → MayBind (bind_cause room w.fats)
+  causes true = cond_both (nat_lt (length w.fats.monitors) w.fats.limit) _ _ MayBind (λ _. tt) (λ _. tt)
+  causes false = cond_both (nat_lt (length w.fats.monitors) w.fats.limit) _ _ MayBind (λ _. tt) (λ _. tt)
+
+  binds : (c : MonitorCall) (n : ℕ) (refusal : Option Cause) → MayBind refusal
+      → Goes (At (InCall (Binding c n))) (after_bind w t c false (n + 1) refusal)
+  binds c n None may = (refl, refl)
+  binds c n (Some x) may = ((refl, may), refl)
+
+  binds_won : (o : ObjectId) (refusal : Option Cause) → MayBind refusal → Goes (At (InCall (Won o))) (after_bind w t (entering o) true 1 refusal)
+  binds_won o None may = (refl, refl)
+  binds_won o (Some x) may = ((refl, may), refl)
 
   publishes : (c : MonitorCall) (won : Bool) (m n : ℕ) → lock_at w c.object.0 ≡ Thin (k + 1) n
       → Goes (At (InCall (Bound c won m))) (after_publish w t c won m)
@@ -107,9 +116,9 @@ module _ (w : WorldState) (k : ℕ) (t : ThreadId) where
   stages room (Begun c b) fits = loads c b (next_of w.split c.operation (lock_at w c.object.0) (k + 1)) refl
   stages room (Taking o b) fits = takes o b (lock_at w o.0) refl
   stages room (Storing c l) fits = ((refl, fits.1, refl), refl)
-  stages room (Binding c n) fits = binds c n (bind_cause room w.fats)
+  stages room (Binding c n) fits = binds c n (bind_cause room w.fats) (causes room)
   stages room (Acting c m) fits = acts_at (call_of c) (action_on c.operation m) (own_on c.operation m)
-  stages room (Won o) fits = binds_won o (bind_cause room w.fats)
+  stages room (Won o) fits = binds_won o (bind_cause room w.fats) (causes room)
   stages room (Bound c won m) fits = publishes c won m fits.2.0 fits.2.1
   stages room (Inflated c m) fits = acts_at (call_of c) (action_on c.operation m) (own_on c.operation m)
   stages room (Direct c) fits = acts_at (call_about c) (action_about c) (own_about c)

@@ -152,7 +152,8 @@ impl World {
 
     /// Makes room for so many binds to come.
     fn reserve(&mut self, binds: u32) -> Result<(), Memory>
-        ensures ok { OnOk result (self.new ≡ record self.old { fats = with_spare self.old.fats binds }) }
+        ensures ok { OnOk result (self.new
+            ≡ record self.old { fats = with_spare self.old.fats binds }) }
         ensures less { OnErr result (self.old.fats.spare < binds) }
         ensures unchanged { OnErr result (self.new ≡ self.old) }
     {
@@ -162,10 +163,12 @@ impl World {
     /// Inflates each thin lock whose count does not fit this split, in the order of objects.
     fn inflate_deep(&mut self, split: Split)
         requires rest { IsAtRest (shown self.old) }
-        requires room { length self.old.fats.monitors + deep_in split self.old ≤ self.old.fats.limit }
+        requires room { length self.old.fats.monitors + deep_in split self.old
+            ≤ self.old.fats.limit }
         requires spare { deep_in split self.old ≤ self.old.fats.spare }
         ensures exact { self.new ≡ inflated_below split self.old (length self.old.words) }
-        ensures fit { (p : ℕ) → p < length self.new.words → is_too_deep split (lock_at self.new p) ≡ false }
+        ensures fit { (p : ℕ) → p < length self.new.words
+            → is_too_deep split (lock_at self.new p) ≡ false }
         ensures shows { shown self.new ≡ shown self.old }
     {
         for object in 0..self.objects() {
@@ -197,7 +200,8 @@ impl World {
     fn respell(&mut self, split: Split)
         requires rest { IsAtRest (shown self.old) }
         requires few { length self.old.seats ≤ greatest_index split }
-        requires fit { (p : ℕ) → p < length self.old.words → is_too_deep split (lock_at self.old p) ≡ false }
+        requires fit { (p : ℕ) → p < length self.old.words
+            → is_too_deep split (lock_at self.old p) ≡ false }
         ensures exact { self.new ≡ respelled split self.old }
         ensures shows { shown self.new ≡ shown self.old }
     {
@@ -243,10 +247,13 @@ fn inflate(
 )
     requires here { object.0 < length words.old.items }
     requires formed { IsMalformed old (slice_index_or words.old.items object.0 (low_word 0)).0 → ⊥ }
-    requires held { (i n : ℕ) → lock_of old (slice_index_or words.old.items object.0 (low_word 0)).0 ≡ Thin i n
+    requires held { (i n : ℕ)
+        → lock_of old (slice_index_or words.old.items object.0 (low_word 0)).0 ≡ Thin i n
         → (1 ≤ i) × (n ≤ greatest_count old) × IsSome (holder_at indices.now (i - 1)) }
-    requires live { (k : ℕ) (t : ThreadId) → holder_at indices.now k ≡ Some t → IsAttached fats.old t }
-    requires room { is_deep_word old new (slice_index_or words.old.items object.0 (low_word 0)) ≡ true
+    requires live { (k : ℕ) (t : ThreadId) → holder_at indices.now k ≡ Some t
+        → IsAttached fats.old t }
+    requires room { is_deep_word old new (slice_index_or words.old.items object.0 (low_word 0))
+        ≡ true
         → (length fats.old.monitors < fats.old.limit) × (1 ≤ fats.old.spare) }
     ensures { (places : List Place) → world_of old words.new.items indices.now places fats.new
         ≡ inflated_at new (world_of old words.old.items indices.now places fats.old) object.0 }
@@ -270,8 +277,10 @@ fn inflate(
 
 /// Writes each word in the split `new`, which its lock fits.
 fn respell(words: &mut Vec<Word>, old: Split, new: Split)
-    requires formed { (p : ℕ) → IsMalformed old (slice_index_or words.old.items p (low_word 0)).0 → ⊥ }
-    requires fit { (p : ℕ) → Fits new (lock_of old (slice_index_or words.old.items p (low_word 0)).0) }
+    requires formed { (p : ℕ) → IsMalformed old (slice_index_or words.old.items p (low_word 0)).0
+        → ⊥ }
+    requires fit { (p : ℕ)
+        → Fits new (lock_of old (slice_index_or words.old.items p (low_word 0)).0) }
     ensures { words.new.items ≡ map (word_in old new) words.old.items }
 {
     for word in words.iter_mut() {

@@ -14,3 +14,6 @@ returns-in-None-clause-stood c = (λ e. absurd (cc), λ s. absurd (c.in-None.ens
 
 pub returns-in-None-clause-left : goal.returns-in-None-clause-left
 returns-in-None-clause-left c m r h = absurd (c.in-None.ensures.none m r h)
+
+pub returns-in-None-clause-nodes : goal.returns-in-None-clause-nodes
+returns-in-None-clause-nodes c n at = absurd (c.in-None.ensures.no_node n at)

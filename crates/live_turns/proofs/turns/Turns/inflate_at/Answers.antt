@@ -3,6 +3,7 @@ use Rattle.std.proofs.Common.{refl, ap, sym, ◌∙◌, subst}
 use Rattle.fat_monitor.specs.Binding.{Binding as Receipt}
 use Rattle.step_core.specs.declared.places.Place.TheVariants.{InCall}
 use Rattle.step_core.specs.declared.places.Stage.TheVariants.{Binding, Inflated}
+use Rattle.step_core.specs.Path.{IsBindCause}
 use Rattle.step_core.specs.declared.paths.Point.{Point}
 use Rattle.step_core.specs.declared.paths.Point.TheVariants.{At}
 use Rattle.live_turns.specs.declared.turned.Turned.{Turned}
@@ -56,7 +57,8 @@ returns-in-Err-Cause-clause-went g c =
     let p : Holding = record { words = c.holder.inside.words; own = c.holder.inside.own.list.items } in
     let q : Holding = record { words = c.holder.inside.words; own = c.bind.new.own.list.items } in
     rw (← c.holder.view_is) (subst (λ (u : Point). Went (At (InCall (Binding c.args.call c.args.count))) u p q) (sym (ap (λ (x : Turned). x.point) c.said.ensures))
-    (refused_way c.args.call c.args.count _ p q refl c.in-Err-Cause.ensures.none))
+    (refused_way c.args.call c.args.count _ p q
+    (subst IsBindCause (sym (c.in-Err-Cause.cause-is ∙ (rw c.in-Err-Cause.field-0-is at c.in-Err-Cause.ensures.fault))) tt) refl c.in-Err-Cause.ensures.none))
 
 pub returns-in-Err-Fault-clause-covers : goal.returns-in-Err-Fault-clause-covers
 returns-in-Err-Fault-clause-covers g c =

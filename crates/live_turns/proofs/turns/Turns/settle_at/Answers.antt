@@ -34,4 +34,4 @@ pub returns-in_default-clause-went : goal.returns-in_default-clause-went
 returns-in_default-clause-went g c =
     let p : Holding = record { words = c.holder.inside.words; own = c.holder.inside.own.list.items } in
     let q : Holding = record { words = c.holder.inside.words; own = c.bind.new.own.list.items } in
-    rw (← c.holder.view_is) (dropped_way c.args.object cause.NoMonitor p q refl c.in_default.ensures.none)
+    rw (← c.holder.view_is) (dropped_way c.args.object cause.NoMonitor p q tt refl c.in_default.ensures.none)
