@@ -4,7 +4,7 @@ ghost use Rattle.std.specs.Prelude.{◌≡◌, ◌<◌, ◌≤◌, ◌⊎◌, �
 ghost use Rattle.std.specs.Io.KnownBytes.{Keeps, Appends};
 ghost use Rattle.history_text.specs.Lines.{IsFirstBad};
 ghost use Rattle.history_text.specs.Scripts.{IsReasonFor};
-ghost use Rattle.history_streams.specs.declared.faults.FileFault.TheVariants.{BadLine, Read as ReadFault, Write as WriteFault};
+ghost use Rattle.history_streams.specs.declared.faults.FileFault.TheVariants.{BadLine, BadMove, Broken, Read as ReadFault, Write as WriteFault};
 ghost use Rattle.dump.specs.Dumps.{IsDumpOf};
 
 use crate::reports::report;
@@ -44,6 +44,8 @@ pub fn dump_script<S: Source, W: Sink>(
         × (n : ℕ) × Appends (W.holds sink.old) (W.holds sink.new) (take n text) }
     ensures unwritten { IfErr result (λ fault.
         (fault ≡ WriteFault) ⊎ Keeps (W.holds sink.old) (W.holds sink.new)) }
+    // No fault is one of a history.
+    ensures kinds { (line : ℕ) → (result ≡ Err (BadMove line) ⊎ result ≡ Err (Broken line)) → ⊥ }
 {
     let bytes = read_all(alloc, source)?;
     let text = dump_in(alloc, &bytes)?;

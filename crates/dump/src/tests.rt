@@ -1,6 +1,6 @@
-//! Cycles and dumps of some scripts, and growths that are refused.
+//! The cycles alone, of a script whose dump the examples have.
 
-use super::{cycles, report};
+use super::cycles;
 use history::{FileFault, play, read_script};
 use lock_word::ThreadId;
 use std::alloc::Global;
@@ -27,19 +27,6 @@ begin z enter a
 go z
 ";
 
-const TWO_AND_ONE_DUMP: &str = "thread x index 1 wants enter b flag no
-thread y index 2 wants enter a flag no
-thread z index 3 wants enter a flag no
-cycle x y
-";
-
-/// The dump of a script.
-fn dump_of(alloc: Global, bytes: &[u8]) -> Result<String, FileFault> {
-    let script = read_script(alloc, bytes)?;
-    let (world, names) = play(alloc, &script)?;
-    Ok(report(alloc, &world, &names)?)
-}
-
 /// The cycles of a script, by the numbers of their threads.
 fn cycles_of(alloc: Global, bytes: &[u8]) -> Result<Vec<Vec<ThreadId>>, FileFault> {
     let script = read_script(alloc, bytes)?;
@@ -49,36 +36,10 @@ fn cycles_of(alloc: Global, bytes: &[u8]) -> Result<Vec<Vec<ThreadId>>, FileFaul
 
 #[test]
 fn two_threads_and_one_that_leads_in(rt: HostRuntime) -> Result<(), Fail> {
-    match dump_of(rt.alloc(), TWO_AND_ONE) {
-        Ok(text) => assert_eq!(rt; text.as_str(), TWO_AND_ONE_DUMP),
-        Err(fault) => assert_eq!(rt; fault, FileFault::Memory),
-    }
-    match dump_of(rt.alloc(), TWO_AND_ONE) {
-        Ok(text) => assert_eq!(rt; text.as_str(), TWO_AND_ONE_DUMP),
-        Err(fault) => assert_eq!(rt; fault, FileFault::Memory),
-    }
-    Ok(())
-}
-
-#[test]
-fn the_cycle_alone(rt: HostRuntime) -> Result<(), Fail> {
-    match cycles_of(rt.alloc(), TWO_AND_ONE) {
-        Ok(found) => {
-            assert_eq!(rt; found.len(), 1);
-            for cycle in &found {
-                assert_eq!(rt; cycle.as_slice(), [ThreadId(0), ThreadId(1)].as_slice());
-            }
-        }
-        Err(fault) => assert_eq!(rt; fault, FileFault::Memory),
-    }
-    Ok(())
-}
-
-#[test]
-fn a_world_without_threads(rt: HostRuntime) -> Result<(), Fail> {
-    match dump_of(rt.alloc(), b"world 0 1\n") {
-        Ok(text) => assert_eq!(rt; text.as_str(), "no cycle\n"),
-        Err(fault) => assert_eq!(rt; fault, FileFault::Memory),
-    }
+    let found = cycles_of(rt.alloc(), TWO_AND_ONE)?;
+    let [cycle] = found.as_slice() else {
+        return Err(Fail::from("one cycle"));
+    };
+    assert_eq!(rt; cycle.as_slice(), [ThreadId(0), ThreadId(1)].as_slice());
     Ok(())
 }

@@ -3,7 +3,7 @@
 ghost use Rattle.std.specs.Prelude.{◌≡◌, ◌≤◌, ◌<◌, ◌⊎◌, ◌++◌, ◌∷◌, [], ℕ, List, Err, IfErr, IfOk, IfSome, IsErrOf, OnOk, length, string_bytes, take};
 ghost use Rattle.std.specs.Io.KnownBytes.{Keeps, Appends};
 ghost use Rattle.history_text.specs.Lines.{IsFirstBad};
-ghost use Rattle.history_streams.specs.declared.faults.FileFault.TheVariants.{BadLine, Read as ReadFault, Write as WriteFault};
+ghost use Rattle.history_streams.specs.declared.faults.FileFault.TheVariants.{BadLine, BadMove, Broken, Read as ReadFault, Write as WriteFault};
 ghost use Rattle.step_core.specs.Step.{moves_made, moves_of};
 ghost use Rattle.step_core.specs.declared.steps.Fault.TheVariants.{Memory as OutOfMemory};
 ghost use Rattle.history.specs.Plans.{IsPlanOf};
@@ -52,6 +52,8 @@ pub fn moves<S: Source, W: Sink>(
         × (n : ℕ) × Appends (W.holds sink.old) (W.holds sink.new) (take n history) }
     ensures unwritten { IfErr result (λ fault.
         (fault ≡ WriteFault) ⊎ Keeps (W.holds sink.old) (W.holds sink.new)) }
+    // No fault is one of a history.
+    ensures kinds { (line : ℕ) → (result ≡ Err (BadMove line) ⊎ result ≡ Err (Broken line)) → ⊥ }
 {
     let bytes = read_all(alloc, source)?;
     let plan = plan_in(alloc, &bytes)?;

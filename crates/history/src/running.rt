@@ -7,7 +7,7 @@ ghost use Rattle.history_text.specs.Scripts.{IsReasonFor, IsScriptText};
 ghost use Rattle.history.specs.Plans.{IsPlanOf};
 ghost use Rattle.history.specs.Reports.{IsReportOf};
 ghost use Rattle.history.specs.declared.plans.Plan.{Plan as PlanData};
-ghost use Rattle.history_streams.specs.declared.faults.FileFault.TheVariants.{BadLine, Read as ReadFault, Write as WriteFault, Memory};
+ghost use Rattle.history_streams.specs.declared.faults.FileFault.TheVariants.{BadLine, BadMove, Broken, Read as ReadFault, Write as WriteFault, Memory};
 
 use crate::plans::{Plan, plan_of};
 use crate::reports::report_of;
@@ -46,6 +46,8 @@ pub fn run<S: Source, W: Sink>(alloc: Global, source: &mut S, sink: &mut W) -> R
         × (n : ℕ) × Appends (W.holds sink.old) (W.holds sink.new) (take n report) }
     ensures unwritten { IfErr result (λ fault.
         (fault ≡ WriteFault) ⊎ Keeps (W.holds sink.old) (W.holds sink.new)) }
+    // No fault is one of a history.
+    ensures kinds { (line : ℕ) → (result ≡ Err (BadMove line) ⊎ result ≡ Err (Broken line)) → ⊥ }
 {
     let bytes = read_all(alloc, source)?;
     let plan = plan_in(alloc, &bytes)?;

@@ -3,7 +3,7 @@
 ghost use Rattle.std.specs.Prelude.{◌≡◌, ◌<◌, ◌≤◌, ◌⊎◌, ℕ, List, length, string_bytes, take, IsErrOf, IfSome, OnOk, IfErr, IfOk, Err};
 ghost use Rattle.std.specs.Io.KnownBytes.{Keeps, Appends};
 ghost use Rattle.live_scripts.specs.Rules.{IsFirstBadLive};
-ghost use Rattle.history_streams.specs.declared.faults.FileFault.TheVariants.{BadLine, Read as ReadFault, Write as WriteFault};
+ghost use Rattle.history_streams.specs.declared.faults.FileFault.TheVariants.{BadLine, BadMove, Broken, Read as ReadFault, Write as WriteFault};
 ghost use Rattle.live_runs.specs.declared.faults.RunFault.TheVariants.{File};
 ghost use Rattle.live_runs.specs.Faults.{IsRunReason};
 ghost use Rattle.live_runs.specs.Runs.{IsRunOf};
@@ -50,6 +50,9 @@ pub fn run_live<S: Source, W: Sink, R: Threads + Wait + Clock + Sync>(
         × (n : ℕ) × Appends (W.holds sink.old) (W.holds sink.new) (take n text) }
     ensures unwritten { IfErr result (λ fault.
         (fault ≡ File WriteFault) ⊎ Keeps (W.holds sink.old) (W.holds sink.new)) }
+    // No fault is one of a history.
+    ensures kinds { (line : ℕ) → (result ≡ Err (File (BadMove line))
+        ⊎ result ≡ Err (File (Broken line))) → ⊥ }
 {
     let bytes = read_all(alloc, source)?;
     let text = run_in(rt, alloc, &bytes)?;
