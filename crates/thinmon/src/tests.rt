@@ -1,4 +1,5 @@
 //! What no example shows: words of the command line, streams that fail, and want of memory.
 
+mod memory;
 mod streams;
 mod words;
