@@ -1,56 +1,107 @@
-"""Refuses each growth in turn, and looks at the tests that are written to see nothing else of it.
+"""Refuses each allocation of some tests in turn, and tells whether they pass.
 
-    python3 bench/refused_growths.py
+    python3 bench/refused_growths.py [CRATE ..]
 
-In each crate below, `rt try --test --fail-alloc N` runs all tests with the Nth allocation of each refused, for N = 1, 2
-and so on, until a run in which every test passes: no test asks for memory so often. The tests named here must pass in
-each run: where a growth is refused, the call answers Memory and changes nothing, and succeeds when it is tried again.
-The other tests may fail, for want of memory and nothing else. The script runs for some minutes, and proves nothing.
+The tests named below look at what comes of a refused allocation: the right answer or want of memory, and no other; what
+was handed in comes back, and the same succeeds when it is tried again. Each is to pass whichever allocation is refused.
+
+`rt try --test --fail-alloc M` refuses the Mth allocation of every test. So each test is written M times into a copy of
+the crates: the Nth makes M - N allocations first, so that the Nth of the test itself is refused, and one more at its
+end. Where that last one is refused, and says so, the test itself made just N - 1, each of which was refused before.
+Where none says so, M is doubled. The script runs for some minutes, and proves nothing.
 """
 
 import pathlib
 import re
+import shutil
 import subprocess
 import sys
+import tempfile
 
 ROOT = pathlib.Path(__file__).resolve().parent.parent
-RESULT = re.compile(r"^test (\S+) \.\.\. (\w+)", re.MULTILINE)
+FIRST_MOST = 64
+MET_NONE = "it met no refusal"
+BEHIND = f"""    if Vec::<u8>::with_capacity(rt.alloc(), 1).is_err() {{
+        return Err(Fail::from("{MET_NONE}"));
+    }}
+"""
 
 TESTS = {
-    "thread_index": ["tests::what_was_refused_succeeds_when_tried_again"],
-    "step_core": [
-        "tests::memory::what_was_refused_succeeds_when_tried_again",
-        "tests::memory::a_refused_relayout_succeeds_when_tried_again",
-    ],
+    "thread_index": {"tests": ["what_was_refused_succeeds_when_tried_again"]},
+    "step_core": {
+        "tests::memory": [
+            "what_was_refused_succeeds_when_tried_again",
+            "a_refused_relayout_succeeds_when_tried_again",
+        ]
+    },
+    "header_words": {"tests::memory": ["what_was_refused_comes_back_and_succeeds_again"]},
+    "live_threads": {"tests::memory": ["what_was_refused_comes_back_and_succeeds_again"]},
+    "thinmon": {
+        "tests::memory": [
+            "a_refused_run_succeeds_when_tried_again",
+            "a_refused_history_succeeds_when_tried_again",
+            "a_refused_dump_succeeds_when_tried_again",
+            "a_refused_check_succeeds_when_tried_again",
+            "a_refused_live_run_succeeds_when_tried_again",
+            "a_refused_print_succeeds_when_tried_again",
+        ]
+    },
 }
 
 
-def results(crate, refused):
-    """Which tests of a crate pass with this allocation refused."""
-    run = subprocess.run(
-        ["rt", "try", "--test", "--fail-alloc", str(refused)],
-        cwd=ROOT / "crates" / crate,
-        capture_output=True,
-        text=True,
-    )
-    return {name: word == "ok" for name, word in RESULT.findall(run.stdout + run.stderr)}
+def copies(text, test, most):
+    """The test in the text of a module, once for each of its first allocations, which is refused there."""
+    head, end = f"fn {test}(rt: HostRuntime) -> Result<(), Fail> {{\n", "    Ok(())\n}\n"
+    body = re.search(re.escape(head) + "(.*?)" + re.escape(end), text, re.DOTALL).group(1)
+    for refused in range(1, most + 1):
+        before = f"    for _ in 0..{most - refused} {{\n        Vec::<u8>::with_capacity(rt.alloc(), 1)?;\n    }}\n"
+        name = head.replace(test, f"{test}_{refused}")
+        yield f"\n#[test]\n{name}{before}{body}{BEHIND}{end}"
+
+
+def results(crate, most):
+    """What is said of each test of a crate, by name, where the tests below are written so many times."""
+    with tempfile.TemporaryDirectory() as folder:
+        top = pathlib.Path(folder)
+        shutil.copytree(ROOT / "crates", top / "crates", ignore=shutil.ignore_patterns("out"))
+        for file in ("crates.txt", "HANDLES"):
+            shutil.copy(ROOT / file, top)
+        for module, tests in TESTS[crate].items():
+            file = top / "crates" / crate / "src" / (module.replace("::", "/") + ".rt")
+            text = file.read_text()
+            file.write_text(text + "".join(it for test in tests for it in copies(text, test, most)))
+        words = ["rt", "try", "--test", "--fail-alloc", str(most)]
+        run = subprocess.run(words, cwd=top / "crates" / crate, capture_output=True, text=True)
+    said = re.split(r"^test (\S+) \.\.\. ", run.stdout + run.stderr, flags=re.MULTILINE)
+    if len(said) < 3:
+        sys.exit(f"{crate}: no test ran\n{said[0]}")
+    return dict(zip(said[1::2], said[2::2]))
+
+
+def ends_well(crate, test, said, most):
+    """Whether a test passes with each of its allocations refused; None where there may be more of them."""
+    for refused in range(1, most + 1):
+        words = said[f"{test}_{refused}"]
+        if MET_NONE in words:
+            print(f"{crate}: {test} passes with each of its {refused - 1} allocations refused")
+            return True
+        if not words.startswith("ok"):
+            print(f"{crate}: {test} fails where allocation {refused} is refused: {words}")
+            return False
+    return None
 
 
 def main():
     wrong = 0
-    for crate, tests in TESTS.items():
-        refused = 0
-        passed = {}
-        while not passed or not all(passed.values()):
-            refused += 1
-            passed = results(crate, refused)
-            if not passed:
-                sys.exit(f"{crate}: no test ran; `rt try --test` says why")
-            for test in tests:
-                if not passed.get(test, False):
-                    wrong += 1
-                    print(f"{crate}: {test} fails where allocation {refused} is refused")
-        print(f"{crate}: a run with allocation {refused} refused meets no refusal")
+    for crate in sys.argv[1:] or TESTS:
+        left = [f"{module}::{test}" for module, tests in TESTS[crate].items() for test in tests]
+        most = FIRST_MOST
+        while left:
+            said = results(crate, most)
+            found = {test: ends_well(crate, test, said, most) for test in left}
+            wrong += sum(end is False for end in found.values())
+            left = [test for test, end in found.items() if end is None]
+            most *= 2
     sys.exit(1 if wrong else 0)
 
 

@@ -1,4 +1,5 @@
 mod books;
 mod gate;
 mod limits;
+mod memory;
 mod words;

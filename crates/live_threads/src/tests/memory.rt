@@ -123,10 +123,12 @@ fn open_drive_and_close<L: Crew + Send + Sync, R: Threads + Wait + Clock + Sync 
 
 #[test]
 fn what_was_refused_comes_back_and_succeeds_again(rt: HostRuntime) -> Result<(), Fail> {
-    let closed = open_drive_and_close::<Brand, _>(&rt, rt.alloc(), Blank::new(1))?;
-    if let Some(closed) = closed {
-        assert!(&rt; closed.words.first() == Some(&Word(0xa5)));
-        assert!(&rt; closed.logged.is_empty() && closed.counts.first() == Some(&0));
+    let mut closed = open_drive_and_close::<Brand, _>(&rt, rt.alloc(), Blank::new(1))?;
+    if closed.is_none() {
+        closed = open_drive_and_close::<Brand, _>(&rt, rt.alloc(), Blank::new(1))?;
     }
+    let closed = closed.ok_or("refused twice")?;
+    assert!(&rt; closed.words.first() == Some(&Word(0xa5)));
+    assert!(&rt; closed.logged.is_empty() && closed.counts.first() == Some(&0));
     Ok(())
 }

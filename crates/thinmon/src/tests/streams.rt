@@ -1,17 +1,16 @@
-//! What no script shows: readers and writers that fail, and want of memory.
+//! What no script shows: readers and writers that fail.
 
-use history::{FileFault, ReaderSource, WriterSink, moves, replay, run};
-use std::alloc::Global;
+use history::{FileFault, ReaderSource, WriterSink, moves, run};
 use std::io;
 use std::io::{ErrorKind, Read, Write};
 use std::test::Fail;
 
-const SCRIPT: &[u8] = b"world 4 4\nobject a A5\nattach x\nbegin x enter a\ngo x\ngo x\n";
+pub(crate) const SCRIPT: &[u8] = b"world 4 4\nobject a A5\nattach x\nbegin x enter a\ngo x\ngo x\n";
 
-const REPORT: &[u8] =
+pub(crate) const REPORT: &[u8] =
     b"attach x index 1\nbegin x\ngo x load a 000000A5\ngo x won a 000000A5 000100A5 = Entered\nobject a 000100A5 owner x holds 1 waiting -\n";
 
-const HISTORY: &[u8] = b"{\"objects\":1}
+pub(crate) const HISTORY: &[u8] = b"{\"objects\":1}
 {\"move\":\"Attach\",\"thread\":0}
 {\"call\":\"Enter\",\"move\":\"Call\",\"object\":0,\"thread\":0}
 {\"move\":\"Lock\",\"thread\":0}
@@ -137,47 +136,11 @@ fn writers_that_fail(rt: HostRuntime) {
     }
 }
 
-fn play(alloc: Global) -> Result<Vec<u8>, FileFault> {
-    let mut sink = WriterSink::new(Vec::new(alloc));
-    run(alloc, &mut ReaderSource::new(SCRIPT), &mut sink)?;
-    Ok(sink.into_inner())
-}
-
 #[test]
 fn the_moves_of_a_script(rt: HostRuntime) -> Result<(), Fail> {
     let mut sink = WriterSink::new(Vec::new(rt.alloc()));
     moves(rt.alloc(), &mut ReaderSource::new(SCRIPT), &mut sink)?;
     assert!(rt; sink.into_inner().as_slice() == HISTORY);
-    Ok(())
-}
-
-/// Run with each allocation refused in turn, this meets every refusal of its script.
-#[test]
-fn a_refused_run_succeeds_when_tried_again(rt: HostRuntime) -> Result<(), Fail> {
-    match play(rt.alloc()) {
-        Ok(report) => assert_eq!(rt; report.as_slice(), REPORT),
-        Err(fault) => assert!(rt; fault == FileFault::Memory || fault == FileFault::Write),
-    }
-    let report = play(rt.alloc())?;
-    assert_eq!(rt; report.as_slice(), REPORT);
-    Ok(())
-}
-
-fn check(alloc: Global) -> Result<Vec<u8>, FileFault> {
-    let mut sink = WriterSink::new(Vec::new(alloc));
-    replay(alloc, &mut ReaderSource::new(HISTORY), &mut sink)?;
-    Ok(sink.into_inner())
-}
-
-/// The same of a check.
-#[test]
-fn a_refused_check_succeeds_when_tried_again(rt: HostRuntime) -> Result<(), Fail> {
-    match check(rt.alloc()) {
-        Ok(text) => assert_eq!(rt; text.as_slice(), b"run of 4 moves\n".as_slice()),
-        Err(fault) => assert!(rt; fault == FileFault::Memory || fault == FileFault::Write),
-    }
-    let text = check(rt.alloc())?;
-    assert_eq!(rt; text.as_slice(), b"run of 4 moves\n".as_slice());
     Ok(())
 }
 
