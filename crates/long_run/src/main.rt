@@ -5,14 +5,10 @@
 //! workers, which make 10,000 calls each; the last tells the moments and notifies, so that every wait
 //! ends. With no argument there are 2 rounds, with 8 and 7 threads, and else as many as the argument
 //! says: `rt run -- 250` makes more than 10,000,000 calls.
-//!
-//! Before the rounds it opens and closes a service with the most threads, and one with the longest
-//! record.
 #![tactic(auto)]
 
 mod accounts;
 mod keeping;
-mod limits;
 mod passes;
 mod plans;
 mod replies;
@@ -20,7 +16,6 @@ mod rounds;
 mod seeds;
 mod trouble;
 
-use limits::{MOST_PLACES, MOST_THREADS, play_limits};
 use rounds::play_round;
 use std::env;
 use std::io::Print;
@@ -35,10 +30,6 @@ fn main(rt: HostRuntime) -> Result<(), Trouble> {
         Some(text) => text.parse::<u32>()?,
         None => ROUNDS,
     };
-    play_limits(&rt, alloc)?;
-    println!(&rt;
-        "{MOST_THREADS} threads, and a record of {MOST_PLACES} places: opened and closed"
-    )?;
     let mut calls = 0u64;
     for round in 0..rounds {
         calls = calls.wrapping_add(play_round(&rt, alloc, round)?);

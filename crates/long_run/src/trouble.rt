@@ -34,10 +34,6 @@ pub enum Trouble {
         logged: u64,
         counted: u64,
     },
-    #[error("a record of {0} places has fewer at its opening")]
-    Places(u32),
-    #[error("the last of {0} threads does not own its object, or did not do the one deed")]
-    Last(u16),
     #[error("the passes are not those of the service")]
     Passes,
     #[error("the deeds of a pass are not those of the record")]

@@ -1,9 +1,14 @@
-use Rattle.std.proofs.Common.{◌≡◌, subst, sym}
+use Rattle.std.proofs.Common.{◌≡◌, ℕ, map, subst, sym}
 use Rattle.std.specs.List.{All}
-use Rattle.live_turns.specs.Ways.{Holding}
-use Rattle.long_run.proofs.Opened.{opened_here}
+use Rattle.std.proofs.lemmas.List.Elements.{All-map}
+use Rattle.header_words.specs.Passes.{Opening, new_passes}
+use Rattle.header_words.proofs.Opens.{new_passes_belong}
+use Rattle.live_turns.specs.Ways.{Holding, new_holding}
 use Rattle.long_run.proofs.rounds.play.Goals as goal
 
 pub work-requires-clause-here : goal.work-requires-clause-here
 work-requires-clause-here g c κs within =
-    subst (All (λ (p : Holding). p.words.opening ≡ c.in_ok-live.live)) (sym c.in_ok-live.ensures.passes) (opened_here c.in_ok-live.live c.args.threads)
+    subst (All (λ (p : Holding). p.words.opening ≡ c.in_ok-live.live)) (sym c.in_ok-live.ensures.passes) (belong c.in_ok-live.live c.args.threads)
+  where
+    belong : (z : Opening) (count : ℕ) → All (λ (p : Holding). p.words.opening ≡ z) (map new_holding (new_passes z 1 count))
+    belong z count = All-map (λ (p : Holding). p.words.opening ≡ z) new_holding (new_passes z 1 count) (new_passes_belong z 1 count)
