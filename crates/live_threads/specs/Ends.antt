@@ -4,6 +4,7 @@ use Rattle.header_words.specs.Passes.{Opening}
 use Rattle.step_core.specs.declared.places.Place.TheVariants.{Idle}
 use Rattle.step_core.specs.declared.paths.Point.TheVariants.{At}
 use Rattle.live_turns.specs.Numbers.{HasEach}
+use Rattle.live_turns.specs.Ends.{Disagrees}
 use Rattle.live_turns.specs.Ways.{Holding, PassState}
 use Rattle.live_threads.specs.declared.ending.LiveClose.{LiveClose}
 use Rattle.live_threads.specs.declared.ending.LiveClose.TheVariants.{WrongPass, Memory, Torn}
@@ -21,6 +22,12 @@ abbrev pub TellsEnd : {L : Type 0} → ℕ → List Holding → LiveClose L → 
 TellsEnd count ps (WrongPass s p) = HasEach count (numbers_of ps) → ⊥
 TellsEnd count ps (Memory s p) = HasEach count (numbers_of ps)
 TellsEnd count ps Torn = HasEach count (numbers_of ps)
+
+-- a pass is told to be torn where the record of the service does not have its deeds
+abbrev pub IsTornFrom : {L : Type 0} → Opening → ℕ → List Holding → LiveClose L → Type 0
+IsTornFrom z limit ps (WrongPass s p) = Unit {0}
+IsTornFrom z limit ps (Memory s p) = Unit {0}
+IsTornFrom z limit ps Torn = Disagrees z limit (map at_rest ps)
 
 -- the fault hands back this service and these passes
 abbrev pub IsHandedBack : {L : Type 0} → Opening → List Holding → LiveClose L → Type 0

@@ -4,7 +4,7 @@ ghost use Rattle.std.specs.Prelude.{◌≡◌, IfErr, OnOk, OnErr, ◌++◌, tru
 ghost use Rattle.fast_path.specs.declared.calls.Operation.TheVariants as op;
 ghost use Rattle.fast_path.specs.declared.calls.InterruptCall.TheVariants as about;
 ghost use Rattle.live_turns.specs.Asked.{IsTickFault};
-ghost use Rattle.live_turns.specs.Ways.{AddsNoEvent, ticked_by};
+ghost use Rattle.live_turns.specs.Ways.{AddsNoEvent, VisitsBook, ticked_by};
 ghost use Rattle.live_threads.specs.Calls.{CalledOn, CalledAbout};
 
 use crate::{Live, LivePass};
@@ -210,6 +210,7 @@ impl<L: Crew> Live<L> {
             ++ ticked_by true pass.old.words.index now) }
         ensures none { OnErr result (pass.new.own ≡ pass.old.own) }
         ensures fault { IfErr result IsTickFault }
+        ensures looked { VisitsBook 1 pass.old.words pass.new.words }
     {
         let told = self.tell(rt, &mut pass.turns, now);
         if told.is_ok() {

@@ -7,7 +7,7 @@ ghost use Rattle.live_turns.specs.Numbers.{HasEach};
 ghost use Rattle.live_turns.specs.Ends.{IsEnd, IsLookedAt};
 ghost use Rattle.live_turns.specs.Ways.{AddsNoEvent};
 ghost use Rattle.live_threads.specs.Calls.{IsAtRest};
-ghost use Rattle.live_threads.specs.Ends.{IsHandedBack, TellsEnd, at_rest, numbers_of};
+ghost use Rattle.live_threads.specs.Ends.{IsHandedBack, IsTornFrom, TellsEnd, at_rest, numbers_of};
 
 use crate::opening::with_parkers;
 use crate::{Live, LivePass};
@@ -88,6 +88,7 @@ impl<L: Crew> Live<L> {
         ensures end { IfOk result (IsEnd self L.monitors (map at_rest passes.items)) }
         ensures all { IfOk result (λ _. HasEach self.count (numbers_of passes.items)) }
         ensures fault { IfErr result (TellsEnd self.count passes.items) }
+        ensures torn { IfErr result (IsTornFrom self L.monitors passes.items) }
         ensures back { IfErr result (IsHandedBack self passes.items) }
     {
         if !has_each(&passes, self.turns.passes()) {
@@ -115,6 +116,7 @@ impl<L: Crew> Live<L> {
             × (length passes.items ≤ vec_capacity parkers) }
         ensures end { IfOk result (IsEnd self L.monitors (map at_rest passes.items)) }
         ensures fault { IfErr result (TellsEnd self.count passes.items) }
+        ensures torn { IfErr result (IsTornFrom self L.monitors passes.items) }
         ensures back { IfErr result (IsHandedBack self passes.items) }
     {
         take_apart(&mut passes, &mut turns, &mut parkers);

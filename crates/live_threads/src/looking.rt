@@ -3,7 +3,7 @@
 ghost use Rattle.std.specs.Prelude.{◌≡◌};
 ghost use Rattle.std.specs.Fn.{FnOnceReturnsAt};
 ghost use Rattle.live_turns.specs.Ends.{IsLookedAt};
-ghost use Rattle.live_turns.specs.Ways.{AddsNoEvent};
+ghost use Rattle.live_turns.specs.Ways.{AddsNoEvent, VisitsBook};
 ghost use Rattle.live_threads.specs.Calls.{IsAtRest};
 
 use crate::waiting::Waiting;
@@ -27,6 +27,7 @@ impl<L: Crew> Live<L> {
         ensures here { pass.new.words.opening ≡ self.now }
         ensures words { AddsNoEvent pass.old.words pass.new.words }
         ensures own { pass.new.own ≡ pass.old.own }
+        ensures looked { VisitsBook 1 pass.old.words pass.new.words }
         ensures told { IsLookedAt (λ book. FnOnceReturnsAt F.FnOnce f book result) }
     {
         self.lend(rt, &mut pass.turns, f)
@@ -45,6 +46,7 @@ impl<L: Crew> Live<L> {
         ensures rests { IsAtRest pass.new }
         ensures words { AddsNoEvent pass.old.holding.words pass.new.holding.words }
         ensures own { pass.new.holding.own ≡ pass.old.holding.own }
+        ensures looked { VisitsBook 1 pass.old.holding.words pass.new.holding.words }
         ensures told { IsLookedAt (λ book. FnOnceReturnsAt F.FnOnce f book result) }
     {
         let mut waiting = Waiting::new();

@@ -4,7 +4,7 @@ ghost use Rattle.std.specs.Prelude.{◌≡◌, IfOk, IfErr, OnOk, OnErr, ◌++�
 ghost use Rattle.step_core.specs.declared.paths.Point.TheVariants.{Said};
 ghost use Rattle.live_turns.specs.Asked.{IsTickFault};
 ghost use Rattle.live_turns.specs.Points.{resting};
-ghost use Rattle.live_turns.specs.Ways.{AddsNoEvent, Went, Halted, ticked_by};
+ghost use Rattle.live_turns.specs.Ways.{AddsNoEvent, Went, Halted, VisitsBook, ticked_by};
 ghost use Rattle.live_threads.specs.Calls.{IsAtRest, CalledOn, CalledAbout};
 
 use crate::Live;
@@ -123,6 +123,7 @@ impl<L: Crew> Live<L> {
             ++ ticked_by true pass.old.holding.words.index now) }
         ensures none { OnErr result (pass.new.holding.own ≡ pass.old.holding.own) }
         ensures fault { IfErr result IsTickFault }
+        ensures looked { VisitsBook 1 pass.old.holding.words pass.new.holding.words }
     {
         let mut waiting = Waiting::new();
         for _ in rt.forever() {

@@ -1,5 +1,5 @@
 -- The numbers of passes that are looked through one after another.
-use Rattle.std.proofs.Common.{◌≡◌, ◌≢◌, ◌≤◌, ◌<◌, ◌+◌, ℕ, List, [], ◌∷◌, false, All, Vec, Global, Result, Ok, Err, IfOk, map, sum, length, get_or, Contains, refl, sym, ap, subst, ◌∙◌, arith}
+use Rattle.std.proofs.Common.{◌≡◌, ◌≢◌, ◌≤◌, ◌<◌, ◌+◌, ℕ, List, [], ◌∷◌, false, All, Vec, Global, Result, Ok, Err, IfOk, IfErr, OnErr, map, sum, length, get_or, Contains, refl, sym, ap, subst, ◌∙◌, arith}
 use Rattle.std.proofs.lemmas.List.{get_or_default, length-map}
 use lib.ListN.{get_or-map}
 use Rattle.std.proofs.lemmas.List.Elements.{All-map}
@@ -17,7 +17,7 @@ use Rattle.live_turns.specs.Book.{BookState}
 use Rattle.live_turns.specs.Log.{Replays, nothing_bound}
 use Rattle.live_turns.specs.Numbers.{HasEach}
 use Rattle.live_turns.specs.Ways.{PassState, Belongs}
-use Rattle.live_turns.specs.Ends.{HasOwn, IsEnd, IsHandedBack, IsTorn, TellsEnd, count_of, numbers_of, words_of}
+use Rattle.live_turns.specs.Ends.{HasOwn, IsEnd, IsHandedBack, IsTorn, IsTornFrom, TellsEnd, count_of, numbers_of, words_of}
 
 pub missed : {X : Type 0} (f : X → ℕ) (xs : List X) (i n : ℕ) (x : X) → n < length xs → x ≡ get_or xs n x → f x ≢ i → ((k : ℕ) (d : ℕ) → k < n → get_or (map f xs) k d ≢ i)
     → (k : ℕ) (d : ℕ) → k < n + 1 → get_or (map f xs) k d ≢ i
@@ -66,6 +66,10 @@ torn_tells count ps (WrongPass t p) each torn = absurd torn
 torn_tells count ps (Memory t p) each torn = each
 torn_tells count ps Torn each torn = each
 
+pub torn_ends : {L : Type 0} (count : ℕ) (ps : List PassState) (r : Result Closed (TurnsClose L)) → HasEach count (numbers_of ps) → IfErr r IsTorn → IfErr r (TellsEnd count ps)
+torn_ends count ps (Ok c) each torn = tt
+torn_ends count ps (Err f) each torn = torn_tells count ps f each torn
+
 pub torn_back : {L : Type 0} (z : Opening) (ps : List PassState) (f : TurnsClose L) → IsTorn f → IsHandedBack z ps f
 torn_back z ps (WrongPass t p) torn = absurd torn
 torn_back z ps (Memory t p) torn = absurd torn
@@ -100,3 +104,22 @@ no_wrong {B} z w ps row e f here rows is missing each tells =
 pub ok_always : {X E : Type 0} (P : Type 0) (r : Result X E) → P → IfOk r (λ _. P)
 ok_always P (Ok x) p = p
 ok_always P (Err e) p = tt
+
+-- where the book does not have just the deeds of the passes
+pub torn_from : {L : Type 0} (z : Opening) (limit : ℕ) (ps rs : List PassState) (b : BookState) (r : Result Closed (TurnsClose L)) → rs ≡ ps → b.passes ≡ z.count → b.fats.limit ≡ limit
+    → OnErr r (All (HasOwn b.log) rs → ⊥) → Replays b.passes (nothing_bound b.passes b.fats.limit) b.log b.fats → length b.log ≡ sum (map count_of rs) → IfErr r IsTorn
+    → IfErr r (IsTornFrom z limit ps)
+torn_from z limit ps rs b (Ok c) same passes limits other replays total torn = tt
+torn_from {L} z limit ps rs b (Err f) same passes limits other replays total torn = told f torn
+  where
+    told : (x : TurnsClose L) → IsTorn x → IsTornFrom z limit ps x
+    told (WrongPass t p) is = absurd is
+    told (Memory t p) is = absurd is
+    told Torn is = record {
+      log = b.log;
+      fats = b.fats;
+      replays = subst (λ (n : ℕ). Replays n (nothing_bound n limit) b.log b.fats) passes
+          (subst (λ (m : ℕ). Replays b.passes (nothing_bound b.passes m) b.log b.fats) limits replays);
+      total = total ∙ ap (λ (xs : List PassState). sum (map count_of xs)) same;
+      other = λ all. other (subst (All (HasOwn b.log)) (sym same) all);
+    }

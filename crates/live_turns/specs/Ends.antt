@@ -52,6 +52,21 @@ IsHandedBack z ps (WrongPass t p) = (t ≡ z) × (p.items ≡ ps)
 IsHandedBack z ps (Memory t p) = (t ≡ z) × (p.items ≡ ps)
 IsHandedBack z ps Torn = Unit {0}
 
+-- there is a record that replays from nothing bound, and is as long as the deeds of all passes together, but does not have
+-- just each pass's deeds under its number
+pub record Disagrees (z : Opening) (limit : ℕ) (ps : List PassState) : Type 0 where
+  pub log : List Logged
+  pub fats : FatState
+  pub replays : Replays z.count (nothing_bound z.count limit) log fats
+  pub total : length log ≡ sum (map count_of ps)
+  pub other : All (HasOwn log) ps → ⊥
+
+-- a pass is told to be torn where the record of the service does not have its deeds
+abbrev pub IsTornFrom : {L : Type 0} → Opening → ℕ → List PassState → TurnsClose L → Type 0
+IsTornFrom z limit ps (WrongPass t p) = Unit {0}
+IsTornFrom z limit ps (Memory t p) = Unit {0}
+IsTornFrom z limit ps Torn = Disagrees z limit ps
+
 abbrev pub IsTorn : {L : Type 0} → TurnsClose L → Type 0
 IsTorn (WrongPass t p) = ⊥
 IsTorn (Memory t p) = ⊥

@@ -1,10 +1,12 @@
 -- What one turn of a call came to, and what a pass knows between turns.
 use Rattle.std.specs.Prelude.{◌≡◌, ◌<◌, ◌≤◌, ◌||◌, ◌+◌, Bool, true, false, nat_lt, length}
 use Rattle.header_words.specs.Bindings.{HasPublish}
+use Rattle.fat_monitor.specs.declared.actions.Reply.{Reply}
+use Rattle.fat_monitor.specs.declared.actions.Reply.TheVariants as reply
 use Rattle.fast_path.specs.declared.calls.MonitorCall.{MonitorCall}
 use Rattle.fast_path.specs.declared.calls.InterruptCall.{InterruptCall}
 use Rattle.fast_path.specs.declared.calls.InterruptCall.TheVariants as about
-use Rattle.header_words.specs.Passes.{Opening, depth_at}
+use Rattle.header_words.specs.Passes.{Opening, PassValue, depth_at}
 use Rattle.step_core.specs.declared.places.Place.{Place}
 use Rattle.step_core.specs.declared.places.Place.TheVariants.{Idle, InCall, Ending, AtPost}
 use Rattle.step_core.specs.declared.places.Stage.{Stage}
@@ -16,7 +18,7 @@ use Rattle.live_turns.specs.declared.turned.Standing.{Standing}
 use Rattle.live_turns.specs.declared.turned.Standing.TheVariants as standing
 use Rattle.live_turns.specs.declared.faults.LiveFault.{LiveFault}
 use Rattle.live_turns.specs.declared.faults.LiveFault.TheVariants as fault
-use Rattle.live_turns.specs.Ways.{Holding, Halted}
+use Rattle.live_turns.specs.Ways.{Holding, Halted, VisitsBook}
 
 -- where a call stands that has no reply yet, for whoever drives it
 abbrev pub waiting_at : Place → Standing
@@ -73,6 +75,42 @@ is_at_book (At (InCall (Direct c))) = true
 is_at_book (At AtPost) = true
 is_at_book Expired = true
 is_at_book p = false
+
+-- A turn that begins at the book: either another pass had the gate, and the call still stands at the book, at which the
+-- pass was not; or the pass was there once, and the call has its reply or has parked.
+abbrev pub Visited : Bool → Point → PassValue → PassValue → Type 0
+Visited true s p q = (is_at_book s ≡ true) × VisitsBook 0 p q
+Visited false s p q = RestsAtPost s × VisitsBook 1 p q
+
+-- a call is refused at the book alone
+abbrev pub RefusesThere : Reply → PassValue → PassValue → Type 0
+RefusesThere (reply.Refused x) p q = VisitsBook 1 p q
+RefusesThere r p q = Unit {0}
+
+-- A turn that begins with a load: a call that stands in the middle has met another thread, by an event on the word; one
+-- that has parked, or is refused, was at the book once.
+abbrev pub Loaded : Bool → Point → PassValue → PassValue → Type 0
+Loaded true s p q = (is_at_book s ≡ true) × VisitsBook 0 p q
+Loaded false (Said r) p q = RefusesThere r p q
+Loaded false (At (InCall s)) p q = (length p.mine < length q.mine) × VisitsBook 0 p q
+Loaded false (At Idle) p q = ⊥
+Loaded false (At AtPost) p q = VisitsBook 1 p q
+Loaded false (At (Ending n)) p q = ⊥
+Loaded false Expired p q = VisitsBook 1 p q
+
+-- what a pass did in a turn from this stage
+abbrev pub TurnedStage : Stage → Bool → Point → PassValue → PassValue → Type 0
+TurnedStage (Begun c contended) gate_taken s p q = Loaded gate_taken s p q
+TurnedStage s gate_taken t p q = Visited gate_taken t p q
+
+-- and from this point: nothing, where it is in no call
+abbrev pub TurnedFrom : Point → Bool → Point → PassValue → PassValue → Type 0
+TurnedFrom (Said r) gate_taken s p q = q ≡ p
+TurnedFrom (At Idle) gate_taken s p q = q ≡ p
+TurnedFrom (At (InCall s)) gate_taken t p q = TurnedStage s gate_taken t p q
+TurnedFrom (At AtPost) gate_taken s p q = Visited gate_taken s p q
+TurnedFrom (At (Ending n)) gate_taken s p q = ⊥
+TurnedFrom Expired gate_taken s p q = Visited gate_taken s p q
 
 -- a call on an object was given up: there is no such object, and nothing was done; or as the point of the path says
 abbrev pub GivenUpOn : Opening → MonitorCall → LiveFault → Holding → Holding → Type 0

@@ -1,5 +1,5 @@
 -- What a call adds to the events and to the deeds of its pass.
-use Rattle.std.specs.Prelude.{◌≡◌, ℕ, ◌+◌, Bool, true, false, if◌then◌else◌, ◌==◌, List, [], ◌∷◌, ◌++◌}
+use Rattle.std.specs.Prelude.{◌≡◌, ℕ, ◌+◌, ◌*◌, Bool, true, false, if◌then◌else◌, ◌==◌, List, [], ◌∷◌, ◌++◌, length}
 use Rattle.lock_word.specs.declared.ThreadId.{ThreadId}
 use Rattle.lock_word.specs.declared.Lock.{Lock}
 use Rattle.lock_word.specs.declared.Lock.TheVariants.{Free, Thin, Fat}
@@ -139,6 +139,10 @@ Gave p q = (q.words ≡ has_given p.words) × (q.own ≡ p.own)
 -- the pass made no event on the words
 abbrev pub AddsNoEvent : PassValue → PassValue → Type 0
 AddsNoEvent p q = (q.opening ≡ p.opening) × (q.index ≡ p.index) × (q.mine ≡ p.mine) × (q.has_gate ≡ p.has_gate)
+
+-- The pass was at the book so often: it took the gate, and gave it back. Each other step of its own is an event.
+abbrev pub VisitsBook : ℕ → PassValue → PassValue → Type 0
+VisitsBook n p q = q.steps + length p.mine ≡ p.steps + length q.mine + 2 * n
 
 -- the deed of a pass that told the moment, if it did
 abbrev pub ticked_by : Bool → ℕ → ℕ → List Logged

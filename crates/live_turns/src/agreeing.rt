@@ -1,19 +1,21 @@
 //! Whether the record has just the deeds of a pass under its number.
 
-ghost use Rattle.std.specs.Prelude.{◌≡◌, true};
+ghost use Rattle.std.specs.Prelude.{◌≡◌, true, false};
 ghost use Rattle.live_turns.specs.Ends.{own_of};
 
 use crate::{Deed, Logged};
 use fat_monitor::{Action, Answer, Reply};
 
 fn same(left: &Logged, right: &Logged) -> bool
-    ensures { result ≡ true → left.now ≡ right.now }
+    ensures same { result ≡ true → left.now ≡ right.now }
+    ensures other { result ≡ false → left.now ≡ right.now → ⊥ }
 {
     left.thread.0 == right.thread.0 && same_deed(left.deed, right.deed)
 }
 
 fn same_deed(left: Deed, right: Deed) -> bool
-    ensures { result ≡ true → left ≡ right }
+    ensures same { result ≡ true → left ≡ right }
+    ensures other { result ≡ false → left ≡ right → ⊥ }
 {
     match (left, right) {
         (
@@ -41,13 +43,15 @@ fn same_deed(left: Deed, right: Deed) -> bool
 }
 
 fn same_action(left: Action, right: Action) -> bool
-    ensures { result ≡ true → left ≡ right }
+    ensures same { result ≡ true → left ≡ right }
+    ensures other { result ≡ false → left ≡ right → ⊥ }
 {
     left == right
 }
 
 fn same_answer(left: Answer, right: Answer) -> bool
-    ensures { result ≡ true → left ≡ right }
+    ensures same { result ≡ true → left ≡ right }
+    ensures other { result ≡ false → left ≡ right → ⊥ }
 {
     match (left, right) {
         (Answer::Reply(reply), Answer::Reply(other)) => same_reply(reply, other),
@@ -57,14 +61,16 @@ fn same_answer(left: Answer, right: Answer) -> bool
 }
 
 fn same_reply(left: Reply, right: Reply) -> bool
-    ensures { result ≡ true → left ≡ right }
+    ensures same { result ≡ true → left ≡ right }
+    ensures other { result ≡ false → left ≡ right → ⊥ }
 {
     left == right
 }
 
 /// Whether the record has just these deeds under this number.
 pub(crate) fn agrees(log: &[Logged], own: &[Logged], thread: u16) -> bool
-    ensures { result ≡ true → own_of thread log.now ≡ own.now }
+    ensures own { result ≡ true → own_of thread log.now ≡ own.now }
+    ensures other { result ≡ false → own_of thread log.now ≡ own.now → ⊥ }
 {
     let mut next = 0;
     for entry in log {

@@ -1,12 +1,13 @@
 //! Calls that are driven by turns.
 
-ghost use Rattle.std.specs.Prelude.{◌≡◌, ◌<◌, IfOk, IfErr, OnErr, OnOk, Bool, length, ◌++◌, false, None};
+ghost use Rattle.std.specs.Prelude.{◌≡◌, ◌≢◌, ◌<◌, IfOk, IfErr, MatchBool, OnErr, OnOk, Bool, length, ◌++◌, false, None};
 ghost use Rattle.step_core.specs.declared.places.Place.TheVariants.{Idle, InCall};
 ghost use Rattle.step_core.specs.declared.places.Stage.TheVariants.{Begun, Direct};
 ghost use Rattle.step_core.specs.declared.paths.Point.TheVariants.{At};
 ghost use Rattle.live_turns.specs.Asked.{IsTickFault};
-ghost use Rattle.live_turns.specs.Points.{Knows, KnowsStage, resting, GivenUpOn, GivenUpAbout, names_stranger};
-ghost use Rattle.live_turns.specs.Ways.{AddsNoEvent, Belongs, Went, Halted, ticked_by};
+ghost use Rattle.live_turns.specs.declared.faults.LiveFault.{LiveFault};
+ghost use Rattle.live_turns.specs.Points.{Knows, KnowsStage, resting, GivenUpOn, GivenUpAbout, Loaded, TurnedFrom, TurnedStage, Visited, names_stranger};
+ghost use Rattle.live_turns.specs.Ways.{AddsNoEvent, Belongs, Went, Halted, VisitsBook, ticked_by};
 
 use crate::desks::Crew;
 use crate::holders::Holder;
@@ -42,6 +43,10 @@ impl<L: Crew> Turns<L> {
             GivenUpOn self.now call f pass.old.holding pass.new.holding) }
         ensures there { OnOk result (call.object.0 < length self.now.lows) }
         ensures over { OnErr result (pass.new.point ≡ At Idle) }
+        ensures did { IfOk result (λ t.
+            Loaded t.gate_taken t.point pass.old.holding.words pass.new.holding.words) }
+        ensures looked { IfErr result (λ f. f ≢ LiveFault.NoObject →
+            VisitsBook 1 pass.old.holding.words pass.new.holding.words) }
     {
         if call.object.0 >= self.objects {
             return Err(LiveFault::NoObject);
@@ -74,6 +79,10 @@ impl<L: Crew> Turns<L> {
             GivenUpAbout self.now call f pass.old.holding pass.new.holding) }
         ensures there { OnOk result (names_stranger self.now call ≡ false) }
         ensures over { OnErr result (pass.new.point ≡ At Idle) }
+        ensures did { IfOk result (λ t.
+            Visited t.gate_taken t.point pass.old.holding.words pass.new.holding.words) }
+        ensures looked { IfErr result (λ f. f ≢ LiveFault.NoThread →
+            VisitsBook 1 pass.old.holding.words pass.new.holding.words) }
     {
         if self.is_stranger(call) {
             return Err(LiveFault::NoThread);
@@ -110,6 +119,10 @@ impl<L: Crew> Turns<L> {
         ensures fault { IfErr result (λ f.
             Halted f pass.old.point pass.old.holding pass.new.holding) }
         ensures over { OnErr result (pass.new.point ≡ At Idle) }
+        ensures did { IfOk result (λ t. TurnedFrom pass.old.point t.gate_taken t.point
+            pass.old.holding.words pass.new.holding.words) }
+        ensures looked { OnErr result
+            (VisitsBook 1 pass.old.holding.words pass.new.holding.words) }
     {
         let point = pass.point;
         match self.turn_from(&mut pass.holder, point) {
@@ -132,6 +145,9 @@ impl<L: Crew> Turns<L> {
         ensures went { IfOk result (λ t. Went point t.point holder.old holder.new) }
         ensures knows { IfOk result (λ t. Knows t.point holder.new) }
         ensures halted { IfErr result (λ f. Halted f point holder.old holder.new) }
+        ensures did { IfOk result (λ t.
+            TurnedFrom point t.gate_taken t.point holder.old.words holder.new.words) }
+        ensures looked { OnErr result (VisitsBook 1 holder.old.words holder.new.words) }
     {
         match point {
             Point::At(Place::InCall(stage)) => self.turn_from_stage(holder, stage),
@@ -153,6 +169,9 @@ impl<L: Crew> Turns<L> {
         ensures went { IfOk result (λ t. Went (At (InCall stage)) t.point holder.old holder.new) }
         ensures knows { IfOk result (λ t. Knows t.point holder.new) }
         ensures halted { IfErr result (λ f. Halted f (At (InCall stage)) holder.old holder.new) }
+        ensures did { IfOk result (λ t.
+            TurnedStage stage t.gate_taken t.point holder.old.words holder.new.words) }
+        ensures looked { OnErr result (VisitsBook 1 holder.old.words holder.new.words) }
     {
         match stage {
             Stage::Begun { call, contended } => self.turn_from_load(holder, call, contended),
@@ -180,6 +199,11 @@ impl<L: Crew> Turns<L> {
             ++ ticked_by told pass.old.holding.words.index now) }
         ensures none { OnErr result (pass.new.holding.own ≡ pass.old.holding.own) }
         ensures fault { IfErr result IsTickFault }
+        ensures looked { IfOk result (λ told. MatchBool told
+            (VisitsBook 1 pass.old.holding.words pass.new.holding.words)
+            (pass.new ≡ pass.old)) }
+        ensures refused { OnErr result
+            (VisitsBook 1 pass.old.holding.words pass.new.holding.words) }
     {
         self.tell(&mut pass.holder, now)
     }
@@ -192,6 +216,9 @@ impl<L: Crew> Turns<L> {
             ++ ticked_by told holder.old.words.index now) }
         ensures none { OnErr result (holder.new.own ≡ holder.old.own) }
         ensures fault { IfErr result IsTickFault }
+        ensures looked { IfOk result (λ told. MatchBool told
+            (VisitsBook 1 holder.old.words holder.new.words) (holder.new ≡ holder.old)) }
+        ensures refused { OnErr result (VisitsBook 1 holder.old.words holder.new.words) }
     {
         let Some(mut desk) = self.take(holder) else {
             return Ok(false);

@@ -1,10 +1,10 @@
 //! The end of a service: the shares of its passes in one, and their own deeds beside the record.
 
-ghost use Rattle.std.specs.Prelude.{◌≡◌, ◌≤◌, ◌<◌, ◌+◌, IfOk, IfErr, All, length, map, sum, true, false, vec_capacity, []};
+ghost use Rattle.std.specs.Prelude.{◌≡◌, ◌≤◌, ◌<◌, ◌+◌, IfOk, IfErr, OnErr, All, length, map, sum, true, false, vec_capacity, []};
 ghost use Rattle.live_turns.specs.Log.{Replays, nothing_bound};
 ghost use Rattle.live_turns.specs.Ways.{Belongs};
 ghost use Rattle.live_turns.specs.Numbers.{HasEach};
-ghost use Rattle.live_turns.specs.Ends.{HasOwn, IsEnd, IsHandedBack, IsTorn, TellsEnd, count_of, numbers_of, words_of};
+ghost use Rattle.live_turns.specs.Ends.{HasOwn, IsEnd, IsHandedBack, IsTorn, IsTornFrom, TellsEnd, count_of, numbers_of, words_of};
 
 use crate::agreeing::agrees;
 use crate::closed::{Closed, TurnsClose};
@@ -79,7 +79,8 @@ fn gather<L: Crew>(mut rests: Vec<Rest<L>>, mut all: Share<L>) -> Share<L>
 
 // Whether the record has just the own deeds of each pass under its number.
 fn all_agree<L: Crew>(log: &[Logged], rests: &[Rest<L>]) -> bool
-    ensures { result ≡ true → All (HasOwn log.now) rests.now }
+    ensures own { result ≡ true → All (HasOwn log.now) rests.now }
+    ensures other { result ≡ false → All (HasOwn log.now) rests.now → ⊥ }
 {
     for rest in rests {
         if !agrees(log, rest.own.list.as_slice(), rest.index) {
@@ -176,6 +177,10 @@ impl<L: Crew> Desk<L> {
         ensures replays { IfOk result (λ c. Replays self.book.passes
             (nothing_bound self.book.passes self.book.fats.limit) c.logged.items self.book.fats) }
         ensures torn { IfErr result IsTorn }
+        ensures other { OnErr result (All (HasOwn self.book.log) rests.items → ⊥) }
+        ensures told { Replays self.book.passes
+            (nothing_bound self.book.passes self.book.fats.limit) self.book.log self.book.fats }
+        ensures total { length self.book.log ≡ sum (map count_of rests.items) }
     {
         let Desk {
             book,
@@ -209,6 +214,7 @@ impl<L: Crew> Turns<L> {
         ensures end { IfOk result (IsEnd self L.monitors passes.items) }
         ensures all { IfOk result (λ _. HasEach self.count (numbers_of passes.items)) }
         ensures fault { IfErr result (TellsEnd self.count passes.items) }
+        ensures torn { IfErr result (IsTornFrom self L.monitors passes.items) }
         ensures back { IfErr result (IsHandedBack self passes.items) }
     {
         if !has_each(&passes, self.passes) {
@@ -244,6 +250,7 @@ impl<L: Crew> Turns<L> {
             × (length passes.items ≤ vec_capacity rests) }
         ensures end { IfOk result (IsEnd self L.monitors passes.items) }
         ensures fault { IfErr result (TellsEnd self.count passes.items) }
+        ensures torn { IfErr result (IsTornFrom self L.monitors passes.items) }
         ensures back { IfErr result (IsHandedBack self passes.items) }
     {
         take_apart(&mut passes, &mut words, &mut rests);

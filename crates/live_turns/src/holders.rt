@@ -100,7 +100,7 @@ impl<L: Crew> Holder<L> {
             Went (At (InCall (Acting call monitor))) t.point self.old self.new) }
         ensures inflated { IfOk result (λ t.
             Went (At (InCall (Inflated call monitor))) t.point self.old self.new) }
-        ensures rests { IfOk result (λ t. RestsAtPost t.point) }
+        ensures rests { IfOk result (λ t. (t.gate_taken ≡ false) × RestsAtPost t.point) }
         ensures none { OnErr result (self.new.own ≡ self.old.own) }
         ensures fault { IfErr result IsDeskFault }
     {
@@ -119,7 +119,7 @@ impl<L: Crew> Holder<L> {
         ensures bindings { bindings desk.new.book ≡ bindings desk.old.book }
         ensures went { IfOk result (λ t.
             Went (At (InCall (Direct call))) t.point self.old self.new) }
-        ensures rests { IfOk result (λ t. RestsAtPost t.point) }
+        ensures rests { IfOk result (λ t. (t.gate_taken ≡ false) × RestsAtPost t.point) }
         ensures none { OnErr result (self.new.own ≡ self.old.own) }
         ensures fault { IfErr result IsDeskFault }
     {
@@ -133,7 +133,7 @@ impl<L: Crew> Holder<L> {
         ensures words { self.new.words ≡ self.old.words }
         ensures bindings { bindings desk.new.book ≡ bindings desk.old.book }
         ensures went { IfOk result (λ t. Went (parked expired) t.point self.old self.new) }
-        ensures rests { IfOk result (λ t. RestsAtPost t.point) }
+        ensures rests { IfOk result (λ t. (t.gate_taken ≡ false) × RestsAtPost t.point) }
         ensures none { OnErr result (self.new.own ≡ self.old.own) }
         ensures fault { IfErr result (λ f. f ≡ LiveFault.Torn) }
     {

@@ -1,10 +1,10 @@
 //! A look at the book.
 
-ghost use Rattle.std.specs.Prelude.{◌≡◌, IfOk, IfErr, false};
+ghost use Rattle.std.specs.Prelude.{◌≡◌, IfOk, IfErr, OnErr, OnOk, false};
 ghost use Rattle.std.specs.Fn.{FnOnceReturnsAt};
 ghost use Rattle.step_core.specs.declared.places.Place.TheVariants.{Idle};
 ghost use Rattle.step_core.specs.declared.paths.Point.TheVariants.{At};
-ghost use Rattle.live_turns.specs.Ways.{AddsNoEvent, Belongs};
+ghost use Rattle.live_turns.specs.Ways.{AddsNoEvent, Belongs, VisitsBook};
 ghost use Rattle.live_turns.specs.Ends.{IsLookedAt};
 
 use crate::desks::Crew;
@@ -27,6 +27,9 @@ impl<L: Crew> Turns<L> {
         ensures told { IfOk result (λ told.
             IsLookedAt (λ book. FnOnceReturnsAt F.FnOnce f book told)) }
         ensures back { IfErr result (λ g. g ≡ f) }
+        ensures looked { OnOk result
+            (VisitsBook 1 pass.old.holding.words pass.new.holding.words) }
+        ensures kept { OnErr result (pass.new ≡ pass.old) }
     {
         self.lend(&mut pass.holder, f)
     }
@@ -40,6 +43,8 @@ impl<L: Crew> Turns<L> {
         ensures told { IfOk result (λ told.
             IsLookedAt (λ book. FnOnceReturnsAt F.FnOnce f book told)) }
         ensures back { IfErr result (λ g. g ≡ f) }
+        ensures looked { OnOk result (VisitsBook 1 holder.old.words holder.new.words) }
+        ensures kept { OnErr result (holder.new ≡ holder.old) }
     {
         let Some(desk) = self.take(holder) else {
             return Err(f);

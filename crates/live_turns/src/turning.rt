@@ -8,13 +8,13 @@ ghost use Rattle.fast_path.specs.Table.{next_of};
 ghost use Rattle.fast_path.specs.declared.calls.MonitorCall.{MonitorCall};
 ghost use Rattle.fast_path.specs.declared.Next.TheVariants as next;
 ghost use Rattle.header_words.specs.Bindings.{HasPublish};
-ghost use Rattle.header_words.specs.Passes.{depth_at};
+ghost use Rattle.header_words.specs.Passes.{PassValue, depth_at};
 ghost use Rattle.step_core.specs.declared.places.Place.TheVariants.{Idle, InCall};
 ghost use Rattle.step_core.specs.declared.places.Stage.TheVariants.{Begun, Taking, Storing, Direct};
 ghost use Rattle.step_core.specs.declared.paths.Point.TheVariants.{At, Said};
 ghost use Rattle.step_core.specs.Path.{point_next};
-ghost use Rattle.live_turns.specs.Points.{Knows};
-ghost use Rattle.live_turns.specs.Ways.{Belongs, Went, Halted};
+ghost use Rattle.live_turns.specs.Points.{Knows, Loaded};
+ghost use Rattle.live_turns.specs.Ways.{Belongs, Went, Halted, VisitsBook};
 
 use crate::desks::Crew;
 use crate::holders::Holder;
@@ -45,6 +45,8 @@ impl<L: Crew> Turns<L> {
             (point_next c k result (next_of Wide c.operation result holder.old.words.index))
             holder.old holder.new }
         ensures index { holder.new.words.index ≡ holder.old.words.index }
+        ensures visit { VisitsBook 0 holder.old.words holder.new.words }
+        ensures event { length holder.old.words.mine < length holder.new.words.mine }
         ensures thin { (n : ℕ) → (depth_at holder.new.words object.0 ≡ n + 1)
             ↔ (result ≡ Thin holder.new.words.index n) }
         ensures fits { Fits Wide result }
@@ -66,6 +68,7 @@ impl<L: Crew> Turns<L> {
         ensures belongs { Belongs self.now false holder.new }
         ensures went { Went (At (InCall (Storing call new))) (Said result)
             holder.old holder.new }
+        ensures loaded { (p : PassValue) → Loaded false (Said result) p holder.new.words }
     {
         let object = call.object;
         match (call.operation, new) {
@@ -94,6 +97,7 @@ impl<L: Crew> Turns<L> {
         ensures went { Went (At (InCall (Taking object contended))) result.point
             holder.old holder.new }
         ensures knows { Knows result.point holder.new }
+        ensures loaded { Loaded result.gate_taken result.point holder.old.words holder.new.words }
     {
         if !self.headers.acquire(&mut holder.words, object) {
             let call = MonitorCall {
@@ -124,6 +128,9 @@ impl<L: Crew> Turns<L> {
         ensures knows { IfOk result (λ t. Knows t.point holder.new) }
         ensures halted { IfErr result (λ f.
             Halted f (At (InCall (Begun call contended))) holder.old holder.new) }
+        ensures loaded { IfOk result (λ t.
+            Loaded t.gate_taken t.point holder.old.words holder.new.words) }
+        ensures there { OnErr result (VisitsBook 1 holder.old.words holder.new.words) }
     {
         let lock = self.load(holder, call.object);
         match call.operation.next(Split::Wide, lock, holder.index()) {

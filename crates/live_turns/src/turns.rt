@@ -11,8 +11,8 @@ ghost use Rattle.step_core.specs.declared.paths.Point.TheVariants.{At, Said};
 ghost use Rattle.step_core.specs.Path.{point_published};
 ghost use Rattle.live_turns.specs.Log.{thread_numbered};
 ghost use Rattle.live_turns.specs.Book.{bindings};
-ghost use Rattle.live_turns.specs.Points.{Knows, RestsAtPost};
-ghost use Rattle.live_turns.specs.Ways.{Belongs, Took, Gave, Went, Halted, parked};
+ghost use Rattle.live_turns.specs.Points.{Knows, RestsAtPost, Visited};
+ghost use Rattle.live_turns.specs.Ways.{Belongs, Took, Gave, Went, Halted, VisitsBook, parked};
 
 use crate::desks::{Crew, Desk, Refusal};
 use crate::holders::Holder;
@@ -87,6 +87,7 @@ impl<L: Crew> Turns<L> {
         ensures belongs { Belongs self.now true holder.new }
         ensures went { (won : Bool) → Went (At (InCall (Bound call won receipt.monitor)))
             (point_published call won receipt.monitor) holder.old holder.new }
+        ensures visit { VisitsBook 0 holder.old.words holder.new.words }
         ensures covers { (objects : List ObjectId) → Covers objects holder.old.words.seen
             → Binds objects receipt.monitor call.object.0
             → Covers objects holder.new.words.seen }
@@ -109,6 +110,9 @@ impl<L: Crew> Turns<L> {
         ensures knows { IfOk result (λ t. Knows t.point holder.new) }
         ensures halted { IfErr result (λ f.
             Halted f (At (InCall (Acting call monitor))) holder.old holder.new) }
+        ensures visited { IfOk result (λ t.
+            Visited t.gate_taken t.point holder.old.words holder.new.words) }
+        ensures there { OnErr result (VisitsBook 1 holder.old.words holder.new.words) }
     {
         let Some(mut desk) = self.take(holder) else {
             return Ok(Turned::at(Stage::Acting { call, monitor }, true));
@@ -131,6 +135,9 @@ impl<L: Crew> Turns<L> {
         ensures knows { IfOk result (λ t. Knows t.point holder.new) }
         ensures halted { IfErr result (λ f.
             Halted f (At (InCall (Direct call))) holder.old holder.new) }
+        ensures visited { IfOk result (λ t.
+            Visited t.gate_taken t.point holder.old.words holder.new.words) }
+        ensures there { OnErr result (VisitsBook 1 holder.old.words holder.new.words) }
     {
         let Some(mut desk) = self.take(holder) else {
             return Ok(Turned::at(Stage::Direct { call }, true));
@@ -147,6 +154,9 @@ impl<L: Crew> Turns<L> {
         ensures went { IfOk result (λ t. Went (parked expired) t.point holder.old holder.new) }
         ensures knows { IfOk result (λ t. Knows t.point holder.new) }
         ensures halted { IfErr result (λ f. Halted f (parked expired) holder.old holder.new) }
+        ensures visited { IfOk result (λ t.
+            Visited t.gate_taken t.point holder.old.words holder.new.words) }
+        ensures there { OnErr result (VisitsBook 1 holder.old.words holder.new.words) }
     {
         let Some(mut desk) = self.take(holder) else {
             return Ok(Turned::parked(expired, true));
@@ -174,7 +184,8 @@ impl<L: Crew> Turns<L> {
         ensures covers { Covers (bindings desk.new.book) holder.new.words.seen }
         ensures went { IfOk result (λ t.
             Went (At (InCall (Binding call count))) t.point holder.old holder.new) }
-        ensures rests { IfOk result (λ t. RestsAtPost t.point) }
+        ensures rests { IfOk result (λ t. (t.gate_taken ≡ false) × RestsAtPost t.point) }
+        ensures visit { VisitsBook 0 holder.old.words holder.new.words }
         ensures halted { IfErr result (λ f.
             Halted f (At (InCall (Binding call count))) holder.old holder.new) }
     {
@@ -207,6 +218,9 @@ impl<L: Crew> Turns<L> {
         ensures knows { IfOk result (λ t. Knows t.point holder.new) }
         ensures halted { IfErr result (λ f.
             Halted f (At (InCall (Binding call count))) holder.old holder.new) }
+        ensures visited { IfOk result (λ t.
+            Visited t.gate_taken t.point holder.old.words holder.new.words) }
+        ensures there { OnErr result (VisitsBook 1 holder.old.words holder.new.words) }
     {
         let Some(mut desk) = self.take(holder) else {
             return Ok(Turned::at(Stage::Binding { call, count }, true));
@@ -227,6 +241,7 @@ impl<L: Crew> Turns<L> {
         ensures covers { Covers (bindings desk.new.book) holder.new.words.seen }
         ensures went { Went (At (InCall (Won object))) (Said reply.Entered)
             holder.old holder.new }
+        ensures visit { VisitsBook 0 holder.old.words holder.new.words }
     {
         let me = holder.thread();
         if let Ok(receipt) = desk.bind(&mut holder.own, me, object, 1) {
@@ -246,6 +261,7 @@ impl<L: Crew> Turns<L> {
         ensures belongs { Belongs self.now false holder.new }
         ensures went { Went (At (InCall (Won object))) result.point holder.old holder.new }
         ensures knows { Knows result.point holder.new }
+        ensures visited { Visited result.gate_taken result.point holder.old.words holder.new.words }
     {
         let Some(mut desk) = self.take(holder) else {
             return Turned::at(Stage::Won { object }, true);

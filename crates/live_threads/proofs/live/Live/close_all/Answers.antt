@@ -1,7 +1,8 @@
-use Rattle.std.proofs.Common.{◌∙◌, sym, subst, All, false}
+use Rattle.std.proofs.Common.{◌∙◌, sym, subst, All, false, List, map}
 use Rattle.header_words.specs.Passes.{Opening}
 use Rattle.live_turns.specs.Ways.{Belongs, PassState}
-use Rattle.live_turns.specs.Ends.{IsHandedBack}
+use Rattle.live_turns.specs.Ends.{Disagrees, IsHandedBack, IsTornFrom}
+use Rattle.live_threads.specs.Ends.{at_rest}
 use Rattle.live_threads.proofs.Ends.{belong_states, holdings_again, no_wrong}
 use Rattle.live_threads.proofs.live.Live.close_all.Goals as goal
 
@@ -19,3 +20,9 @@ pub returns-in-Err-Memory-clause-back : goal.returns-in-Err-Memory-clause-back
 returns-in-Err-Memory-clause-back g c =
     let back = subst (IsHandedBack c.self.inside.turns c.take_apart.new.turns.items) c.in-Err-Memory.field-0-is c.in-Err-Memory.ensures.back in
     (back.0 ∙ c.self.view_is, c.with_parkers-passes.ensures ∙ holdings_again c.args.passes.items c.take_apart.new.turns.items c.in-Err-Memory.turns.items c.take_apart.ensures.turns back.1)
+
+pub returns-in-Err-Torn-clause-torn : goal.returns-in-Err-Torn-clause-torn
+returns-in-Err-Torn-clause-torn g c =
+    let torn = subst (IsTornFrom c.self.inside.turns g.L.Crew.monitors c.take_apart.new.turns.items) c.in-Err-Torn.field-0-is c.in-Err-Torn.ensures.torn in
+    subst (λ (z : Opening). Disagrees z g.L.Crew.monitors (map at_rest c.args.passes.items)) c.self.view_is
+    (subst (λ (ts : List PassState). Disagrees c.self.inside.turns g.L.Crew.monitors ts) c.take_apart.ensures.turns torn)

@@ -9,5 +9,6 @@ invariant-loop g l = record {
   rests : IsAtRest l.pass;
   words : AddsNoEvent l.fn.pass.holding.words l.pass.holding.words;
   own : l.pass.holding.own ≡ l.fn.pass.holding.own;
+  same : l.pass ≡ l.fn.pass;
   lent : l.lent ≡ l.fn.f;
 }

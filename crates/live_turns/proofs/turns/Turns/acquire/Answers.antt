@@ -8,6 +8,8 @@ use Rattle.live_turns.specs.declared.turned.Turned.{Turned}
 use Rattle.live_turns.specs.Ways.{Holding, Went}
 use Rattle.live_turns.proofs.Going.{went_then}
 use Rattle.live_turns.proofs.Words.{win_way, lose_way}
+use Rattle.live_turns.specs.Points.{Loaded}
+use Rattle.live_turns.proofs.Visits.{event_visit, loaded_at}
 use Rattle.live_turns.proofs.turns.Turns.acquire.Goals as goal
 
 pub returns-then-not-acquire-clause-went : goal.returns-then-not-acquire-clause-went
@@ -30,3 +32,17 @@ returns-clause-went g c =
     let q : Holding = record { words = c.acquire.new.pass; own = c.holder.inside.own.list.items } in
     rw (← c.holder.view_is, c.if-contended.false) (subst (λ (u : Point). Went (At (InCall (Taking c.args.object false))) u p q) (sym (ap (λ (x : Turned). x.point) c.said.ensures))
     (win_way c.args.object false _ p q c.if-not-acquire.ensures.won refl))
+
+pub returns-then-not-acquire-clause-loaded : goal.returns-then-not-acquire-clause-loaded
+returns-then-not-acquire-clause-loaded g c =
+    rw (← c.holder.view_is) (subst (λ (x : Turned). Loaded x.gate_taken x.point c.holder.inside.words c.acquire.new.pass) (sym c.at.ensures)
+    (event_visit c.args.object.0 _ c.if-not-acquire.ensures.lost.0 c.holder.inside.words c.acquire.new.pass c.if-not-acquire.ensures.lost.1))
+
+pub returns-then-contended-clause-loaded : goal.returns-then-contended-clause-loaded
+returns-then-contended-clause-loaded g c =
+    rw (← c.holder.view_is) (loaded_at c.settle.result.gate_taken c.settle.result.point c.holder.inside.words c.acquire.new.pass c.settle.new.holder.words
+    (event_visit c.args.object.0 _ _ c.holder.inside.words c.acquire.new.pass c.if-not-acquire.ensures.won).1 c.settle.ensures.visited)
+
+pub returns-clause-loaded : goal.returns-clause-loaded
+returns-clause-loaded g c =
+    rw (← c.holder.view_is) (subst (λ (x : Turned). Loaded x.gate_taken x.point c.holder.inside.words c.acquire.new.pass) (sym c.said.ensures) tt)

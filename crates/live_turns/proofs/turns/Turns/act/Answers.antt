@@ -3,6 +3,8 @@ use Rattle.step_core.specs.declared.places.Stage.TheVariants.{Acting}
 use Rattle.step_core.specs.declared.paths.Point.TheVariants.{At}
 use Rattle.live_turns.specs.Book.{bindings}
 use Rattle.live_turns.proofs.Gates.{published_still, covers_kept, gave_up, held_err}
+use Rattle.std.proofs.Common.{refl}
+use Rattle.live_turns.proofs.Visits.{taken_away, visited_at, held_same, err_always}
 use Rattle.live_turns.proofs.turns.Turns.act.Goals as goal
 
 pub act_on-told-requires : goal.act_on-told-requires
@@ -21,3 +23,15 @@ pub returns-clause-halted : goal.returns-clause-halted
 returns-clause-halted g c =
     held_err c.act_on-told.result (At (InCall (Acting c.args.call c.args.monitor))) c.args.holder.now c.take.new.holder c.act_on-told.new.self c.give.new.holder c.requires.belongs.1 c.in-Some.ensures.0 c.give.ensures.gave
     (gave_up c.act_on-told.result (Acting c.args.call c.args.monitor) c.take.new.holder c.act_on-told.new.self tt c.act_on-told.ensures.words c.act_on-told.ensures.none c.act_on-told.ensures.fault)
+
+pub returns-in_default-clause-visited : goal.returns-in_default-clause-visited
+returns-in_default-clause-visited g c = taken_away c.at.result (At (InCall (Acting c.args.call c.args.monitor))) c.args.holder.now c.take.new.holder c.at.ensures refl c.in_default.ensures
+
+pub returns-clause-visited : goal.returns-clause-visited
+returns-clause-visited g c =
+    visited_at c.act_on-told.result c.args.holder.now.words c.give.new.holder.words c.act_on-told.ensures.rests
+    (held_same c.args.holder.now c.take.new.holder c.act_on-told.new.self c.give.new.holder c.in-Some.ensures.0 c.act_on-told.ensures.words c.give.ensures.gave)
+
+pub returns-clause-there : goal.returns-clause-there
+returns-clause-there g c =
+    err_always _ c.act_on-told.result (held_same c.args.holder.now c.take.new.holder c.act_on-told.new.self c.give.new.holder c.in-Some.ensures.0 c.act_on-told.ensures.words c.give.ensures.gave)

@@ -12,6 +12,7 @@ use Rattle.live_turns.specs.Book.{bindings}
 use Rattle.live_turns.specs.Ways.{Holding, Went}
 use Rattle.live_turns.proofs.Going.{inflated_way, refused_way, halted_here}
 use Rattle.live_turns.proofs.Gates.{covers_kept, covers_bound, binds_bound, may_halt, gave_up_after, ok_after}
+use Rattle.live_turns.proofs.Visits.{visit_same}
 use Rattle.live_turns.proofs.turns.Turns.inflate_at.Goals as goal
 
 pub returns-in-Ok-clause-covers : goal.returns-in-Ok-clause-covers
@@ -69,3 +70,6 @@ returns-in-Err-Fault-clause-halted g c =
     let p : Holding = record { words = c.holder.inside.words; own = c.holder.inside.own.list.items } in
     let q : Holding = record { words = c.holder.inside.words; own = c.bind.new.own.list.items } in
     rw (c.in-Err-Fault.fault-is, ← c.holder.view_is) (halted_here c.in-Err-Fault.fault (At (InCall (Binding c.args.call c.args.count))) p q (may_halt c.in-Err-Fault.fault (Binding c.args.call c.args.count) (rw c.in-Err-Fault.field-0-is at c.in-Err-Fault.ensures.fault) tt) refl c.in-Err-Fault.ensures.none)
+
+pub returns-in-Ok-clause-visit : goal.returns-in-Ok-clause-visit
+returns-in-Ok-clause-visit g c = rw (← c.holder.view_is) (visit_same c.holder.inside.words c.publish.new.holder.words c.act_on.new.self.words c.publish.ensures.visit c.act_on.ensures.words)

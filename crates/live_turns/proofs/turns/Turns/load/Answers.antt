@@ -1,6 +1,7 @@
 use Rattle.std.proofs.Common.{refl}
 use Rattle.live_turns.specs.Ways.{Holding}
 use Rattle.live_turns.proofs.Words.{load_way, load_shows}
+use Rattle.live_turns.proofs.Visits.{event_visit}
 use Rattle.live_turns.proofs.turns.Turns.load.Goals as goal
 
 pub returns-clause-went : goal.returns-clause-went
@@ -12,3 +13,9 @@ returns-clause-went g c = λ d k same.
 pub returns-clause-thin : goal.returns-clause-thin
 returns-clause-thin g c =
     load_shows c.args.object.0 c.load-word.result.0 c.lock_of.result _ c.holder.inside.words c.load-word.new.pass c.lock_of.ensures c.load-word.ensures.event c.load-word.ensures.shows.thin
+
+pub returns-clause-visit : goal.returns-clause-visit
+returns-clause-visit g c = rw (← c.holder.view_is) (event_visit c.args.object.0 _ _ c.holder.inside.words c.load-word.new.pass c.load-word.ensures.event).1
+
+pub returns-clause-event : goal.returns-clause-event
+returns-clause-event g c = rw (← c.holder.view_is) (event_visit c.args.object.0 _ _ c.holder.inside.words c.load-word.new.pass c.load-word.ensures.event).0

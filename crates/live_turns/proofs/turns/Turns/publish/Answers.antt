@@ -1,6 +1,7 @@
 use Rattle.std.proofs.Common.{refl, ap, ◌∙◌}
 use Rattle.live_turns.specs.Ways.{Holding}
 use Rattle.live_turns.proofs.Going.{publish_way}
+use Rattle.live_turns.proofs.Visits.{event_visit}
 use Rattle.live_turns.proofs.turns.Turns.publish.Goals as goal
 
 pub returns-clause-went : goal.returns-clause-went
@@ -13,3 +14,6 @@ returns-clause-went g c = λ won.
 pub returns-clause-covers : goal.returns-clause-covers
 returns-clause-covers g c = λ objects h b.
     c.publish.ensures.covers (ap (λ (p : Holding). p.words.has_gate) c.holder.view_is ∙ c.requires.belongs.1) objects (rw (← c.holder.view_is) at h) (rw c.requires.same b)
+
+pub returns-clause-visit : goal.returns-clause-visit
+returns-clause-visit g c = rw (← c.holder.view_is) (event_visit c.args.receipt.object.0 _ _ c.holder.inside.words c.publish.new.pass c.publish.ensures).1

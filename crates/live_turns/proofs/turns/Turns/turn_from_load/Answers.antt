@@ -11,6 +11,8 @@ use Rattle.live_turns.specs.Ways.{Went}
 use Rattle.live_turns.proofs.Going.{went_then}
 use Rattle.live_turns.proofs.Gates.{ok_after, err_after}
 use Rattle.live_turns.proofs.Words.{cas_fact, free_depth, bind_depth, first_way}
+use Rattle.live_turns.specs.Points.{Loaded}
+use Rattle.live_turns.proofs.Visits.{reply_loaded, loaded_after, ok_loaded_at, err_visit}
 use Rattle.live_turns.proofs.turns.Turns.turn_from_load.Goals as goal
 
 pub acquire-requires-clause-free : goal.acquire-requires-clause-free
@@ -69,3 +71,36 @@ returns-in-Fat-clause-halted g c =
     err_after c.act.result (At (InCall (Begun c.args.call c.args.contended))) (At (InCall (Acting c.args.call c.in-Fat.monitor))) c.args.holder.now c.load-lock.new.holder c.act.new.holder
     (first_way c.args.call c.args.contended c.load-lock.result (next.Fat c.in-Fat.monitor) c.index.result c.args.holder.now c.load-lock.new.holder (c.load-lock.ensures.went c.args.call c.args.contended refl) c.index.ensures c.load-lock.ensures.index (sym c.in-Fat.is ∙ c.next.ensures))
     c.act.ensures.halted
+
+pub returns-in-Reply-clause-loaded : goal.returns-in-Reply-clause-loaded
+returns-in-Reply-clause-loaded g c =
+    subst (λ (x : Turned). Loaded x.gate_taken x.point c.args.holder.now.words c.load-lock.new.holder.words) (sym c.said.ensures)
+    (reply_loaded c.args.call.operation c.load-lock.result c.index.result c.in-Reply.reply c.args.holder.now.words c.load-lock.new.holder.words (sym c.next.ensures ∙ c.in-Reply.is))
+
+pub returns-in-Spin-clause-loaded : goal.returns-in-Spin-clause-loaded
+returns-in-Spin-clause-loaded g c =
+    subst (λ (x : Turned). Loaded x.gate_taken x.point c.args.holder.now.words c.load-lock.new.holder.words) (sym c.at.ensures) (c.load-lock.ensures.event, c.load-lock.ensures.visit)
+
+pub returns-in-Cas-clause-loaded : goal.returns-in-Cas-clause-loaded
+returns-in-Cas-clause-loaded g c =
+    loaded_after c.acquire.result.gate_taken c.acquire.result.point c.args.holder.now.words c.load-lock.new.holder.words c.acquire.new.holder.words c.load-lock.ensures.visit c.load-lock.ensures.event c.acquire.ensures.loaded
+
+pub returns-in-Store-clause-loaded : goal.returns-in-Store-clause-loaded
+returns-in-Store-clause-loaded g c =
+    subst (λ (x : Turned). Loaded x.gate_taken x.point c.args.holder.now.words c.store.new.holder.words) (sym c.said-in-Store.ensures) (c.store.ensures.loaded c.args.holder.now.words)
+
+pub returns-in-Bind-clause-loaded : goal.returns-in-Bind-clause-loaded
+returns-in-Bind-clause-loaded g c =
+    ok_loaded_at c.inflate.result c.args.holder.now.words c.load-lock.new.holder.words c.inflate.new.holder.words c.load-lock.ensures.visit c.inflate.ensures.visited
+
+pub returns-in-Bind-clause-there : goal.returns-in-Bind-clause-there
+returns-in-Bind-clause-there g c =
+    err_visit c.inflate.result c.args.holder.now.words c.load-lock.new.holder.words c.inflate.new.holder.words c.load-lock.ensures.visit c.inflate.ensures.there
+
+pub returns-in-Fat-clause-loaded : goal.returns-in-Fat-clause-loaded
+returns-in-Fat-clause-loaded g c =
+    ok_loaded_at c.act.result c.args.holder.now.words c.load-lock.new.holder.words c.act.new.holder.words c.load-lock.ensures.visit c.act.ensures.visited
+
+pub returns-in-Fat-clause-there : goal.returns-in-Fat-clause-there
+returns-in-Fat-clause-there g c =
+    err_visit c.act.result c.args.holder.now.words c.load-lock.new.holder.words c.act.new.holder.words c.load-lock.ensures.visit c.act.ensures.there
