@@ -1,5 +1,5 @@
 -- The passes of an opening belong to it.
-use Rattle.std.proofs.Common.{◌≡◌, ℕ, zero, suc, ◌+◌, ◌<◌, List, [], ◌∷◌, map, length, refl, arith, false}
+use Rattle.std.proofs.Common.{ℕ, zero, suc, ◌<◌, map, refl, arith, false}
 use Rattle.std.specs.List.{All}
 use Rattle.header_words.specs.Passes.{Opening, new_passes}
 use Rattle.live_turns.specs.Ways.{PassState, Belongs, new_state}

@@ -1,9 +1,7 @@
 -- What the calls on a seat of a live service answer and leave.
 use Rattle.std.specs.Prelude.{◌≡◌, ◌⊎◌, ℕ, Bool, true, false, ◌||◌, nat_lt, List, length, Option, Some, None}
 use Rattle.lock_word.specs.declared.ThreadId.{ThreadId}
-use Rattle.fat_monitor.specs.declared.actions.Reply.{Reply}
 use Rattle.fast_path.specs.declared.calls.Call.{Call}
-use Rattle.fast_path.specs.declared.calls.Call.TheVariants as call
 use Rattle.fast_path.specs.declared.calls.Subject.{Subject}
 use Rattle.fast_path.specs.declared.calls.Subject.TheVariants as subject
 use Rattle.fast_path.specs.Calls.{subject_of}
