@@ -1,4 +1,4 @@
-//! Scripts at the limits: the most objects, monitors, indices and threads, and the most bytes.
+//! Scripts at the limits: the most objects and threads, and the most bytes.
 
 use crate::comparing::{Wanted, compare, compare_fault};
 use history::FileFault;
@@ -9,10 +9,7 @@ use std::io;
 /// The most objects that a script declares.
 const MOST_OBJECTS: u32 = 65_535;
 
-/// The most fat monitors of a world.
-const MOST_MONITORS: u32 = 8_388_608;
-
-/// The most threads that are live at once, and so the most indices of a world.
+/// The most threads that are live at once.
 const MOST_THREADS: u32 = 32_767;
 
 /// Plays scripts at the limits, and such as go beyond them by one.
@@ -52,9 +49,9 @@ fn with_moves(report: &str, moves: u64) -> Wanted<'_> {
     }
 }
 
-/// A world with as many objects, monitors and indices as a script may declare.
+/// A world with as many objects as a script may declare.
 fn many_objects(alloc: Global) -> Result<(String, String), AllocError> {
-    let mut script = format!(in alloc; "world {MOST_MONITORS} {MOST_THREADS}\n")?;
+    let mut script = String::from_str(alloc, "world 4 4\n")?;
     let mut report = String::new(alloc);
     for number in 0..MOST_OBJECTS {
         writeln!(script, "object o{number} A5")?;
