@@ -2,7 +2,7 @@
 use Rattle.std.specs.Prelude.{ℕ, List, Option, IfSome}
 use Rattle.std.specs.Io.KnownBytes.{Appends}
 use Rattle.history_check.specs.Histories.{run_text}
-use Rattle.history_check.specs.Replays.{IsWhole}
+use Rattle.history_check.specs.Replays.{IsReadAsRun}
 use Rattle.history.specs.Histories.{IsHistoryOf}
 use Rattle.history.specs.Plans.{IsPlanOf}
 use Rattle.history.specs.Reports.{IsReportOf}
@@ -25,7 +25,7 @@ IsDone Moves left rest given held holds =
     (plan : Plan) × IfSome left (IsPlanOf plan) × (history : List ℕ) × IsHistoryOf plan history
     × Appends held holds history
 IsDone Check left rest given held holds =
-    (count : ℕ) × IsWhole left rest given count × Appends held holds (run_text count)
+    (count : ℕ) × IsReadAsRun left rest given count × Appends held holds (run_text count)
 IsDone Dump left rest given held holds =
     (text : List ℕ) × IfSome left (λ input. IsDumpOf input text) × Appends held holds text
 IsDone Live left rest given held holds =

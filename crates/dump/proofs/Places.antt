@@ -6,7 +6,7 @@ use Rattle.std.proofs.lemmas.List.{get_or_append_left}
 use Rattle.std.proofs.Math.Seq.{get_or-append_seam}
 use Rattle.lock_word.specs.declared.ThreadId.{ThreadId}
 use Rattle.step_core.specs.Machine.{State, Thread}
-use Rattle.step_core.specs.Cycles.{next, owner_but, wanted_by, Leads, AreDistinct, IsCycleOf, AreCyclesOf, AscendByFirst, first_number, AreCycles}
+use Rattle.step_core.specs.Cycles.{next, owner_but, wanted_by, LeadsThrough, AreDistinct, IsCycleOf, AreCyclesOf, AscendByFirst, first_number, AreCycles}
 use Rattle.dump.specs.Rows.{leads_to, IsRow, IsIn, AreCyclesOfRow}
 use Rattle.dump.specs.Threads.{IsLive, Ascend, AreLiveThreads, thread_of_place, IsPlace, IsRowOf}
 use Rattle.dump.proofs.Walks.{all_in, all_from, contains_in}
@@ -104,11 +104,11 @@ module _ (f : ThreadId → Option ThreadId) (ts : List ThreadId) (row : List (Op
 
   -- ---- a cycle of places is one of threads
 
-  leads_map : (a b : ℕ) (xs : List ℕ) → Leads (leads_to row) a xs b → Leads f (thread_of_place ts a) (map (thread_of_place ts) xs) (thread_of_place ts b)
+  leads_map : (a b : ℕ) (xs : List ℕ) → LeadsThrough (leads_to row) a xs b → LeadsThrough f (thread_of_place ts a) (map (thread_of_place ts) xs) (thread_of_place ts b)
   leads_map a b [] l = (row_leads a b l).1
   leads_map a b (x ∷ xs) l = ((row_leads a x l.0).1, leads_map x b xs l.1)
 
-  leads_range : (a b : ℕ) (xs : List ℕ) → Leads (leads_to row) a xs b → (x : ℕ) → IsIn x (a ∷ xs) → x < length ts
+  leads_range : (a b : ℕ) (xs : List ℕ) → LeadsThrough (leads_to row) a xs b → (x : ℕ) → IsIn x (a ∷ xs) → x < length ts
   leads_range a b [] l x (inl e) = subst (λ (n : ℕ). n < length ts) (sym e) (row_within a b l)
   leads_range a b [] l x (inr none) = absurd none
   leads_range a b (y ∷ ys) l x (inl e) = subst (λ (n : ℕ). n < length ts) (sym e) (row_within a y l.0)
@@ -153,8 +153,8 @@ module _ (f : ThreadId → Option ThreadId) (ts : List ThreadId) (row : List (Op
       inside k within ps all p (inl e) = subst (λ (n : ℕ). n < length ts) (sym e) within
       inside k within ps all p (inr i) = all p i
 
-  leads_unmap : (a b : ℕ) (xs : List ℕ) → a < length ts → b < length ts → ((x : ℕ) → IsIn x xs → x < length ts) → Leads f (thread_of_place ts a) (map (thread_of_place ts) xs) (thread_of_place ts b)
-      → Leads (leads_to row) a xs b
+  leads_unmap : (a b : ℕ) (xs : List ℕ) → a < length ts → b < length ts → ((x : ℕ) → IsIn x xs → x < length ts) → LeadsThrough f (thread_of_place ts a) (map (thread_of_place ts) xs) (thread_of_place ts b)
+      → LeadsThrough (leads_to row) a xs b
   leads_unmap a b [] in_a in_b within l = leads_row a b in_a in_b l
   leads_unmap a b (x ∷ xs) in_a in_b within l = (leads_row a x in_a (within x (inl refl)) l.0, leads_unmap x b xs (within x (inl refl)) in_b (λ y i. within y (inr i)) l.1)
 
@@ -196,7 +196,7 @@ module _ (f : ThreadId → Option ThreadId) (ts : List ThreadId) (row : List (Op
       sound : (c : List ThreadId) → (e : List ℕ) × IsIn e lists × (c ≡ map (thread_of_place ts) e) → IsCycleOf number f c
       sound c (e, i, h) = subst (IsCycleOf number f) (sym h) (cycle_map e (all_in _ e lists all.sound i))
 
-      leads_live : (a b : ThreadId) (xs : List ThreadId) → Leads f a xs b → (t : ThreadId) → IsIn t (a ∷ xs) → IsIn t ts
+      leads_live : (a b : ThreadId) (xs : List ThreadId) → LeadsThrough f a xs b → (t : ThreadId) → IsIn t (a ∷ xs) → IsIn t ts
       leads_live a b [] l t (inl e) = subst (λ (u : ThreadId). IsIn u ts) (sym e) (live a b l)
       leads_live a b [] l t (inr none) = absurd none
       leads_live a b (x ∷ xs) l t (inl e) = subst (λ (u : ThreadId). IsIn u ts) (sym e) (live a x l.0)

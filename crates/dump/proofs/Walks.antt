@@ -3,7 +3,7 @@ use Rattle.std.specs.Prelude.{◌≡◌, ◌⊎◌, ℕ, ◌<◌, ◌≤◌, Lis
 use Rattle.std.specs.List.{AllByRecursion, Contains}
 use Rattle.std.proofs.Common.{refl, inl, inr, sym, ap, subst, ◌∙◌, arith, suc}
 use Rattle.std.proofs.lemmas.Option.{same_Some}
-use Rattle.step_core.specs.Cycles.{Leads, AreDistinct, IsCycleOf}
+use Rattle.step_core.specs.Cycles.{LeadsThrough, AreDistinct, IsCycleOf}
 use Rattle.dump.specs.Rows.{IsIn, Goes, IsOnCycle}
 
 -- ---- lists
@@ -168,11 +168,11 @@ module _ {A : Type 0} (f : A → Option A) where
 
   -- ---- cycles
 
-  leads_goes : (v b : A) (xs : List A) → Leads f v xs b → Goes f (f v) xs (Some b)
+  leads_goes : (v b : A) (xs : List A) → LeadsThrough f v xs b → Goes f (f v) xs (Some b)
   leads_goes v b [] l = sym l
   leads_goes v b (x ∷ xs) l = (l.0, leads_goes x b xs l.1)
 
-  goes_leads : (v b : A) (xs : List A) → Goes f (f v) xs (Some b) → Leads f v xs b
+  goes_leads : (v b : A) (xs : List A) → Goes f (f v) xs (Some b) → LeadsThrough f v xs b
   goes_leads v b [] g = sym g
   goes_leads v b (x ∷ xs) g = (g.0, goes_leads x b xs g.1)
 

@@ -68,12 +68,12 @@ thread_text names name index x =
     codes "thread " ++ name ++ codes " index " ++ decimal index ++ 32 ∷ act_text names x.act ++ codes " flag " ++ flag_text x.flag ++ 10 ∷ []
 
 -- the line of a live thread
-abbrev pub line_of : NameLists → ThreadId → Option ℕ → Option Thread → List ℕ
-line_of names t index None = []
-line_of names t index (Some x) = thread_text names (thread_name names t) (unwrap_or index 0) x
+abbrev pub thread_line : NameLists → ThreadId → Option ℕ → Option Thread → List ℕ
+thread_line names t index None = []
+thread_line names t index (Some x) = thread_text names (thread_name names t) (unwrap_or index 0) x
 
 abbrev pub line_in : WorldState → NameLists → ThreadId → List ℕ
-line_in w names t = line_of names t (index_of w.seats t) ((shown w).thread t)
+line_in w names t = thread_line names t (index_of w.seats t) ((shown w).thread t)
 
 -- the names of a cycle's threads, each behind a space
 abbrev pub cycle_text : NameLists → List ThreadId → List ℕ

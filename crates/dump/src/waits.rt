@@ -3,7 +3,7 @@
 ghost use Rattle.std.specs.Prelude.{◌≡◌, ℕ, IfOk, OnOk, length};
 ghost use Rattle.std.specs.List.{Contains};
 ghost use Rattle.std.specs.List.Sorted.{IsStrictlyIncreasing};
-ghost use Rattle.step_core.specs.Cycles.{next, wanted};
+ghost use Rattle.step_core.specs.Cycles.{next, object_wanted};
 ghost use Rattle.step_core.specs.Shown.{shown};
 ghost use Rattle.dump.specs.Threads.{AreLiveThreads, Ascend, HaveSeats, IsPlace, IsRowOf, threads_numbered, with_holder};
 
@@ -102,7 +102,7 @@ fn next_of(world: &World, thread: ThreadId) -> Option<ThreadId>
 
 /// The object that a thread wants to enter or comes back to.
 fn wanted(doing: Doing) -> Option<ObjectId>
-    ensures { result ≡ wanted doing }
+    ensures { result ≡ object_wanted doing }
 {
     match doing {
         Doing::Wants(Call::Enter(object)) | Doing::Back { object, .. } => Some(object),

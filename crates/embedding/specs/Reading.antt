@@ -33,5 +33,5 @@ owner_by (Some (Relock t)) = Some t
 owner_by m = None
 
 -- the thread that was granted its monitor: the second move makes it the owner
-abbrev pub granted : Did → Option ThreadId
-granted d = owner_by (slice_index_or d.moves 1 None)
+abbrev pub granted_thread : Did → Option ThreadId
+granted_thread d = owner_by (slice_index_or d.moves 1 None)

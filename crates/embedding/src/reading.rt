@@ -1,7 +1,7 @@
 //! What a runtime reads off a step.
 
 ghost use Rattle.std.specs.Prelude.{◌≡◌};
-ghost use Rattle.embedding.specs.Reading.{state_after, granted};
+ghost use Rattle.embedding.specs.Reading.{state_after, granted_thread};
 
 use std::fmt;
 use step_core::{Answer, Atomic, Did, Move, Reply, ThreadId};
@@ -40,7 +40,7 @@ pub fn state_after(did: &Did) -> State
 /// The thread that this step took out of a line and made the owner of its monitor: its next Go collects
 /// its reply. The step's second move says it.
 pub fn granted(did: &Did) -> Option<ThreadId>
-    ensures { result ≡ granted did.now }
+    ensures { result ≡ granted_thread did.now }
 {
     match did.moves[1] {
         Some(Move::Lock { thread } | Move::Relock { thread }) => Some(thread),

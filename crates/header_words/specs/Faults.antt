@@ -10,6 +10,6 @@ TellsFault count ps (WrongPass h p) = LacksOne count ps
 TellsFault count ps (Memory h p) = HasAll count ps × (0 < length h.lows)
 
 -- the fault hands back these headers and passes
-abbrev pub IsBack : {B : Type 0} → Opening → List PassValue → CloseFault B → Type 0
-IsBack z ps (WrongPass h p) = (h ≡ z) × (p.items ≡ ps)
-IsBack z ps (Memory h p) = (h ≡ z) × (p.items ≡ ps)
+abbrev pub IsHandedBack : {B : Type 0} → Opening → List PassValue → CloseFault B → Type 0
+IsHandedBack z ps (WrongPass h p) = (h ≡ z) × (p.items ≡ ps)
+IsHandedBack z ps (Memory h p) = (h ≡ z) × (p.items ≡ ps)

@@ -52,7 +52,7 @@ fn has_index<B>(passes: &[Pass<B>], index: u16) -> bool
 
 impl<B: Kept> Headers<B> {
     ghost use Rattle.header_words.specs.Passes.{IsClosed, TookAll};
-    ghost use Rattle.header_words.specs.Faults.{IsBack, TellsFault};
+    ghost use Rattle.header_words.specs.Faults.{IsHandedBack, TellsFault};
 
     /// The words in the end, where each index has its pass, and the book.
     ///
@@ -64,7 +64,7 @@ impl<B: Kept> Headers<B> {
             IsClosed self passes.items (map (λ w. w.0) r.0.items) (B.bound r.1)) }
         ensures all { IfOk result (λ _. HasAll self.count passes.items) }
         ensures fault { IfErr result (TellsFault self.count passes.items) }
-        ensures back { IfErr result (IsBack self passes.items) }
+        ensures back { IfErr result (IsHandedBack self passes.items) }
     {
         if !has_all(passes.as_slice(), self.layout.count) {
             return Err(CloseFault::WrongPass {

@@ -8,7 +8,7 @@ use Rattle.step_core.specs.Requests.{moves_then, moves_after, world_then, world_
 use Rattle.step_core.specs.Shown.{shown}
 use Rattle.step_core.specs.World.{WorldState, opening_world}
 use Rattle.history.specs.Histories.{HasMemory}
-use Rattle.history.specs.Plays.{Does, Plays, IsPlayOf}
+use Rattle.history.specs.Plays.{PlaysOne, Plays, IsPlayOf}
 use Rattle.history.specs.Numbering.{IsWorldWith, low_bytes, names_of, requests_of}
 use Rattle.history_text.specs.Noted.{object_names}
 use Rattle.history.specs.declared.plans.Plan.{Plan}
@@ -18,7 +18,7 @@ use Rattle.history.proofs.Telling.{Run-append, memory-one, moves_after-one, step
 unfoldable pub Plays-none : (w : WorldState) → Plays w [] w
 Plays-none w = record { done = []; these = refl; memory = tt; leads = refl; run = refl }
 
-unfoldable pub Plays-one : (w v u : WorldState) (rs : List Request) (r : Request) → Plays w rs v → Does v r u → Plays w (rs ++ r ∷ []) u
+unfoldable pub Plays-one : (w v u : WorldState) (rs : List Request) (r : Request) → Plays w rs v → PlaysOne v r u → Plays w (rs ++ r ∷ []) u
 Plays-one w v u rs r p one =
     let moves : moves_then (world_after w p.done) (r, one.room) ≡ moves_then v (r, one.room) = ap (λ (x : WorldState). moves_then x (r, one.room)) (sym p.leads) in
     let all : moves_after w (p.done ++ (r, one.room) ∷ []) ≡ moves_after w p.done ++ moves_then v (r, one.room) =
@@ -32,7 +32,7 @@ Plays-one w v u rs r p one =
           (Run-append (moves_after w p.done) (moves_then v (r, one.room)) (shown w) (shown v) (shown u) p.run one.run);
     }
 
-pub Plays-next : (w v u : WorldState) (rs : List Request) (i : ℕ) (d : Request) → i < length rs → Plays w (take i rs) v → Does v (get_or rs i d) u → Plays w (take (i + 1) rs) u
+pub Plays-next : (w v u : WorldState) (rs : List Request) (i : ℕ) (d : Request) → i < length rs → Plays w (take i rs) v → PlaysOne v (get_or rs i d) u → Plays w (take (i + 1) rs) u
 Plays-next w v u rs i d within p one = rw (take_more rs i d within) (Plays-one w v u (take i rs) (get_or rs i d) p one)
 
 pub played : (plan : Plan) (script lines : List Line) (w v : WorldState) (lows : List ℕ) (steps : List Request) → lines ≡ script → IsWorldWith plan.monitors plan.indices plan.split lines

@@ -13,7 +13,7 @@ use Rattle.history.specs.Histories.{HasMemory, HaveMemory, first_world, steps_in
 use Rattle.history.specs.declared.plans.Plan.{Plan}
 
 -- a step or a relayout leads from the one world to the other, and its moves are a run of the machine
-pub record Does (w : WorldState) (asked : Request) (v : WorldState) : Type 0 where
+pub record PlaysOne (w : WorldState) (asked : Request) (v : WorldState) : Type 0 where
   pub room : Bool
   pub memory : HasMemory w (asked, room)
   pub leads : v ≡ world_then w (asked, room)

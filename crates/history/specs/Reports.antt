@@ -31,7 +31,7 @@ use Rattle.step_core.specs.Step.{step_of}
 use Rattle.step_core.specs.World.{WorldState, word_at}
 use Rattle.history.specs.NameLists.{NameLists, name_at}
 use Rattle.history.specs.Histories.{first_world}
-use Rattle.history.specs.Plays.{Does, Plays}
+use Rattle.history.specs.Plays.{PlaysOne, Plays}
 use Rattle.history.specs.declared.plans.Plan.{Plan}
 
 -- ---- steps
@@ -103,7 +103,7 @@ requests_text names w (t ∷ ts) = request_text names w t ++ requests_text names
 
 -- A step or a relayout leads from the one world to the other, and its line was written behind what was there.
 pub record Reported (names : NameLists) (w : WorldState) (asked : Request) (v : WorldState) (old new : List ℕ) : Type 0 where
-  pub does : Does w asked v
+  pub does : PlaysOne w asked v
   pub text : new ≡ old ++ request_text names w (asked, does.room)
 
 -- The same of all of them.

@@ -3,7 +3,7 @@
 ghost use Rattle.std.specs.Prelude.{◌≡◌, Err, IfErr, IfOk, OnOk};
 ghost use Rattle.history_streams.specs.declared.faults.FileFault.TheVariants.{Memory as WantOfMemory};
 ghost use Rattle.step_core.specs.declared.steps.Fault.TheVariants.{Memory as OutOfMemory};
-ghost use Rattle.history.specs.Plays.{Does, IsPlayOf, Plays};
+ghost use Rattle.history.specs.Plays.{PlaysOne, IsPlayOf, Plays};
 
 use crate::names::Names;
 use crate::plans::{Plan, plan_of};
@@ -43,7 +43,7 @@ fn do_steps(world: &mut World, steps: &[Request]) -> Result<(), Memory>
 
 /// Does a step or a relayout.
 fn do_request(world: &mut World, request: Request) -> Result<(), Memory>
-    ensures { OnOk result (Does world.old request world.new) }
+    ensures { OnOk result (PlaysOne world.old request world.new) }
 {
     match request {
         Request::Step(step) => {

@@ -3,7 +3,7 @@ use Rattle.std.proofs.Common.{◌≡◌, ℕ, ◌+◌, ◌<◌, ◌≤◌, List,
 use Rattle.step_core.specs.declared.machine.Move.{Move}
 use Rattle.step_core.specs.Machine.{State, opening, Steps, Run}
 use Rattle.history_moves.specs.Lines.{IsFirst, IsMove}
-use Rattle.history_check.specs.Histories.{NoFeed, IsLine, lines_text, Spell, LeadTo, IsWellFormed, IsUnlawfulLine, Follows, IsRunOf, IsOpen, IsBadMove, IsBroken}
+use Rattle.history_check.specs.Histories.{NoFeed, IsLine, lines_text, Spell, LeadTo, IsWellFormed, IsUnlawfulLine, LineLeads, IsRunOf, IsOpen, IsBadMove, IsBroken}
 use Rattle.history_moves.proofs.LineLaws.{one_line_move, one_line_first}
 use Rattle.history_check.proofs.OneNext.{one_next}
 use Rattle.history_check.proofs.Lines.{same_line, no_feed_no_line}
@@ -23,7 +23,7 @@ Steps-one m s a b p q = one_next m s a b p q
 
 abbrev Walk : Option State → List (List ℕ) → Option State → Type 0
 Walk p [] q = q ≡ p
-Walk p (l ∷ ls) q = (mid : Option State) × IsLine l × Follows p l mid × Walk mid ls q
+Walk p (l ∷ ls) q = (mid : Option State) × IsLine l × LineLeads p l mid × Walk mid ls q
 
 walk_moves : (ls : List (List ℕ)) (ms : List Move) (s q : State) → Spell ls ms → Run s ms q → Walk (Some s) ls (Some q)
 walk_moves [] [] s q p r = ap (λ (x : State). Some x) r
@@ -37,18 +37,18 @@ walk_from [] (Some s) p = absurd p
 walk_from (first ∷ ls) None p = absurd p
 walk_from (first ∷ ls) (Some s) p = (Some (opening p.0), p.2, (p.0, p.3, refl), walk_moves ls p.1 (opening p.0) s p.4 p.5)
 
-Follows-one : (p : Option State) (l : List ℕ) (a b : Option State) → Follows p l a → Follows p l b → a ≡ b
-Follows-one None l None b f g = absurd f
-Follows-one None l (Some a) None f g = absurd g
-Follows-one None l (Some a) (Some b) f g = ap (λ (x : State). Some x) (f.2 ∙ ap opening (IsFirst-one l f.0 g.0 f.1 g.1) ∙ sym g.2)
-Follows-one (Some s) l None b f g = absurd f
-Follows-one (Some s) l (Some a) None f g = absurd g
-Follows-one (Some s) l (Some a) (Some b) f g =
+LineLeads-one : (p : Option State) (l : List ℕ) (a b : Option State) → LineLeads p l a → LineLeads p l b → a ≡ b
+LineLeads-one None l None b f g = absurd f
+LineLeads-one None l (Some a) None f g = absurd g
+LineLeads-one None l (Some a) (Some b) f g = ap (λ (x : State). Some x) (f.2 ∙ ap opening (IsFirst-one l f.0 g.0 f.1 g.1) ∙ sym g.2)
+LineLeads-one (Some s) l None b f g = absurd f
+LineLeads-one (Some s) l (Some a) None f g = absurd g
+LineLeads-one (Some s) l (Some a) (Some b) f g =
     ap (λ (x : State). Some x) (Steps-one g.0 s a b (subst (λ (m : Move). Steps s m a) (IsMove-one l f.0 g.0 f.1 g.1) f.2) g.2)
 
 -- a line that follows stands at the front of the rest
 abbrev Ahead : Option State → List ℕ → Type 0
-Ahead q rest = (l after : List ℕ) × (next : Option State) × IsLine l × (rest ≡ l ++ (10 ∷ after)) × Follows q l next
+Ahead q rest = (l after : List ℕ) × (next : Option State) × IsLine l × (rest ≡ l ++ (10 ∷ after)) × LineLeads q l next
 
 abbrev Compared : ℕ → Option State → List ℕ → ℕ → Option State → List ℕ → Type 0
 Compared m p r n q t = ((m ≡ n) × (p ≡ q) × (r ≡ t)) ⊎ (Ahead p r ⊎ Ahead q t)
@@ -57,12 +57,12 @@ compare : (p : Option State) (v w : List (List ℕ)) (a b : Option State) (r t :
     → Compared (length v) a r (length w) b t
 compare p [] [] a b r t x y e = inl (refl, x ∙ sym y, e)
 compare p [] (l ∷ ls) a b r t x y e =
-    inr (inl (l, lines_text ls ++ t, y.0, y.1, e ∙ append_assoc l (10 ∷ lines_text ls) t, subst (λ (z : Option State). Follows z l y.0) (sym x) y.2))
+    inr (inl (l, lines_text ls ++ t, y.0, y.1, e ∙ append_assoc l (10 ∷ lines_text ls) t, subst (λ (z : Option State). LineLeads z l y.0) (sym x) y.2))
 compare p (l ∷ ls) [] a b r t x y e =
-    inr (inr (l, lines_text ls ++ r, x.0, x.1, sym e ∙ append_assoc l (10 ∷ lines_text ls) r, subst (λ (z : Option State). Follows z l x.0) (sym y) x.2))
+    inr (inr (l, lines_text ls ++ r, x.0, x.1, sym e ∙ append_assoc l (10 ∷ lines_text ls) r, subst (λ (z : Option State). LineLeads z l x.0) (sym y) x.2))
 compare p (k ∷ ks) (l ∷ ls) a b r t x y e =
     let same = same_line k l (lines_text ks ++ r) (lines_text ls ++ t) x.1.0 y.1.0 (sym (append_assoc k (10 ∷ lines_text ks) r) ∙ e ∙ append_assoc l (10 ∷ lines_text ls) t) in
-    let mids = Follows-one p l x.0 y.0 (subst (λ (z : List ℕ). Follows p z x.0) same.0 x.2) y.2 in
+    let mids = LineLeads-one p l x.0 y.0 (subst (λ (z : List ℕ). LineLeads p z x.0) same.0 x.2) y.2 in
     more (compare y.0 ks ls a b r t (subst (λ (z : Option State). Walk z ks a) mids x.3) y.3 same.1)
   where
     more : Compared (length ks) a r (length ls) b t → Compared (length (k ∷ ks)) a r (length (l ∷ ls)) b t
@@ -73,7 +73,7 @@ compared : (came : List ℕ) (v w : List (List ℕ)) (a b : Option State) (r t :
     → Compared (length v) a r (length w) b t
 compared came v w a b r t x y e f = compare None v w a b r t (walk_from v a x) (walk_from w b y) (sym e ∙ f)
 
-well_formed : (q next : Option State) (l : List ℕ) → Follows q l next → IsWellFormed q l
+well_formed : (q next : Option State) (l : List ℕ) → LineLeads q l next → IsWellFormed q l
 well_formed None None l f = absurd f
 well_formed None (Some s) l f = (f.0, f.1)
 well_formed (Some s) None l f = absurd f
@@ -83,7 +83,7 @@ unlawful_formed : (q : Option State) (l : List ℕ) → IsUnlawfulLine q l → I
 unlawful_formed None l f = absurd f
 unlawful_formed (Some s) l f = (f.0, f.1)
 
-lawful : (q next : Option State) (l : List ℕ) → IsUnlawfulLine q l → Follows q l next → ⊥
+lawful : (q next : Option State) (l : List ℕ) → IsUnlawfulLine q l → LineLeads q l next → ⊥
 lawful None next l u f = absurd u
 lawful (Some s) None l u f = absurd f
 lawful (Some s) (Some next) l u f = u.2 next (subst (λ (m : Move). Steps s m next) (IsMove-one l f.0 u.0 f.1 u.1) f.2)

@@ -5,7 +5,7 @@ use Rattle.history_streams.specs.declared.faults.FileFault.{FileFault}
 use Rattle.history_streams.specs.declared.faults.FileFault.TheVariants.{BadLine, BadMove, Broken, Read, Write, Memory}
 use Rattle.step_core.specs.Machine.{State, opening, Steps, Run}
 use Rattle.history_moves.specs.Lines.{IsMove}
-use Rattle.history_check.specs.Histories.{NoFeed, IsLine, lines_text, Spell, LeadTo, IsWellFormed, Follows, IsRunOf, Stands, IsBadMove, Refuses, IsFaultOf}
+use Rattle.history_check.specs.Histories.{NoFeed, IsLine, lines_text, Spell, LeadTo, IsWellFormed, LineLeads, IsRunOf, IsRightSoFar, IsBadMove, Refuses, IsFaultOf}
 use Rattle.history_check.proofs.Lines.{NoFeed-append, same_line, no_shorter, no_feed_no_line, has_feed, lines_text-one}
 
 -- ---- one more line
@@ -20,7 +20,7 @@ Run-one : (ms : List Move) (s mid next : State) (m : Move) → Run s ms mid → 
 Run-one [] s mid next m r step = (next, subst (λ (x : State). Steps x m next) r step, refl)
 Run-one (n ∷ ms) s mid next m r step = (r.0, r.1, Run-one ms r.0 mid next m r.2 step)
 
-LeadTo-one : (ls : List (List ℕ)) (l : List ℕ) (place next : Option State) → LeadTo ls place → IsLine l → Follows place l next → LeadTo (ls ++ l ∷ []) next
+LeadTo-one : (ls : List (List ℕ)) (l : List ℕ) (place next : Option State) → LeadTo ls place → IsLine l → LineLeads place l next → LeadTo (ls ++ l ∷ []) next
 LeadTo-one [] l None None p fits f = absurd f
 LeadTo-one [] l None (Some s) p fits f = (f.0, [], fits, f.1, tt, f.2)
 LeadTo-one [] l (Some s) next p fits f = absurd p
@@ -31,12 +31,12 @@ LeadTo-one (first ∷ ls) l (Some s) (Some next) p fits f =
 
 -- ---- what stands
 
-pub Stands-none : Stands [] 0 None []
-Stands-none = record { whole = []; number = refl; right = tt; parts = refl; short = (tt, omega arith) }
+pub IsRightSoFar-none : IsRightSoFar [] 0 None []
+IsRightSoFar-none = record { whole = []; number = refl; right = tt; parts = refl; short = (tt, omega arith) }
 
-pub Stands-more : (came : List ℕ) (count : ℕ) (place : Option State) (line piece : List ℕ) → Stands came count place line
-    → NoFeed piece → length line + length piece < 4096 → Stands (came ++ piece) count place (line ++ piece)
-Stands-more came count place line piece s clean small = record {
+pub IsRightSoFar-more : (came : List ℕ) (count : ℕ) (place : Option State) (line piece : List ℕ) → IsRightSoFar came count place line
+    → NoFeed piece → length line + length piece < 4096 → IsRightSoFar (came ++ piece) count place (line ++ piece)
+IsRightSoFar-more came count place line piece s clean small = record {
   whole = s.whole;
   number = s.number;
   right = s.right;
@@ -45,9 +45,9 @@ Stands-more came count place line piece s clean small = record {
 }
 
 -- a whole line that follows
-pub Stands-line : (came : List ℕ) (count : ℕ) (place next : Option State) (line : List ℕ) → Stands came count place line
-    → Follows place line next → Stands (came ++ 10 ∷ []) (count + 1) next []
-Stands-line came count place next line s f = record {
+pub IsRightSoFar-line : (came : List ℕ) (count : ℕ) (place next : Option State) (line : List ℕ) → IsRightSoFar came count place line
+    → LineLeads place line next → IsRightSoFar (came ++ 10 ∷ []) (count + 1) next []
+IsRightSoFar-line came count place next line s f = record {
   whole = s.whole ++ line ∷ [];
   number = ap (λ (n : ℕ). n + 1) s.number ∙ omega (arith, length-append s.whole (line ∷ []));
   right = LeadTo-one s.whole line place next s.right s.short f;
@@ -56,7 +56,7 @@ Stands-line came count place next line s f = record {
 }
 
 -- a line whose end came, and that is refused
-pub refused_line : (came : List ℕ) (count : ℕ) (place : Option State) (line after : List ℕ) (ended lost : Type 0) (e : FileFault) → Stands came count place line
+pub refused_line : (came : List ℕ) (count : ℕ) (place : Option State) (line after : List ℕ) (ended lost : Type 0) (e : FileFault) → IsRightSoFar came count place line
     → Refuses place line (count + 1) e → IsFaultOf (came ++ (10 ∷ after)) ended lost e
 refused_line came count place line after ended lost (BadLine n) s r = absurd r
 refused_line came count place line after ended lost (BadMove n) s r = record {
@@ -86,7 +86,7 @@ refused_line came count place line after ended lost Write s r = absurd r
 refused_line came count place line after ended lost Memory s r = tt
 
 -- a line of which 4,096 bytes came with no line feed
-pub too_long : (came : List ℕ) (count : ℕ) (place : Option State) (line piece after : List ℕ) (ended : Type 0) → Stands came count place line
+pub too_long : (came : List ℕ) (count : ℕ) (place : Option State) (line piece after : List ℕ) (ended : Type 0) → IsRightSoFar came count place line
     → NoFeed piece → 4096 ≤ length line + length piece → IsBadMove (came ++ (piece ++ after)) ended (count + 1)
 too_long came count place line piece after ended s clean long = record {
   whole = s.whole;
@@ -103,7 +103,7 @@ too_long came count place line piece after ended s clean long = record {
 }
 
 -- the end, behind a whole line
-pub ends_whole : (came : List ℕ) (count : ℕ) (state : State) → Stands came count (Some state) [] → (ms : List Move) × IsRunOf came ms × (count ≡ length ms + 1)
+pub ends_whole : (came : List ℕ) (count : ℕ) (state : State) → IsRightSoFar came count (Some state) [] → (ms : List Move) × IsRunOf came ms × (count ≡ length ms + 1)
 ends_whole came count state s = ends_at s.whole s.number s.right s.parts
   where
     spelled : (ls : List (List ℕ)) (ms : List Move) → Spell ls ms → length ls ≡ length ms
@@ -131,7 +131,7 @@ ends_whole came count state s = ends_at s.whole s.number s.right s.parts
     )
 
 -- the end, where a line has begun, or where there was none
-pub ends_bad : (came : List ℕ) (count : ℕ) (place : Option State) (line : List ℕ) (ended : Type 0) → Stands came count place line
+pub ends_bad : (came : List ℕ) (count : ℕ) (place : Option State) (line : List ℕ) (ended : Type 0) → IsRightSoFar came count place line
     → (0 < length line) ⊎ (place ≡ None) → ended → IsBadMove came ended (count + 1)
 ends_bad came count place line ended s why end = record {
   whole = s.whole;
@@ -159,28 +159,28 @@ ends_bad came count place line ended s why end = record {
 pub record Fed (count : ℕ) (place : Option State) (line bytes : List ℕ) (count' : ℕ) (place' : Option State) (line' rest : List ℕ) : Type 0 where
   pub seen : List ℕ
   pub parts : bytes ≡ seen ++ rest
-  pub stands : (came : List ℕ) → Stands came count place line → Stands (came ++ seen) count' place' line'
+  pub stands : (came : List ℕ) → IsRightSoFar came count place line → IsRightSoFar (came ++ seen) count' place' line'
 
 pub Fed-none : (count : ℕ) (place : Option State) (line bytes : List ℕ) → Fed count place line bytes count place line bytes
-Fed-none count place line bytes = record { seen = []; parts = refl; stands = λ came s. subst (λ (l : List ℕ). Stands l count place line) (sym (append-nil came)) s }
+Fed-none count place line bytes = record { seen = []; parts = refl; stands = λ came s. subst (λ (l : List ℕ). IsRightSoFar l count place line) (sym (append-nil came)) s }
 
 -- a piece more, and the line feed behind it
 pub Fed-line : (count : ℕ) (place : Option State) (line bytes : List ℕ) (count' : ℕ) (place' : Option State) (line' rest piece after : List ℕ) (next : Option State)
-    → Fed count place line bytes count' place' line' rest → NoFeed piece → rest ≡ piece ++ (10 ∷ after) → length line' + length piece < 4096 → Follows place' (line' ++ piece) next
+    → Fed count place line bytes count' place' line' rest → NoFeed piece → rest ≡ piece ++ (10 ∷ after) → length line' + length piece < 4096 → LineLeads place' (line' ++ piece) next
     → Fed count place line bytes (count' + 1) next [] after
 Fed-line count place line bytes count' place' line' rest piece after next f clean cut small follows = record {
   seen = (f.seen ++ piece) ++ 10 ∷ [];
   parts = f.parts ∙ ap (λ (l : List ℕ). f.seen ++ l) cut ∙ sym (append_assoc f.seen piece (10 ∷ after)) ∙ sym (append_assoc (f.seen ++ piece) (10 ∷ []) after);
   stands = λ came s.
-      let more = Stands-line ((came ++ f.seen) ++ piece) count' place' next (line' ++ piece) (Stands-more (came ++ f.seen) count' place' line' piece (f.stands came s) clean small) follows in
-      subst (λ (l : List ℕ). Stands l (count' + 1) next []) (append_assoc (came ++ f.seen) piece (10 ∷ []) ∙ append_assoc came f.seen (piece ++ 10 ∷ []) ∙ ap (λ (l : List ℕ). came ++ l) (sym (append_assoc f.seen piece (10 ∷ [])))) more;
+      let more = IsRightSoFar-line ((came ++ f.seen) ++ piece) count' place' next (line' ++ piece) (IsRightSoFar-more (came ++ f.seen) count' place' line' piece (f.stands came s) clean small) follows in
+      subst (λ (l : List ℕ). IsRightSoFar l (count' + 1) next []) (append_assoc (came ++ f.seen) piece (10 ∷ []) ∙ append_assoc came f.seen (piece ++ 10 ∷ []) ∙ ap (λ (l : List ℕ). came ++ l) (sym (append_assoc f.seen piece (10 ∷ [])))) more;
 }
 
 -- adding a piece of the rest to the line failed
 pub fed_long : (count : ℕ) (place : Option State) (line bytes : List ℕ) (count' : ℕ) (place' : Option State) (line' rest piece after : List ℕ) (e : FileFault)
     → Fed count place line bytes count' place' line' rest → NoFeed piece → rest ≡ piece ++ after
     → (e ≡ Memory) ⊎ ((e ≡ BadMove (count' + 1)) × (4096 ≤ length line' + length piece))
-    → (came : List ℕ) → Stands came count place line → IsFaultOf (came ++ bytes) ⊥ ⊥ e
+    → (came : List ℕ) → IsRightSoFar came count place line → IsFaultOf (came ++ bytes) ⊥ ⊥ e
 fed_long count place line bytes count' place' line' rest piece after e f clean cut (inl none) came s = subst (IsFaultOf (came ++ bytes) ⊥ ⊥) (sym none) tt
 fed_long count place line bytes count' place' line' rest piece after e f clean cut (inr long) came s =
     subst (IsFaultOf (came ++ bytes) ⊥ ⊥) (sym long.0)
@@ -191,11 +191,11 @@ fed_long count place line bytes count' place' line' rest piece after e f clean c
 pub fed_refused : (count : ℕ) (place : Option State) (line bytes : List ℕ) (count' : ℕ) (place' : Option State) (line' rest piece after : List ℕ) (e : FileFault)
     → Fed count place line bytes count' place' line' rest → NoFeed piece → rest ≡ piece ++ (10 ∷ after) → length line' + length piece < 4096
     → Refuses place' (line' ++ piece) (count' + 1) e
-    → (came : List ℕ) → Stands came count place line → IsFaultOf (came ++ bytes) ⊥ ⊥ e
+    → (came : List ℕ) → IsRightSoFar came count place line → IsFaultOf (came ++ bytes) ⊥ ⊥ e
 fed_refused count place line bytes count' place' line' rest piece after e f clean cut small r came s =
     subst (λ (l : List ℕ). IsFaultOf l ⊥ ⊥ e)
     (append_assoc (came ++ f.seen) piece (10 ∷ after) ∙ append_assoc came f.seen (piece ++ (10 ∷ after)) ∙ ap (λ (l : List ℕ). came ++ l) (ap (λ (l : List ℕ). f.seen ++ l) (sym cut) ∙ sym f.parts))
-    (refused_line ((came ++ f.seen) ++ piece) count' place' (line' ++ piece) after ⊥ ⊥ e (Stands-more (came ++ f.seen) count' place' line' piece (f.stands came s) clean small) r)
+    (refused_line ((came ++ f.seen) ++ piece) count' place' (line' ++ piece) after ⊥ ⊥ e (IsRightSoFar-more (came ++ f.seen) count' place' line' piece (f.stands came s) clean small) r)
 
 -- the rest was added to the line, or not
 pub fed_last : {T : Type 0} (r : Result T FileFault) (count : ℕ) (place : Option State) (line bytes : List ℕ) (count' : ℕ) (place' : Option State) (line' rest : List ℕ)
@@ -203,24 +203,24 @@ pub fed_last : {T : Type 0} (r : Result T FileFault) (count : ℕ) (place : Opti
     → Fed count place line bytes count' place' line' rest → NoFeed rest
     → OnOk r ((line2 ≡ line' ++ rest) × (count2 ≡ count') × (place2 ≡ place')) → OnOk r (length line' + length rest < 4096)
     → IfErr r (λ e. (e ≡ Memory) ⊎ ((e ≡ BadMove (count' + 1)) × (4096 ≤ length line' + length rest)))
-    → (came : List ℕ) → Stands came count place line
-    → MatchResult r (λ _. Stands (came ++ bytes) count2 place2 line2) (λ e. IsFaultOf (came ++ bytes) ⊥ ⊥ e)
+    → (came : List ℕ) → IsRightSoFar came count place line
+    → MatchResult r (λ _. IsRightSoFar (came ++ bytes) count2 place2 line2) (λ e. IsFaultOf (came ++ bytes) ⊥ ⊥ e)
 fed_last (Err e) count place line bytes count' place' line' rest count2 place2 line2 f clean ok small fault came s =
     fed_long count place line bytes count' place' line' rest rest [] e f clean (sym (append-nil rest)) fault came s
 fed_last (Ok x) count place line bytes count' place' line' rest count2 place2 line2 f clean ok small fault came s =
-    let more = Stands-more (came ++ f.seen) count' place' line' rest (f.stands came s) clean small in
+    let more = IsRightSoFar-more (came ++ f.seen) count' place' line' rest (f.stands came s) clean small in
     let all : (came ++ f.seen) ++ rest ≡ came ++ bytes = append_assoc came f.seen rest ∙ ap (λ (l : List ℕ). came ++ l) (sym f.parts) in
     same_stands ((came ++ f.seen) ++ rest) (came ++ bytes) count' count2 place' place2 (line' ++ rest) line2 all (sym ok.1) (sym ok.2) (sym ok.0) more
   where
-    same_stands : (a b : List ℕ) (m n : ℕ) (p q : Option State) (k l : List ℕ) → a ≡ b → m ≡ n → p ≡ q → k ≡ l → Stands a m p k → Stands b n q l
+    same_stands : (a b : List ℕ) (m n : ℕ) (p q : Option State) (k l : List ℕ) → a ≡ b → m ≡ n → p ≡ q → k ≡ l → IsRightSoFar a m p k → IsRightSoFar b n q l
     same_stands a b m n p q k l e f g h s = rw (← e, ← f, ← g, ← h) s
 
 -- ---- the end
 
-pub finish_begun : (came : List ℕ) (count : ℕ) (place : Option State) (line : List ℕ) → 0 < length line → Stands came count place line → IsBadMove came (Unit {0}) (count + 1)
+pub finish_begun : (came : List ℕ) (count : ℕ) (place : Option State) (line : List ℕ) → 0 < length line → IsRightSoFar came count place line → IsBadMove came (Unit {0}) (count + 1)
 finish_begun came count place line some s = ends_bad came count place line (Unit {0}) s (inl some) tt
 
-pub finish_ok : (came : List ℕ) (count : ℕ) (place : Option State) (line : List ℕ) → length line ≡ 0 → is_some place ≡ true → Stands came count place line
+pub finish_ok : (came : List ℕ) (count : ℕ) (place : Option State) (line : List ℕ) → length line ≡ 0 → is_some place ≡ true → IsRightSoFar came count place line
     → (ms : List Move) × IsRunOf came ms × (count - 1 ≡ length ms)
 finish_ok came count None line none there s = absurd (no_some there)
   where
@@ -229,7 +229,7 @@ finish_ok came count None line none there s = absurd (no_some there)
 finish_ok came count (Some state) (x ∷ line) none there s = absurd (omega arith)
 finish_ok came count (Some state) [] none there s = let p = ends_whole came count state s in (p.0, p.1, omega (arith, p.2))
 
-pub finish_none : (came : List ℕ) (count : ℕ) (place : Option State) (line : List ℕ) → is_some place ≡ false → Stands came count place line → IsBadMove came (Unit {0}) (count + 1)
+pub finish_none : (came : List ℕ) (count : ℕ) (place : Option State) (line : List ℕ) → is_some place ≡ false → IsRightSoFar came count place line → IsBadMove came (Unit {0}) (count + 1)
 finish_none came count None line none s = ends_bad came count None line (Unit {0}) s (inr refl) tt
 finish_none came count (Some state) line none s = absurd (no_none none)
   where
@@ -244,7 +244,7 @@ pub fed_refused_by : (count : ℕ) (place : Option State) (line bytes : List ℕ
     (count2 : ℕ) (place2 : Option State) (line2 : List ℕ)
     → Fed count place line bytes count' place' line' rest → NoFeed piece × (rest ≡ piece ++ (10 ∷ after)) → Added count' place' line' piece count2 place2 line2 → length line' + length piece < 4096
     → Refuses place2 line2 (count2 + 1) e
-    → (came : List ℕ) → Stands came count place line → IsFaultOf (came ++ bytes) ⊥ ⊥ e
+    → (came : List ℕ) → IsRightSoFar came count place line → IsFaultOf (came ++ bytes) ⊥ ⊥ e
 fed_refused_by count place line bytes count' place' line' rest piece after e count2 place2 line2 f cut a small r =
     fed_refused count place line bytes count' place' line' rest piece after e f cut.0 cut.1 small (same_refusal count' count2 place' place2 (line' ++ piece) line2 a.1 a.2 a.0 r)
   where
@@ -254,11 +254,11 @@ fed_refused_by count place line bytes count' place' line' rest piece after e cou
 pub Fed-line_by : (count : ℕ) (place : Option State) (line bytes : List ℕ) (count' : ℕ) (place' : Option State) (line' rest piece after : List ℕ)
     (count2 : ℕ) (place2 : Option State) (line2 : List ℕ) (count3 : ℕ) (place3 : Option State) (line3 : List ℕ)
     → Fed count place line bytes count' place' line' rest → NoFeed piece × (rest ≡ piece ++ (10 ∷ after)) → Added count' place' line' piece count2 place2 line2 → length line' + length piece < 4096
-    → Follows place2 line2 place3 × (count3 ≡ count2 + 1) × (line3 ≡ [])
+    → LineLeads place2 line2 place3 × (count3 ≡ count2 + 1) × (line3 ≡ [])
     → Fed count place line bytes count3 place3 line3 after
 Fed-line_by count place line bytes count' place' line' rest piece after count2 place2 line2 count3 place3 line3 f cut a small r =
     same_fed (count' + 1) count3 [] line3 (r.1 ∙ ap (λ (n : ℕ). n + 1) a.1) r.2
-    (Fed-line count place line bytes count' place' line' rest piece after place3 f cut.0 cut.1 small (subst (λ (x : Option State). Follows x (line' ++ piece) place3) a.2 (subst (λ (x : List ℕ). Follows place2 x place3) a.0 r.0)))
+    (Fed-line count place line bytes count' place' line' rest piece after place3 f cut.0 cut.1 small (subst (λ (x : Option State). LineLeads x (line' ++ piece) place3) a.2 (subst (λ (x : List ℕ). LineLeads place2 x place3) a.0 r.0)))
   where
     same_fed : (m n : ℕ) (k l : List ℕ) → n ≡ m → l ≡ k → Fed count place line bytes m place3 k after → Fed count place line bytes n place3 l after
     same_fed m n k l e g h = rw (e, g) h

@@ -7,8 +7,8 @@ use Rattle.step_core.specs.declared.machine.Move.{Move}
 use Rattle.history_streams.specs.declared.faults.FileFault.{FileFault}
 use Rattle.history_streams.specs.declared.faults.FileFault.TheVariants as faults
 use Rattle.step_core.specs.Machine.{State}
-use Rattle.history_check.specs.Histories.{Stands, IsOpen, IsRunOf, IsFaultOf}
-use Rattle.history_check.specs.Replays.{IsWhole, IsFaulty, IsOpenBefore}
+use Rattle.history_check.specs.Histories.{IsRightSoFar, IsOpen, IsRunOf, IsFaultOf}
+use Rattle.history_check.specs.Replays.{IsReadAsRun, IsFaulty, IsOpenBefore}
 use Rattle.history_streams.proofs.Pieces.{Consumes-none, Consumes-more}
 
 -- so many bytes came, and they stand so
@@ -16,9 +16,9 @@ pub record Reads (old new : Option (List ℕ)) (given count : ℕ) (place : Opti
   pub came : List ℕ
   pub counted : length came ≡ given
   pub took : Consumes old new came
-  pub stands : Stands came count place line
+  pub stands : IsRightSoFar came count place line
 
-pub Reads-none : (a : Option (List ℕ)) (count : ℕ) (place : Option State) (line : List ℕ) → Stands [] count place line → Reads a a 0 count place line
+pub Reads-none : (a : Option (List ℕ)) (count : ℕ) (place : Option State) (line : List ℕ) → IsRightSoFar [] count place line → Reads a a 0 count place line
 Reads-none a count place line s = record { came = []; counted = refl; took = Consumes-none a; stands = s }
 
 -- a fault stays one, if what it says of the end does
@@ -79,8 +79,8 @@ reads_failed old mid new total failed given count place line r small sum f =
 -- the reader came to its end
 pub reads_end : (r : Result ℕ FileFault) (old mid new : Option (List ℕ)) (total : ℕ) (failed : Type 0) (given count : ℕ) (place : Option State) (line chunk : List ℕ) → Reads old mid given count place line
     → given ≤ 1073741824 → total ≡ given → Consumes mid new (take 0 chunk) → IsAtEnd new
-    → ((came : List ℕ) → Stands came count place line → MatchResult r (λ n. (ms : List Move) × IsRunOf came ms × (n ≡ length ms)) (λ e. IsFaultOf came (Unit {0}) ⊥ e))
-    → MatchResult r (λ n. IsWhole old new total n) (λ e. IsFaulty old new total failed e)
+    → ((came : List ℕ) → IsRightSoFar came count place line → MatchResult r (λ n. (ms : List Move) × IsRunOf came ms × (n ≡ length ms)) (λ e. IsFaultOf came (Unit {0}) ⊥ e))
+    → MatchResult r (λ n. IsReadAsRun old new total n) (λ e. IsFaulty old new total failed e)
 reads_end (Ok n) old mid new total failed given count place line chunk r small sum took end told =
     let few : length r.came ≤ 1073741824 = omega (arith, r.counted) in
     let t = told r.came r.stands in
@@ -98,7 +98,7 @@ reads_end (Err e) old mid new total failed given count place line chunk r small 
 -- more bytes came
 pub reads_more : (old mid new : Option (List ℕ)) (given count : ℕ) (place : Option State) (line front : List ℕ) (n count' : ℕ) (place' : Option State) (line' : List ℕ)
     → Reads old mid given count place line → Consumes mid new front → length front ≡ n
-    → ((came : List ℕ) → Stands came count place line → Stands (came ++ front) count' place' line') → Reads old new (given + n) count' place' line'
+    → ((came : List ℕ) → IsRightSoFar came count place line → IsRightSoFar (came ++ front) count' place' line') → Reads old new (given + n) count' place' line'
 reads_more old mid new given count place line front n count' place' line' r took long told = record {
   came = r.came ++ front;
   counted = length-append r.came front ∙ omega (arith, r.counted, long);
@@ -116,7 +116,7 @@ long_came came front given n total counted long sum = length-append came front �
 
 pub reads_fault : (old mid new : Option (List ℕ)) (total : ℕ) (failed : Type 0) (given count : ℕ) (place : Option State) (line front : List ℕ) (n : ℕ) (e : FileFault)
     → Reads old mid given count place line → Consumes mid new front → length front ≡ n → total ≡ given + n → n ≤ 4096 → given + n ≤ 1073741824
-    → ((came : List ℕ) → Stands came count place line → IsFaultOf (came ++ front) ⊥ ⊥ e) → IsFaulty old new total failed e
+    → ((came : List ℕ) → IsRightSoFar came count place line → IsFaultOf (came ++ front) ⊥ ⊥ e) → IsFaulty old new total failed e
 reads_fault old mid new total failed given count place line front n e r took long sum least small told =
     let few : length (r.came ++ front) ≤ 1073741824 = omega (arith, length-append r.came front, r.counted, long) in (
       r.came ++ front,
@@ -133,7 +133,7 @@ within limit given room came front counted e small =
 
 pub reads_past : (old mid new : Option (List ℕ)) (total : ℕ) (failed : Type 0) (given count : ℕ) (place : Option State) (line front : List ℕ) (n room : ℕ) (e : FileFault)
     → Reads old mid given count place line → Consumes mid new front → length front ≡ n → total ≡ given + n → n ≤ 4096 → given ≤ 1073741824 → room ≡ 1073741824 - given
-    → ((came : List ℕ) → Stands came count place line → IsFaultOf (came ++ take room front) ⊥ ⊥ e) → IsFaulty old new total failed e
+    → ((came : List ℕ) → IsRightSoFar came count place line → IsFaultOf (came ++ take room front) ⊥ ⊥ e) → IsFaulty old new total failed e
 reads_past old mid new total failed given count place line front n room e r took long sum least small is told = (
   r.came ++ front,
   Consumes-more old mid new r.came front r.took took,
@@ -144,7 +144,7 @@ reads_past old mid new total failed given count place line front n room e r took
 
 pub reads_lost : (old mid new : Option (List ℕ)) (total : ℕ) (failed : Type 0) (given count : ℕ) (place : Option State) (line front : List ℕ) (n room count' : ℕ) (place' : Option State) (line' : List ℕ)
     → Reads old mid given count place line → Consumes mid new front → length front ≡ n → total ≡ given + n → n ≤ 4096 → given ≤ 1073741824 → room ≡ 1073741824 - given → room < n
-    → ((came : List ℕ) → Stands came count place line → Stands (came ++ take room front) count' place' line') → IsFaulty old new total failed faults.Read
+    → ((came : List ℕ) → IsRightSoFar came count place line → IsRightSoFar (came ++ take room front) count' place' line') → IsFaulty old new total failed faults.Read
 reads_lost old mid new total failed given count place line front n room count' place' line' r took long sum least small is over told = (
   r.came ++ front,
   Consumes-more old mid new r.came front r.took took,

@@ -49,11 +49,11 @@ IsUnlawfulLine None line = ⊥
 IsUnlawfulLine (Some s) line = (m : Move) × IsMove line m × IsUnlawful s m
 
 -- the line leads from the one to the other
-abbrev pub Follows : Option State → List ℕ → Option State → Type 0
-Follows None line None = ⊥
-Follows None line (Some s) = (n : ℕ) × IsFirst line n × (s ≡ opening n)
-Follows (Some s) line None = ⊥
-Follows (Some s) line (Some next) = (m : Move) × IsMove line m × Steps s m next
+abbrev pub LineLeads : Option State → List ℕ → Option State → Type 0
+LineLeads None line None = ⊥
+LineLeads None line (Some s) = (n : ℕ) × IsFirst line n × (s ≡ opening n)
+LineLeads (Some s) line None = ⊥
+LineLeads (Some s) line (Some next) = (m : Move) × IsMove line m × Steps s m next
 
 -- the bytes are a history of these moves, which are a run
 pub record IsRunOf (bytes : List ℕ) (ms : List Move) : Type 0 where
@@ -68,7 +68,7 @@ pub record IsRunOf (bytes : List ℕ) (ms : List Move) : Type 0 where
   pub run : Run (opening objects) ms state
 
 -- Nothing is wrong as far as the bytes came: whole lines of a run, and the front of one more.
-pub record Stands (came : List ℕ) (count : ℕ) (place : Option State) (line : List ℕ) : Type 0 where
+pub record IsRightSoFar (came : List ℕ) (count : ℕ) (place : Option State) (line : List ℕ) : Type 0 where
   pub whole : List (List ℕ)
   pub number : count ≡ length whole
   pub right : LeadTo whole place
@@ -76,7 +76,7 @@ pub record Stands (came : List ℕ) (count : ℕ) (place : Option State) (line :
   pub short : IsLine line
 
 abbrev pub IsOpen : List ℕ → Type 0
-IsOpen came = (count : ℕ) × (place : Option State) × (line : List ℕ) × Stands came count place line
+IsOpen came = (count : ℕ) × (place : Option State) × (line : List ℕ) × IsRightSoFar came count place line
 
 -- Line n is no line of a history: right lines stand before it, and what is there begins with none. So much of it came
 -- that this is sure: a line feed, 4,096 bytes, or the end.

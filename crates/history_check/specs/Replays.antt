@@ -6,8 +6,8 @@ use Rattle.history_streams.specs.declared.faults.FileFault.{FileFault}
 use Rattle.history_check.specs.Histories.{IsRunOf, IsFaultOf, IsOpen}
 
 -- the reader came to its end, and what it gave is a history of so many moves, which are a run
-abbrev pub IsWhole : Option (List ℕ) → Option (List ℕ) → ℕ → ℕ → Type 0
-IsWhole old new given count =
+abbrev pub IsReadAsRun : Option (List ℕ) → Option (List ℕ) → ℕ → ℕ → Type 0
+IsReadAsRun old new given count =
     (came : List ℕ) × Consumes old new came × (length came ≡ given) × IsAtEnd new
     × (length came ≤ 1073741824) × (ms : List Move) × IsRunOf came ms × (count ≡ length ms)
 

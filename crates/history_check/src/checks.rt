@@ -4,7 +4,7 @@ ghost use Rattle.std.specs.Prelude.{◌≡◌, ◌<◌, ◌≤◌, ◌+◌, ◌^
 ghost use Rattle.history_streams.specs.declared.faults.FileFault.TheVariants.{BadMove, Memory};
 ghost use Rattle.step_core.specs.declared.machine.Move.{Move as MoveData};
 ghost use Rattle.history_check.specs.Behind.{state_of};
-ghost use Rattle.history_check.specs.Histories.{NoFeed, Follows, Refuses, Stands, IsRunOf, IsFaultOf};
+ghost use Rattle.history_check.specs.Histories.{NoFeed, LineLeads, Refuses, IsRightSoFar, IsRunOf, IsFaultOf};
 
 use history_moves::{line_first, line_move};
 use history_streams::FileFault;
@@ -28,7 +28,7 @@ pub(crate) struct Check {
 impl Check {
     /// A check of nothing yet.
     pub(crate) fn new(alloc: Global) -> Check
-        ensures { Stands [] result.count (option_map state_of result.machine) result.line.items }
+        ensures { IsRightSoFar [] result.count (option_map state_of result.machine) result.line.items }
     {
         Check {
             alloc,
@@ -42,9 +42,9 @@ impl Check {
     pub(crate) fn feed(&mut self, bytes: &[u8]) -> Result<(), FileFault>
         requires { self.old.count + length bytes.now + 1 < 2 ^ 64 }
         ensures told { (came : List ℕ)
-            → Stands came self.old.count (option_map state_of self.old.machine) self.old.line.items
+            → IsRightSoFar came self.old.count (option_map state_of self.old.machine) self.old.line.items
             → MatchResult result
-            (λ _. Stands (came ++ bytes.now) self.new.count
+            (λ _. IsRightSoFar (came ++ bytes.now) self.new.count
             (option_map state_of self.new.machine) self.new.line.items)
             (λ e. IsFaultOf (came ++ bytes.now) ⊥ ⊥ e) }
         ensures counted { OnOk result (self.new.count ≤ self.old.count + length bytes.now) }
@@ -62,7 +62,7 @@ impl Check {
     pub(crate) fn finish(&self) -> Result<u64, FileFault>
         requires { self.now.count + 1 < 2 ^ 64 }
         ensures told { (came : List ℕ)
-            → Stands came self.now.count (option_map state_of self.now.machine) self.now.line.items
+            → IsRightSoFar came self.now.count (option_map state_of self.now.machine) self.now.line.items
             → MatchResult result
             (λ n. (ms : List MoveData) × IsRunOf came ms × (n ≡ length ms))
             (λ e. IsFaultOf came Unit ⊥ e) }
@@ -98,7 +98,7 @@ impl Check {
     fn end_line(&mut self) -> Result<(), FileFault>
         requires { self.old.count + 1 < 2 ^ 64 }
         ensures ok { OnOk result
-            (Follows (option_map state_of self.old.machine) self.old.line.items
+            (LineLeads (option_map state_of self.old.machine) self.old.line.items
             (option_map state_of self.new.machine)
             × (self.new.count ≡ self.old.count + 1) × (self.new.line.items ≡ [])) }
         ensures fault { IfErr result (Refuses (option_map state_of self.old.machine)
@@ -119,7 +119,7 @@ fn judge(
     line: &[u8],
     number: u64,
 ) -> Result<(), FileFault>
-    ensures ok { OnOk result (Follows (option_map state_of machine.old) line.now
+    ensures ok { OnOk result (LineLeads (option_map state_of machine.old) line.now
         (option_map state_of machine.new)) }
     ensures fault { IfErr result (Refuses (option_map state_of machine.old) line.now number) }
 {

@@ -5,8 +5,8 @@ ghost use Rattle.std.specs.Io.KnownBytes.{Keeps, Appends};
 ghost use Rattle.history_streams.specs.declared.faults.FileFault.TheVariants.{Write as WriteFault, Memory};
 ghost use Rattle.step_core.specs.declared.machine.Move.{Move as MoveData};
 ghost use Rattle.history_check.specs.Behind.{state_of};
-ghost use Rattle.history_check.specs.Histories.{Stands, IsBadMove, IsBroken, IsOpen, IsRunOf, run_text};
-ghost use Rattle.history_check.specs.Replays.{IsWhole, IsFaulty};
+ghost use Rattle.history_check.specs.Histories.{IsRightSoFar, IsBadMove, IsBroken, IsOpen, IsRunOf, run_text};
+ghost use Rattle.history_check.specs.Replays.{IsReadAsRun, IsFaulty};
 
 use crate::checks::Check;
 use history_streams::{FileFault, Sink, Source, write_out};
@@ -35,7 +35,7 @@ pub fn replay<S: Source, W: Sink>(
     // At Ok the whole history is a run, neither end has failed in the call, and the number of moves was
     // written.
     ensures run { OnOk result ((count : ℕ)
-        × IsWhole (S.left source.old) (S.left source.new) (S.given source.new) count
+        × IsReadAsRun (S.left source.old) (S.left source.new) (S.given source.new) count
         × Appends (W.holds sink.old) (W.holds sink.new) (run_text count)) }
     ensures read_whole { OnOk result (S.has_failed source.new → S.has_failed source.old) }
     ensures written_whole { OnOk result (W.has_failed sink.new → W.has_failed sink.old) }
@@ -49,7 +49,7 @@ pub fn replay<S: Source, W: Sink>(
     ensures unwritten { IfErr result (λ e.
         (e ≡ WriteFault) ⊎ Keeps (W.holds sink.old) (W.holds sink.new)) }
     ensures cut { IfErr result (λ e. e ≡ WriteFault → (count : ℕ)
-        × IsWhole (S.left source.old) (S.left source.new) (S.given source.new) count
+        × IsReadAsRun (S.left source.old) (S.left source.new) (S.given source.new) count
         × (n : ℕ) × Appends (W.holds sink.old) (W.holds sink.new) (take n (run_text count))) }
 {
     let mut check = Check::new(alloc);
@@ -61,10 +61,10 @@ pub fn replay<S: Source, W: Sink>(
 /// Feeds a check with all bytes of a source, and tells the number of moves.
 fn count_moves<S: Source>(source: &mut S, check: &mut Check) -> Result<u64, FileFault>
     requires nothing { S.given source.old ≡ 0 }
-    requires fresh { Stands [] check.old.count (option_map state_of check.old.machine)
+    requires fresh { IsRightSoFar [] check.old.count (option_map state_of check.old.machine)
         check.old.line.items }
     ensures told { MatchResult result
-        (IsWhole (S.left source.old) (S.left source.new) (S.given source.new))
+        (IsReadAsRun (S.left source.old) (S.left source.new) (S.given source.new))
         (IsFaulty (S.left source.old) (S.left source.new) (S.given source.new)
         (S.has_failed source.new)) }
     ensures whole { OnOk result (S.has_failed source.new → S.has_failed source.old) }

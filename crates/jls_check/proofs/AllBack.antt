@@ -20,7 +20,7 @@ use Rattle.step_core.specs.Machine.{Thread, waits_on, after_notify_all, all_noti
 use Rattle.jls_check.specs.declared.threads.Live.{Live}
 use Rattle.jls_check.specs.declared.threads.ThreadRecord.{ThreadRecord}
 use Rattle.jls_check.specs.declared.monitors.ObjectRecord.{ObjectRecord}
-use Rattle.jls_check.specs.LiveThreads.{LiveThreads, live_in, live_of, owned_in, owned_of, does_wait, some_waits, waiting_count, notified, all_back}
+use Rattle.jls_check.specs.LiveThreads.{LiveThreads, live_in, live_of, owned_in, owned_of, does_wait, some_waits, waiting_count, notified_record, all_back}
 use Rattle.jls_check.specs.Monitors.{untouched, kept_at, waiting_in, with_waiting}
 use Rattle.jls_check.specs.MachineState.{MachineState, state, thread_of, monitor_of, IsSound}
 use Rattle.jls_check.specs.Taking.{all_left}
@@ -98,15 +98,15 @@ unmoved o (Has r) e = refl
 -- ---- counted
 
 listed_then : (o p : ObjectId) (es : List (ℕ × ThreadRecord))
-    → count_by (does_wait p) (values_of (list_map (λ e. (e.0, notified o e.1)) es)) ≡ (if p.0 == o.0 then 0 else count_by (does_wait p) (values_of es))
+    → count_by (does_wait p) (values_of (list_map (λ e. (e.0, notified_record o e.1)) es)) ≡ (if p.0 == o.0 then 0 else count_by (does_wait p) (values_of es))
 listed_then o p [] = by (p.0 == o.0)
   where
     by : (b : Bool) → ◌≡◌ {A = ℕ} 0 (if b then 0 else 0)
     by true = refl
     by false = refl
 listed_then o p (e ∷ es) =
-    sum_by-cons (one (does_wait p)) (notified o e.1) (values_of (list_map (λ x. (x.0, notified o x.1)) es))
-    ∙ by (p.0 == o.0) (one (does_wait p) (notified o e.1)) (count_by (does_wait p) (values_of (list_map (λ x. (x.0, notified o x.1)) es)))
+    sum_by-cons (one (does_wait p)) (notified_record o e.1) (values_of (list_map (λ x. (x.0, notified_record o x.1)) es))
+    ∙ by (p.0 == o.0) (one (does_wait p) (notified_record o e.1)) (count_by (does_wait p) (values_of (list_map (λ x. (x.0, notified_record o x.1)) es)))
     (ap (λ (b : Bool). cond b 1 0) (waits_then o p e.1.live.act)) (listed_then o p es)
   where
     by : (b : Bool) (m n : ℕ) → m ≡ cond (if b then false else does_wait p e.1) 1 0 → n ≡ (if b then 0 else count_by (does_wait p) (values_of es))
@@ -120,7 +120,7 @@ waiting-all_back l o p = ap (λ es. count_by (does_wait p) (values_of es)) (entr
 owned-all_back : (l : LiveThreads) (o : ObjectId) (t : ThreadId) → owned_of (all_back l o) t ≡ owned_of l t
 owned-all_back l o t = ap owned_in (get-all_back l o t.0) ∙ by (map.get l t.0)
   where
-    by : (x : Option ThreadRecord) → owned_in (option_map (notified o) x) ≡ owned_in x
+    by : (x : Option ThreadRecord) → owned_in (option_map (notified_record o) x) ≡ owned_in x
     by None = refl
     by (Some r) = refl
 
@@ -130,7 +130,7 @@ notified_live o x = record { flag = x.flag; act = after_notify_all o x.act }
 live_mapped : (l : LiveThreads) (o : ObjectId) (t : ThreadId) → live_of (all_back l o) t ≡ option_map (notified_live o) (live_of l t)
 live_mapped l o t = ap live_in (get-all_back l o t.0) ∙ by (map.get l t.0)
   where
-    by : (x : Option ThreadRecord) → live_in (option_map (notified o) x) ≡ option_map (notified_live o) (live_in x)
+    by : (x : Option ThreadRecord) → live_in (option_map (notified_record o) x) ≡ option_map (notified_live o) (live_in x)
     by None = refl
     by (Some r) = refl
 

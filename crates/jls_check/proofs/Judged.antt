@@ -18,7 +18,7 @@ use Rattle.step_core.specs.declared.machine.Move.TheVariants as move
 use Rattle.step_core.specs.Machine.{State, Steps, Is, MayRefuse}
 use Rattle.jls_check.specs.declared.threads.Live.{Live}
 use Rattle.jls_check.specs.LiveThreads.{live_of}
-use Rattle.jls_check.specs.MachineState.{MachineState, state, put, replied, held_at, thread_of, owns, IsSound}
+use Rattle.jls_check.specs.MachineState.{MachineState, state, put, put_reply, held_at, thread_of, owns, IsSound}
 use Rattle.jls_check.specs.Taking.{wanted, may_refuse, refuse_for, refuse, time, reply_number, has_reply, after_return, return_at, return_with, is_good}
 use Rattle.jls_check.proofs.States.{state-put, state-without}
 use Rattle.jls_check.proofs.Replying.{one_owned, owned_one, notify_right, notify_only, notify_nobody_right, notify_nobody_only, notify_all_right, notify_all_only, interrupt_right, interrupt_only, ask_right, ask_only, end_right, end_only}
@@ -26,7 +26,7 @@ use Rattle.std.specs.Prelude.{Result, Err, OnOk, OnErr, IsErrOf}
 use Rattle.jls_check.specs.declared.faults.MoveFault.{MoveFault}
 use Rattle.jls_check.specs.declared.faults.MoveFault.TheVariants.{Broken, Memory}
 use Rattle.jls_check.specs.Judging.{IsUnlawful, IsAttach}
-use Rattle.jls_check.specs.Taking.{takes, taken, answered, attach_at, attach, Outcome}
+use Rattle.jls_check.specs.Taking.{takes, taken, answered, attach_at, attach, AfterMove}
 use Rattle.jls_check.proofs.Guards.{guarded, guarded_not, refused, refused_not, both_true, owner_is, owner_yes, good_time, time_good}
 use Rattle.jls_check.proofs.Judging.{lock_right, lock_only, unlock_right, unlock_only, illegal_right, illegal_only, bad_argument_right, bad_argument_only, early_right, early_only, wait_right, wait_only, test_clear_right, test_clear_only, expire_right, expire_only, wake_right, wake_only, relock_right, relock_only, attach_right, attach_only, make_call_right, make_call_only, live_is, is_live, calls, wanted_as, answer}
 
@@ -145,12 +145,12 @@ module _ (v : MachineState) (t : ThreadId) where
       by : (q : Option (Bool × Call)) → wanted v t ≡ q → refuse_for v t y q ≡ Some w → Steps (state v) (move.Refuse t y) (state w)
       by None h e = absurd (cc)
       by (Some (flag, c)) h e =
-          let g = guarded (may_refuse v t c y) (replied v t flag (reply.Refused y)) w e in
+          let g = guarded (may_refuse v t c y) (put_reply v t flag (reply.Refused y)) w e in
           (flag, c, calls v t flag c h, may c y g.0, answer v t flag (reply.Refused y) w g.1)
 
   refuse_only : (y : Cause) (s : State) → refuse v t y ≡ None → Steps (state v) (move.Refuse t y) s → ⊥
   refuse_only y s e p =
-      refused (may_refuse v t p.1 y) (replied v t p.0 (reply.Refused y)) (ap (refuse_for v t y) (sym (wanted_as v t p.0 p.1 p.2)) ∙ e) (must p.1 y p.3)
+      refused (may_refuse v t p.1 y) (put_reply v t p.0 (reply.Refused y)) (ap (refuse_for v t y) (sym (wanted_as v t p.0 p.1 p.2)) ∙ e) (must p.1 y p.3)
 
 module _ (v : MachineState) where
   time_right : (now : ℕ) (w : MachineState) → time v now ≡ Some w → Steps (state v) (move.Time now) (state w)
@@ -241,5 +241,5 @@ module _ (v : MachineState) (sound : IsSound v) where
   judge room m = by_taken m (takes v m) refl
 
   pub judged : (room : Bool) (m : Move) (r : Result (Unit {0}) MoveFault) (w : MachineState)
-      → ◌≡◌ {A = Outcome} (record { answer = r; after = w }) (answered room v m) → Judges v m r w
-  judged room m r w e = subst (λ (o : Outcome). Judges v m o.answer o.after) (sym e) (judge room m)
+      → ◌≡◌ {A = AfterMove} (record { answer = r; after = w }) (answered room v m) → Judges v m r w
+  judged room m r w e = subst (λ (o : AfterMove). Judges v m o.answer o.after) (sym e) (judge room m)

@@ -21,7 +21,7 @@ use Rattle.jls_check.specs.declared.monitors.Held.{Held}
 use Rattle.jls_check.specs.declared.machine.Wish.{Wish}
 use Rattle.jls_check.specs.LiveThreads.{live_of}
 use Rattle.jls_check.specs.Monitors.{unheld, is_owned_by}
-use Rattle.jls_check.specs.MachineState.{MachineState, state, put, replied, with_held, held_at, thread_of, monitor_of, owns, IsSound}
+use Rattle.jls_check.specs.MachineState.{MachineState, state, put, put_reply, with_held, held_at, thread_of, monitor_of, owns, IsSound}
 use Rattle.jls_check.specs.Taking.{wants, wanted_of, wanted, may_be_locked, lock_for, lock, held_by, less_held, unlock_for, unlock, illegal_on, illegal_for, illegal, wish_for, wish, is_good, bad_argument_of, bad_argument, early_of, early, wait_of, wait, test_clear_for, test_clear, attach_at, attach, exists_below, make_call_from, make_call_at, make_call, expire_from, wake_from, expire_at, wake_at, expire, wake, relock_from, relock_at, relock}
 use Rattle.jls_check.proofs.Guards.{guarded, guarded_not, refused, refused_not, both_true, flipped, good_time, time_good, never, owner_is, owner_yes, owner_not}
 use Rattle.jls_check.proofs.States.{state-put, state-with_held}
@@ -68,7 +68,7 @@ module _ (v : MachineState) (t : ThreadId) where
 
   -- ---- what a row leaves
 
-  pub answer : (flag : Bool) (r : Reply) (w : MachineState) → replied v t flag r ≡ w → state w ≡ with_reply (state v) t flag r
+  pub answer : (flag : Bool) (r : Reply) (w : MachineState) → put_reply v t flag r ≡ w → state w ≡ with_reply (state v) t flag r
   answer flag r w e = sym (ap state e) ∙ state-put v t flag (Has r)
 
   pub changed : (flag : Bool) (act : Doing) (o : ObjectId) (h : Held) (w : MachineState) → o.0 < length v.objects → put (with_held v o h) t flag act ≡ w
@@ -93,7 +93,7 @@ module _ (v : MachineState) (t : ThreadId) where
       by : (q : Option (Bool × Call)) → wanted v t ≡ q → lock_for v t q ≡ Some w → Steps (state v) (move.Lock t) (state w)
       by None h e = absurd (cc)
       by (Some (flag, call.Enter o)) h e =
-          let g = guarded (may_be_locked (held_at v o) t) (replied (with_held v o (held_by t ((held_at v o).count + 1))) t flag reply.Entered) w e in
+          let g = guarded (may_be_locked (held_at v o) t) (put_reply (with_held v o (held_by t ((held_at v o).count + 1))) t flag reply.Entered) w e in
           let m = and_parts (not (is_some (held_at v o).owner) || is_owned_by (held_at v o).owner t) (nat_lt (held_at v o).count 65535) g.0 in (
             flag,
             o,
@@ -106,7 +106,7 @@ module _ (v : MachineState) (t : ThreadId) where
 
   pub lock_only : (s : State) → lock v t ≡ None → Steps (state v) (move.Lock t) s → ⊥
   lock_only s e p =
-      refused (may_be_locked (held_at v p.1) t) (replied (with_held v p.1 (held_by t ((held_at v p.1).count + 1))) t p.0 reply.Entered)
+      refused (may_be_locked (held_at v p.1) t) (put_reply (with_held v p.1 (held_by t ((held_at v p.1).count + 1))) t p.0 reply.Entered)
       (ap (lock_for v t) (sym (wanted_as p.0 (call.Enter p.1) p.2)) ∙ e)
       (lock_free (held_at v p.1) p.3 p.4)
 
@@ -127,7 +127,7 @@ module _ (v : MachineState) (t : ThreadId) where
       by None h e = absurd (cc)
       by (Some (flag, call.Exit o)) h e =
           let n = (held_at v o).count in
-          let g = guarded (owns v t o && nat_lt 0 n) (replied (with_held v o (less_held t n)) t flag reply.Exited) w e in
+          let g = guarded (owns v t o && nat_lt 0 n) (put_reply (with_held v o (less_held t n)) t flag reply.Exited) w e in
           let m = and_parts (owns v t o) (nat_lt 0 n) g.0 in
           let some : 0 < n = ltb-true 0 n m.1 in
           let same : n ≡ n - 1 + 1 = omega (arith, some) in
@@ -146,7 +146,7 @@ module _ (v : MachineState) (t : ThreadId) where
   unlock_only s e p =
       let n = (held_at v p.1).count in
       let count : n ≡ p.2 + 1 = ap (λ (x : Monitor). x.count) p.4 in
-      refused (owns v t p.1 && nat_lt 0 n) (replied (with_held v p.1 (less_held t n)) t p.0 reply.Exited)
+      refused (owns v t p.1 && nat_lt 0 n) (put_reply (with_held v p.1 (less_held t n)) t p.0 reply.Exited)
       (ap (unlock_for v t) (sym (wanted_as p.0 (call.Exit p.1) p.3)) ∙ e)
       (both_true (owns v t p.1) (nat_lt 0 n) (owner_yes (held_at v p.1).owner t (ap (λ (x : Monitor). x.owner) p.4)) (lt-ltb 0 n (omega (arith, count))))
 
@@ -157,7 +157,7 @@ module _ (v : MachineState) (t : ThreadId) where
           → Steps (state v) (move.Illegal t) (state w)
       on flag c h None k e = absurd (cc)
       on flag c h (Some o) k e =
-          let g = guarded_not (owns v t o) (replied v t flag reply.IllegalMonitorState) w e in
+          let g = guarded_not (owns v t o) (put_reply v t flag reply.IllegalMonitorState) w e in
           (flag, c, o, calls flag c h, k, owner_not (held_at v o).owner t g.0, answer flag reply.IllegalMonitorState w g.1)
 
       by : (q : Option (Bool × Call)) → wanted v t ≡ q → illegal_for v t q ≡ Some w → Steps (state v) (move.Illegal t) (state w)
@@ -167,7 +167,7 @@ module _ (v : MachineState) (t : ThreadId) where
   pub illegal_only : (s : State) → illegal v t ≡ None → Steps (state v) (move.Illegal t) s → ⊥
   illegal_only s e p =
       let none = ap (illegal_on v t p.0) (sym p.4) ∙ ap (illegal_for v t) (sym (wanted_as p.0 p.1 p.3)) ∙ e in
-      p.5 (owner_is (held_at v p.2).owner t (refused_not (owns v t p.2) (replied v t p.0 reply.IllegalMonitorState) none))
+      p.5 (owner_is (held_at v p.2).owner t (refused_not (owns v t p.2) (put_reply v t p.0 reply.IllegalMonitorState) none))
 
   -- ---- waits
 
@@ -196,14 +196,14 @@ module _ (v : MachineState) (t : ThreadId) where
       by : (q : Option Wish) → wish v t ≡ q → bad_argument_of v t q ≡ Some w → Steps (state v) (move.BadArgument t) (state w)
       by None h e = absurd (cc)
       by (Some x) h e =
-          let g = guarded_not (is_good x.millis x.nanos) (replied v t x.flag reply.IllegalArgument) w e in
+          let g = guarded_not (is_good x.millis x.nanos) (put_reply v t x.flag reply.IllegalArgument) w e in
           let k = wish_is x sound h in
           (x.flag, x.object, x.millis, x.nanos, k.0, k.1, (λ good. never (is_good x.millis x.nanos) (time_good x.millis x.nanos good) g.0), answer x.flag reply.IllegalArgument w g.1)
 
   pub bad_argument_only : (s : State) → bad_argument v t ≡ None → Steps (state v) (move.BadArgument t) s → ⊥
   bad_argument_only s e p =
       let none = ap (bad_argument_of v t) (sym (wish_as p.0 p.1 p.2 p.3 p.4 p.5)) ∙ e in
-      p.6 (good_time p.2 p.3 (refused_not (is_good p.2 p.3) (replied v t p.0 reply.IllegalArgument) none))
+      p.6 (good_time p.2 p.3 (refused_not (is_good p.2 p.3) (put_reply v t p.0 reply.IllegalArgument) none))
 
   pub early_right : (w : MachineState) → IsSound v → early v t ≡ Some w → Steps (state v) (move.Early t) (state w)
   early_right w sound e = by (wish v t) refl e
@@ -211,7 +211,7 @@ module _ (v : MachineState) (t : ThreadId) where
       by : (q : Option Wish) → wish v t ≡ q → early_of v t q ≡ Some w → Steps (state v) (move.Early t) (state w)
       by None h e = absurd (cc)
       by (Some x) h e =
-          let g = guarded (is_good x.millis x.nanos && x.flag) (replied v t false reply.Interrupted) w e in
+          let g = guarded (is_good x.millis x.nanos && x.flag) (put_reply v t false reply.Interrupted) w e in
           let m = and_parts (is_good x.millis x.nanos) x.flag g.0 in
           let k = wish_is x sound h in (
             x.object,
@@ -225,7 +225,7 @@ module _ (v : MachineState) (t : ThreadId) where
 
   pub early_only : (s : State) → early v t ≡ None → Steps (state v) (move.Early t) s → ⊥
   early_only s e p =
-      refused (is_good p.1 p.2 && true) (replied v t false reply.Interrupted) (ap (early_of v t) (sym (wish_as true p.0 p.1 p.2 p.3 p.4)) ∙ e)
+      refused (is_good p.1 p.2 && true) (put_reply v t false reply.Interrupted) (ap (early_of v t) (sym (wish_as true p.0 p.1 p.2 p.3 p.4)) ∙ e)
       (both_true (is_good p.1 p.2) true (time_good p.1 p.2 p.5) refl)
 
   pub wait_right : (w : MachineState) → IsSound v → wait v t ≡ Some w → Steps (state v) (move.Wait t) (state w)
@@ -261,7 +261,7 @@ module _ (v : MachineState) (t : ThreadId) where
       by : (q : Option (Bool × Call)) → wanted v t ≡ q → test_clear_for v t q ≡ Some w → Steps (state v) (move.TestClear t) (state w)
       by None h e = absurd (cc)
       by (Some (flag, call.Interrupted)) h e =
-          (flag, calls flag call.Interrupted h, answer false (yes_or_no flag) w (same_Some (replied v t false (yes_or_no flag)) w e))
+          (flag, calls flag call.Interrupted h, answer false (yes_or_no flag) w (same_Some (put_reply v t false (yes_or_no flag)) w e))
       by (Some (flag, c)) h e = absurd (cc)
 
   pub test_clear_only : (s : State) → test_clear v t ≡ None → Steps (state v) (move.TestClear t) s → ⊥
@@ -322,7 +322,7 @@ module _ (v : MachineState) (t : ThreadId) where
 
       on : (flag : Bool) (d : Doing) → live_of v.threads t ≡ Some (live flag d) → relock_from v t flag d ≡ Some w → Steps (state v) (move.Relock t) (state w)
       on flag (Back o n y) h e =
-          let g = guarded_not (is_some (held_at v o).owner) (replied (with_held v o (held_by t n)) t (flag_back y flag) (reply_of y)) w e in (
+          let g = guarded_not (is_some (held_at v o).owner) (put_reply (with_held v o (held_by t n)) t (flag_back y flag) (reply_of y)) w e in (
             flag,
             o,
             n,
@@ -342,7 +342,7 @@ module _ (v : MachineState) (t : ThreadId) where
 
   pub relock_only : (s : State) → relock v t ≡ None → Steps (state v) (move.Relock t) s → ⊥
   relock_only s e p =
-      let taken = refused_not (is_some (held_at v p.1).owner) (replied (with_held v p.1 (held_by t p.2)) t (flag_back p.3 p.0) (reply_of p.3))
+      let taken = refused_not (is_some (held_at v p.1).owner) (put_reply (with_held v p.1 (held_by t p.2)) t (flag_back p.3 p.0) (reply_of p.3))
       (ap (relock_at v t) (sym (live_is p.0 (Back p.1 p.2 p.3) p.4)) ∙ e) in
       never (is_some (held_at v p.1).owner) taken (ap (λ (o : Option ThreadId). is_some o) p.5)
 

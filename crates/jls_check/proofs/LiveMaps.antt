@@ -21,7 +21,7 @@ use Rattle.std.specs.declared.cmp.Ordering.TheVariants.{Less}
 use Rattle.std.specs.Prelude.{T, ◌&&◌, length}
 use Rattle.lock_word.specs.declared.ObjectId.{ObjectId}
 use Rattle.jls_check.specs.declared.threads.ThreadRecord.{ThreadRecord}
-use Rattle.jls_check.specs.LiveThreads.{LiveThreads, notified, all_back}
+use Rattle.jls_check.specs.LiveThreads.{LiveThreads, notified_record, all_back}
 use Rattle.fat_monitor.proofs.PostMaps.{get-insert_by, get-remove_by}
 
 find-lookup : {X : Type 0} (q : ℕ) (es : List (ℕ × X)) → find nat_cmp q es ≡ lookup (is_at (nat_cmp q)) es
@@ -71,15 +71,15 @@ pub get_mapped : {X : Type 0} (f : X → X) (es : List (ℕ × X)) (q : ℕ)
 get_mapped f es q = get_shown (list_map (λ e. (e.0, f e.1)) es) q ∙ lookup-map_values f (is_at (nat_cmp q)) es
 
 -- every thread is written anew where all leave a wait set
-pub get-all_back : (l : LiveThreads) (o : ObjectId) (q : ℕ) → map.get (all_back l o) q ≡ option_map (notified o) (map.get l q)
+pub get-all_back : (l : LiveThreads) (o : ObjectId) (q : ℕ) → map.get (all_back l o) q ≡ option_map (notified_record o) (map.get l q)
 get-all_back l o q =
-    get_mapped (notified o) (map.entries l) q
-    ∙ ap (option_map (notified o)) (sym (find-lookup q (map.entries l)) ∙ sym (get-entries l q))
+    get_mapped (notified_record o) (map.entries l) q
+    ∙ ap (option_map (notified_record o)) (sym (find-lookup q (map.entries l)) ∙ sym (get-entries l q))
 
-pub shown_all_back : (es kept : List (ℕ × ThreadRecord)) (o : ObjectId) → kept ≡ list_map (λ e. (e.0, notified o e.1)) es → shown_map kept ≡ all_back (shown_map es) o
+pub shown_all_back : (es kept : List (ℕ × ThreadRecord)) (o : ObjectId) → kept ≡ list_map (λ e. (e.0, notified_record o e.1)) es → shown_map kept ≡ all_back (shown_map es) o
 shown_all_back es kept o e = same_map nat_cmp_total nat_cmp-IsAntisymmetric _ _ (λ q.
-    ap (λ ks. map.get (shown_map ks) q) e ∙ get_mapped (notified o) es q
-    ∙ ap (option_map (notified o)) (sym (get_shown es q)) ∙ sym (get-all_back (shown_map es) o q))
+    ap (λ ks. map.get (shown_map ks) q) e ∙ get_mapped (notified_record o) es q
+    ∙ ap (option_map (notified_record o)) (sym (get_shown es q)) ∙ sym (get-all_back (shown_map es) o q))
 
 -- ---- in order
 
@@ -122,6 +122,6 @@ sorted (e ∷ es) h = both (below_all nat_cmp e.0 es) (is_sorted nat_cmp es) (be
 pub len_shown : {X : Type 0} (es : List (ℕ × X)) → IsStrictlySortedBy nat_cmp (keys_of es) → map.len (shown_map es) ≡ length es
 len_shown es ordered = len-entries (shown_map es) ∙ ap length (entries_shown es (sorted es ordered))
 
-pub entries-all_back : (l : LiveThreads) (o : ObjectId) → map.entries (all_back l o) ≡ list_map (λ e. (e.0, notified o e.1)) (map.entries l)
+pub entries-all_back : (l : LiveThreads) (o : ObjectId) → map.entries (all_back l o) ≡ list_map (λ e. (e.0, notified_record o e.1)) (map.entries l)
 entries-all_back l o =
-    entries_shown (list_map (λ e. (e.0, notified o e.1)) (map.entries l)) (subst T (sym (mapped_sorted (notified o) (map.entries l))) (entries_sorted l))
+    entries_shown (list_map (λ e. (e.0, notified_record o e.1)) (map.entries l)) (subst T (sym (mapped_sorted (notified_record o) (map.entries l))) (entries_sorted l))

@@ -22,7 +22,7 @@ use Rattle.jls_check.specs.declared.threads.ThreadRecord.{ThreadRecord}
 use Rattle.jls_check.specs.declared.monitors.ObjectRecord.{ObjectRecord}
 use Rattle.jls_check.specs.LiveThreads.{live_in, live_of, does_wait, some_waits}
 use Rattle.jls_check.specs.Monitors.{untouched, is_owned_by, owns_one}
-use Rattle.jls_check.specs.MachineState.{MachineState, state, put, replied, held_at, thread_of, owns, IsSound}
+use Rattle.jls_check.specs.MachineState.{MachineState, state, put, put_reply, held_at, thread_of, owns, IsSound}
 use Rattle.jls_check.specs.Taking.{wanted, notify_from, notify_at, notify_for, notify, notify_nobody_for, notify_nobody, notify_all_for, notify_all, interrupt_at, interrupt_for, interrupt, ask_at, ask_for, ask, end_for, end, all_left}
 use Rattle.jls_check.proofs.Counts.{none_passes, one_passes}
 use Rattle.jls_check.proofs.States.{state-put}
@@ -77,7 +77,7 @@ module _ (v : MachineState) (t : ThreadId) where
       on : (flag : Bool) (o : ObjectId) → Calls (state v) t flag (call.Notify o) → OwnedBy (state v) o t
           → (other : Bool) (d : Doing) → live_of v.threads u ≡ Some (live other d) → notify_from v t flag o u other d ≡ Some w → Steps (state v) (move.Notify t (Some u)) (state w)
       on flag o h own other (Waits p n d) k e =
-          let g = guarded (p.0 == o.0) (put (replied v t flag reply.Notified) u other (Back p n why.Notified)) w e in
+          let g = guarded (p.0 == o.0) (put (put_reply v t flag reply.Notified) u other (Back p n why.Notified)) w e in
           let same = waits_here p o (eqb-true p.0 o.0 g.0) in (
             flag,
             o,
@@ -87,7 +87,7 @@ module _ (v : MachineState) (t : ThreadId) where
             n,
             d,
             subst (λ (q : ObjectId). Is (state v) u other (Waits q n d)) same (is_live v u (live other (Waits p n d)) k),
-            sym (ap state g.1) ∙ state-put (replied v t flag reply.Notified) u other (Back p n why.Notified)
+            sym (ap state g.1) ∙ state-put (put_reply v t flag reply.Notified) u other (Back p n why.Notified)
                 ∙ ap (λ (s : State). now_is s u other (Back p n why.Notified)) (state-put v t flag (Has reply.Notified))
                 ∙ ap (λ (q : ObjectId). now_is (with_reply (state v) t flag reply.Notified) u other (Back q n why.Notified)) same,
           )
@@ -111,7 +111,7 @@ module _ (v : MachineState) (t : ThreadId) where
   pub notify_only : (u : ThreadId) (s : State) → notify v t u ≡ None → Steps (state v) (move.Notify t (Some u)) s → ⊥
   notify_only u s e p =
       let none = refused_by (owns v t p.1) (notify_at v t p.0 p.1 u (live_of v.threads u)) (ap (notify_for v t u) (sym (wanted_as v t p.0 (call.Notify p.1) p.2)) ∙ e) (owner_yes (held_at v p.1).owner t p.3) in
-      refused (p.1.0 == p.1.0) (put (replied v t p.0 reply.Notified) u p.4 (Back p.1 p.5 why.Notified))
+      refused (p.1.0 == p.1.0) (put (put_reply v t p.0 reply.Notified) u p.4 (Back p.1 p.5 why.Notified))
       (ap (notify_at v t p.0 p.1 u) (sym (live_is v u p.4 (Waits p.1 p.5 p.6) p.7)) ∙ none) (eq-eqb p.1.0 p.1.0 refl)
 
   pub notify_nobody_right : (w : MachineState) → notify_nobody v t ≡ Some w → Steps (state v) (move.Notify t None) (state w)
@@ -120,14 +120,14 @@ module _ (v : MachineState) (t : ThreadId) where
       by : (q : Option (Bool × Call)) → wanted v t ≡ q → notify_nobody_for v t q ≡ Some w → Steps (state v) (move.Notify t None) (state w)
       by None h e = absurd (cc)
       by (Some (flag, call.Notify o)) h e =
-          let g = guarded (owns v t o && not (some_waits v.threads o)) (replied v t flag reply.Notified) w e in
+          let g = guarded (owns v t o && not (some_waits v.threads o)) (put_reply v t flag reply.Notified) w e in
           let m = and_parts (owns v t o) (not (some_waits v.threads o)) g.0 in
           (flag, o, calls v t flag (call.Notify o) h, owner_is (held_at v o).owner t m.0, nobody v o (flipped (some_waits v.threads o) m.1), answer v t flag reply.Notified w g.1)
       by (Some (flag, c)) h e = absurd (cc)
 
   pub notify_nobody_only : (s : State) → notify_nobody v t ≡ None → Steps (state v) (move.Notify t None) s → ⊥
   notify_nobody_only s e p =
-      refused (owns v t p.1 && not (some_waits v.threads p.1)) (replied v t p.0 reply.Notified) (ap (notify_nobody_for v t) (sym (wanted_as v t p.0 (call.Notify p.1) p.2)) ∙ e)
+      refused (owns v t p.1 && not (some_waits v.threads p.1)) (put_reply v t p.0 reply.Notified) (ap (notify_nobody_for v t) (sym (wanted_as v t p.0 (call.Notify p.1) p.2)) ∙ e)
       (both_true (owns v t p.1) (not (some_waits v.threads p.1)) (owner_yes (held_at v p.1).owner t p.3) (by (some_waits v.threads p.1) refl))
     where
       by : (b : Bool) → some_waits v.threads p.1 ≡ b → not b ≡ true
@@ -140,7 +140,7 @@ module _ (v : MachineState) (t : ThreadId) where
       by : (q : Option (Bool × Call)) → wanted v t ≡ q → notify_all_for v t q ≡ Some w → Steps (state v) (move.NotifyAll t) (state w)
       by None h e = absurd (cc)
       by (Some (flag, call.NotifyAll o)) h e =
-          let g = guarded (owns v t o) (replied (all_left v o) t flag reply.Notified) w e in (
+          let g = guarded (owns v t o) (put_reply (all_left v o) t flag reply.Notified) w e in (
             flag,
             o,
             calls v t flag (call.NotifyAll o) h,
@@ -151,7 +151,7 @@ module _ (v : MachineState) (t : ThreadId) where
 
   pub notify_all_only : (s : State) → notify_all v t ≡ None → Steps (state v) (move.NotifyAll t) s → ⊥
   notify_all_only s e p =
-      refused (owns v t p.1) (replied (all_left v p.1) t p.0 reply.Notified)
+      refused (owns v t p.1) (put_reply (all_left v p.1) t p.0 reply.Notified)
       (ap (notify_all_for v t) (sym (wanted_as v t p.0 (call.NotifyAll p.1) p.2)) ∙ e) (owner_yes (held_at v p.1).owner t p.3)
 
   -- ---- interrupts
@@ -170,7 +170,7 @@ module _ (v : MachineState) (t : ThreadId) where
             thread_of x,
             h,
             ap (option_map thread_of) k,
-            sym (ap state (same_Some (replied there t mine reply.Done) w e)) ∙ state-put there t mine (Has reply.Done)
+            sym (ap state (same_Some (put_reply there t mine reply.Done) w e)) ∙ state-put there t mine (Has reply.Done)
                 ∙ ap (λ (s : State). with_reply s t mine reply.Done) (state-put v u true (after_interrupt x.act)),
           )
 
@@ -195,7 +195,7 @@ module _ (v : MachineState) (t : ThreadId) where
           → Steps (state v) (move.Ask t) (state w)
       at flag u h None k e = absurd (cc)
       at flag u h (Some x) k e =
-          (flag, x.flag, call.IsInterrupted u, h, (thread_of x, ap (option_map thread_of) k, refl), answer v t flag (yes_or_no x.flag) w (same_Some (replied v t flag (yes_or_no x.flag)) w e))
+          (flag, x.flag, call.IsInterrupted u, h, (thread_of x, ap (option_map thread_of) k, refl), answer v t flag (yes_or_no x.flag) w (same_Some (put_reply v t flag (yes_or_no x.flag)) w e))
 
       by : (q : Option (Bool × Call)) → wanted v t ≡ q → ask_for v t q ≡ Some w → Steps (state v) (move.Ask t) (state w)
       by None h e = absurd (cc)
@@ -205,7 +205,7 @@ module _ (v : MachineState) (t : ThreadId) where
         call.Holds o,
         calls v t flag (call.Holds o) h,
         (owner_is (held_at v o).owner t, owner_yes (held_at v o).owner t),
-        answer v t flag (yes_or_no (owns v t o)) w (same_Some (replied v t flag (yes_or_no (owns v t o))) w e),
+        answer v t flag (yes_or_no (owns v t o)) w (same_Some (put_reply v t flag (yes_or_no (owns v t o))) w e),
       )
       by (Some (flag, call.IsInterrupted u)) h e = at flag u (calls v t flag (call.IsInterrupted u) h) (live_of v.threads u) refl e
       by (Some (flag, c)) h e = absurd (cc)
@@ -246,12 +246,12 @@ module _ (v : MachineState) (t : ThreadId) where
       by : (q : Option (Bool × Call)) → wanted v t ≡ q → end_for v t q ≡ Some w → Steps (state v) (move.End t) (state w)
       by None h e = absurd (cc)
       by (Some (flag, call.End)) h e =
-          let g = guarded_not (owns_one v.objects t) (replied v t flag reply.Ended) w e in
+          let g = guarded_not (owns_one v.objects t) (put_reply v t flag reply.Ended) w e in
           (flag, calls v t flag call.End h, (λ o own. never (owns_one v.objects t) (owned_one v.objects o.0 (owner_yes (held_at v o).owner t own)) g.0), answer v t flag reply.Ended w g.1)
       by (Some (flag, c)) h e = absurd (cc)
 
   pub end_only : (s : State) → end v t ≡ None → Steps (state v) (move.End t) s → ⊥
   end_only s e p =
-      let r = one_owned v.objects (refused_not (owns_one v.objects t) (replied v t p.0 reply.Ended) (ap (end_for v t) (sym (wanted_as v t p.0 call.End p.1)) ∙ e)) in
+      let r = one_owned v.objects (refused_not (owns_one v.objects t) (put_reply v t p.0 reply.Ended) (ap (end_for v t) (sym (wanted_as v t p.0 call.End p.1)) ∙ e)) in
       let o : ObjectId = record { 0 = r.0 } in
       p.2 o (owner_is (held_at v o).owner t r.1)

@@ -21,7 +21,7 @@ use Rattle.jls_check.specs.declared.threads.ThreadRecord.{ThreadRecord}
 use Rattle.jls_check.specs.declared.monitors.Held.{Held}
 use Rattle.jls_check.specs.declared.monitors.ObjectRecord.{ObjectRecord}
 use Rattle.jls_check.specs.LiveThreads.{LiveThreads, live_in, live_of, with_live, owned_in, owned_of, without_live, lost, gained, does_wait, some_waits, waiting_count}
-use Rattle.jls_check.specs.Monitors.{untouched, kept_at, waiting_in, HasWaiter, HasRoom, is_owned_by, has_owner, owns_one, owned_count}
+use Rattle.jls_check.specs.Monitors.{untouched, kept_at, waiting_in, HasWaiter, CanCountOneMore, is_owned_by, has_owner, owns_one, owned_count}
 use Rattle.jls_check.specs.MachineState.{MachineState, put, with_held, held_at, left_by, IsSound, MayOwn}
 use Rattle.jls_check.proofs.Counts.{one, one_in, count-insert, count-remove, count-empty, count-le, count-has, count-none}
 use Rattle.jls_check.proofs.Kept.{live-with_live, owned-with_live, live-lost, waiting-lost, waiting-gained, owned-lost, owned-gained, mine, waiting-with_monitor_held, owned-left, owned-joined, waiting-left, waiting-joined}
@@ -131,7 +131,7 @@ module _ (v : MachineState) (t : ThreadId) (sound : IsSound v) where
       by (Some x) e = owned-left v.objects x.act u (sound.exist t x e)
 
   -- there is room to count one more
-  pub room_there : map.len v.threads < 2 ^ 63 → (act : Doing) → ActExists (length v.objects) act → HasRoom (left_by v.objects (live_of v.threads t)) act
+  pub room_there : map.len v.threads < 2 ^ 63 → (act : Doing) → ActExists (length v.objects) act → CanCountOneMore (left_by v.objects (live_of v.threads t)) act
   room_there few (Waits o n d) there =
       let less = waiting-left_by o in
       let kept = sound.waiting o in

@@ -65,9 +65,9 @@ abbrev pub waiting_count : LiveThreads → ObjectId → ℕ
 waiting_count l o = count_by (does_wait o) (map.values l)
 
 -- a thread, once all have been taken out of the wait set of o
-abbrev pub notified : ObjectId → ThreadRecord → ThreadRecord
-notified o r = record { live = record { flag = r.live.flag; act = after_notify_all o r.live.act }; owned = r.owned }
+abbrev pub notified_record : ObjectId → ThreadRecord → ThreadRecord
+notified_record o r = record { live = record { flag = r.live.flag; act = after_notify_all o r.live.act }; owned = r.owned }
 
 -- every member of the wait set of o leaves it
 abbrev pub all_back : LiveThreads → ObjectId → LiveThreads
-all_back l o = map.from_entries (list_map (λ e. (e.0, notified o e.1)) (map.entries l))
+all_back l o = map.from_entries (list_map (λ e. (e.0, notified_record o e.1)) (map.entries l))

@@ -52,8 +52,8 @@ put v t flag act = record v {
 }
 
 -- the same, but the call of t has this reply
-abbrev pub replied : MachineState → ThreadId → Bool → Reply → MachineState
-replied v t flag r = put v t flag (Has r)
+abbrev pub put_reply : MachineState → ThreadId → Bool → Reply → MachineState
+put_reply v t flag r = put v t flag (Has r)
 
 -- the same, with this monitor of an object that exists
 abbrev pub with_held : MachineState → ObjectId → Held → MachineState

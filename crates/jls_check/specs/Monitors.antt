@@ -54,9 +54,9 @@ HasWaiter os (Waits o n d) = (o.0 < length os) × (0 < waiting_in os o)
 HasWaiter os d = Unit {0}
 
 -- one thread more can be counted
-abbrev pub HasRoom : List ObjectRecord → Doing → Type 0
-HasRoom os (Waits o n d) = (o.0 < length os) × (waiting_in os o < 2 ^ 63)
-HasRoom os d = Unit {0}
+abbrev pub CanCountOneMore : List ObjectRecord → Doing → Type 0
+CanCountOneMore os (Waits o n d) = (o.0 < length os) × (waiting_in os o < 2 ^ 63)
+CanCountOneMore os d = Unit {0}
 
 -- whether t is the owner
 abbrev pub is_owned_by : Option ThreadId → ThreadId → Bool

@@ -23,14 +23,14 @@ use Rattle.jls_check.specs.declared.faults.MoveFault.{MoveFault}
 use Rattle.jls_check.specs.declared.faults.MoveFault.TheVariants.{Broken, Memory}
 use Rattle.jls_check.specs.LiveThreads.{live_of, without_live, some_waits, all_back}
 use Rattle.jls_check.specs.Monitors.{unheld, waiting_in, with_waiting, is_owned_by, owns_one}
-use Rattle.jls_check.specs.MachineState.{MachineState, held_at, put, replied, with_held, owns}
+use Rattle.jls_check.specs.MachineState.{MachineState, held_at, put, put_reply, with_held, owns}
 
 -- an answer, and what is known then
-pub record Outcome : Type 0 where
+pub record AfterMove : Type 0 where
   pub answer : Result (Unit {0}) MoveFault
   pub after : MachineState
 
-abbrev pub taken : MachineState → Option MachineState → Outcome
+abbrev pub taken : MachineState → Option MachineState → AfterMove
 taken v None = record { answer = Err Broken; after = v }
 taken v (Some w) = record { answer = Ok tt; after = w }
 
@@ -58,7 +58,7 @@ attach_at v t (Some x) = None
 abbrev pub attach : MachineState → ThreadId → Option MachineState
 attach v t = attach_at v t (live_of v.threads t)
 
-abbrev pub attached : Bool → MachineState → ThreadId → Outcome
+abbrev pub attached : Bool → MachineState → ThreadId → AfterMove
 attached true v t = taken v (attach v t)
 attached false v t = record { answer = Err (if is_some (live_of v.threads t) then Broken else Memory); after = v }
 
@@ -132,7 +132,7 @@ abbrev pub lock_for : MachineState → ThreadId → Option (Bool × Call) → Op
 lock_for v t None = None
 lock_for v t (Some (flag, call.Enter o)) =
     if may_be_locked (held_at v o) t
-    then Some (replied (with_held v o (held_by t ((held_at v o).count + 1))) t flag reply.Entered)
+    then Some (put_reply (with_held v o (held_by t ((held_at v o).count + 1))) t flag reply.Entered)
     else None
 lock_for v t (Some (flag, c)) = None
 
@@ -147,7 +147,7 @@ abbrev pub unlock_for : MachineState → ThreadId → Option (Bool × Call) → 
 unlock_for v t None = None
 unlock_for v t (Some (flag, call.Exit o)) =
     if owns v t o && nat_lt 0 (held_at v o).count
-    then Some (replied (with_held v o (less_held t (held_at v o).count)) t flag reply.Exited)
+    then Some (put_reply (with_held v o (less_held t (held_at v o).count)) t flag reply.Exited)
     else None
 unlock_for v t (Some (flag, c)) = None
 
@@ -156,7 +156,7 @@ unlock v t = unlock_for v t (wanted v t)
 
 abbrev pub illegal_on : MachineState → ThreadId → Bool → Option ObjectId → Option MachineState
 illegal_on v t flag None = None
-illegal_on v t flag (Some o) = if owns v t o then None else Some (replied v t flag reply.IllegalMonitorState)
+illegal_on v t flag (Some o) = if owns v t o then None else Some (put_reply v t flag reply.IllegalMonitorState)
 
 abbrev pub illegal_for : MachineState → ThreadId → Option (Bool × Call) → Option MachineState
 illegal_for v t None = None
@@ -184,14 +184,14 @@ is_good millis nanos = int_le (pos 0) millis && int_le (pos 0) nanos && int_le n
 abbrev pub bad_argument_of : MachineState → ThreadId → Option Wish → Option MachineState
 bad_argument_of v t None = None
 bad_argument_of v t (Some w) =
-    if is_good w.millis w.nanos then None else Some (replied v t w.flag reply.IllegalArgument)
+    if is_good w.millis w.nanos then None else Some (put_reply v t w.flag reply.IllegalArgument)
 
 abbrev pub bad_argument : MachineState → ThreadId → Option MachineState
 bad_argument v t = bad_argument_of v t (wish v t)
 
 abbrev pub early_of : MachineState → ThreadId → Option Wish → Option MachineState
 early_of v t None = None
-early_of v t (Some w) = if is_good w.millis w.nanos && w.flag then Some (replied v t false reply.Interrupted) else None
+early_of v t (Some w) = if is_good w.millis w.nanos && w.flag then Some (put_reply v t false reply.Interrupted) else None
 
 abbrev pub early : MachineState → ThreadId → Option MachineState
 early v t = early_of v t (wish v t)
@@ -212,7 +212,7 @@ wait v t = wait_of v t (wish v t)
 -- u, which does this, is taken out of the wait set of o by t
 abbrev pub notify_from : MachineState → ThreadId → Bool → ObjectId → ThreadId → Bool → Doing → Option MachineState
 notify_from v t flag o u other (Waits p n d) =
-    if p.0 == o.0 then Some (put (replied v t flag reply.Notified) u other (Back p n why.Notified)) else None
+    if p.0 == o.0 then Some (put (put_reply v t flag reply.Notified) u other (Back p n why.Notified)) else None
 notify_from v t flag o u other Idle = None
 notify_from v t flag o u other (Wants c) = None
 notify_from v t flag o u other (Back p n w) = None
@@ -234,7 +234,7 @@ notify v t u = notify_for v t u (wanted v t)
 abbrev pub notify_nobody_for : MachineState → ThreadId → Option (Bool × Call) → Option MachineState
 notify_nobody_for v t None = None
 notify_nobody_for v t (Some (flag, call.Notify o)) =
-    if owns v t o && not (some_waits v.threads o) then Some (replied v t flag reply.Notified) else None
+    if owns v t o && not (some_waits v.threads o) then Some (put_reply v t flag reply.Notified) else None
 notify_nobody_for v t (Some (flag, c)) = None
 
 abbrev pub notify_nobody : MachineState → ThreadId → Option MachineState
@@ -249,7 +249,7 @@ all_left v o =
 abbrev pub notify_all_for : MachineState → ThreadId → Option (Bool × Call) → Option MachineState
 notify_all_for v t None = None
 notify_all_for v t (Some (flag, call.NotifyAll o)) =
-    if owns v t o then Some (replied (all_left v o) t flag reply.Notified) else None
+    if owns v t o then Some (put_reply (all_left v o) t flag reply.Notified) else None
 notify_all_for v t (Some (flag, c)) = None
 
 abbrev pub notify_all : MachineState → ThreadId → Option MachineState
@@ -260,7 +260,7 @@ notify_all v t = notify_all_for v t (wanted v t)
 abbrev pub interrupt_at : MachineState → ThreadId → Bool → ThreadId → Option Live → Option MachineState
 interrupt_at v t flag u None = None
 interrupt_at v t flag u (Some x) =
-    Some (replied (put v u true (after_interrupt x.act)) t (if t.0 == u.0 then true else flag) reply.Done)
+    Some (put_reply (put v u true (after_interrupt x.act)) t (if t.0 == u.0 then true else flag) reply.Done)
 
 abbrev pub interrupt_for : MachineState → ThreadId → Option (Bool × Call) → Option MachineState
 interrupt_for v t None = None
@@ -272,7 +272,7 @@ interrupt v t = interrupt_for v t (wanted v t)
 
 abbrev pub test_clear_for : MachineState → ThreadId → Option (Bool × Call) → Option MachineState
 test_clear_for v t None = None
-test_clear_for v t (Some (flag, call.Interrupted)) = Some (replied v t false (yes_or_no flag))
+test_clear_for v t (Some (flag, call.Interrupted)) = Some (put_reply v t false (yes_or_no flag))
 test_clear_for v t (Some (flag, c)) = None
 
 abbrev pub test_clear : MachineState → ThreadId → Option MachineState
@@ -313,7 +313,7 @@ wake v t = wake_at v t (live_of v.threads t)
 abbrev pub relock_from : MachineState → ThreadId → Bool → Doing → Option MachineState
 relock_from v t flag (Back o n w) =
     if is_some (held_at v o).owner then None
-    else Some (replied (with_held v o (held_by t n)) t (flag_back w flag) (reply_of w))
+    else Some (put_reply (with_held v o (held_by t n)) t (flag_back w flag) (reply_of w))
 relock_from v t flag Idle = None
 relock_from v t flag (Wants c) = None
 relock_from v t flag (Waits o n d) = None
@@ -330,11 +330,11 @@ relock v t = relock_at v t (live_of v.threads t)
 
 abbrev pub ask_at : MachineState → ThreadId → Bool → Option Live → Option MachineState
 ask_at v t flag None = None
-ask_at v t flag (Some x) = Some (replied v t flag (yes_or_no x.flag))
+ask_at v t flag (Some x) = Some (put_reply v t flag (yes_or_no x.flag))
 
 abbrev pub ask_for : MachineState → ThreadId → Option (Bool × Call) → Option MachineState
 ask_for v t None = None
-ask_for v t (Some (flag, call.Holds o)) = Some (replied v t flag (yes_or_no (owns v t o)))
+ask_for v t (Some (flag, call.Holds o)) = Some (put_reply v t flag (yes_or_no (owns v t o)))
 ask_for v t (Some (flag, call.IsInterrupted u)) = ask_at v t flag (live_of v.threads u)
 ask_for v t (Some (flag, c)) = None
 
@@ -354,14 +354,14 @@ may_refuse v t c why = false
 
 abbrev pub refuse_for : MachineState → ThreadId → Cause → Option (Bool × Call) → Option MachineState
 refuse_for v t why None = None
-refuse_for v t why (Some (flag, c)) = if may_refuse v t c why then Some (replied v t flag (reply.Refused why)) else None
+refuse_for v t why (Some (flag, c)) = if may_refuse v t c why then Some (put_reply v t flag (reply.Refused why)) else None
 
 abbrev pub refuse : MachineState → ThreadId → Cause → Option MachineState
 refuse v t why = refuse_for v t why (wanted v t)
 
 abbrev pub end_for : MachineState → ThreadId → Option (Bool × Call) → Option MachineState
 end_for v t None = None
-end_for v t (Some (flag, call.End)) = if owns_one v.objects t then None else Some (replied v t flag reply.Ended)
+end_for v t (Some (flag, call.End)) = if owns_one v.objects t then None else Some (put_reply v t flag reply.Ended)
 end_for v t (Some (flag, c)) = None
 
 abbrev pub end : MachineState → ThreadId → Option MachineState
@@ -396,6 +396,6 @@ takes v (move.End t) = end v t
 takes v (move.Time now) = time v now
 
 -- the answer to a move, where there is room for one more thread, or is none
-abbrev pub answered : Bool → MachineState → Move → Outcome
+abbrev pub answered : Bool → MachineState → Move → AfterMove
 answered room v (move.Attach t) = attached room v t
 answered room v m = taken v (takes v m)

@@ -5,7 +5,7 @@ ghost use Rattle.fat_monitor.specs.declared.actions.Reply.TheVariants.{Ended};
 ghost use Rattle.step_core.specs.declared.machine.Doing.TheVariants.{Has};
 ghost use Rattle.step_core.specs.Machine.{ActExists};
 ghost use Rattle.jls_check.specs.LiveThreads.{live_of, owned_of};
-ghost use Rattle.jls_check.specs.MachineState.{put, replied, with_held, MayOwn};
+ghost use Rattle.jls_check.specs.MachineState.{put, put_reply, with_held, MayOwn};
 ghost use Rattle.jls_check.specs.Taking.{all_left};
 
 use crate::machine::Machine;
@@ -34,7 +34,7 @@ impl Machine {
     pub(crate) fn reply(&mut self, thread: ThreadId, flag: bool, reply: Reply)
         requires live { IsSome (live_of self.old.threads thread) }
         requires ends { reply ≡ Ended → owned_of self.old.threads thread ≡ 0 }
-        ensures { self.new ≡ replied self.old thread flag reply }
+        ensures { self.new ≡ put_reply self.old thread flag reply }
     {
         self.put(thread, flag, Doing::Has(reply));
     }

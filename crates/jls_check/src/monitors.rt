@@ -1,7 +1,7 @@
 //! What is kept of each object: its monitor, and how many threads wait on it.
 
 ghost use Rattle.std.specs.Prelude.{◌≡◌, ◌≤◌, MatchOption};
-ghost use Rattle.jls_check.specs.Monitors.{is_owned_by, joined, HasWaiter, HasRoom};
+ghost use Rattle.jls_check.specs.Monitors.{is_owned_by, joined, HasWaiter, CanCountOneMore};
 ghost use Rattle.jls_check.specs.MachineState.{left_by};
 ghost use Rattle.jls_check.specs.Taking.{may_be_locked, less_held, held_by};
 
@@ -80,7 +80,7 @@ impl Held {
 /// one that it goes into.
 pub(crate) fn count_waits(objects: &mut [ObjectRecord], was: Option<Live>, act: Doing)
     requires waited { MatchOption was (Unit {0}) (λ x. HasWaiter objects.old x.act) }
-    requires room { HasRoom (left_by objects.old was) act }
+    requires room { CanCountOneMore (left_by objects.old was) act }
     ensures { objects.new ≡ joined (left_by objects.old was) act }
 {
     if let Some(

@@ -40,8 +40,8 @@ abbrev pub told_in : {L : Type 0} → Worked L → List (Result Reply LiveFault)
 told_in d = (vec_items d.answers, d.stopped)
 
 -- and of a row in which it was kept
-abbrev pub told : Vec (Result Reply LiveFault) Global × Bool → List (Result Reply LiveFault) × Bool
-told w = (vec_items w.0, w.1)
+abbrev pub told_in_row : Vec (Result Reply LiveFault) Global × Bool → List (Result Reply LiveFault) × Bool
+told_in_row w = (vec_items w.0, w.1)
 
 -- The text of a run of these lines: their threads made their calls on a service with their objects, each on a pass of its
 -- own from thread 1 on, and the service was closed then. Its text has what they came to.
@@ -58,7 +58,7 @@ pub record IsLiveRun (ls : List Line) (text : List ℕ) : Type 0 where
   pub says : text ≡ live_text ls (map told_of workers) closed
 
 -- the bytes are the text of a live script, and this is the text of a run of it
-pub record IsRunOf (bytes text : List ℕ) : Type 0 where
+pub record IsTextOfRun (bytes text : List ℕ) : Type 0 where
   pub lines : List Line
   pub script : IsLiveScript lines
   pub read : bytes ≡ script_text lines

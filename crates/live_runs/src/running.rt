@@ -6,7 +6,7 @@ ghost use Rattle.live_scripts.specs.Rules.{IsFirstBadLive};
 ghost use Rattle.history_streams.specs.declared.faults.FileFault.TheVariants.{BadLine, BadMove, Broken, Read as ReadFault, Write as WriteFault};
 ghost use Rattle.live_runs.specs.declared.faults.RunFault.TheVariants.{File};
 ghost use Rattle.live_runs.specs.Faults.{IsRunReason};
-ghost use Rattle.live_runs.specs.Runs.{IsRunOf};
+ghost use Rattle.live_runs.specs.Runs.{IsTextOfRun};
 
 use crate::RunFault;
 use crate::playing::run_script;
@@ -32,7 +32,7 @@ pub fn run_live<S: Source, W: Sink, R: Threads + Wait + Clock + Sync>(
     // At Ok, neither end has failed in the call, the bytes were the text of a live script within the limit
     // of scripts, and the whole text of a run of it was written.
     ensures written { OnOk result ((text : List ℕ)
-        × IfSome (S.left source.old) (λ input. IsRunOf input text)
+        × IfSome (S.left source.old) (λ input. IsTextOfRun input text)
         × Appends (W.holds sink.old) (W.holds sink.new) text) }
     ensures read_whole { OnOk result (S.has_failed source.new → S.has_failed source.old) }
     ensures written_whole { OnOk result (W.has_failed sink.new → W.has_failed sink.old) }
@@ -46,7 +46,7 @@ pub fn run_live<S: Source, W: Sink, R: Threads + Wait + Clock + Sync>(
         → S.has_failed source.new ⊎ MOST_BYTES < S.given source.new }
     ensures write { IsErrOf result (File WriteFault) → W.has_failed sink.new }
     ensures cut { IsErrOf result (File WriteFault) → (text : List ℕ)
-        × IfSome (S.left source.old) (λ input. IsRunOf input text)
+        × IfSome (S.left source.old) (λ input. IsTextOfRun input text)
         × (n : ℕ) × Appends (W.holds sink.old) (W.holds sink.new) (take n text) }
     ensures unwritten { IfErr result (λ fault.
         (fault ≡ File WriteFault) ⊎ Keeps (W.holds sink.old) (W.holds sink.new)) }
@@ -66,7 +66,7 @@ fn run_in<R: Threads + Wait + Clock + Sync>(
     alloc: Global,
     bytes: &[u8],
 ) -> Result<String, RunFault>
-    ensures run { IfOk result (λ text. IsRunOf bytes.now (string_bytes text)) }
+    ensures run { IfOk result (λ text. IsTextOfRun bytes.now (string_bytes text)) }
     ensures fault { IfErr result (IsRunReason bytes.now) }
 {
     let script = read_live(alloc, bytes)?;

@@ -1,7 +1,7 @@
 //! The works of the threads of a live script, and what they came to.
 
 ghost use Rattle.std.specs.Prelude.{◌≡◌, ◌≤◌, ◌++◌, ◌∷◌, [], IfOk, IfSome, IfNone, length, map, vec_capacity};
-ghost use Rattle.live_runs.specs.Runs.{told, told_in};
+ghost use Rattle.live_runs.specs.Runs.{told_in, told_in_row};
 
 use fast_path::Call;
 use fat_monitor::Reply;
@@ -51,7 +51,7 @@ pub(crate) fn taken_apart<L: Crew>(
     mut worked: Vec<Worked<L>>,
 ) -> Result<(Vec<LivePass<L>>, Vec<Told>), Memory>
     ensures passes { IfOk result (λ r. r.0.items ≡ map (λ d. d.pass) worked.items) }
-    ensures told { IfOk result (λ r. map told r.1.items ≡ map told_in worked.items) }
+    ensures told { IfOk result (λ r. map told_in_row r.1.items ≡ map told_in worked.items) }
 {
     let mut passes = Vec::with_capacity(alloc, worked.len())?;
     let mut told = Vec::with_capacity(alloc, worked.len())?;

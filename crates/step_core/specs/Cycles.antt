@@ -12,19 +12,19 @@ use Rattle.step_core.specs.Machine.{State, Thread}
 -- ---- for whom a thread waits
 
 -- the object that a call is to enter
-abbrev pub entered : Call → Option ObjectId
-entered (call.Enter o) = Some o
-entered c = None
+abbrev pub object_entered : Call → Option ObjectId
+object_entered (call.Enter o) = Some o
+object_entered c = None
 
 -- the object that a thread with this act wants to enter, or comes back to
-abbrev pub wanted : Doing → Option ObjectId
-wanted (Wants c) = entered c
-wanted (Back o n w) = Some o
-wanted d = None
+abbrev pub object_wanted : Doing → Option ObjectId
+object_wanted (Wants c) = object_entered c
+object_wanted (Back o n w) = Some o
+object_wanted d = None
 
 abbrev pub wanted_by : Option Thread → Option ObjectId
 wanted_by None = None
-wanted_by (Some x) = wanted x.act
+wanted_by (Some x) = object_wanted x.act
 
 -- the owner of an object, where that is another thread than t
 abbrev pub other_than : ThreadId → Option ThreadId → Option ThreadId
@@ -42,9 +42,9 @@ next s t = owner_but s t (wanted_by (s.thread t))
 -- ---- cycles, of threads or of whatever else has a next one and a number
 
 -- the first of the list is the next of a, each other the next of the one before, and b is the next of the last
-abbrev pub Leads : {A : Type 0} → (A → Option A) → A → List A → A → Type 0
-Leads f a [] b = f a ≡ Some b
-Leads f a (x ∷ xs) b = (f a ≡ Some x) × Leads f x xs b
+abbrev pub LeadsThrough : {A : Type 0} → (A → Option A) → A → List A → A → Type 0
+LeadsThrough f a [] b = f a ≡ Some b
+LeadsThrough f a (x ∷ xs) b = (f a ≡ Some x) × LeadsThrough f x xs b
 
 abbrev pub AreDistinct : {A : Type 0} → List A → Type 0
 AreDistinct [] = Unit {0}
@@ -54,7 +54,7 @@ AreDistinct (x ∷ xs) = AllByRecursion (λ y. x ≡ y → ⊥) xs × AreDistinc
 -- lowest
 abbrev pub IsCycleOf : {A : Type 0} → (A → ℕ) → (A → Option A) → List A → Type 0
 IsCycleOf number f [] = ⊥
-IsCycleOf number f (a ∷ rest) = Leads f a rest a × AreDistinct (a ∷ rest) × AllByRecursion (λ b. number a < number b) rest
+IsCycleOf number f (a ∷ rest) = LeadsThrough f a rest a × AreDistinct (a ∷ rest) × AllByRecursion (λ b. number a < number b) rest
 
 -- the number of the first of a list
 abbrev pub first_number : {A : Type 0} → (A → ℕ) → List A → ℕ

@@ -8,7 +8,7 @@ use Rattle.std.proofs.lemmas.Bool.{cases_eq, cases_lt, eq-eqb, ne_eqb, lt-ltb, l
 use Rattle.lock_word.specs.declared.ThreadId.{ThreadId}
 use Rattle.thread_index.specs.BitRows.{bit_of}
 use Rattle.thread_index.specs.Indices.{seat_of, free_seat, holder_at, IsOneToOne}
-use Rattle.thread_index.specs.Padding.{taken_bit, IsTold}
+use Rattle.thread_index.specs.Padding.{taken_bit, TellsSeats}
 use Rattle.thread_index.proofs.Seats.{seat_found, free_found, seat_taken_same, seat_taken_other, seat_given_same, seat_given_other, seat_same}
 
 -- a seat whose bit is 0 is free
@@ -36,7 +36,7 @@ none_free i [] taken = refl
 none_free i (x ∷ xs) taken = rw (taken 0 (omega arith)) (none_free (i + 1) xs (λ j below. taken (suc j) (omega arith)))
 
 -- the lowest seat whose bit is 0 is the lowest free one, where there is such a seat
-pub free_seat-bits : {S : Type 0} (seats : List (Option ThreadId)) (words : List ℕ) (table : HashMap ℕ ℕ S) (k : ℕ) → IsTold seats words table
+pub free_seat-bits : {S : Type 0} (seats : List (Option ThreadId)) (words : List ℕ) (table : HashMap ℕ ℕ S) (k : ℕ) → TellsSeats seats words table
     → bit_of words k ≡ 0 → ((j : ℕ) → j < k → bit_of words j ≡ 1) → then_some (nat_lt k (length seats)) k ≡ free_seat seats
 free_seat-bits seats words table k told clear lowest = at (cases_lt k (length seats))
   where
@@ -51,11 +51,11 @@ free_seat-bits seats words table k told clear lowest = at (cases_lt k (length se
         rw (le-ltb k (length seats) past) (sym (none_free 0 seats (λ j below. taken j (omega arith))))
 
 -- a thread takes the lowest free seat
-pub IsTold-taken : {S : Type 0} (seats : List (Option ThreadId)) (words new : List ℕ) (table after : HashMap ℕ ℕ S) (t : ThreadId) (k : ℕ)
-    → IsTold seats words table → seat_of seats t ≡ None → free_seat seats ≡ Some k
+pub TellsSeats-taken : {S : Type 0} (seats : List (Option ThreadId)) (words new : List ℕ) (table after : HashMap ℕ ℕ S) (t : ThreadId) (k : ℕ)
+    → TellsSeats seats words table → seat_of seats t ≡ None → free_seat seats ≡ Some k
     → ((j : ℕ) → bit_of new j ≡ (if j == k then 1 else bit_of words j)) → Updates nat_eq table after t.0 (Some k)
-    → IsTold (slice_set seats k (Some t)) new after
-IsTold-taken seats words new table after t k told unknown free bits updates =
+    → TellsSeats (slice_set seats k (Some t)) new after
+TellsSeats-taken seats words new table after t k told unknown free bits updates =
     record { bits = λ j. bit j (cases_eq j k); look_up = λ u. found u (cases_eq t.0 u.0) }
   where
     within : k < length seats
@@ -72,11 +72,11 @@ IsTold-taken seats words new table after t k told unknown free bits updates =
         updates.0 u.0 ∙ rw (ne_eqb t.0 u.0 ne) (told.look_up u ∙ sym (seat_taken_other seats t u k free (λ e. ne (sym e))))
 
 -- a thread gives its seat back
-pub IsTold-given : {S : Type 0} (seats : List (Option ThreadId)) (words new : List ℕ) (table after : HashMap ℕ ℕ S) (t : ThreadId) (k : ℕ)
-    → IsTold seats words table → IsOneToOne seats → seat_of seats t ≡ Some k
+pub TellsSeats-given : {S : Type 0} (seats : List (Option ThreadId)) (words new : List ℕ) (table after : HashMap ℕ ℕ S) (t : ThreadId) (k : ℕ)
+    → TellsSeats seats words table → IsOneToOne seats → seat_of seats t ≡ Some k
     → ((j : ℕ) → bit_of new j ≡ (if j == k then 0 else bit_of words j)) → Updates nat_eq table after t.0 None
-    → IsTold (slice_set seats k None) new after
-IsTold-given seats words new table after t k told one seat bits updates =
+    → TellsSeats (slice_set seats k None) new after
+TellsSeats-given seats words new table after t k told one seat bits updates =
     record { bits = λ j. bit j (cases_eq j k); look_up = λ u. found u (cases_eq t.0 u.0) }
   where
     bit : (j : ℕ) → (j ≡ k) ⊎ (j ≢ k) → bit_of new j ≡ taken_bit (holder_at (slice_set seats k None) j)
@@ -90,9 +90,9 @@ IsTold-given seats words new table after t k told one seat bits updates =
         updates.0 u.0 ∙ rw (ne_eqb t.0 u.0 ne) (told.look_up u ∙ sym (seat_given_other seats t u k seat (λ e. ne (sym e))))
 
 -- the same seats, with the same bits and the same entries
-pub IsTold-same : {S : Type 0} (old seats : List (Option ThreadId)) (words new : List ℕ) (table after : HashMap ℕ ℕ S) → IsTold old words table → seats ≡ old
-    → ((j : ℕ) → bit_of new j ≡ bit_of words j) → after.entries ≡ table.entries → IsTold seats new after
-IsTold-same old seats words new table after told same bits entries =
+pub TellsSeats-same : {S : Type 0} (old seats : List (Option ThreadId)) (words new : List ℕ) (table after : HashMap ℕ ℕ S) → TellsSeats old words table → seats ≡ old
+    → ((j : ℕ) → bit_of new j ≡ bit_of words j) → after.entries ≡ table.entries → TellsSeats seats new after
+TellsSeats-same old seats words new table after told same bits entries =
     record {
       bits = λ j. rw same (bits j ∙ told.bits j);
       look_up = λ u. rw (same, entries) (told.look_up u);

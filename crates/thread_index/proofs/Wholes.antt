@@ -9,10 +9,10 @@ use Rattle.std.proofs.lemmas.Nat.Bits.{bit_at-zero}
 use Rattle.lock_word.specs.declared.ThreadId.{ThreadId}
 use Rattle.thread_index.specs.BitRows.{bit_of}
 use Rattle.thread_index.specs.Indices.{seat_of, free_seat, holder_at, given_back, IsOneToOne}
-use Rattle.thread_index.specs.Padding.{padded, taken_bit, IsTold, IsWhole}
+use Rattle.thread_index.specs.Padding.{padded, taken_bit, TellsSeats, IsWhole}
 use Rattle.thread_index.proofs.Paddings.{length-padded, free_seat-written, padded-same, padded-slice_set, seat_of-written, IsKept-taken, IsKept-given}
 use Rattle.thread_index.proofs.Seats.{free_found, IsOneToOne-given, IsOneToOne-replicate, holder_at-replicate, seat_of-replicate}
-use Rattle.thread_index.proofs.Tables.{free_seat-bits, IsTold-same, IsTold-taken, IsTold-given}
+use Rattle.thread_index.proofs.Tables.{free_seat-bits, TellsSeats-same, TellsSeats-taken, TellsSeats-given}
 
 -- the lowest free seat is one of those that are written down, or the next
 pub free_seat-next : {S : Type 0} (holders seats : List (Option ThreadId)) (limit k : ℕ) (words : List ℕ) (table : HashMap ℕ ℕ S) → IsWhole holders limit words table
@@ -45,7 +45,7 @@ IsWhole-more {S} holders more seats limit k words new table after was shown free
                 few = was.kept.few;
                 one_to_one = subst (λ (xs : List (Option ThreadId)). IsOneToOne xs) (sym shown_same) was.kept.one_to_one;
               };
-          told = IsTold-same (padded holders limit) (padded more limit) words new table after was.told shown_same bits entries;
+          told = TellsSeats-same (padded holders limit) (padded more limit) words new table after was.told shown_same bits entries;
           room = omega (arith, was.room);
         }
 
@@ -58,8 +58,8 @@ IsWhole-taken holders seats limit k t words new table after was shown written un
     record {
       kept = IsKept-taken holders seats limit k t shown was.kept written unknown free;
       told =
-          subst (λ (xs : List (Option ThreadId)). IsTold xs new after) (sym (padded-slice_set holders seats limit k (Some t) shown written))
-          (IsTold-taken seats words new table after t k (subst (λ (xs : List (Option ThreadId)). IsTold xs words table) shown was.told) unknown free bits updates);
+          subst (λ (xs : List (Option ThreadId)). TellsSeats xs new after) (sym (padded-slice_set holders seats limit k (Some t) shown written))
+          (TellsSeats-taken seats words new table after t k (subst (λ (xs : List (Option ThreadId)). TellsSeats xs words table) shown was.told) unknown free bits updates);
       room = rw (length-set holders k (Some t), as_long) was.room;
     }
 
@@ -86,9 +86,9 @@ IsWhole-given holders seats limit k t words new table after was shown seat bits 
     record {
       kept = IsKept-given holders seats limit k t shown was.kept seat;
       told =
-          subst (λ (xs : List (Option ThreadId)). IsTold xs new after)
+          subst (λ (xs : List (Option ThreadId)). TellsSeats xs new after)
           (sym (padded-slice_set holders seats limit k None shown (seat_of-written holders seats limit k t shown seat)))
-          (IsTold-given seats words new table after t k (subst (λ (xs : List (Option ThreadId)). IsTold xs words table) shown was.told)
+          (TellsSeats-given seats words new table after t k (subst (λ (xs : List (Option ThreadId)). TellsSeats xs words table) shown was.told)
           (subst (λ (xs : List (Option ThreadId)). IsOneToOne xs) shown was.kept.one_to_one) seat bits updates);
       room = rw (length-set holders k None, as_long) was.room;
     }

@@ -21,12 +21,12 @@ abbrev pub taken_bit : Option ThreadId → ℕ
 taken_bit holder = (if is_some holder then 1 else 0)
 
 -- a bit for each seat is 1 where somebody has it, and the table has the seat of each thread
-pub record IsTold {S : Type 0} (seats : List (Option ThreadId)) (words : List ℕ) (table : HashMap ℕ ℕ S) : Type 0 where
+pub record TellsSeats {S : Type 0} (seats : List (Option ThreadId)) (words : List ℕ) (table : HashMap ℕ ℕ S) : Type 0 where
   pub bits : (k : ℕ) → bit_of words k ≡ taken_bit (holder_at seats k)
   pub look_up : (t : ThreadId) → get nat_eq table t.0 ≡ seat_of seats t
 
 -- what holds of the holders, the limit, the words and the table of each `Indices`
 pub record IsWhole {S : Type 0} (holders : List (Option ThreadId)) (limit : ℕ) (words : List ℕ) (table : HashMap ℕ ℕ S) : Type 0 where
   pub kept : IsKept holders limit
-  pub told : IsTold (padded holders limit) words table
+  pub told : TellsSeats (padded holders limit) words table
   pub room : length holders ≤ 64 * length words

@@ -15,7 +15,7 @@ use Rattle.wait_lines.specs.declared.links.Spot.{Spot}
 use Rattle.wait_lines.specs.declared.links.Ends.{Ends}
 use Rattle.wait_lines.specs.Lines.{Key, key, StandsAt, Stands, StandsNowhere, role_number, is_thread, line}
 use Rattle.wait_lines.specs.Links.{Chart, node, alone, unused, spot_at, ends_at, behind_of, before_of, unlinked, with_thread, with_key, is_node, is_of, BeginsAt, IsThere as AtHand}
-use Rattle.wait_lines.specs.Rings.{Walk, AreRings, IsEnd}
+use Rattle.wait_lines.specs.Rings.{Walk, AreRings, IsNoNode}
 use Rattle.wait_lines.specs.Walks.{then_from, threads_from, then_node, node_from}
 use Rattle.wait_lines.specs.Rows.{rows_of, row_at, times_number}
 use Rattle.wait_lines.specs.Arrivals.{Arrival, lines_of, nodes_of, threads_of, keys_of, arrivals_of, tail_of, IsKept}
@@ -90,11 +90,11 @@ taken-is c d1 d2 d3 n t k m r e f g = g ∙ ap (λ (d : Chart). with_key d k m r
 
 -- ---- a line by its links
 
-threads-walk : (c : Chart) (l : ℕ) (p : Stop) (ns : List ℕ) (z : Stop) → AreRings (behind_of c) (before_of c) → AtHand c p → IsEnd z → Walk (behind_of c) p ns z → length ns ≤ l
+threads-walk : (c : Chart) (l : ℕ) (p : Stop) (ns : List ℕ) (z : Stop) → AreRings (behind_of c) (before_of c) → AtHand c p → IsNoNode z → Walk (behind_of c) p ns z → length ns ≤ l
     → threads_from l c.spots (behind_of c p) ≡ list_map (thread_at (threads_of c)) ns
 threads-walk c l p [] z rings there end w short = ap (threads_from l c.spots) w ∙ none l z end
   where
-    none : (l : ℕ) (z : Stop) → IsEnd z → threads_from l c.spots z ≡ []
+    none : (l : ℕ) (z : Stop) → IsNoNode z → threads_from l c.spots z ≡ []
     none zero z end = refl
     none (suc l) (At n) end = absurd (end n.0 refl)
     none (suc l) (End k) end = refl
@@ -145,11 +145,11 @@ abbrev pub FoundIn : Chart → ThreadId → List ℕ → Option Node → Type 0
 FoundIn c t ns None = count_by (λ (u : ThreadId). is_thread t u) (list_map (thread_at (threads_of c)) ns) ≡ 0
 FoundIn c t ns (Some n) = (1 ≤ times_number n.0 ns) × (thread_at (threads_of c) n.0 ≡ t)
 
-found-walk : (c : Chart) (t : ThreadId) (l : ℕ) (p : Stop) (ns : List ℕ) (z : Stop) → AreRings (behind_of c) (before_of c) → AtHand c p → IsEnd z → Walk (behind_of c) p ns z → length ns ≤ l
+found-walk : (c : Chart) (t : ThreadId) (l : ℕ) (p : Stop) (ns : List ℕ) (z : Stop) → AreRings (behind_of c) (before_of c) → AtHand c p → IsNoNode z → Walk (behind_of c) p ns z → length ns ≤ l
     → FoundIn c t ns (node_from l c.spots t (behind_of c p))
 found-walk c t l p [] z rings there end w short = subst (λ s. FoundIn c t [] (node_from l c.spots t s)) (sym w) (none l z end)
   where
-    none : (l : ℕ) (z : Stop) → IsEnd z → FoundIn c t [] (node_from l c.spots t z)
+    none : (l : ℕ) (z : Stop) → IsNoNode z → FoundIn c t [] (node_from l c.spots t z)
     none zero z end = refl
     none (suc l) (At n) end = absurd (end n.0 refl)
     none (suc l) (End k) end = refl

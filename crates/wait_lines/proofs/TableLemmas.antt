@@ -11,7 +11,7 @@ use Rattle.wait_lines.specs.declared.links.Stop.{Stop}
 use Rattle.wait_lines.specs.declared.links.Stop.TheVariants.{At, End, Free}
 use Rattle.wait_lines.specs.declared.links.Ends.{Ends}
 use Rattle.wait_lines.specs.Links.{Chart, node, unused, behind_of, unlinked, linked, grown, IsThere}
-use Rattle.wait_lines.specs.Rings.{Walk, IsEnd, without_number}
+use Rattle.wait_lines.specs.Rings.{Walk, IsNoNode, without_number}
 use Rattle.wait_lines.specs.Rows.{nodes_from, rows_of, end_at, row_at, times_number, times_in_rows, rows_without, rows_with, moved, AreLinked, AreLinkedBut}
 use Rattle.wait_lines.specs.Tables.{TableState, table_of, with_move, with_record, IsInRow, IsTable}
 use Rattle.wait_lines.proofs.LinkLemmas.{sizes-unlinked, sizes-linked}
@@ -136,7 +136,7 @@ number_of (End k) = k
 number_of Free = 0
 
 -- the first of a row stands in it
-pub first-in_row : (f : Stop → Stop) (p : Stop) (ns : List ℕ) (z : Stop) (n : ℕ) → IsEnd z → Walk f p ns z → f p ≡ node n → 1 ≤ times_number n ns
+pub first-in_row : (f : Stop → Stop) (p : Stop) (ns : List ℕ) (z : Stop) (n : ℕ) → IsNoNode z → Walk f p ns z → f p ≡ node n → 1 ≤ times_number n ns
 first-in_row f p [] z n end w head = absurd (end n (sym w ∙ head))
 first-in_row f p (m ∷ ms) z n end w head =
     let same : m ≡ n = ap number_of (sym w.0 ∙ head) in

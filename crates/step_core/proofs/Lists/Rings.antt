@@ -23,7 +23,7 @@ use Rattle.step_core.specs.declared.steps.Request.TheVariants as request
 use Rattle.step_core.specs.declared.steps.Step.{Step}
 use Rattle.step_core.specs.declared.steps.Step.TheVariants as step
 use Rattle.step_core.specs.Machine.{State, Thread, Monitor, Steps, Run, Is, Calls, OwnedBy, Unowned, now_is, free, held, owner_only, IsAnswer, MayRefuse, after_notify_all, after_interrupt, with_interrupt}
-use Rattle.step_core.specs.Cycles.{entered, wanted, wanted_by, other_than, owner_but, next, Leads, IsCycle}
+use Rattle.step_core.specs.Cycles.{object_entered, object_wanted, wanted_by, other_than, owner_but, next, LeadsThrough, IsCycle}
 use Rattle.step_core.specs.World.{WorldState}
 use Rattle.step_core.specs.Shown.{shown}
 use Rattle.step_core.specs.Sound.{IsSound}
@@ -41,7 +41,7 @@ use Rattle.step_core.proofs.Lists.Reached.{reached_sound}
 
 -- ---- acts that want no object
 
-only_enters_not : (c : Call) (o : ObjectId) → owner_only c ≡ Some o → entered c ≡ None
+only_enters_not : (c : Call) (o : ObjectId) → owner_only c ≡ Some o → object_entered c ≡ None
 only_enters_not (call.Enter p) o e = absurd (cc)
 only_enters_not (call.Exit p) o e = refl
 only_enters_not (call.Wait p millis nanos) o e = refl
@@ -53,7 +53,7 @@ only_enters_not call.Interrupted o e = refl
 only_enters_not (call.IsInterrupted u) o e = refl
 only_enters_not call.End o e = refl
 
-asked_enters_not : (s : State) (t : ThreadId) (c : Call) (answer : Bool) → IsAnswer s t c answer → entered c ≡ None
+asked_enters_not : (s : State) (t : ThreadId) (c : Call) (answer : Bool) → IsAnswer s t c answer → object_entered c ≡ None
 asked_enters_not s t (call.Enter p) answer h = absurd h
 asked_enters_not s t (call.Exit p) answer h = refl
 asked_enters_not s t (call.Wait p millis nanos) answer h = refl
@@ -73,7 +73,7 @@ enter_refused s t p cause.TooDeep h = h.0
 enter_refused s t p cause.StillOwner h = absurd h
 enter_refused s t p cause.NoThread h = absurd h
 
-refused_owns : (s : State) (t : ThreadId) (c : Call) (x : Cause) (o : ObjectId) → MayRefuse s t c x → entered c ≡ Some o → OwnedBy s o t
+refused_owns : (s : State) (t : ThreadId) (c : Call) (x : Cause) (o : ObjectId) → MayRefuse s t c x → object_entered c ≡ Some o → OwnedBy s o t
 refused_owns s t (call.Enter p) x o h e = subst (λ (q : ObjectId). OwnedBy s q t) (same_Some p o e) (enter_refused s t p x h)
 refused_owns s t (call.Exit p) x o h e = absurd (cc)
 refused_owns s t (call.Wait p millis nanos) x o h e = absurd (cc)
@@ -86,7 +86,7 @@ refused_owns s t (call.IsInterrupted u) x o h e = absurd (cc)
 refused_owns s t call.End x o h e = absurd (cc)
 
 -- taking all out of a wait set leaves a thread that wants an object
-woken_same : (p o : ObjectId) (d : Doing) → wanted d ≡ Some o → after_notify_all p d ≡ d
+woken_same : (p o : ObjectId) (d : Doing) → object_wanted d ≡ Some o → after_notify_all p d ≡ d
 woken_same p o Idle e = absurd (cc)
 woken_same p o (Wants c) e = refl
 woken_same p o (Waits q n d) e = absurd (cc)
@@ -94,7 +94,7 @@ woken_same p o (Back q n w) e = refl
 woken_same p o (Has r) e = absurd (cc)
 
 -- and so does an interrupt
-stirred_same : (o : ObjectId) (d : Doing) → wanted d ≡ Some o → after_interrupt d ≡ d
+stirred_same : (o : ObjectId) (d : Doing) → object_wanted d ≡ Some o → after_interrupt d ≡ d
 stirred_same o Idle e = absurd (cc)
 stirred_same o (Wants c) e = refl
 stirred_same o (Waits q n d) e = absurd (cc)
@@ -106,27 +106,27 @@ stirred_same o (Has r) e = absurd (cc)
 abbrev DoesStill : State → ThreadId → Doing → Type 0
 DoesStill s u d = (flag : Bool) × Is s u flag d
 
-module _ (s : State) (u v : ThreadId) (flag : Bool) (d : Doing) (o : ObjectId) (is : Is s u flag d) (wants : wanted d ≡ Some o) (owned : OwnedBy s o v) (apart : v.0 ≡ u.0 → ⊥) where
+module _ (s : State) (u v : ThreadId) (flag : Bool) (d : Doing) (o : ObjectId) (is : Is s u flag d) (wants : object_wanted d ≡ Some o) (owned : OwnedBy s o v) (apart : v.0 ≡ u.0 → ⊥) where
   does_same : (t : ThreadId) (f : Bool) (x : Doing) → Is s t f x → u.0 ≡ t.0 → x ≡ d
   does_same t f x h same =
       ap (λ (y : Thread). y.act)
       (same_Some (record { flag = f; act = x }) (record { flag = flag; act = d }) (sym h ∙ ap (λ n. s.thread (record { 0 = n })) (sym same) ∙ is))
 
   -- whoever wants nothing is another thread
-  others : (t : ThreadId) (f : Bool) (x : Doing) → Is s t f x → wanted x ≡ None → u.0 ≡ t.0 → ⊥
+  others : (t : ThreadId) (f : Bool) (x : Doing) → Is s t f x → object_wanted x ≡ None → u.0 ≡ t.0 → ⊥
   others t f x h none same =
-      let never : ◌≡◌ {A = Option ObjectId} (Some o) None = sym wants ∙ ap wanted (sym (does_same t f x h same)) ∙ none in absurd (cc)
+      let never : ◌≡◌ {A = Option ObjectId} (Some o) None = sym wants ∙ ap object_wanted (sym (does_same t f x h same)) ∙ none in absurd (cc)
 
   -- and so is whoever owns what it wants,
-  owners : (t : ThreadId) (f : Bool) (x : Doing) → Is s t f x → ((p : ObjectId) → wanted x ≡ Some p → OwnedBy s p t) → u.0 ≡ t.0 → ⊥
+  owners : (t : ThreadId) (f : Bool) (x : Doing) → Is s t f x → ((p : ObjectId) → object_wanted x ≡ Some p → OwnedBy s p t) → u.0 ≡ t.0 → ⊥
   owners t f x h owns same =
-      let mine : OwnedBy s o t = owns o (ap wanted (does_same t f x h same) ∙ wants) in
+      let mine : OwnedBy s o t = owns o (ap object_wanted (does_same t f x h same) ∙ wants) in
       apart (ap (λ (y : ThreadId). y.0) (same_Some v t (sym owned ∙ mine)) ∙ sym same)
 
   -- or wants what nobody owns.
-  loose : (t : ThreadId) (f : Bool) (x : Doing) (p : ObjectId) → Is s t f x → wanted x ≡ Some p → Unowned s p → u.0 ≡ t.0 → ⊥
+  loose : (t : ThreadId) (f : Bool) (x : Doing) (p : ObjectId) → Is s t f x → object_wanted x ≡ Some p → Unowned s p → u.0 ≡ t.0 → ⊥
   loose t f x p h wanted_too none same =
-      let here : p ≡ o = same_Some p o (sym wanted_too ∙ ap wanted (does_same t f x h same) ∙ wants) in
+      let here : p ≡ o = same_Some p o (sym wanted_too ∙ ap object_wanted (does_same t f x h same) ∙ wants) in
       let never : ◌≡◌ {A = Option ThreadId} None (Some v) = sym none ∙ ap (λ (q : ObjectId). (s.monitor q).owner) here ∙ owned in absurd (cc)
 
   kept : (t : ThreadId) (f : Bool) (x : Doing) → (u.0 ≡ t.0 → ⊥) → Is (now_is s t f x) u flag d
@@ -199,13 +199,13 @@ module _ (s : State) (u v : ThreadId) (flag : Bool) (d : Doing) (o : ObjectId) (
 
 -- ---- a thread that wants an object owns what it owned
 
-module _ (s : State) (v : ThreadId) (flag : Bool) (d : Doing) (o p : ObjectId) (is : Is s v flag d) (wants : wanted d ≡ Some p) (owned : OwnedBy s o v) where
+module _ (s : State) (v : ThreadId) (flag : Bool) (d : Doing) (o p : ObjectId) (is : Is s v flag d) (wants : object_wanted d ≡ Some p) (owned : OwnedBy s o v) where
   -- whoever wants nothing owns another object
-  not_owner : (t : ThreadId) (f : Bool) (x : Doing) (q : ObjectId) → Is s t f x → wanted x ≡ None → OwnedBy s q t → o.0 ≡ q.0 → ⊥
+  not_owner : (t : ThreadId) (f : Bool) (x : Doing) (q : ObjectId) → Is s t f x → object_wanted x ≡ None → OwnedBy s q t → o.0 ≡ q.0 → ⊥
   not_owner t f x q h none mine same =
       let one : v ≡ t = same_Some v t (sym owned ∙ ap (λ n. (s.monitor (record { 0 = n })).owner) same ∙ mine) in
       let acts : x ≡ d = ap (λ (y : Thread). y.act) (same_Some (record { flag = f; act = x }) (record { flag = flag; act = d }) (sym h ∙ ap s.thread (sym one) ∙ is)) in
-      let never : ◌≡◌ {A = Option ObjectId} (Some p) None = sym wants ∙ ap wanted (sym acts) ∙ none in absurd (cc)
+      let never : ◌≡◌ {A = Option ObjectId} (Some p) None = sym wants ∙ ap object_wanted (sym acts) ∙ none in absurd (cc)
 
   other_object : (q : ObjectId) (m : Monitor) (s' : State) → s'.monitor o ≡ (if o.0 == q.0 then m else s.monitor o) → (o.0 ≡ q.0 → ⊥) → OwnedBy s' o v
   other_object q m s' e other =
@@ -264,7 +264,7 @@ record Behind (s : State) (t u : ThreadId) : Type 0 where
   act : Doing
   object : ObjectId
   is : Is s t flag act
-  wants : wanted act ≡ Some object
+  wants : object_wanted act ≡ Some object
   owned : OwnedBy s object u
   apart : u.0 ≡ t.0 → ⊥
 
@@ -281,7 +281,7 @@ other_parts t u (Some v) e = by_number (cases_eq v.0 t.0)
 behind : (s : State) (t u : ThreadId) → next s t ≡ Some u → Behind s t u
 behind s t u e = by_thread (s.thread t) refl e
   where
-    by_object : (x : Thread) → s.thread t ≡ Some x → (o : Option ObjectId) → wanted x.act ≡ o → owner_but s t o ≡ Some u → Behind s t u
+    by_object : (x : Thread) → s.thread t ≡ Some x → (o : Option ObjectId) → object_wanted x.act ≡ o → owner_but s t o ≡ Some u → Behind s t u
     by_object x there None wants e = absurd (cc)
     by_object x there (Some o) wants e =
         let parts = other_parts t u (s.monitor o).owner e in
@@ -289,7 +289,7 @@ behind s t u e = by_thread (s.thread t) refl e
 
     by_thread : (x : Option Thread) → s.thread t ≡ x → owner_but s t (wanted_by x) ≡ Some u → Behind s t u
     by_thread None there e = absurd (cc)
-    by_thread (Some x) there e = by_object x there (wanted x.act) refl e
+    by_thread (Some x) there e = by_object x there (object_wanted x.act) refl e
 
 next_from : (s : State) (t u : ThreadId) → Behind s t u → next s t ≡ Some u
 next_from s t u b = rw (b.is, b.wants, b.owned, ne_eqb u.0 t.0 b.apart) refl
@@ -314,11 +314,11 @@ next_stays s s' m t u one e more =
 
 -- ---- and so does a cycle
 
-leads_first : (s : State) (t b : ThreadId) (ts : List ThreadId) → Leads (next s) t ts b → HasNext s t
+leads_first : (s : State) (t b : ThreadId) (ts : List ThreadId) → LeadsThrough (next s) t ts b → HasNext s t
 leads_first s t b [] l = (b, l)
 leads_first s t b (u ∷ us) l = (u, l.0)
 
-leads_stay : (s s' : State) (m : Move) (t b : ThreadId) (ts : List ThreadId) → Steps s m s' → HasNext s b → Leads (next s) t ts b → Leads (next s') t ts b
+leads_stay : (s s' : State) (m : Move) (t b : ThreadId) (ts : List ThreadId) → Steps s m s' → HasNext s b → LeadsThrough (next s) t ts b → LeadsThrough (next s') t ts b
 leads_stay s s' m t b [] one more l = next_stays s s' m t b one l more
 leads_stay s s' m t b (u ∷ us) one more l = (next_stays s s' m t u one l.0 (leads_first s u b us l.1), leads_stay s s' m u b us one more l.1)
 
@@ -332,7 +332,7 @@ cycle_lasts s s' (m ∷ ms) c is (mid, one, rest) = cycle_lasts mid s' ms c (cyc
 
 -- none of its threads has a reply
 
-leads_all : (s : State) (t b : ThreadId) (ts : List ThreadId) → Leads (next s) t ts b → AllByRecursion (HasNext s) (t ∷ ts)
+leads_all : (s : State) (t b : ThreadId) (ts : List ThreadId) → LeadsThrough (next s) t ts b → AllByRecursion (HasNext s) (t ∷ ts)
 leads_all s t b [] l = ((b, l), tt)
 leads_all s t b (u ∷ us) l = ((u, l.0), leads_all s u b us l.1)
 

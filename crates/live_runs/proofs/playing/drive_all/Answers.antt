@@ -10,7 +10,7 @@ use Rattle.live_threads.proofs.Ends.{each_is_back}
 use Rattle.live_scripts.specs.Rules.{attached}
 use Rattle.live_scripts.specs.Plans.{calls_of, monitors_in, objects_of}
 use Rattle.live_text.specs.Texts.{live_text}
-use Rattle.live_runs.specs.Runs.{told, told_in}
+use Rattle.live_runs.specs.Runs.{told_in, told_in_row}
 use Rattle.live_runs.proofs.Plans.{as_many_lows, rows_are, rows_live}
 use Rattle.live_runs.proofs.Workers.{as_many, can_drive, passes_belong, workers_after, workers_before, workers_calls, workers_of, workers_told, workers_worked}
 use Rattle.live_runs.proofs.playing.drive_all.Goals as goal
@@ -33,7 +33,7 @@ unreachable-requires g c =
 pub live_text-requires-clause-threads : goal.live_text-requires-clause-threads
 live_text-requires-clause-threads g c =
     ap length c.deref.ensures.value
-    ∙ (rows_are told told_in c.in_ok-passes.told.items c.in-Ok.worked.items c.in_ok-passes.ensures.told
+    ∙ (rows_are told_in_row told_in c.in_ok-passes.told.items c.in-Ok.worked.items c.in_ok-passes.ensures.told
     ∙ (as_many c.args.live c.args.works.items c.in-Ok.worked.items c.in-Ok.ensures.driven
     ∙ (rows_are (λ w. w.pass) new_holding c.args.works.items (new_passes c.args.live 1 c.args.live.count) c.requires.passes
     ∙ (length-new_passes c.args.live 1 c.args.live.count ∙ c.requires.threads))))
@@ -59,5 +59,5 @@ returns-in-Ok-close-clause-run g c =
       end = subst (λ ps. IsEnd c.args.live (monitors_in c.args.script.now) ps c.in-Ok-close.closed) (ap (map at_rest) c.in_ok-passes.ensures.passes ∙ sym (workers_after c.args.live ws ds driven))
           (subst (λ n. IsEnd c.args.live n (map at_rest c.in_ok-passes.passes.items) c.in-Ok-close.closed) c.requires.crew.2 c.in-Ok-close.ensures.end);
       says = c.in_ok-live_text-in-Ok-close.ensures ∙ ap (λ ts. live_text c.args.script.now ts c.in-Ok-close.closed)
-          (ap (map told) c.deref.ensures.value ∙ (c.in_ok-passes.ensures.told ∙ sym (workers_told c.args.live ws ds driven)));
+          (ap (map told_in_row) c.deref.ensures.value ∙ (c.in_ok-passes.ensures.told ∙ sym (workers_told c.args.live ws ds driven)));
     }

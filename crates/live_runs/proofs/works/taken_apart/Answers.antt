@@ -1,9 +1,9 @@
 use Rattle.std.proofs.Common.{ap, map}
-use Rattle.live_runs.specs.Runs.{told, told_in}
+use Rattle.live_runs.specs.Runs.{told_in, told_in_row}
 use Rattle.live_runs.proofs.Workers.{all_moved, none_left}
 use Rattle.live_runs.proofs.works.taken_apart.Goals as goal
 
 pub returns-clause-told : goal.returns-clause-told
 returns-clause-told g c =
-    all_moved told (map told_in c.loop-worked.worked.items) c.loop-worked.told.items c.reverse-2.new.self.items (map told_in c.args.worked.items)
+    all_moved told_in_row (map told_in c.loop-worked.worked.items) c.loop-worked.told.items c.reverse-2.new.self.items (map told_in c.args.worked.items)
     (ap (map told_in) (none_left c.loop-worked.worked.items c.last_of.result c.in_default.not-Some c.last_of.ensures.none)) c.reverse-2.ensures.items c.loop-worked.invariant.told
