@@ -1,9 +1,9 @@
-//! Measures the calls of the live service: thin calls against the bare atomic operations that they stand
-//! for, and calls at fat monitors against thin ones.
+//! Measures the calls of the live service: thin calls against the bare atomic operations that they
+//! stand for, and calls at fat monitors against thin ones.
 //!
-//! With no argument it does 1,000 rounds of each kind of work, or some, and prints how many succeeded.
-//! With a number of rounds it prints the time of a round, in picoseconds of the best of five runs, and
-//! the processor time of a thread that waits for one second.
+//! With no argument it does 1,000 rounds of each kind of work, or some, and prints how many
+//! succeeded. With a number of rounds it prints the time of a round, in picoseconds of the best of
+//! five runs, and the processor time of a thread that waits for one second.
 #![tactic(auto)]
 
 mod rounds;

@@ -114,8 +114,8 @@ pub fn measure<L: Crew + Send + Sync, R: Threads + Wait + Clock + Sync>(
     run(rt, &live, &mut first, &mut second, work, rounds)
 }
 
-/// The processor time of the process while one of its threads waits for so long and the other sleeps,
-/// in nanoseconds; None where the wait or the notify had another reply.
+/// The processor time of the process while one of its threads waits for so long and the other
+/// sleeps, in nanoseconds; None where the wait or the notify had another reply.
 pub fn doze<L: Crew + Send + Sync, R: Threads + Wait + Clock + CpuClock + Sync>(
     rt: &R,
     alloc: Global,

@@ -9,8 +9,8 @@ use std::alloc::Allocator;
 use std::marker::Model;
 use std::ptr;
 
-/// What a box is made of, or the null pointer. It owns what the box owned; one that is dropped gives
-/// nothing back.
+/// What a box is made of, or the null pointer. It owns what the box owned; one that is dropped
+/// gives nothing back.
 pub struct MaybeParts<T, A: Allocator> {
     /// Where the value is.
     pub ptr: *mut T,

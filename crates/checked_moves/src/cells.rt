@@ -1,5 +1,5 @@
-//! The table of moves of `docs/MACHINE.md`, its column "lawful where", cell by cell: of each kind of move some that are
-//! lawful, and one for each reason for which it is not.
+//! The table of moves of `docs/MACHINE.md`, its column "lawful where", cell by cell: of each kind
+//! of move some that are lawful, and one for each reason for which it is not.
 
 mod interrupts;
 mod locks;

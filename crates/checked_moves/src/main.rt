@@ -1,6 +1,7 @@
-//! Plays moves on two checkers: the one of `jls_check`, which is proved, and a plain one that was written apart from
-//! it. The moves are those of a table of cells, moves at random, and the moves of random worlds. What is printed is
-//! the same each time; the exit status is 1 where the checkers disagree, or say otherwise than was expected.
+//! Plays moves on two checkers: the one of `jls_check`, which is proved, and a plain one that was
+//! written apart from it. The moves are those of a table of cells, moves at random, and the moves
+//! of random worlds. What is printed is the same each time; the exit status is 1 where the checkers
+//! disagree, or say otherwise than was expected.
 #![tactic(auto)]
 
 mod both;

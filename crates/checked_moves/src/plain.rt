@@ -1,6 +1,6 @@
-//! A plain checker of moves, of which nothing is proved but that it returns. It was written from the rows of
-//! `Steps` in `step_core/specs/Machine.antt` alone, a function for each row, and walks over all threads and all
-//! objects where it looks for one.
+//! A plain checker of moves, of which nothing is proved but that it returns. It was written from
+//! the rows of `Steps` in `step_core/specs/Machine.antt` alone, a function for each row, and walks
+//! over all threads and all objects where it looks for one.
 
 mod rows;
 
@@ -190,8 +190,8 @@ struct Wish {
     nanos: i32,
 }
 
-/// What a waiting thread is doing once it has left the wait set, where it waits on this object if one is
-/// named; None for a thread that does not wait there.
+/// What a waiting thread is doing once it has left the wait set, where it waits on this object if
+/// one is named; None for a thread that does not wait there.
 fn awake(doing: Doing, on: Option<ObjectId>, why: Why) -> Option<Doing> {
     let Doing::Waits { object, holds, .. } = doing else {
         return None;
@@ -212,7 +212,8 @@ fn is_good(millis: i64, nanos: i32) -> bool {
     millis >= 0 && nanos >= 0 && nanos <= 999_999
 }
 
-/// When a wait that begins at this moment is over: never, if it has no limit. None for arguments out of range.
+/// When a wait that begins at this moment is over: never, if it has no limit. None for arguments
+/// out of range.
 fn over_at(moment: u64, millis: i64, nanos: i32) -> Option<Option<u128>> {
     let millis = u64::try_from(millis).ok()?;
     let nanos = u32::try_from(nanos).ok()?;

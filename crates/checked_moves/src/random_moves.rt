@@ -8,7 +8,8 @@ use std::alloc::Global;
 use std::io::Print;
 use step_core::{Call, Cause, Doing, Move, ObjectId, Reply, ThreadId};
 
-/// Each history begins anew, since threads that enter several objects can wait for each other for good.
+/// Each history begins anew, since threads that enter several objects can wait for each other for
+/// good.
 const HISTORIES: u32 = 100;
 
 /// The moves of a history.

@@ -1,5 +1,5 @@
-//! Worlds whose steps are drawn at random: both checkers take each move that a world hands out, and the world shows
-//! the state that its moves lead to.
+//! Worlds whose steps are drawn at random: both checkers take each move that a world hands out, and
+//! the world shows the state that its moves lead to.
 
 use crate::both::Both;
 use crate::plain;

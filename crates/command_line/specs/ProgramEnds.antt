@@ -1,7 +1,12 @@
 -- How the program ends.
 use Rattle.std.specs.Prelude.{ℕ}
 use Rattle.clap.specs.declared.error.kind.ErrorKind.{ErrorKind}
-use Rattle.clap.specs.declared.error.kind.ErrorKind.TheVariants.{InvalidValue, UnknownArgument, InvalidSubcommand, NoEquals, ValueValidation, TooManyValues, TooFewValues, WrongNumberOfValues, ArgumentConflict, MissingRequiredArgument, MissingSubcommand, DisplayHelp, DisplayHelpOnMissingArgumentOrSubcommand, DisplayVersion, Io, Format, OutOfMemory}
+use Rattle.clap.specs.declared.error.kind.ErrorKind.TheVariants.{InvalidValue, UnknownArgument, InvalidSubcommand}
+use Rattle.clap.specs.declared.error.kind.ErrorKind.TheVariants.{NoEquals, ValueValidation, TooManyValues, TooFewValues}
+use Rattle.clap.specs.declared.error.kind.ErrorKind.TheVariants.{WrongNumberOfValues, ArgumentConflict}
+use Rattle.clap.specs.declared.error.kind.ErrorKind.TheVariants.{MissingRequiredArgument, MissingSubcommand}
+use Rattle.clap.specs.declared.error.kind.ErrorKind.TheVariants.{DisplayHelp, DisplayHelpOnMissingArgumentOrSubcommand}
+use Rattle.clap.specs.declared.error.kind.ErrorKind.TheVariants.{DisplayVersion, Io, Format, OutOfMemory}
 use Rattle.live_runs.specs.Faults.{out_of_memory}
 use Rattle.command_line.specs.declared.ends.ProgramEnd.{ProgramEnd}
 use Rattle.command_line.specs.declared.ends.ProgramEnd.TheVariants.{Done, Shown, Failed, Misused}

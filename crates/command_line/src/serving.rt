@@ -35,8 +35,8 @@ fn words_behind_name<R: Env + AllocGlobal>(rt: &R) -> io::Result<Vec<String>> {
     Ok(words)
 }
 
-/// Does what the words behind the program's name order, and tells how that ended. A fault is told in
-/// one line on standard error.
+/// Does what the words behind the program's name order, and tells how that ended. A fault is told
+/// in one line on standard error.
 pub fn serve_words<R>(rt: &R, words: &[String]) -> ProgramEnd
 where
     R: Files + Input + Print + Eprint + AllocGlobal + Threads + Wait + Clock + Sync,

@@ -8,7 +8,8 @@ use Rattle.fat_monitor.specs.declared.actions.Why.{Why}
 use Rattle.fat_monitor.specs.declared.actions.Why.TheVariants as why
 use Rattle.fat_monitor.specs.Names.{reply_name}
 use Rattle.fast_path.specs.declared.calls.Call.{Call}
-use Rattle.fast_path.specs.declared.calls.Call.TheVariants.{Enter, Exit, Wait, Notify, NotifyAll, Holds, Interrupt, Interrupted, IsInterrupted, End}
+use Rattle.fast_path.specs.declared.calls.Call.TheVariants.{Enter, Exit, Wait, Notify, NotifyAll, Holds, Interrupt}
+use Rattle.fast_path.specs.declared.calls.Call.TheVariants.{Interrupted, IsInterrupted, End}
 use Rattle.history_text.specs.declared.lines.Call.{Call as CallLine}
 use Rattle.history_text.specs.declared.lines.Call.TheVariants as line
 use Rattle.history_text.specs.Lines.{call_words}
@@ -65,7 +66,8 @@ flag_text false = codes "no"
 -- the line of a thread with this name and index
 abbrev pub thread_text : NameLists → List ℕ → ℕ → Thread → List ℕ
 thread_text names name index x =
-    codes "thread " ++ name ++ codes " index " ++ decimal index ++ 32 ∷ act_text names x.act ++ codes " flag " ++ flag_text x.flag ++ 10 ∷ []
+    codes "thread " ++ name ++ codes " index " ++ decimal index ++ 32 ∷ act_text names x.act ++ codes " flag "
+    ++ flag_text x.flag ++ 10 ∷ []
 
 -- the line of a live thread
 abbrev pub thread_line : NameLists → ThreadId → Option ℕ → Option Thread → List ℕ

@@ -1,5 +1,6 @@
 -- Rows of numbers, each of which leads to one other number of the row at most: walks along a row, and its cycles.
-use Rattle.std.specs.Prelude.{◌≡◌, ◌⊎◌, ℕ, ◌<◌, Bool, true, false, List, [], ◌∷◌, ◌++◌, length, slice_index_or, Option, Some, None}
+use Rattle.std.specs.Prelude.{◌≡◌, ◌⊎◌, ℕ, ◌<◌, Bool, true, false, List, [], ◌∷◌, ◌++◌, length, slice_index_or, Option}
+use Rattle.std.specs.Prelude.{Some, None}
 use Rattle.step_core.specs.Cycles.{AreDistinct, AreCyclesOf}
 
 -- where a number leads: nowhere, past the end of the row
@@ -28,7 +29,8 @@ abbrev pub is_seen : List Bool → ℕ → Bool
 is_seen seen v = slice_index_or seen v false
 
 -- A walk along numbers that were not seen before, and are seen now. No other number has become seen.
-pub record IsWay (f : ℕ → Option ℕ) (before after : List Bool) (from : Option ℕ) (path : List ℕ) (to : Option ℕ) : Type 0 where
+pub record IsWay (f : ℕ → Option ℕ) (before after : List Bool) (from : Option ℕ) (path : List ℕ)
+    (to : Option ℕ) : Type 0 where
   pub goes : Goes f from path to
   pub distinct : AreDistinct path
   pub fresh : (v : ℕ) → IsIn v path → is_seen before v ≡ true → ⊥
@@ -39,7 +41,8 @@ pub record IsWay (f : ℕ → Option ℕ) (before after : List Bool) (from : Opt
 
 -- and it goes on until it meets a number that was seen, or comes to an end
 abbrev pub IsWalk : (ℕ → Option ℕ) → List Bool → List Bool → ℕ → List ℕ → Option ℕ → Type 0
-IsWalk f before after start path to = IsWay f before after (Some start) path to × ((v : ℕ) → to ≡ Some v → is_seen after v ≡ true)
+IsWalk f before after start path to =
+    IsWay f before after (Some start) path to × ((v : ℕ) → to ≡ Some v → is_seen after v ≡ true)
 
 -- the part of a path from a number on: empty where it is not on the path
 abbrev pub IsPartFrom : ℕ → List ℕ → List ℕ → Type 0

@@ -1,10 +1,14 @@
 //! Dumping a script: from a reader's bytes to a writer's dump.
 
-ghost use Rattle.std.specs.Prelude.{◌≡◌, ◌<◌, ◌≤◌, ◌⊎◌, ℕ, List, length, string_bytes, take, IsErrOf, IfSome, OnOk, IfErr, IfOk, Err};
+ghost use Rattle.std.specs.Prelude.{◌≡◌, ◌<◌, ◌≤◌, ◌⊎◌, ℕ, List, length, string_bytes, take};
+ghost use Rattle.std.specs.Prelude.{IsErrOf, IfSome, OnOk, IfErr, IfOk, Err};
 ghost use Rattle.std.specs.Io.KnownBytes.{Keeps, Appends};
 ghost use Rattle.history_text.specs.Lines.{IsFirstBad};
 ghost use Rattle.history_text.specs.Scripts.{IsReasonFor};
-ghost use Rattle.history_streams.specs.declared.faults.FileFault.TheVariants.{BadLine, BadMove, Broken, Read as ReadFault, Write as WriteFault};
+ghost use Rattle.history_streams.specs.declared.faults.FileFault.TheVariants.{BadLine, BadMove};
+ghost use Rattle.history_streams.specs.declared.faults.FileFault.TheVariants.{Broken};
+ghost use Rattle.history_streams.specs.declared.faults.FileFault.TheVariants.{Read as ReadFault};
+ghost use Rattle.history_streams.specs.declared.faults.FileFault.TheVariants.{Write as WriteFault};
 ghost use Rattle.dump.specs.Dumps.{IsDumpOf};
 
 use crate::reports::report;
@@ -23,8 +27,8 @@ pub fn dump_script<S: Source, W: Sink>(
     sink: &mut W,
 ) -> Result<(), FileFault>
     requires { S.given source.old ≡ 0 }
-    // At Ok, neither end has failed in the call, the bytes were the text of a script within its limit, and
-    // the whole of a dump of the world that it leads to was written.
+    // At Ok, neither end has failed in the call, the bytes were the text of a script within its
+    // limit, and the whole of a dump of the world that it leads to was written.
     ensures written { OnOk result ((text : List ℕ)
         × IfSome (S.left source.old) (λ input. IsDumpOf input text)
         × Appends (W.holds sink.old) (W.holds sink.new) text) }
@@ -32,8 +36,8 @@ pub fn dump_script<S: Source, W: Sink>(
     ensures written_whole { OnOk result (W.has_failed sink.new → W.has_failed sink.old) }
     ensures within { OnOk result (IfSome (S.left source.old) (λ input. length input ≤ MOST_BYTES)) }
 
-    // Else a fault tells its cause, and only where writing failed was something written: the front of
-    // the dump.
+    // Else a fault tells its cause, and only where writing failed was something written: the front
+    // of the dump.
     ensures bad_line { (line : ℕ) → result ≡ Err (BadLine line)
         → IfSome (S.left source.old) (λ input. IsFirstBad input line) }
     ensures read { IsErrOf result ReadFault

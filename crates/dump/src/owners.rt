@@ -12,7 +12,8 @@ use lock_word::{Memory, ThreadId};
 use std::alloc::{AllocError, Global};
 use step_core::World;
 
-/// The cycles of owners of a world: each from its lowest thread on, along the owners, and by lowest thread.
+/// The cycles of owners of a world: each from its lowest thread on, along the owners, and by lowest
+/// thread.
 pub fn cycles(alloc: Global, world: &World) -> Result<Vec<Vec<ThreadId>>, Memory>
     ensures { IfOk result (λ cycles. AreCycles (shown world.now) (map vec_items cycles.items)) }
 {

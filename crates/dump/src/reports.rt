@@ -1,9 +1,11 @@
 //! The text of a dump.
 
-ghost use Rattle.std.specs.Prelude.{◌≡◌, ◌++◌, ◌∷◌, [], IfOk, OnOk, codes, map, string_bytes, vec_items};
+ghost use Rattle.std.specs.Prelude.{◌≡◌, ◌++◌, ◌∷◌, [], IfOk, OnOk, codes, map, string_bytes};
+ghost use Rattle.std.specs.Prelude.{vec_items};
 ghost use Rattle.std.specs.List.{flat_map, join_with_byte};
 ghost use Rattle.history_text.specs.Lines.{call_words};
-ghost use Rattle.dump.specs.Reports.{IsDump, act_text, cycle_text, cycles_text, deadline_text, flag_text, line_in, named_call, why_text};
+ghost use Rattle.dump.specs.Reports.{IsDump, act_text, cycle_text, cycles_text, deadline_text};
+ghost use Rattle.dump.specs.Reports.{flag_text, line_in, named_call, why_text};
 
 use crate::owners::cycles_among;
 use crate::waits::live_threads;
@@ -13,11 +15,11 @@ use std::alloc::{AllocError, Global};
 use std::fmt::Write;
 use step_core::{Call, Doing, Why, World};
 
-/// A dump of a world: a line for each live thread, by rising number, and then one for each cycle of owners, or
-/// `no cycle`. `docs/FORMATS.md` has its form.
+/// A dump of a world: a line for each live thread, by rising number, and then one for each cycle of
+/// owners, or `no cycle`. `docs/FORMATS.md` has its form.
 ///
-/// Each live thread, each object and each target of a call that was begun should have a name: for one that
-/// has none stands `-`.
+/// Each live thread, each object and each target of a call that was begun should have a name: for
+/// one that has none stands `-`.
 pub fn report(alloc: Global, world: &World, names: &Names) -> Result<String, Memory>
     ensures { IfOk result (λ text. IsDump world.now names.now (string_bytes text)) }
 {

@@ -1,7 +1,8 @@
 //! The cycles of a row, in which each number leads to one other number at most.
 
 ghost use Rattle.std.specs.Prelude.{◌≡◌, ℕ, ◌<◌, length, map, vec_items, IfOk, OnOk};
-ghost use Rattle.dump.specs.Rows.{AreCleared, AreCyclesOfRow, AreOffCycles, IsIn, IsPartFrom, IsRing, IsRow, IsWalk, leads_to, with_path};
+ghost use Rattle.dump.specs.Rows.{AreCleared, AreCyclesOfRow, AreOffCycles, IsIn, IsPartFrom};
+ghost use Rattle.dump.specs.Rows.{IsRing, IsRow, IsWalk, leads_to, with_path};
 
 use std::alloc::{AllocError, Global};
 
@@ -52,8 +53,8 @@ fn off_cycles(alloc: Global, row: &[Option<usize>]) -> Result<Vec<bool>, AllocEr
     Ok(off)
 }
 
-/// Walks along a row from a number on, until it meets one that was seen or comes to an end. What it meets is
-/// seen then.
+/// Walks along a row from a number on, until it meets one that was seen or comes to an end. What it
+/// meets is seen then.
 fn walk_from(
     alloc: Global,
     row: &[Option<usize>],

@@ -5,7 +5,8 @@ ghost use Rattle.std.specs.List.{Contains};
 ghost use Rattle.std.specs.List.Sorted.{IsStrictlyIncreasing};
 ghost use Rattle.step_core.specs.Cycles.{next, object_wanted};
 ghost use Rattle.step_core.specs.Shown.{shown};
-ghost use Rattle.dump.specs.Threads.{AreLiveThreads, Ascend, HaveSeats, IsPlace, IsRowOf, threads_numbered, with_holder};
+ghost use Rattle.dump.specs.Threads.{AreLiveThreads, Ascend, HaveSeats, IsPlace, IsRowOf};
+ghost use Rattle.dump.specs.Threads.{threads_numbered, with_holder};
 
 use lock_word::{ObjectId, ThreadId};
 use std::alloc::{AllocError, Global};
@@ -91,7 +92,8 @@ fn place_of(threads: &[ThreadId], thread: Option<ThreadId>) -> Option<usize>
     }
 }
 
-/// The owner of the object that a thread wants to enter or comes back to, where that is another thread.
+/// The owner of the object that a thread wants to enter or comes back to, where that is another
+/// thread.
 fn next_of(world: &World, thread: ThreadId) -> Option<ThreadId>
     ensures { result ≡ next (shown world.now) thread }
 {

@@ -1,5 +1,5 @@
-//! A small runtime over a [`World`]: two threads take turns with the calls of a list each, and every step
-//! is printed with what it did.
+//! A small runtime over a [`World`]: two threads take turns with the calls of a list each, and
+//! every step is printed with what it did.
 //!
 //! `docs/EMBEDDING.md` tells the loop in words.
 #![tactic(auto)]
@@ -35,8 +35,8 @@ const WAIT_FOREVER: Call = Call::Wait {
     nanos: 0,
 };
 
-// It nests, and then waits three times: the first wait ends by a notify, the second by its time, the
-// third by an interrupt.
+// It nests, and then waits three times: the first wait ends by a notify, the second by its time,
+// the third by an interrupt.
 const FIRST_CALLS: [Call; 8] = [
     Call::Enter(OBJECT),
     Call::Enter(OBJECT),

@@ -37,8 +37,8 @@ pub fn state_after(did: &Did) -> State
     }
 }
 
-/// The thread that this step took out of a line and made the owner of its monitor: its next Go collects
-/// its reply. The step's second move says it.
+/// The thread that this step took out of a line and made the owner of its monitor: its next Go
+/// collects its reply. The step's second move says it.
 pub fn granted(did: &Did) -> Option<ThreadId>
     ensures { result ≡ granted_thread did.now }
 {

@@ -92,8 +92,8 @@ fn begin<R: Print>(rt: &R, world: &mut World, thread: &mut JavaThread) -> Result
     Ok(())
 }
 
-/// Runs a thread's call until it replies or parks. A call that does neither in these Go steps has met
-/// another thread, or is an End; it goes on in the next turn.
+/// Runs a thread's call until it replies or parks. A call that does neither in these Go steps has
+/// met another thread, or is an End; it goes on in the next turn.
 fn turn<R: Print>(
     rt: &R,
     world: &mut World,
@@ -136,8 +136,8 @@ fn resumed(granted: Option<ThreadId>, thread: JavaThread) -> JavaThread
     JavaThread { id, calls, state }
 }
 
-/// Lets the time pass until the first deadline of a wait, and ends that wait; answers whether a wait
-/// had a deadline.
+/// Lets the time pass until the first deadline of a wait, and ends that wait; answers whether a
+/// wait had a deadline.
 fn pass_time<R: Print>(
     rt: &R,
     world: &mut World,

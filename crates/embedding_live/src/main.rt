@@ -1,5 +1,5 @@
-//! A small runtime over [`Live`]: two threads of the system pay into one account, which they read and
-//! write by a plain load and a plain store under the monitor of one object.
+//! A small runtime over [`Live`]: two threads of the system pay into one account, which they read
+//! and write by a plain load and a plain store under the monitor of one object.
 //!
 //! `docs/LIVE.md` tells the calls in words.
 #![tactic(auto)]

@@ -10,7 +10,8 @@ use Rattle.lock_word.specs.declared.Lock.{Lock}
 use Rattle.lock_word.specs.declared.Lock.TheVariants as lock
 use Rattle.lock_word.specs.declared.Split.{Split}
 use Rattle.lock_word.specs.Layout.{greatest_count}
-use Rattle.fat_monitor.specs.declared.actions.Reply.TheVariants.{Yes, No, Notified, IllegalMonitorState, IllegalArgument}
+use Rattle.fat_monitor.specs.declared.actions.Reply.TheVariants.{Yes, No, Notified, IllegalMonitorState}
+use Rattle.fat_monitor.specs.declared.actions.Reply.TheVariants.{IllegalArgument}
 use Rattle.fat_monitor.specs.Acting.{are_good}
 use Rattle.fast_path.specs.declared.calls.Operation.{Operation}
 use Rattle.fast_path.specs.declared.calls.Operation.TheVariants.{Enter, Exit, Wait, Notify, NotifyAll, Holds}

@@ -12,8 +12,9 @@ pub enum Call {
     Enter(ObjectId),
     /// Unlock it once (`monitorexit`).
     Exit(ObjectId),
-    /// Give up all locks of it and wait to be notified, for this time at most (`Object.wait`; JLS SE 8,
-    /// 17.2.1): milliseconds from 0 on and nanoseconds 0 to 999,999, where 0 and 0 mean no limit.
+    /// Give up all locks of it and wait to be notified, for this time at most (`Object.wait`; JLS
+    /// SE 8, 17.2.1): milliseconds from 0 on and nanoseconds 0 to 999,999, where 0 and 0 mean no
+    /// limit.
     Wait {
         object: ObjectId,
         millis: i64,
@@ -98,7 +99,8 @@ impl Call {
         Subject::Monitor(MonitorCall { object, operation })
     }
 
-    /// The object that the call names; None for a call about interrupts, and for [`End`](Call::End).
+    /// The object that the call names; None for a call about interrupts, and for
+    /// [`End`](Call::End).
     pub fn object(self) -> Option<ObjectId>
         ensures { result ≡ object_of self }
     {

@@ -1,7 +1,8 @@
-//! The calls of the service, and what each does next once it has loaded the header word of its object.
+//! The calls of the service, and what each does next once it has loaded the header word of its
+//! object.
 //!
-//! This is the fast path: a thin lock is taken, nested and left by one exchange or one store, and only
-//! a word that is fat, full or another thread's leads elsewhere.
+//! This is the fast path: a thin lock is taken, nested and left by one exchange or one store, and
+//! only a word that is fat, full or another thread's leads elsewhere.
 #![tactic(auto)]
 
 ghost use Rattle.std.specs.Prelude.{◌≡◌, IsSome};
@@ -77,8 +78,8 @@ impl Operation {
         }
     }
 
-    /// The thread itself owns the object, and holds it `count + 1` times. Nobody waits on an object that
-    /// is held thinly, so a notify wakes nobody.
+    /// The thread itself owns the object, and holds it `count + 1` times. Nobody waits on an object
+    /// that is held thinly, so a notify wakes nobody.
     fn when_own(self, split: Split, me: u16, count: u16) -> Next
         ensures { result ≡ when_own split self me count }
     {

@@ -1,5 +1,6 @@
 -- The table of fat actions: what the action of a thread answers, and what it leaves.
-use Rattle.std.specs.Prelude.{◌≡◌, ℕ, ◌+◌, ◌-◌, ◌*◌, ◌<◌, Bool, true, false, ◌&&◌, if◌then◌else◌, ◌==◌, nat_lt, ℤ, pos, int_le, nat_abs, List, [], ◌∷◌, length, Option, Some, None, Result, Ok, Err}
+use Rattle.std.specs.Prelude.{◌≡◌, ℕ, ◌+◌, ◌-◌, ◌*◌, ◌<◌, Bool, true, false, ◌&&◌, if◌then◌else◌, ◌==◌, nat_lt, ℤ, pos}
+use Rattle.std.specs.Prelude.{int_le, nat_abs, List, [], ◌∷◌, length, Option, Some, None, Result, Ok, Err}
 use Rattle.lock_word.specs.declared.ThreadId.{ThreadId}
 use Rattle.wait_lines.specs.declared.Role.{Role}
 use Rattle.wait_lines.specs.declared.Role.TheVariants.{Entry, Waiting as WaitSet}
@@ -18,7 +19,9 @@ use Rattle.fat_monitor.specs.declared.actions.Post.TheVariants.{Out, Entering, W
 use Rattle.fat_monitor.specs.declared.actions.Done.{Done}
 use Rattle.fat_monitor.specs.declared.actions.ActFault.{ActFault}
 use Rattle.fat_monitor.specs.declared.actions.ActFault.TheVariants as fault
-use Rattle.fat_monitor.specs.FatState.{FatState, monitor_at, post_of, post_at, flag_at, flag_of, IsAttached, line_of, first_of, with_owner, with_post, with_flag, with_lines, without_thread, is_owned_by, owns_one}
+use Rattle.fat_monitor.specs.FatState.{FatState, monitor_at, post_of, post_at, flag_at, flag_of, IsAttached, line_of}
+use Rattle.fat_monitor.specs.FatState.{first_of, with_owner, with_post, with_flag, with_lines, without_thread}
+use Rattle.fat_monitor.specs.FatState.{is_owned_by, owns_one}
 
 -- the answer of an action, and the fat state after it
 pub record Outcome : Type 0 where
@@ -73,7 +76,8 @@ settled f u (Granted r) = f
 -- u, which is to have this post, leaves this line of m and becomes the owner of m
 abbrev pub granted : FatState → ℕ → ThreadId → Post → Role → FatState
 granted f m u p r =
-    with_lines (with_post (with_owner (settled f u p) m (Some u) (holds_granted p)) u (Granted (reply_granted p))) (left f.standing.lines u m r)
+    with_lines (with_post (with_owner (settled f u p) m (Some u) (holds_granted p)) u (Granted (reply_granted p)))
+    (left f.standing.lines u m r)
 
 -- the owner gives up m, which goes to this thread, the first of the entry line; without one, nobody owns it
 abbrev pub handed_on : FatState → ℕ → Option ThreadId → FatState
@@ -170,7 +174,8 @@ waited f t m millis nanos =
     if flag_at f t
     then replied (with_flag f t false) reply.Interrupted
     else
-    told (parked (handed_on f m (first_of f m Entry)) t (Waiting m (monitor_at f m).holds (deadline f.moment millis nanos)) m WaitSet)
+    told (parked (handed_on f m (first_of f m Entry)) t
+    (Waiting m (monitor_at f m).holds (deadline f.moment millis nanos)) m WaitSet)
     answer.Parked (first_of f m Entry) None)
     else replied f reply.IllegalArgument
 
@@ -182,7 +187,8 @@ notified f (Some u) = told (removed f u why.Notified (post_at f u)) (answer.Repl
 -- An interrupt of a thread with this post, if it is attached, sets its flag, and removes it from its wait set.
 abbrev pub interrupted : FatState → ThreadId → Option Post → Outcome
 interrupted f u None = replied f (reply.Refused NoThread)
-interrupted f u (Some p) = told (removed (with_flag f u true) u why.Interrupted p) (answer.Reply reply.Done) (served f u p) None
+interrupted f u (Some p) =
+    told (removed (with_flag f u true) u why.Interrupted p) (answer.Reply reply.Done) (served f u p) None
 
 -- the answer to whether a thread with this flag, if it is attached, is interrupted
 abbrev pub asked : FatState → Option Bool → Outcome
@@ -238,7 +244,8 @@ acted f t (action.IsInterrupted u) = asked f (flag_of f u)
 acted f t action.Expire = expired f t (post_at f t)
 acted f t action.Spurious = woken f t (post_at f t)
 acted f t action.Collect = collected f t (post_at f t)
-acted f t action.End = if owns_one f.monitors t then replied f (reply.Refused StillOwner) else replied (without_thread f t) reply.Ended
+acted f t action.End =
+    if owns_one f.monitors t then replied f (reply.Refused StillOwner) else replied (without_thread f t) reply.Ended
 
 -- the monitor that an action names, if it names one, is bound
 abbrev pub NamesBound : FatState → Action → Type 0

@@ -1,5 +1,7 @@
 -- The fat monitors, the attached threads, and the lines in which threads stand.
-use Rattle.std.specs.Prelude.{◌≡◌, ◌≢◌, ◌⊎◌, ℕ, ◌+◌, ◌-◌, max, ◌<◌, ◌≤◌, ◌↔◌, Bool, true, false, if◌then◌else◌, ◌==◌, nat_lt, List, [], ◌∷◌, ◌++◌, length, map as list_map, count_by, slice_index_or, slice_get, slice_set, Option, Some, None, IsSome}
+use Rattle.std.specs.Prelude.{◌≡◌, ◌≢◌, ◌⊎◌, ℕ, ◌+◌, ◌-◌, max, ◌<◌, ◌≤◌, ◌↔◌, Bool, true, false, if◌then◌else◌, ◌==◌}
+use Rattle.std.specs.Prelude.{nat_lt, List, [], ◌∷◌, ◌++◌, length, map as list_map, count_by, slice_index_or, slice_get}
+use Rattle.std.specs.Prelude.{slice_set, Option, Some, None, IsSome}
 use Rattle.std.specs.Option.{option_map, unwrap_or}
 use Rattle.std.specs.List.{list_any}
 use Rattle.std.specs.Ordering.{nat_cmp}
@@ -30,7 +32,15 @@ pub record FatState : Type 0 where
 
 -- no monitor is bound, no thread is attached, and the moment is 0
 abbrev pub opened : ℕ → FatState
-opened limit = record { monitors = []; threads = map.empty; flags = map.empty; standing = nobody; moment = 0; limit = limit; spare = 0 }
+opened limit = record {
+  monitors = [];
+  threads = map.empty;
+  flags = map.empty;
+  standing = nobody;
+  moment = 0;
+  limit = limit;
+  spare = 0;
+}
 
 -- what an unbound monitor reads as
 abbrev pub unbound : Monitor
@@ -120,7 +130,10 @@ without_thread f t = record f { threads = map.remove f.threads t.0; flags = map.
 -- the same, with one monitor more: it has this object, owner and holds. It takes the room that one bind had, if
 -- one had
 abbrev pub bound_with : FatState → ObjectId → ThreadId → ℕ → FatState
-bound_with f o t n = record f { monitors = f.monitors ++ (record { object = o; owner = Some t; holds = n }) ∷ []; spare = f.spare - 1 }
+bound_with f o t n = record f {
+  monitors = f.monitors ++ (record { object = o; owner = Some t; holds = n }) ∷ [];
+  spare = f.spare - 1;
+}
 
 -- the same, with room for at least as many binds as this
 abbrev pub with_spare : FatState → ℕ → FatState
@@ -195,7 +208,8 @@ ComesBack (Granted r) = Unit {0}
 -- A thread stands in an entry line only while another thread owns that monitor.
 abbrev pub StandBehindOwners : FatState → Type 0
 StandBehindOwners f =
-    (t : ThreadId) (m : ℕ) → StandsIn f.standing.lines t m Entry → (u : ThreadId) × ((monitor_at f m).owner ≡ Some u) × (u ≢ t)
+    (t : ThreadId) (m : ℕ) → StandsIn f.standing.lines t m Entry
+    → (u : ThreadId) × ((monitor_at f m).owner ≡ Some u) × (u ≢ t)
 
 -- what every fat state keeps
 pub record IsSound (f : FatState) : Type 0 where
@@ -204,8 +218,10 @@ pub record IsSound (f : FatState) : Type 0 where
   pub fair : (m : ℕ) → m < length f.monitors → IsFair (monitor_at f m)
   pub proper : (t : ThreadId) (p : Post) → post_of f t ≡ Some p → IsProper f p
   -- a thread stands where its post says
-  pub posted : (t : ThreadId) (p : Post) (m : ℕ) (r : Role) → post_of f t ≡ Some p → place_of p ≡ Some (key m r) → StandsIn f.standing.lines t m r
-  pub standing : (t : ThreadId) (m : ℕ) (r : Role) → StandsIn f.standing.lines t m r → (p : Post) × (post_of f t ≡ Some p) × (place_of p ≡ Some (key m r))
+  pub posted : (t : ThreadId) (p : Post) (m : ℕ) (r : Role) → post_of f t ≡ Some p → place_of p ≡ Some (key m r)
+      → StandsIn f.standing.lines t m r
+  pub standing : (t : ThreadId) (m : ℕ) (r : Role) → StandsIn f.standing.lines t m r
+      → (p : Post) × (post_of f t ≡ Some p) × (place_of p ≡ Some (key m r))
   -- an entry line is behind an owner, and nobody stands in a line of a monitor that it owns
   pub behind : (t : ThreadId) (m : ℕ) → StandsIn f.standing.lines t m Entry → IsSome (monitor_at f m).owner
   pub apart : (t : ThreadId) (m : ℕ) (r : Role) → StandsIn f.standing.lines t m r → (monitor_at f m).owner ≢ Some t

@@ -11,11 +11,20 @@ use Rattle.fat_monitor.specs.FatState.{FatState, IsSound, stands, is_owned_by}
 use Rattle.fat_monitor.specs.Slots.{count_of}
 
 abbrev pub fat_state_in : Inside → FatState
-fat_state_in f = record { monitors = f.monitors.items; threads = f.posts.posts; flags = f.posts.flags; standing = standing f.lines; moment = f.moment; limit = f.limit; spare = f.spare }
+fat_state_in f = record {
+  monitors = f.monitors.items;
+  threads = f.posts.posts;
+  flags = f.posts.flags;
+  standing = standing f.lines;
+  moment = f.moment;
+  limit = f.limit;
+  spare = f.spare;
+}
 
 -- the node that is kept of a thread that stands in a line is the one at which it stands
 abbrev pub AreSeated : map.FinMap nat_cmp Post → NodeMap → NodeMap → Type 0
-AreSeated posts kept nodes = (t : ThreadId) (p : Post) → map.get posts t.0 ≡ Some p → stands p ≡ true → map.get nodes t.0 ≡ map.get kept t.0
+AreSeated posts kept nodes =
+    (t : ThreadId) (p : Post) → map.get posts t.0 ≡ Some p → stands p ≡ true → map.get nodes t.0 ≡ map.get kept t.0
 
 -- how many of these monitors a thread owns
 abbrev pub owned_count : List Monitor → ThreadId → ℕ

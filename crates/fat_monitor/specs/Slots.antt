@@ -31,7 +31,12 @@ with_thread_posted p t = record {
 }
 
 abbrev pub without_thread_posted : Posted → ThreadId → Posted
-without_thread_posted p t = record { posts = map.remove p.posts t.0; nodes = map.remove p.nodes t.0; flags = map.remove p.flags t.0; owned = map.remove p.owned t.0 }
+without_thread_posted p t = record {
+  posts = map.remove p.posts t.0;
+  nodes = map.remove p.nodes t.0;
+  flags = map.remove p.flags t.0;
+  owned = map.remove p.owned t.0;
+}
 
 -- the same, with this post of a thread, which stands at this node
 abbrev pub with_parked : Posted → ThreadId → Post → ℕ → Posted
@@ -77,7 +82,8 @@ posts_in records keys = values_of (λ r. r.post) Out records keys
 
 -- each key leads to the record of its thread
 abbrev pub LeadToRecords : Slab Record → List (ℕ × ℕ) → Type 0
-LeadToRecords records keys = (t k : ℕ) → lookup (nat_eq t) keys ≡ Some k → (r : Record) × (get records k ≡ Some r) × (r.thread.0 ≡ t)
+LeadToRecords records keys =
+    (t k : ℕ) → lookup (nat_eq t) keys ≡ Some k → (r : Record) × (get records k ≡ Some r) × (r.thread.0 ≡ t)
 
 -- each record has the key of its thread
 abbrev pub HaveKeys : Slab Record → List (ℕ × ℕ) → Type 0

@@ -30,8 +30,8 @@ pub enum Reply {
     Exited,
     /// The wait is over, and the thread holds the object as often as before it.
     WaitOver,
-    /// The wait was ended by an interrupt, which is forgotten: `InterruptedException`. The thread holds the
-    /// object as often as before.
+    /// The wait was ended by an interrupt, which is forgotten: `InterruptedException`. The thread
+    /// holds the object as often as before.
     Interrupted,
     /// A thread of the wait set has left it, or all have, if there was one.
     Notified,
@@ -73,8 +73,8 @@ pub enum Post {
     Entering {
         monitor: u32,
     },
-    /// In the wait set. It gave up `holds` holds, 1 to 65,535. The deadline is the moment in nanoseconds
-    /// at which the wait is over; a wait of no limit has none.
+    /// In the wait set. It gave up `holds` holds, 1 to 65,535. The deadline is the moment in
+    /// nanoseconds at which the wait is over; a wait of no limit has none.
     Waiting {
         monitor: u32,
         holds: u16,
@@ -101,8 +101,8 @@ pub enum Action {
     Exit {
         monitor: u32,
     },
-    /// Give up the monitor, and stand in its wait set until a notify, an interrupt, or the end of its time:
-    /// milliseconds from 0 on and nanoseconds 0 to 999,999, where 0 and 0 mean no limit.
+    /// Give up the monitor, and stand in its wait set until a notify, an interrupt, or the end of
+    /// its time: milliseconds from 0 on and nanoseconds 0 to 999,999, where 0 and 0 mean no limit.
     Wait {
         monitor: u32,
         millis: i64,

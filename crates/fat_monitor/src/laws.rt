@@ -8,9 +8,9 @@ ghost use Rattle.fat_monitor.specs.declared.actions.Why.TheVariants.{Interrupted
 ghost use Rattle.fat_monitor.specs.FatState.{FatState, IsSound, post_of, monitor_at, with_flag};
 ghost use Rattle.fat_monitor.specs.Acting.{removed, served, rejoined, handed_if_free, next_if_free};
 
-/// The law of removal: a thread that leaves its wait set joins the end of the entry line, and where nobody owns
-/// the monitor, it is handed on then. The table of actions gives a monitor that nobody owns to the thread at
-/// once, which is the same.
+/// The law of removal: a thread that leaves its wait set joins the end of the entry line, and where
+/// nobody owns the monitor, it is handed on then. The table of actions gives a monitor that nobody
+/// owns to the thread at once, which is the same.
 #[tactic(auto, using(crate::proofs::Removals::removed_rejoins, crate::proofs::Removals::interrupted_rejoins, crate::proofs::Removals::served_next))]
 pub fn a_removed_thread_joins_the_entry_line()
     ensures removed { (f : FatState) (u : ThreadId) (m n : ℕ) (d : Option ℕ) (w : Why)

@@ -1,8 +1,9 @@
-//! Fat monitors: owner, holds, entry line and wait set of the objects whose header word does not hold them; the
-//! attached threads, each with where it stands and whether it is interrupted; and the moment.
+//! Fat monitors: owner, holds, entry line and wait set of the objects whose header word does not
+//! hold them; the attached threads, each with where it stands and whether it is interrupted; and
+//! the moment.
 //!
-//! `docs/MACHINE.md` has the rules of Java monitors (JLS SE 8, 17.1 and 17.2) that the actions follow, and
-//! `docs/SERVICE.md` the lines.
+//! `docs/MACHINE.md` has the rules of Java monitors (JLS SE 8, 17.1 and 17.2) that the actions
+//! follow, and `docs/SERVICE.md` the lines.
 #![tactic(auto)]
 
 mod actions;

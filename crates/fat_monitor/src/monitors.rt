@@ -1,12 +1,16 @@
 //! The fat monitors and the threads that may use them.
 
-ghost use Rattle.std.specs.Prelude.{false, ◌≡◌, ◌-◌, ◌<◌, ◌≤◌, ◌↔◌, IfOk, IfErr, OnErr, IsErrOf, OnOk, length, [], ◌∷◌, ◌++◌, Some, None, Option, Ok};
+ghost use Rattle.std.specs.Prelude.{false, ◌≡◌, ◌-◌, ◌<◌, ◌≤◌, ◌↔◌, IfOk, IfErr, OnErr, IsErrOf};
+ghost use Rattle.std.specs.Prelude.{OnOk, length, [], ◌∷◌, ◌++◌, Some, None, Option, Ok};
 ghost use Rattle.std.specs.FinMap as map;
 ghost use Rattle.lock_word.specs.declared.ThreadId.{ThreadId};
 ghost use Rattle.fat_monitor.specs.declared.actions.Action.{Action};
 ghost use Rattle.fat_monitor.specs.declared.actions.Cause.{Cause};
 ghost use Rattle.fat_monitor.specs.declared.actions.Post.{Post};
-ghost use Rattle.fat_monitor.specs.FatState.{FatState, IsSound, opened, post_of, IsAttached, thread_count, with_thread, without_thread, with_moment, with_spare, bound_with, objects_of, refusal, owns_one, StandBehindOwners};
+ghost use Rattle.fat_monitor.specs.FatState.{FatState, IsSound, opened, post_of, IsAttached};
+ghost use Rattle.fat_monitor.specs.FatState.{thread_count, with_thread, without_thread};
+ghost use Rattle.fat_monitor.specs.FatState.{with_moment, with_spare, bound_with, objects_of};
+ghost use Rattle.fat_monitor.specs.FatState.{refusal, owns_one, StandBehindOwners};
 ghost use Rattle.fat_monitor.specs.Acting.{acted, NamesBound, MayAct};
 
 mod acts;
@@ -82,8 +86,8 @@ impl Monitor {
     }
 }
 
-/// The fat monitors of a world, numbered 0, 1, 2 and so on in the order of binding, the attached threads,
-/// the lines in which they stand, and the moment.
+/// The fat monitors of a world, numbered 0, 1, 2 and so on in the order of binding, the attached
+/// threads, the lines in which they stand, and the moment.
 #[derive(Drop)]
 pub struct Fats {
     monitors: Vec<Monitor>,
@@ -113,8 +117,8 @@ impl Model for Fats {
 }
 
 impl Fats {
-    /// No monitor is bound and no thread attached, and the moment is 0. At most `limit` monitors, 0 to
-    /// 8,388,608, will be bound.
+    /// No monitor is bound and no thread attached, and the moment is 0. At most `limit` monitors, 0
+    /// to 8,388,608, will be bound.
     pub fn new(alloc: Global, limit: u32) -> Fats
         requires { limit ≤ 8388608 }
         ensures opened { result ≡ opened limit }
@@ -130,8 +134,8 @@ impl Fats {
         }
     }
 
-    /// Attaches a thread, which stands [`Out`](Post::Out) and is not interrupted, and makes room for it in the
-    /// lines, so that no later action asks for memory.
+    /// Attaches a thread, which stands [`Out`](Post::Out) and is not interrupted, and makes room
+    /// for it in the lines, so that no later action asks for memory.
     pub fn attach(&mut self, thread: ThreadId) -> Result<(), AttachFault>
         requires { thread_count self.old < 32767 }
         ensures attached { OnOk result (self.new ≡ with_thread self.old thread) }
@@ -174,8 +178,9 @@ impl Fats {
         self.posts.remove(thread);
     }
 
-    /// Makes room for at least this many binds to come, so that none of them is refused for want of memory.
-    /// `Err` comes only where there was less room, and the system refused the memory for more.
+    /// Makes room for at least this many binds to come, so that none of them is refused for want of
+    /// memory. `Err` comes only where there was less room, and the system refused the memory for
+    /// more.
     pub fn reserve_monitors(&mut self, binds: u32) -> Result<(), Memory>
         ensures ok { OnOk result (self.new ≡ with_spare self.old binds) }
         ensures less { OnErr result (self.old.spare < binds) }
@@ -189,8 +194,8 @@ impl Fats {
         Ok(())
     }
 
-    /// Binds the next monitor to an object that its owner holds this often. It asks for memory only where no
-    /// bind has its room already.
+    /// Binds the next monitor to an object that its owner holds this often. It asks for memory only
+    /// where no bind has its room already.
     pub fn bind(&mut self, object: ObjectId, owner: ThreadId, holds: u16) -> Result<Receipt, Cause>
         requires attached { IsAttached self.old owner }
         requires low { 1 ≤ holds }
@@ -242,9 +247,10 @@ impl Fats {
         Ok(())
     }
 
-    /// One action of an attached thread, on a bound monitor where the action names one. A thread that
-    /// stands in a line may only expire, which is refused unless its deadline has come, wake spuriously, which
-    /// is refused where it does not wait, and collect, which is refused until it is granted its reply.
+    /// One action of an attached thread, on a bound monitor where the action names one. A thread
+    /// that stands in a line may only expire, which is refused unless its deadline has come, wake
+    /// spuriously, which is refused where it does not wait, and collect, which is refused until it
+    /// is granted its reply.
     ///
     /// A thread stands in an entry line only while another thread owns that monitor.
     pub fn act(&mut self, thread: ThreadId, action: Action) -> Result<Done, ActFault>

@@ -1,12 +1,14 @@
 //! The attached threads: where each stands, and whether it is interrupted.
 
-ghost use Rattle.std.specs.Prelude.{◌≡◌, ◌<◌, ◌↔◌, OnOk, OnErr, IsErrOf, IsSome, Some, None, false, cond};
+ghost use Rattle.std.specs.Prelude.{◌≡◌, ◌<◌, ◌↔◌, OnOk, OnErr, IsErrOf, IsSome, Some, None, false};
+ghost use Rattle.std.specs.Prelude.{cond};
 ghost use Rattle.std.specs.Option.{unwrap_or};
 ghost use Rattle.std.specs.FinMap as map;
 ghost use Rattle.lock_word.specs.declared.ThreadId.{ThreadId};
 ghost use Rattle.fat_monitor.specs.declared.actions.Post.{Post};
 ghost use Rattle.fat_monitor.specs.FatState.{waits, wait_count};
-ghost use Rattle.fat_monitor.specs.Slots.{nobody_posted, with_thread_posted, without_thread_posted, with_parked, count_of, one_less, one_more, handed_over};
+ghost use Rattle.fat_monitor.specs.Slots.{nobody_posted, with_thread_posted, without_thread_posted};
+ghost use Rattle.fat_monitor.specs.Slots.{with_parked, count_of, one_less, one_more, handed_over};
 
 use crate::{AttachFault, Post};
 use lock_word::ThreadId;
@@ -29,7 +31,8 @@ struct Record {
     owned: u32,
 }
 
-/// The post, the node and the interrupt flag of each attached thread, and how many monitors it owns.
+/// The post, the node and the interrupt flag of each attached thread, and how many monitors it
+/// owns.
 #[derive(Drop)]
 pub(crate) struct Posts {
     records: Slab<Record>,
@@ -231,8 +234,8 @@ impl Posts {
         record.flag = flag;
     }
 
-    /// Counts a monitor that goes from one owner to another: one less for the thread that owned it, and one
-    /// more for the thread that owns it now.
+    /// Counts a monitor that goes from one owner to another: one less for the thread that owned it,
+    /// and one more for the thread that owns it now.
     pub(crate) fn hand_over(&mut self, from: Option<ThreadId>, to: Option<ThreadId>)
         requires owned { (t : ThreadId) → from ≡ Some t → 0 < count_of self.old.owned t }
         requires attached { (t : ThreadId) → to ≡ Some t → IsSome (map.get self.old.posts t.0) }

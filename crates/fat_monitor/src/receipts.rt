@@ -5,8 +5,8 @@ ghost use Rattle.std.specs.Prelude.{◌≡◌, ◌≤◌};
 use lock_word::{ObjectId, ThreadId};
 use std::marker::Model;
 
-/// What a bind bound. Only [`Fats::bind`](crate::Fats::bind) makes one, so whoever is handed a receipt
-/// knows that the monitor was bound to this object, with this owner and these holds.
+/// What a bind bound. Only [`Fats::bind`](crate::Fats::bind) makes one, so whoever is handed a
+/// receipt knows that the monitor was bound to this object, with this owner and these holds.
 #[derive(PartialEq, Eq, Debug, Drop)]
 pub struct Receipt {
     object: ObjectId,

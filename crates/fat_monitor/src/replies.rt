@@ -2,7 +2,8 @@
 
 ghost use Rattle.std.specs.Prelude.{◌≡◌, Ok};
 ghost use Rattle.fat_monitor.specs.FatState.{FatState, is_owned_by};
-ghost use Rattle.fat_monitor.specs.Acting.{holds_granted, reply_granted, reply_back, replied, yes_or_no};
+ghost use Rattle.fat_monitor.specs.Acting.{holds_granted, reply_granted, reply_back, replied};
+ghost use Rattle.fat_monitor.specs.Acting.{yes_or_no};
 
 use crate::{Answer, Done, Post, Reply, Why};
 use lock_word::ThreadId;
@@ -17,7 +18,8 @@ pub(crate) fn is_owner(owner: Option<ThreadId>, thread: ThreadId) -> bool
     }
 }
 
-/// How often a thread with this post holds the monitor that it is granted, and what its call replies.
+/// How often a thread with this post holds the monitor that it is granted, and what its call
+/// replies.
 pub(crate) fn granted_to(post: Post) -> (u16, Reply)
     ensures { result ≡ (holds_granted post, reply_granted post) }
 {

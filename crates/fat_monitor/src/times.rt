@@ -10,7 +10,8 @@ pub fn are_good(millis: i64, nanos: i32) -> bool
     0 <= millis && 0 <= nanos && nanos <= 999_999
 }
 
-/// When a wait that begins at this moment is over, in nanoseconds; a wait of no limit has no deadline.
+/// When a wait that begins at this moment is over, in nanoseconds; a wait of no limit has no
+/// deadline.
 pub(crate) fn deadline(now: u64, millis: i64, nanos: i32) -> Option<u128>
     requires { are_good millis nanos ≡ true }
     ensures { result ≡ deadline now millis nanos }

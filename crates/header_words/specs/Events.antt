@@ -1,5 +1,7 @@
--- The events of header words, and how a history of them replays. The state between events is the list of locks: low bytes never change.
-use Rattle.std.specs.Prelude.{◌≡◌, ◌≢◌, ℕ, ◌+◌, ◌-◌, ◌<◌, ◌≤◌, if◌then◌else◌, ◌==◌, List, [], ◌∷◌, map, length, filter, slice_index, slice_index_or, slice_set}
+-- The events of header words, and how a history of them replays. The state between events is the list of locks:
+-- low bytes never change.
+use Rattle.std.specs.Prelude.{◌≡◌, ◌≢◌, ℕ, ◌+◌, ◌-◌, ◌<◌, ◌≤◌, if◌then◌else◌, ◌==◌, List, [], ◌∷◌, map, length, filter}
+use Rattle.std.specs.Prelude.{slice_index, slice_index_or, slice_set}
 use Rattle.lock_word.specs.declared.Lock.{Lock}
 use Rattle.lock_word.specs.declared.Lock.TheVariants.{Free, Thin, Fat}
 use Rattle.header_words.specs.WideWords.{word_of}
@@ -42,7 +44,9 @@ locks_after e ls = slice_set ls e.object (effect e.pass e.deed (lock_at ls e.obj
 
 -- the event is of one of the passes 1 to count, at an object that there is, and legal where the locks are these
 abbrev pub MayFollow : List ℕ → ℕ → Event → List Lock → Type 0
-MayFollow lows count e ls = (1 ≤ e.pass) × (e.pass ≤ count) × (e.object < length lows) × Legal e.pass e.deed (lock_at ls e.object) (slice_index lows e.object)
+MayFollow lows count e ls =
+    (1 ≤ e.pass) × (e.pass ≤ count) × (e.object < length lows)
+    × Legal e.pass e.deed (lock_at ls e.object) (slice_index lows e.object)
 
 -- the events, each legal in its place, lead from the locks ls to the locks ms
 abbrev pub Replays : List ℕ → ℕ → List Lock → List Event → List Lock → Type 0

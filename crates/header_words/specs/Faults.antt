@@ -4,7 +4,8 @@ use Rattle.header_words.specs.declared.close.CloseFault.{CloseFault}
 use Rattle.header_words.specs.declared.close.CloseFault.TheVariants.{WrongPass, Memory}
 use Rattle.header_words.specs.Passes.{Opening, PassValue, HasAll, LacksOne}
 
--- a pass is missing exactly where the fault says so: want of memory is told of passes that are all there, and where there is an object
+-- a pass is missing exactly where the fault says so: want of memory is told of passes that are all there, and
+-- where there is an object
 abbrev pub TellsFault : {B : Type 0} → ℕ → List PassValue → CloseFault B → Type 0
 TellsFault count ps (WrongPass h p) = LacksOne count ps
 TellsFault count ps (Memory h p) = HasAll count ps × (0 < length h.lows)

@@ -1,5 +1,6 @@
 -- What contracts see of the words of objects and of the passes to them.
-use Rattle.std.specs.Prelude.{◌≡◌, ◌≢◌, ◌⊎◌, ◌↔◌, ℕ, zero, suc, ◌+◌, ◌<◌, ◌≤◌, Bool, true, false, Option, None, List, [], ◌∷◌, ◌++◌, length, map, replicate, slice_index}
+use Rattle.std.specs.Prelude.{◌≡◌, ◌≢◌, ◌⊎◌, ◌↔◌, ℕ, zero, suc, ◌+◌, ◌<◌, ◌≤◌, Bool, true, false, Option, None, List}
+use Rattle.std.specs.Prelude.{[], ◌∷◌, ◌++◌, length, map, replicate, slice_index}
 use Rattle.std.specs.List.{All, Contains}
 use mathlib.Core.List.{IsPrefix}
 use Rattle.atomic_table.specs.Seated.{TableId}
@@ -80,7 +81,8 @@ carried false = []
 
 -- the parts of a pass belong together: its row has the depths by its events, it has a copy of the
 -- low bytes, what it has seen replays, and it says whether it has the gate
-pub record IsPass {B : Type 0} (index : ℕ) (depths low_bytes : List ℕ) (has_gate : Bool) (s : Seat (Option B) View) : Type 0 where
+pub record IsPass {B : Type 0} (index : ℕ) (depths low_bytes : List ℕ) (has_gate : Bool)
+    (s : Seat (Option B) View) : Type 0 where
   pub lone : HasOneIndex s.me.0
   pub named : index_of s.me.0.parts ≡ index
   pub low : 1 ≤ index
@@ -155,7 +157,14 @@ pub record HaveMet (p q p' q' : PassValue) : Type 0 where
 -- the pass has taken the gate by one step, and has seen a history that begins with what it had
 -- seen, replays, and has just its own events of it
 pub record HasTaken (p q : PassValue) : Type 0 where
-  pub pass : q ≡ record { opening = p.opening; index = p.index; mine = p.mine; seen = q.seen; has_gate = true; steps = suc p.steps }
+  pub pass : q ≡ record {
+    opening = p.opening;
+    index = p.index;
+    mine = p.mine;
+    seen = q.seen;
+    has_gate = true;
+    steps = suc p.steps;
+  }
   pub seen : IsPrefix p.seen q.seen
   pub saw : Saw p.opening.lows p.opening.count q.seen p.index p.mine
 

@@ -1,6 +1,7 @@
 -- The rule of the words: there is one history, which replays to them. Each seat has seen a
 -- beginning of it, and knows all events of its own.
-use Rattle.std.specs.Prelude.{◌≡◌, ◌≢◌, ℕ, zero, suc, ◌+◌, ◌<◌, ◌≤◌, false, Option, List, [], ◌∷◌, ◌++◌, length, slice_index, if◌then◌else◌, nat_lt}
+use Rattle.std.specs.Prelude.{◌≡◌, ◌≢◌, ℕ, zero, suc, ◌+◌, ◌<◌, ◌≤◌, false, Option, List, [], ◌∷◌, ◌++◌, length}
+use Rattle.std.specs.Prelude.{slice_index, if◌then◌else◌, nat_lt}
 use mathlib.Core.List.{IsPrefix}
 use mathlib.Core.Option.{some}
 use lib.ListN.{get_elem?}
@@ -56,7 +57,8 @@ opening_view lows count = record {
 
 -- the seat k with this view has this index: the index has just these events in the history, and in
 -- what the seat has seen
-pub record IsMine (lows : List ℕ) (count : ℕ) (log : List Event) (seat_of : ℕ → ℕ) (k : ℕ) (v : View) (p : Part) : Type 0 where
+pub record IsMine (lows : List ℕ) (count : ℕ) (log : List Event) (seat_of : ℕ → ℕ) (k : ℕ) (v : View)
+    (p : Part) : Type 0 where
   pub same : v.lows ≡ lows
   pub same_count : v.count ≡ count
   pub low : 1 ≤ p.index
@@ -80,7 +82,8 @@ pub record Knows (lows : List ℕ) (count : ℕ) (log : List Event) (seat_of : �
 
 -- the rule: one history replays to the words, of which 0 is the gate and o + 1 that of the object
 -- o, and the book binds what it publishes
-pub record Ruled {B : Type 0} (bound : B → List ObjectId) (lows : List ℕ) (count : ℕ) (s : State (Option B) View) : Type 0 where
+pub record Ruled {B : Type 0} (bound : B → List ObjectId) (lows : List ℕ) (count : ℕ)
+    (s : State (Option B) View) : Type 0 where
   pub log : List Event
   pub locks : List Lock
   pub seat_of : ℕ → ℕ

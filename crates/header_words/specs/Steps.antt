@@ -1,5 +1,6 @@
 -- What each kind of step tells the seat that takes it.
-use Rattle.std.specs.Prelude.{◌≡◌, ◌≢◌, ◌↔◌, ℕ, suc, ◌+◌, ◌-◌, ◌/◌, ◌<◌, Bool, true, false, Option, Some, List, [], ◌∷◌, ◌++◌, slice_index}
+use Rattle.std.specs.Prelude.{◌≡◌, ◌≢◌, ◌↔◌, ℕ, suc, ◌+◌, ◌-◌, ◌/◌, ◌<◌, Bool, true, false, Option, Some, List, [], ◌∷◌}
+use Rattle.std.specs.Prelude.{◌++◌, slice_index}
 use mathlib.Core.List.{IsPrefix}
 use Rattle.atomic_table.specs.Table.{Me, Step, rest}
 use Rattle.lock_word.specs.declared.Lock.{Lock}
@@ -12,7 +13,8 @@ use Rattle.header_words.specs.declared.event.Deed.TheVariants.{Load, Win, Lose, 
 use Rattle.header_words.specs.declared.event.Event.{Event}
 use Rattle.header_words.specs.declared.rule.View.{View}
 use Rattle.header_words.specs.Bindings.{Covers, HasPublish, HasPublishesOf, GateAllows}
-use Rattle.header_words.specs.Events.{event, Legal, effect, depth_after, lock_at, Replays, free_locks, own_events, depth}
+use Rattle.header_words.specs.Events.{event, Legal, effect, depth_after, lock_at, Replays, free_locks, own_events}
+use Rattle.header_words.specs.Events.{depth}
 use Rattle.header_words.specs.Rule.{Each, AreApart, stepped_view, index_of, mine_of}
 
 -- `decode` reads this low byte off the word, and a thin lock with the index i and the count c
@@ -71,7 +73,15 @@ MayStore i deep has_gate deed low lock left =
 
 -- the seat sees the whole history, which replays and begins with each list that was seen before
 pub record SeesAll (v w : View) : Type 0 where
-  pub view : w ≡ record { lows = v.lows; count = v.count; parts = v.parts; seen = w.seen; earlier = []; has_gate = v.has_gate; steps = suc v.steps }
+  pub view : w ≡ record {
+    lows = v.lows;
+    count = v.count;
+    parts = v.parts;
+    seen = w.seen;
+    earlier = [];
+    has_gate = v.has_gate;
+    steps = suc v.steps;
+  }
   pub seen : IsPrefix v.seen w.seen
   pub earlier : Each (λ old. IsPrefix old w.seen) v.earlier
   pub apart : AreApart v.parts
@@ -88,13 +98,22 @@ Syncs st me n me' = SeesAll me.0 me'.0 × (me'.1 ≡ me.1)
 
 -- the seat sees the whole history, and has the gate
 pub record TakesGate (v w : View) : Type 0 where
-  pub view : w ≡ record { lows = v.lows; count = v.count; parts = v.parts; seen = w.seen; earlier = v.earlier; has_gate = true; steps = suc v.steps }
+  pub view : w ≡ record {
+    lows = v.lows;
+    count = v.count;
+    parts = v.parts;
+    seen = w.seen;
+    earlier = v.earlier;
+    has_gate = true;
+    steps = suc v.steps;
+  }
   pub seen : IsPrefix v.seen w.seen
   pub saw : Saw v.lows v.count w.seen (index_of v.parts) (mine_of v.parts)
 
 -- the exchange of the gate word: where the gate was open the seat has it, and the book's slot; else
 -- nothing changed
-abbrev pub Takes : {B : Type 0} → (B → List ObjectId) → Step (Option B) → Me (Option B) View → ℕ → Me (Option B) View → Type 0
+abbrev pub Takes : {B : Type 0} → (B → List ObjectId) → Step (Option B) → Me (Option B) View → ℕ
+    → Me (Option B) View → Type 0
 Takes {B} bound st me n me' =
     (n ≡ 0 → TakesGate me.0 me'.0 × (b : B) × (me'.1 ≡ (0, Some b) ∷ me.1)
     × Covers (bound b) me'.0.seen)

@@ -1,5 +1,6 @@
 //! The end of the words of objects.
-ghost use Rattle.std.specs.Prelude.{◌≡◌, ◌↔◌, ◌+◌, ◌<◌, length, IfOk, IfErr, IsTrue, All, Contains, map, true, false};
+ghost use Rattle.std.specs.Prelude.{◌≡◌, ◌↔◌, ◌+◌, ◌<◌, length, IfOk, IfErr, IsTrue, All, Contains};
+ghost use Rattle.std.specs.Prelude.{map, true, false};
 ghost use Rattle.header_words.specs.Passes.{HasAll, LacksOne, indices_of};
 
 use crate::headers::Headers;

@@ -35,7 +35,8 @@ impl<B: Kept> Model for Headers<B> {
 impl<B: Kept> Headers<B> {
     ghost use Rattle.header_words.specs.Passes.{MakesEvent, HaveMet, depth_at, low_at, word_at};
     ghost use Rattle.header_words.specs.Steps.{MayStore, ShowsDepth};
-    ghost use Rattle.header_words.specs.declared.event.Deed.TheVariants.{Load, Win, Lose, Nest, Unnest, Release, Publish};
+    ghost use Rattle.header_words.specs.declared.event.Deed.TheVariants.{Load, Win, Lose, Nest};
+    ghost use Rattle.header_words.specs.declared.event.Deed.TheVariants.{Unnest, Release, Publish};
     ghost use Rattle.lock_word.specs.declared.Lock.TheVariants.{Free, Thin, Fat};
     ghost use Rattle.header_words.specs.Bindings.{Binds, HasPublish};
     ghost use Rattle.header_words.specs.WideWords.{Fits, lock_of};

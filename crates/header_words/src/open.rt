@@ -1,5 +1,6 @@
 //! The start of the words of objects.
-ghost use Rattle.std.specs.Prelude.{◌≡◌, ℕ, ◌+◌, ◌<◌, ◌≤◌, length, slice_index, IfOk, IfErr, [], ◌∷◌, replicate, All};
+ghost use Rattle.std.specs.Prelude.{◌≡◌, ℕ, ◌+◌, ◌<◌, ◌≤◌, length, slice_index, IfOk, IfErr, []};
+ghost use Rattle.std.specs.Prelude.{◌∷◌, replicate, All};
 ghost use Rattle.std.specs.Vec.{vec_len, vec_capacity};
 ghost use Rattle.header_words.specs.Passes.{IsNewRow};
 ghost use Rattle.header_words.specs.Rule.{opening_view};

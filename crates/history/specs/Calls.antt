@@ -3,7 +3,8 @@ use Rattle.lock_word.specs.declared.ObjectId.{ObjectId}
 use Rattle.lock_word.specs.declared.ThreadId.{ThreadId}
 use Rattle.std.specs.Prelude.{ℕ, List}
 use Rattle.fast_path.specs.declared.calls.Call.{Call}
-use Rattle.fast_path.specs.declared.calls.Call.TheVariants.{Enter, Exit, Wait, Notify, NotifyAll, Holds, Interrupt, Interrupted, IsInterrupted, End}
+use Rattle.fast_path.specs.declared.calls.Call.TheVariants.{Enter, Exit, Wait, Notify, NotifyAll, Holds, Interrupt}
+use Rattle.fast_path.specs.declared.calls.Call.TheVariants.{Interrupted, IsInterrupted, End}
 use Rattle.history_text.specs.declared.lines.Call.{Call as CallLine}
 use Rattle.history_text.specs.declared.lines.Call.TheVariants as line
 use Rattle.history.specs.NameLists.{NameLists, number_of, with_name}

@@ -20,7 +20,8 @@ MayTake objects (Step step) = Unit {0}
 
 -- the lines behind some world
 abbrev pub FollowsWorld : List Line → Type 0
-FollowsWorld lines = (monitors : ℕ) × (indices : ℕ) × (split : Split) × Continues (World monitors indices split ∷ []) lines
+FollowsWorld lines =
+    (monitors : ℕ) × (indices : ℕ) × (split : Split) × Continues (World monitors indices split ∷ []) lines
 
 -- the low bytes of the objects
 abbrev pub low_bytes : List Line → List ℕ
@@ -49,7 +50,8 @@ no_names = record { threads = []; objects = [] }
 -- the step or relayout that a line is, where these names were there before
 abbrev pub request_in : NameLists → StepLine → Request
 request_in names (line.Attach thread) = request.Step (step.Attach (thread_in names thread))
-request_in names (line.Begin thread call) = request.Step (step.Begin (thread_in names thread) (call_in (with_thread names thread) call))
+request_in names (line.Begin thread call) =
+    request.Step (step.Begin (thread_in names thread) (call_in (with_thread names thread) call))
 request_in names (line.Go thread) = request.Step (step.Go (thread_in names thread))
 request_in names (line.Expire thread) = request.Step (step.Expire (thread_in names thread))
 request_in names (line.Spurious thread) = request.Step (step.Spurious (thread_in names thread))

@@ -1,5 +1,6 @@
 -- The text of a report: what each step and relayout of a script answered, and how the objects stand behind the last.
-use Rattle.std.specs.Prelude.{◌≡◌, ◌<◌, ℕ, zero, suc, List, [], ◌∷◌, ◌++◌, Bool, if◌then◌else◌, length, slice_index_or, Vec, vec_items, Option, Some, None, Result, Ok, Err, codes, decimal}
+use Rattle.std.specs.Prelude.{◌≡◌, ◌<◌, ℕ, zero, suc, List, [], ◌∷◌, ◌++◌, Bool, if◌then◌else◌, length, slice_index_or}
+use Rattle.std.specs.Prelude.{Vec, vec_items, Option, Some, None, Result, Ok, Err, codes, decimal}
 use Rattle.std.specs.List.{flat_map}
 use Rattle.std.specs.Option.{unwrap_or}
 use Rattle.std.specs.declared.alloc.Global.{Global}
@@ -74,9 +75,13 @@ ending_text None a = parked_text a
 
 -- the line of a step that was accepted, and left this world
 abbrev pub did_text : NameLists → WorldState → Step → Did → List ℕ
-did_text names w (Attach t) d = codes "attach " ++ name_at names.threads t.0 ++ codes " index " ++ decimal (unwrap_or (index_of w.seats t) 0) ++ 10 ∷ []
+did_text names w (Attach t) d =
+    codes "attach " ++ name_at names.threads t.0 ++ codes " index "
+    ++ decimal (unwrap_or (index_of w.seats t) 0) ++ 10 ∷ []
 did_text names w (Begin t c) d = codes "begin " ++ name_at names.threads t.0 ++ 10 ∷ []
-did_text names w (Go t) d = codes "go " ++ name_at names.threads t.0 ++ 32 ∷ atomic_text names d.atomic ++ ending_text d.reply d.atomic ++ 10 ∷ []
+did_text names w (Go t) d =
+    codes "go " ++ name_at names.threads t.0 ++ 32 ∷ atomic_text names d.atomic
+    ++ ending_text d.reply d.atomic ++ 10 ∷ []
 did_text names w (Expire t) d = codes "expire " ++ name_at names.threads t.0 ++ 10 ∷ []
 did_text names w (Spurious t) d = codes "spurious " ++ name_at names.threads t.0 ++ 10 ∷ []
 did_text names w (Tick now) d = codes "tick " ++ decimal now ++ 10 ∷ []
@@ -88,8 +93,10 @@ step_text names w s (Err f) = codes "fault " ++ decimal (fault_number f) ++ 32 �
 
 -- the line of a relayout that answered this
 abbrev pub relayout_text : Split → Result ℕ RelayoutFault → List ℕ
-relayout_text split (Ok inflated) = codes "relayout " ++ split_name split ++ codes " inflated " ++ decimal inflated ++ 10 ∷ []
-relayout_text split (Err f) = codes "fault " ++ decimal (relayout_fault_number f) ++ 32 ∷ relayout_fault_name f ++ 10 ∷ []
+relayout_text split (Ok inflated) =
+    codes "relayout " ++ split_name split ++ codes " inflated " ++ decimal inflated ++ 10 ∷ []
+relayout_text split (Err f) =
+    codes "fault " ++ decimal (relayout_fault_number f) ++ 32 ∷ relayout_fault_name f ++ 10 ∷ []
 
 -- the line of a step or relayout in this world, with whether its growth is granted
 abbrev pub request_text : NameLists → WorldState → (Request × Bool) → List ℕ
@@ -102,12 +109,14 @@ requests_text names w [] = []
 requests_text names w (t ∷ ts) = request_text names w t ++ requests_text names (world_then w t) ts
 
 -- A step or a relayout leads from the one world to the other, and its line was written behind what was there.
-pub record Reported (names : NameLists) (w : WorldState) (asked : Request) (v : WorldState) (old new : List ℕ) : Type 0 where
+pub record Reported (names : NameLists) (w : WorldState) (asked : Request) (v : WorldState)
+    (old new : List ℕ) : Type 0 where
   pub does : PlaysOne w asked v
   pub text : new ≡ old ++ request_text names w (asked, does.room)
 
 -- The same of all of them.
-pub record Reports (names : NameLists) (w : WorldState) (steps : List Request) (v : WorldState) (old new : List ℕ) : Type 0 where
+pub record Reports (names : NameLists) (w : WorldState) (steps : List Request) (v : WorldState)
+    (old new : List ℕ) : Type 0 where
   pub plays : Plays w steps v
   pub text : new ≡ old ++ requests_text names w plays.done
 
@@ -130,12 +139,14 @@ waiters_below w o (suc n) = waiters_below w o n ++ waiter w o (record { 0 = n })
 -- For each object the threads with the numbers below n that are in its wait set.
 pub record AreWaitSets (w : WorldState) (n : ℕ) (sets : List (Vec ThreadId Global)) : Type 0 where
   pub long : length sets ≡ length w.words
-  pub each : (o : ℕ) (d : Vec ThreadId Global) → o < length w.words → vec_items (slice_index_or sets o d) ≡ waiters_below w o n
+  pub each : (o : ℕ) (d : Vec ThreadId Global) → o < length w.words
+      → vec_items (slice_index_or sets o d) ≡ waiters_below w o n
 
 -- This thread was added to the set in which it waits, if it waits.
 pub record IsAdded (w : WorldState) (t : ThreadId) (old new : List (Vec ThreadId Global)) : Type 0 where
   pub long : length new ≡ length old
-  pub each : (o : ℕ) (d : Vec ThreadId Global) → o < length old → vec_items (slice_index_or new o d) ≡ vec_items (slice_index_or old o d) ++ waiter w o t
+  pub each : (o : ℕ) (d : Vec ThreadId Global) → o < length old
+      → vec_items (slice_index_or new o d) ≡ vec_items (slice_index_or old o d) ++ waiter w o t
 
 -- some sets of no threads
 pub record AreEmpty (count : ℕ) (sets : List (Vec ThreadId Global)) : Type 0 where
@@ -153,7 +164,9 @@ threads_text names (t ∷ ts) = name_at names.threads t.0 ++ more_threads_text n
 
 -- who owns an object, and how often
 unfoldable pub standing_text : NameLists → WorldState → ObjectId → List ℕ
-standing_text names w o = codes " owner " ++ owner_text names ((shown w).monitor o).owner ++ codes " holds " ++ decimal ((shown w).monitor o).count
+standing_text names w o =
+    codes " owner " ++ owner_text names ((shown w).monitor o).owner ++ codes " holds "
+    ++ decimal ((shown w).monitor o).count
 
 -- the line of an object, in whose wait set these threads are
 abbrev pub object_text : NameLists → WorldState → ObjectId → List ThreadId → List ℕ
@@ -164,7 +177,8 @@ object_text names w o waiting =
 -- a line for each of the objects with the numbers below n
 abbrev pub object_lines : NameLists → WorldState → ℕ → List ℕ
 object_lines names w zero = []
-object_lines names w (suc n) = object_lines names w n ++ object_text names w (record { 0 = n }) (waiters_below w n (length names.threads))
+object_lines names w (suc n) =
+    object_lines names w n ++ object_text names w (record { 0 = n }) (waiters_below w n (length names.threads))
 
 -- ---- the report of a script
 

@@ -1,9 +1,13 @@
 //! Histories: the moves that the steps of a script hand out.
 
-ghost use Rattle.std.specs.Prelude.{◌≡◌, ◌≤◌, ◌<◌, ◌⊎◌, ◌++◌, ◌∷◌, [], ℕ, List, Err, IfErr, IfOk, IfSome, IsErrOf, OnOk, length, string_bytes, take};
+ghost use Rattle.std.specs.Prelude.{◌≡◌, ◌≤◌, ◌<◌, ◌⊎◌, ◌++◌, ◌∷◌, [], ℕ, List, Err, IfErr, IfOk};
+ghost use Rattle.std.specs.Prelude.{IfSome, IsErrOf, OnOk, length, string_bytes, take};
 ghost use Rattle.std.specs.Io.KnownBytes.{Keeps, Appends};
 ghost use Rattle.history_text.specs.Lines.{IsFirstBad};
-ghost use Rattle.history_streams.specs.declared.faults.FileFault.TheVariants.{BadLine, BadMove, Broken, Read as ReadFault, Write as WriteFault};
+ghost use Rattle.history_streams.specs.declared.faults.FileFault.TheVariants.{BadLine, BadMove};
+ghost use Rattle.history_streams.specs.declared.faults.FileFault.TheVariants.{Broken};
+ghost use Rattle.history_streams.specs.declared.faults.FileFault.TheVariants.{Read as ReadFault};
+ghost use Rattle.history_streams.specs.declared.faults.FileFault.TheVariants.{Write as WriteFault};
 ghost use Rattle.step_core.specs.Step.{moves_made, moves_of};
 ghost use Rattle.step_core.specs.declared.steps.Fault.TheVariants.{Memory as OutOfMemory};
 ghost use Rattle.history.specs.Plans.{IsPlanOf};
@@ -20,8 +24,8 @@ use std::alloc::Global;
 use std::fmt::Write;
 use step_core::{Did, Fault, Move, RelayoutFault, Request, World};
 
-/// Reads a script to its end, plays it, and writes its history: how many objects there are, and a line
-/// for each move that its steps hand out.
+/// Reads a script to its end, plays it, and writes its history: how many objects there are, and a
+/// line for each move that its steps hand out.
 ///
 /// The whole script is read and played before the first byte of the history is written.
 pub fn moves<S: Source, W: Sink>(
@@ -30,8 +34,8 @@ pub fn moves<S: Source, W: Sink>(
     sink: &mut W,
 ) -> Result<(), FileFault>
     requires { S.given source.old ≡ 0 }
-    // At Ok, neither end has failed in the call, the bytes were the text of a script within its limit, and
-    // the whole of its history was written.
+    // At Ok, neither end has failed in the call, the bytes were the text of a script within its
+    // limit, and the whole of its history was written.
     ensures written { OnOk result ((plan : PlanData) × IfSome (S.left source.old) (IsPlanOf plan)
         × (history : List ℕ) × IsHistoryOf plan history
         × Appends (W.holds sink.old) (W.holds sink.new) history) }
@@ -39,8 +43,8 @@ pub fn moves<S: Source, W: Sink>(
     ensures written_whole { OnOk result (W.has_failed sink.new → W.has_failed sink.old) }
     ensures within { OnOk result (IfSome (S.left source.old) (λ input. length input ≤ MOST_BYTES)) }
 
-    // Else a fault tells its cause, and only where writing failed was something written: the front of
-    // the history.
+    // Else a fault tells its cause, and only where writing failed was something written: the front
+    // of the history.
     ensures bad_line { (line : ℕ) → result ≡ Err (BadLine line)
         → IfSome (S.left source.old) (λ input. IsFirstBad input line) }
     ensures read { IsErrOf result ReadFault

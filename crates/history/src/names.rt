@@ -1,6 +1,7 @@
 //! The names of threads and objects, and their numbers.
 
-ghost use Rattle.std.specs.Prelude.{◌≡◌, ◌≤◌, ◌++◌, ◌∷◌, [], false, length, map, string_bytes, IfOk, OnErr, OnOk};
+ghost use Rattle.std.specs.Prelude.{◌≡◌, ◌≤◌, ◌++◌, ◌∷◌, [], false, length, map, string_bytes};
+ghost use Rattle.std.specs.Prelude.{IfOk, OnErr, OnOk};
 ghost use Rattle.history.specs.NameLists.{is_named, name_at, number_of, with_name};
 
 use history_text::Name;
@@ -13,8 +14,8 @@ use std::marker::Model;
 const MOST_NAMES: usize = 4_294_967_295;
 
 /// The names of a script: those of its threads, numbered from 0 in order of first appearance, and
-/// those of its objects, numbered from 0 in order of declaration. A thread and an object may share a
-/// name.
+/// those of its objects, numbered from 0 in order of declaration. A thread and an object may share
+/// a name.
 #[derive(Drop)]
 pub struct Names {
     alloc: Global,
@@ -72,8 +73,8 @@ impl Names {
         Ok(())
     }
 
-    /// The object with a name. A name that was not declared stands for the number of the objects, which
-    /// no object has.
+    /// The object with a name. A name that was not declared stands for the number of the objects,
+    /// which no object has.
     pub(crate) fn object(&self, name: &Name<'_>) -> ObjectId
         ensures { result ≡ record { 0 = number_of self.now.objects name.now } }
     {

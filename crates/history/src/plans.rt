@@ -1,12 +1,15 @@
 //! What a script plays: the world that it makes, and its steps, with numbers for names.
 
-ghost use Rattle.std.specs.Prelude.{◌≡◌, ◌<◌, ◌≤◌, ◌++◌, ◌∷◌, [], false, length, vec_len, OnOk, IfOk};
+ghost use Rattle.std.specs.Prelude.{◌≡◌, ◌<◌, ◌≤◌, ◌++◌, ◌∷◌, [], false, length, vec_len, OnOk};
+ghost use Rattle.std.specs.Prelude.{IfOk};
 ghost use Rattle.lock_word.specs.Layout.{greatest_index};
 ghost use Rattle.history_text.specs.Lines.{IsScript};
 ghost use Rattle.history_text.specs.Noted.{object_names, with_object};
 ghost use Rattle.history.specs.Calls.{call_in, names_with};
 ghost use Rattle.history.specs.NameLists.{is_named};
-ghost use Rattle.history.specs.Numbering.{FollowsWorld, IsWorldWith, MayTake, low_bytes, names_in_step, names_of, names_then, no_names, request_in, requests_of, requests_then, with_low};
+ghost use Rattle.history.specs.Numbering.{FollowsWorld, IsWorldWith, MayTake, low_bytes};
+ghost use Rattle.history.specs.Numbering.{names_in_step, names_of, names_then, no_names};
+ghost use Rattle.history.specs.Numbering.{request_in, requests_of, requests_then, with_low};
 
 use crate::names::Names;
 use fast_path::Call;
@@ -185,7 +188,8 @@ fn take_lines(plan: &mut Plan, lines: &[Line<'_>]) -> Result<(), Memory>
 /// What the lines of a script play, with numbers for their names.
 pub fn plan_of(alloc: Global, lines: &[Line<'_>]) -> Result<Plan, Memory>
     requires { IsScript lines.now }
-    ensures world { IfOk result (λ plan. IsWorldWith plan.monitors plan.indices plan.split lines.now) }
+    ensures world { IfOk result
+        (λ plan. IsWorldWith plan.monitors plan.indices plan.split lines.now) }
     ensures objects { IfOk result (λ plan. plan.names.objects ≡ object_names lines.now) }
     ensures lows { IfOk result (λ plan. plan.lows.items ≡ low_bytes lines.now) }
     ensures names { IfOk result (λ plan. plan.names ≡ names_of lines.now) }

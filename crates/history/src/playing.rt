@@ -15,7 +15,8 @@ use step_core::{Did, Fault, RelayoutFault, Request, World};
 
 /// Plays a script: the world behind its last step, with the names of its threads and objects.
 ///
-/// A step that is refused for want of memory ends the play; one that is refused otherwise changes nothing.
+/// A step that is refused for want of memory ends the play; one that is refused otherwise changes
+/// nothing.
 pub fn play(alloc: Global, script: &Script<'_>) -> Result<(World, Names), FileFault>
     ensures played { IfOk result (λ play. IsPlayOf script.now play.0 play.1) }
     ensures memory { IfErr result (λ fault. fault ≡ WantOfMemory) }

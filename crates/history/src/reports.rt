@@ -1,12 +1,17 @@
 //! Reports: what each step of a script answered, and how the objects stand behind the last.
 
-ghost use Rattle.std.specs.Prelude.{◌≡◌, ◌<◌, ◌++◌, ◌∷◌, [], Err, IfOk, OnOk, codes, decimal, length, map, string_bytes, vec_items};
+ghost use Rattle.std.specs.Prelude.{◌≡◌, ◌<◌, ◌++◌, ◌∷◌, [], Err, IfOk, OnOk, codes, decimal};
+ghost use Rattle.std.specs.Prelude.{length, map, string_bytes, vec_items};
 ghost use Rattle.history_text.specs.Lines.{split_name};
 ghost use Rattle.step_core.specs.Names.{fault_name, fault_number};
 ghost use Rattle.step_core.specs.Shown.{shown};
 ghost use Rattle.step_core.specs.declared.steps.Fault.TheVariants.{Memory as OutOfMemory};
 ghost use Rattle.step_core.specs.declared.worlds.relayout.RelayoutFault.TheVariants.{Memory as NoMemory};
-ghost use Rattle.history.specs.Reports.{AreEmpty, AreWaitSets, IsAdded, IsReportOf, Reported, Reports, atomic_text, did_text, ending_text, exchange_text, more_threads_text, object_lines, object_text, owner_text, relayout_text, shown_word, standing_text, step_text, threads_text};
+ghost use Rattle.history.specs.Reports.{AreEmpty, AreWaitSets, IsAdded, IsReportOf, Reported};
+ghost use Rattle.history.specs.Reports.{Reports, atomic_text, did_text, ending_text, exchange_text};
+ghost use Rattle.history.specs.Reports.{more_threads_text, object_lines, object_text, owner_text};
+ghost use Rattle.history.specs.Reports.{relayout_text, shown_word, standing_text, step_text};
+ghost use Rattle.history.specs.Reports.{threads_text};
 
 use crate::names::Names;
 use crate::plans::Plan;
@@ -16,7 +21,8 @@ use std::alloc::{AllocError, Global};
 use std::fmt::Write;
 use step_core::{Atomic, Did, Doing, Fault, RelayoutFault, Request, Step, World};
 
-/// Plays a script and writes its report: a line for each step and relayout, then a line for each object.
+/// Plays a script and writes its report: a line for each step and relayout, then a line for each
+/// object.
 pub fn report_of(alloc: Global, plan: &Plan) -> Result<String, Memory>
     ensures { IfOk result (λ report. IsReportOf plan.now (string_bytes report)) }
 {
@@ -163,8 +169,8 @@ fn put_step(
     }
 }
 
-/// Ends the line of a `go`: with the reply, where the call ended, or with ` = parked`, where the thread
-/// stands in a line now.
+/// Ends the line of a `go`: with the reply, where the call ended, or with ` = parked`, where the
+/// thread stands in a line now.
 fn put_ending(report: &mut String, did: Did) -> Result<(), AllocError>
     ensures { OnOk result (string_bytes report.new
         ≡ string_bytes report.old ++ ending_text did.reply did.atomic ++ 10 ∷ []) }

@@ -1,13 +1,18 @@
 //! Running a script: from a reader's bytes to a writer's report.
 
-ghost use Rattle.std.specs.Prelude.{◌≡◌, ◌+◌, ◌<◌, ◌≤◌, ◌⊎◌, ℕ, List, length, take, IsErrOf, IfSome, OnOk, OnErr, IfOk, IfErr, Err};
+ghost use Rattle.std.specs.Prelude.{◌≡◌, ◌+◌, ◌<◌, ◌≤◌, ◌⊎◌, ℕ, List, length, take, IsErrOf};
+ghost use Rattle.std.specs.Prelude.{IfSome, OnOk, OnErr, IfOk, IfErr, Err};
 ghost use Rattle.std.specs.Io.KnownBytes.{Keeps, Appends};
 ghost use Rattle.history_text.specs.Lines.{IsFirstBad};
 ghost use Rattle.history_text.specs.Scripts.{IsReasonFor, IsScriptText};
 ghost use Rattle.history.specs.Plans.{IsPlanOf};
 ghost use Rattle.history.specs.Reports.{IsReportOf};
 ghost use Rattle.history.specs.declared.plans.Plan.{Plan as PlanData};
-ghost use Rattle.history_streams.specs.declared.faults.FileFault.TheVariants.{BadLine, BadMove, Broken, Read as ReadFault, Write as WriteFault, Memory};
+ghost use Rattle.history_streams.specs.declared.faults.FileFault.TheVariants.{BadLine, BadMove};
+ghost use Rattle.history_streams.specs.declared.faults.FileFault.TheVariants.{Broken};
+ghost use Rattle.history_streams.specs.declared.faults.FileFault.TheVariants.{Read as ReadFault};
+ghost use Rattle.history_streams.specs.declared.faults.FileFault.TheVariants.{Write as WriteFault};
+ghost use Rattle.history_streams.specs.declared.faults.FileFault.TheVariants.{Memory};
 
 use crate::plans::{Plan, plan_of};
 use crate::reports::report_of;
@@ -23,8 +28,8 @@ const CHUNK: usize = 4096;
 /// The whole script is read and played before the first byte of the report is written.
 pub fn run<S: Source, W: Sink>(alloc: Global, source: &mut S, sink: &mut W) -> Result<(), FileFault>
     requires { S.given source.old ≡ 0 }
-    // At Ok, neither end has failed in the run, the bytes were the text of a script within its limit,
-    // and the whole of its report was written.
+    // At Ok, neither end has failed in the run, the bytes were the text of a script within its
+    // limit, and the whole of its report was written.
     ensures written { OnOk result ((plan : PlanData) × IfSome (S.left source.old) (IsPlanOf plan)
         × (report : List ℕ) × IsReportOf plan report
         × Appends (W.holds sink.old) (W.holds sink.new) report) }
@@ -33,8 +38,8 @@ pub fn run<S: Source, W: Sink>(alloc: Global, source: &mut S, sink: &mut W) -> R
     ensures a_script { OnOk result (IfSome (S.left source.old) IsScriptText) }
     ensures within { OnOk result (IfSome (S.left source.old) (λ input. length input ≤ MOST_BYTES)) }
 
-    // Else a fault tells its cause, and only where writing failed was something written: the front of
-    // the report.
+    // Else a fault tells its cause, and only where writing failed was something written: the front
+    // of the report.
     ensures bad_line { (line : ℕ) → result ≡ Err (BadLine line)
         → IfSome (S.left source.old) (λ input. IsFirstBad input line) }
     ensures read { IsErrOf result ReadFault

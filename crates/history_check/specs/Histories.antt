@@ -1,5 +1,6 @@
 -- Histories: lines, of which the first tells the number of objects and each other one is a move.
-use Rattle.std.specs.Prelude.{◌≡◌, ◌≢◌, ◌⊎◌, ℕ, ◌+◌, ◌<◌, ◌≤◌, List, [], ◌∷◌, ◌++◌, length, Option, None, Some, codes, decimal}
+use Rattle.std.specs.Prelude.{◌≡◌, ◌≢◌, ◌⊎◌, ℕ, ◌+◌, ◌<◌, ◌≤◌, List, [], ◌∷◌, ◌++◌, length, Option, None, Some, codes}
+use Rattle.std.specs.Prelude.{decimal}
 use Rattle.step_core.specs.declared.machine.Move.{Move}
 use Rattle.step_core.specs.Machine.{State, opening, Steps, Run}
 use Rattle.jls_check.specs.Judging.{IsUnlawful}
@@ -36,7 +37,8 @@ abbrev pub LeadTo : List (List ℕ) → Option State → Type 0
 LeadTo [] None = Unit {0}
 LeadTo [] (Some s) = ⊥
 LeadTo (first ∷ ls) None = ⊥
-LeadTo (first ∷ ls) (Some s) = (n : ℕ) × (ms : List Move) × IsLine first × IsFirst first n × Spell ls ms × Run (opening n) ms s
+LeadTo (first ∷ ls) (Some s) =
+    (n : ℕ) × (ms : List Move) × IsLine first × IsFirst first n × Spell ls ms × Run (opening n) ms s
 
 -- what the line has to be there: the first line, or a move
 abbrev pub IsWellFormed : Option State → List ℕ → Type 0

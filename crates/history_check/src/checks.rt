@@ -1,10 +1,13 @@
 //! A check of a history, which is fed with its bytes.
 
-ghost use Rattle.std.specs.Prelude.{◌≡◌, ◌<◌, ◌≤◌, ◌+◌, ◌^◌, ◌++◌, ◌∷◌, ◌⊎◌, ◌==◌, [], ℕ, List, length, position, IfErr, OnOk, IfSome, option_map, MatchOption, MatchResult};
+ghost use Rattle.std.specs.Prelude.{◌≡◌, ◌<◌, ◌≤◌, ◌+◌, ◌^◌, ◌++◌, ◌∷◌, ◌⊎◌, ◌==◌, [], ℕ, List};
+ghost use Rattle.std.specs.Prelude.{length, position, IfErr, OnOk, IfSome, option_map, MatchOption};
+ghost use Rattle.std.specs.Prelude.{MatchResult};
 ghost use Rattle.history_streams.specs.declared.faults.FileFault.TheVariants.{BadMove, Memory};
 ghost use Rattle.step_core.specs.declared.machine.Move.{Move as MoveData};
 ghost use Rattle.history_check.specs.Behind.{state_of};
-ghost use Rattle.history_check.specs.Histories.{NoFeed, LineLeads, Refuses, IsRightSoFar, IsRunOf, IsFaultOf};
+ghost use Rattle.history_check.specs.Histories.{NoFeed, LineLeads, Refuses, IsRightSoFar, IsRunOf};
+ghost use Rattle.history_check.specs.Histories.{IsFaultOf};
 
 use history_moves::{line_first, line_move};
 use history_streams::FileFault;
@@ -28,7 +31,8 @@ pub(crate) struct Check {
 impl Check {
     /// A check of nothing yet.
     pub(crate) fn new(alloc: Global) -> Check
-        ensures { IsRightSoFar [] result.count (option_map state_of result.machine) result.line.items }
+        ensures { IsRightSoFar [] result.count (option_map state_of result.machine)
+            result.line.items }
     {
         Check {
             alloc,
@@ -42,7 +46,8 @@ impl Check {
     pub(crate) fn feed(&mut self, bytes: &[u8]) -> Result<(), FileFault>
         requires { self.old.count + length bytes.now + 1 < 2 ^ 64 }
         ensures told { (came : List ℕ)
-            → IsRightSoFar came self.old.count (option_map state_of self.old.machine) self.old.line.items
+            → IsRightSoFar came self.old.count (option_map state_of self.old.machine)
+            self.old.line.items
             → MatchResult result
             (λ _. IsRightSoFar (came ++ bytes.now) self.new.count
             (option_map state_of self.new.machine) self.new.line.items)
@@ -62,7 +67,8 @@ impl Check {
     pub(crate) fn finish(&self) -> Result<u64, FileFault>
         requires { self.now.count + 1 < 2 ^ 64 }
         ensures told { (came : List ℕ)
-            → IsRightSoFar came self.now.count (option_map state_of self.now.machine) self.now.line.items
+            → IsRightSoFar came self.now.count (option_map state_of self.now.machine)
+            self.now.line.items
             → MatchResult result
             (λ n. (ms : List MoveData) × IsRunOf came ms × (n ≡ length ms))
             (λ e. IsFaultOf came Unit ⊥ e) }

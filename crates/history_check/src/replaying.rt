@@ -1,11 +1,14 @@
 //! Checking a history: from a reader's bytes to a writer's.
 
-ghost use Rattle.std.specs.Prelude.{◌≡◌, ◌⊎◌, ◌++◌, [], ℕ, List, take, option_map, OnOk, IfErr, MatchResult};
+ghost use Rattle.std.specs.Prelude.{◌≡◌, ◌⊎◌, ◌++◌, [], ℕ, List, take, option_map, OnOk, IfErr};
+ghost use Rattle.std.specs.Prelude.{MatchResult};
 ghost use Rattle.std.specs.Io.KnownBytes.{Keeps, Appends};
-ghost use Rattle.history_streams.specs.declared.faults.FileFault.TheVariants.{Write as WriteFault, Memory};
+ghost use Rattle.history_streams.specs.declared.faults.FileFault.TheVariants.{Write as WriteFault};
+ghost use Rattle.history_streams.specs.declared.faults.FileFault.TheVariants.{Memory};
 ghost use Rattle.step_core.specs.declared.machine.Move.{Move as MoveData};
 ghost use Rattle.history_check.specs.Behind.{state_of};
-ghost use Rattle.history_check.specs.Histories.{IsRightSoFar, IsBadMove, IsBroken, IsOpen, IsRunOf, run_text};
+ghost use Rattle.history_check.specs.Histories.{IsRightSoFar, IsBadMove, IsBroken, IsOpen, IsRunOf};
+ghost use Rattle.history_check.specs.Histories.{run_text};
 ghost use Rattle.history_check.specs.Replays.{IsReadAsRun, IsFaulty};
 
 use crate::checks::Check;
@@ -21,27 +24,27 @@ const CHUNK: usize = 4096;
 /// Checks a history, and writes `run of N moves` and a line feed where its N moves are a run of the
 /// machine.
 ///
-/// Else the answer is the first fault in the order of lines: [`BadMove`](FileFault::BadMove) at a line
-/// that is no line of a history, [`Broken`](FileFault::Broken) at a move that is not lawful behind those
-/// before it, and [`Read`](FileFault::Read) where the bytes in front of a failed read, or in front of the
-/// limit of [`MOST_BYTES`], are right. No more is read than the answer needs, but for the last 4,096
-/// bytes.
+/// Else the answer is the first fault in the order of lines: [`BadMove`](FileFault::BadMove) at a
+/// line that is no line of a history, [`Broken`](FileFault::Broken) at a move that is not lawful
+/// behind those before it, and [`Read`](FileFault::Read) where the bytes in front of a failed read,
+/// or in front of the limit of [`MOST_BYTES`], are right. No more is read than the answer needs,
+/// but for the last 4,096 bytes.
 pub fn replay<S: Source, W: Sink>(
     alloc: Global,
     source: &mut S,
     sink: &mut W,
 ) -> Result<(), FileFault>
     requires { S.given source.old ≡ 0 }
-    // At Ok the whole history is a run, neither end has failed in the call, and the number of moves was
-    // written.
+    // At Ok the whole history is a run, neither end has failed in the call, and the number of moves
+    // was written.
     ensures run { OnOk result ((count : ℕ)
         × IsReadAsRun (S.left source.old) (S.left source.new) (S.given source.new) count
         × Appends (W.holds sink.old) (W.holds sink.new) (run_text count)) }
     ensures read_whole { OnOk result (S.has_failed source.new → S.has_failed source.old) }
     ensures written_whole { OnOk result (W.has_failed sink.new → W.has_failed sink.old) }
 
-    // Else a fault tells its cause, and only where writing failed was something written: the front of
-    // the line.
+    // Else a fault tells its cause, and only where writing failed was something written: the front
+    // of the line.
     ensures fault { IfErr result (λ e. (e ≡ Memory)
         ⊎ (((e ≡ WriteFault) × W.has_failed sink.new)
         ⊎ IsFaulty (S.left source.old) (S.left source.new) (S.given source.new)

@@ -1,5 +1,6 @@
 -- The members of data, by their keys.
-use Rattle.std.specs.Prelude.{◌≡◌, ℕ, ◌+◌, ◌^◌, List, nat_lt, if◌then◌else◌, Option, None, Some, is_some, option_map, option_and_then, MatchOption, codes, ℤ, pos, negsuc}
+use Rattle.std.specs.Prelude.{◌≡◌, ℕ, ◌+◌, ◌^◌, List, nat_lt, if◌then◌else◌, Option, None, Some, is_some, option_map}
+use Rattle.std.specs.Prelude.{option_and_then, MatchOption, codes, ℤ, pos, negsuc}
 use Rattle.std.specs.Ordering.{nat_cmp}
 use Rattle.std.specs.declared.cmp.Ordering.TheVariants.{Less}
 use Rattle.std.specs.Cmp.Lexicographic.{slice_cmp}
@@ -74,4 +75,7 @@ object_at d = option_map (λ n. record { 0 = n }) (number_at (codes "object") d)
 
 -- a thread or null
 abbrev pub chosen_at : Data → Option (Option ThreadId)
-chosen_at d = option_and_then (λ x. if is_some (as_null x) then Some None else option_map (λ u. Some u) (thread_number (codes "chosen") d)) (get (codes "chosen") d)
+chosen_at d =
+    option_and_then
+    (λ x. if is_some (as_null x) then Some None else option_map (λ u. Some u) (thread_number (codes "chosen") d))
+    (get (codes "chosen") d)

@@ -1,6 +1,7 @@
 -- A move as data.
 use Rattle.std.specs.Prelude.{◌≡◌, ℕ, ◌<◌, ◌^◌, List, codes, ℤ, pos, negsuc, Option, None, Some}
-use Rattle.serde_json.specs.Data.{Data, Num, null, number, unsigned, negative, string, object, Members, member, no_members}
+use Rattle.serde_json.specs.Data.{Data, Num, null, number, unsigned, negative, string, object, Members, member}
+use Rattle.serde_json.specs.Data.{no_members}
 use Rattle.lock_word.specs.declared.ThreadId.{ThreadId}
 use Rattle.lock_word.specs.declared.ObjectId.{ObjectId}
 use Rattle.fat_monitor.specs.declared.actions.Cause.{Cause}
@@ -38,29 +39,50 @@ abbrev pub plain_members : List ℕ → ThreadId → Members
 plain_members name t = member (codes "move") (string name) (member (codes "thread") (of_number t.0) no_members)
 
 abbrev pub bare_members : List ℕ → ThreadId → Members
-bare_members verb t = member (codes "call") (string verb) (member (codes "move") (string (codes "Call")) (member (codes "thread") (of_number t.0) no_members))
+bare_members verb t =
+    member (codes "call") (string verb)
+    (member (codes "move") (string (codes "Call")) (member (codes "thread") (of_number t.0) no_members))
 
 abbrev pub object_members : List ℕ → ObjectId → ThreadId → Members
-object_members verb o t = member (codes "call") (string verb) (member (codes "move") (string (codes "Call")) (member (codes "object") (of_number o.0) (member (codes "thread") (of_number t.0) no_members)))
+object_members verb o t =
+    member (codes "call") (string verb)
+    (member (codes "move") (string (codes "Call"))
+    (member (codes "object") (of_number o.0) (member (codes "thread") (of_number t.0) no_members)))
 
 abbrev pub target_members : List ℕ → ThreadId → ThreadId → Members
-target_members verb u t = member (codes "call") (string verb) (member (codes "move") (string (codes "Call")) (member (codes "target") (of_number u.0) (member (codes "thread") (of_number t.0) no_members)))
+target_members verb u t =
+    member (codes "call") (string verb)
+    (member (codes "move") (string (codes "Call"))
+    (member (codes "target") (of_number u.0) (member (codes "thread") (of_number t.0) no_members)))
 
 abbrev pub wait_members : ObjectId → ℤ → ℤ → ThreadId → Members
-wait_members o millis nanos t = member (codes "call") (string (codes "Wait")) (member (codes "millis") (of_signed millis) (member (codes "move") (string (codes "Call"))
-    (member (codes "nanos") (of_signed nanos) (member (codes "object") (of_number o.0) (member (codes "thread") (of_number t.0) no_members)))))
+wait_members o millis nanos t =
+    member (codes "call") (string (codes "Wait"))
+    (member (codes "millis") (of_signed millis)
+    (member (codes "move") (string (codes "Call"))
+    (member (codes "nanos") (of_signed nanos)
+    (member (codes "object") (of_number o.0) (member (codes "thread") (of_number t.0) no_members)))))
 
 abbrev pub reply_members : List ℕ → ThreadId → Members
-reply_members word t = member (codes "move") (string (codes "Return")) (member (codes "reply") (string word) (member (codes "thread") (of_number t.0) no_members))
+reply_members word t =
+    member (codes "move") (string (codes "Return"))
+    (member (codes "reply") (string word) (member (codes "thread") (of_number t.0) no_members))
 
 abbrev pub refused_members : List ℕ → ThreadId → Members
-refused_members word t = member (codes "cause") (string word) (member (codes "move") (string (codes "Return")) (member (codes "reply") (string (codes "Refused")) (member (codes "thread") (of_number t.0) no_members)))
+refused_members word t =
+    member (codes "cause") (string word)
+    (member (codes "move") (string (codes "Return"))
+    (member (codes "reply") (string (codes "Refused")) (member (codes "thread") (of_number t.0) no_members)))
 
 abbrev pub notify_members : Option ThreadId → ThreadId → Members
-notify_members u t = member (codes "chosen") (of_chosen u) (member (codes "move") (string (codes "Notify")) (member (codes "thread") (of_number t.0) no_members))
+notify_members u t =
+    member (codes "chosen") (of_chosen u)
+    (member (codes "move") (string (codes "Notify")) (member (codes "thread") (of_number t.0) no_members))
 
 abbrev pub refuse_members : List ℕ → ThreadId → Members
-refuse_members word t = member (codes "cause") (string word) (member (codes "move") (string (codes "Refuse")) (member (codes "thread") (of_number t.0) no_members))
+refuse_members word t =
+    member (codes "cause") (string word)
+    (member (codes "move") (string (codes "Refuse")) (member (codes "thread") (of_number t.0) no_members))
 
 abbrev pub time_members : ℕ → Members
 time_members now = member (codes "move") (string (codes "Time")) (member (codes "now") (of_number now) no_members)

@@ -1,8 +1,9 @@
 //! The moves of the abstract machine as JSON, and the lines of a history.
 //!
-//! `docs/FORMATS.md` has the form of a history. `specs/Moves.antt` has it as definitions: the members of
-//! the object that a move is. A value is read as a move exactly where it is such an object, and a line
-//! exactly where it is the text of one; of the many texts of a move, one is written.
+//! `docs/FORMATS.md` has the form of a history. `specs/Moves.antt` has it as definitions: the
+//! members of the object that a move is. A value is read as a move exactly where it is such an
+//! object, and a line exactly where it is the text of one; of the many texts of a move, one is
+//! written.
 #![tactic(auto)]
 
 mod lines;

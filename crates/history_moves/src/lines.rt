@@ -15,8 +15,8 @@ use serde_json::Value;
 use std::alloc::Global;
 use step_core::Move;
 
-/// The line of a move: its compact text, with its keys in byte order. [`line_move`] reads it as that
-/// move.
+/// The line of a move: its compact text, with its keys in byte order. [`line_move`] reads it as
+/// that move.
 pub fn move_line(alloc: Global, made: &Move) -> Result<String, Memory>
     ensures text { IfOk result (λ line. string_bytes line ≡ compact_text (data_of made.now)) }
     ensures reads { IfOk result (λ line. IsMove (string_bytes line) made.now) }
@@ -49,8 +49,8 @@ fn value_of(alloc: Global, line: &[u8]) -> Result<Option<Value>, Memory>
     }
 }
 
-/// The move that a line is, as serde_json reads a value: with any white space between its tokens, its
-/// keys in any order, and the last one of a key that is written twice.
+/// The move that a line is, as serde_json reads a value: with any white space between its tokens,
+/// its keys in any order, and the last one of a key that is written twice.
 #[tactic(auto, unfolding(crate::specs::Lines::IsMove))]
 pub fn line_move(alloc: Global, line: &[u8]) -> Result<Option<Move>, Memory>
     ensures found { IfOk result (λ o. IfSome o (IsMove line.now)) }

@@ -2,7 +2,9 @@
 
 ghost use Rattle.std.specs.Prelude.{◌≡◌, option_map, IfSome};
 ghost use Rattle.serde_json.specs.View.{view};
-ghost use Rattle.history_moves.specs.Members.{IsOrderedData, count_in, text_at, whole_at, number_at, signed_at, small_signed, nanos_at, thread_number, object_at, chosen_at};
+ghost use Rattle.history_moves.specs.Members.{IsOrderedData, count_in, text_at, whole_at};
+ghost use Rattle.history_moves.specs.Members.{number_at, signed_at, small_signed, nanos_at};
+ghost use Rattle.history_moves.specs.Members.{thread_number, object_at, chosen_at};
 
 use lock_word::{ObjectId, ThreadId};
 use serde_json::Value;

@@ -6,7 +6,9 @@ ghost use Rattle.serde_json.specs.View.{view};
 ghost use Rattle.step_core.specs.declared.machine.Move.{Move as MoveData};
 ghost use Rattle.history_moves.specs.Moves.{IsFirstData, IsMoveData};
 ghost use Rattle.history_moves.specs.Members.{IsOrderedData};
-ghost use Rattle.history_moves.specs.Reading.{cause_at, wait_call, is_targeted, call_of, call_from, reply_from, refused_from, thread_move, move_named, move_from, first_from};
+ghost use Rattle.history_moves.specs.Reading.{cause_at, wait_call, is_targeted, call_of, call_from};
+ghost use Rattle.history_moves.specs.Reading.{reply_from, refused_from, thread_move, move_named};
+ghost use Rattle.history_moves.specs.Reading.{move_from, first_from};
 
 use crate::members::{
     chosen_at, count_in, nanos_at, object_at, signed_at, text_at, thread_number, whole_at,
@@ -143,8 +145,8 @@ fn found_move(value: &Value) -> Option<Move>
     move_named(count, value, name)
 }
 
-/// The move that a value is. A value is one exactly where it is the object that [`write_move`] makes
-/// of that move: no member more or less, and each in its range.
+/// The move that a value is. A value is one exactly where it is the object that [`write_move`]
+/// makes of that move: no member more or less, and each in its range.
 ///
 /// [`write_move`]: crate::write_move
 pub fn read_move(value: &Value) -> Option<Move>
@@ -179,8 +181,8 @@ pub(crate) fn read_first(value: &Value) -> Option<u16>
     found_first(value)
 }
 
-/// A value is one move at most, and tells one number of objects at most. So a move that is written is
-/// read back.
+/// A value is one move at most, and tells one number of objects at most. So a move that is written
+/// is read back.
 pub fn each_value_is_one_move()
     ensures moves { (d : Data) (m n : MoveData) → IsMoveData d m → IsMoveData d n → m ≡ n }
     ensures objects { (d : Data) (m n : ℕ) → IsFirstData d m → IsFirstData d n → m ≡ n }

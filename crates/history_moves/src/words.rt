@@ -2,7 +2,8 @@
 
 ghost use Rattle.std.specs.Prelude.{◌≡◌, option_map};
 ghost use Rattle.history_moves.specs.Moves.{cause_name};
-ghost use Rattle.history_moves.specs.Words.{among, object_calls, target_calls, bare_calls, short_replies, causes, plain_from};
+ghost use Rattle.history_moves.specs.Words.{among, object_calls, target_calls, bare_calls};
+ghost use Rattle.history_moves.specs.Words.{short_replies, causes, plain_from};
 
 use fast_path::Call;
 use fat_monitor::{Cause, Reply};

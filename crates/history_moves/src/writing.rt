@@ -3,7 +3,11 @@
 ghost use Rattle.std.specs.Prelude.{◌≡◌, codes, IfOk};
 ghost use Rattle.serde_json.specs.View.{view};
 ghost use Rattle.serde_json.specs.Data.{object};
-ghost use Rattle.history_moves.specs.Moves.{IsFirstData, IsMoveData, Fits, data_of, first_data, cause_name, plain_members, bare_members, object_members, target_members, wait_members, reply_members, refused_members, notify_members, refuse_members, call_members};
+ghost use Rattle.history_moves.specs.Moves.{IsFirstData, IsMoveData, Fits, data_of, first_data};
+ghost use Rattle.history_moves.specs.Moves.{cause_name, plain_members, bare_members};
+ghost use Rattle.history_moves.specs.Moves.{object_members, target_members, wait_members};
+ghost use Rattle.history_moves.specs.Moves.{reply_members, refused_members, notify_members};
+ghost use Rattle.history_moves.specs.Moves.{refuse_members, call_members};
 
 use crate::words::name_of_cause;
 use fast_path::Call;

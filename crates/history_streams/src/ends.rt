@@ -1,6 +1,7 @@
 //! Where bytes come from and where they go: readers and writers that tell whether they have failed.
 
-ghost use Rattle.std.specs.Prelude.{◌≡◌, ◌+◌, ◌<◌, ◌≤◌, ◌^◌, ℕ, List, Option, length, take, IsTrue, MatchOption, Some, None, false};
+ghost use Rattle.std.specs.Prelude.{◌≡◌, ◌+◌, ◌<◌, ◌≤◌, ◌^◌, ℕ, List, Option, length, take, IsTrue};
+ghost use Rattle.std.specs.Prelude.{MatchOption, Some, None, false};
 ghost use Rattle.std.specs.Io.KnownBytes.{Keeps, Appends, Consumes, IsAtEnd};
 
 use std::io::{Read, Write};
@@ -15,8 +16,8 @@ pub trait Source {
     // How many bytes it gave.
     ghost given: { Self → ℕ };
 
-    /// Fills the front of a chunk with the next bytes and says how many: 0 at the end, None where the
-    /// source fails, which takes none of the bytes that are left.
+    /// Fills the front of a chunk with the next bytes and says how many: 0 at the end, None where
+    /// the source fails, which takes none of the bytes that are left.
     fn fill(&mut self, chunk: &mut [u8]) -> Option<usize>
         requires { given self.old + length chunk.old < 2 ^ 64 }
         ensures cases { MatchOption result

@@ -1,7 +1,7 @@
 //! Where scripts and histories come from, where reports go, and why one was not carried to its end.
 //!
-//! A [`Source`] and a [`Sink`] tell by contract which bytes they gave and took, and whether they failed;
-//! [`ReaderSource`] and [`WriterSink`] make one of any reader and writer.
+//! A [`Source`] and a [`Sink`] tell by contract which bytes they gave and took, and whether they
+//! failed; [`ReaderSource`] and [`WriterSink`] make one of any reader and writer.
 #![tactic(auto)]
 
 mod ends;

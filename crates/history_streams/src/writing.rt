@@ -7,8 +7,8 @@ ghost use Rattle.history_streams.specs.declared.faults.FileFault.TheVariants.{Wr
 use crate::ends::Sink;
 use crate::faults::FileFault;
 
-/// Hands all the bytes to a sink, in as many pieces as it takes them. Where the sink fails, it holds a
-/// front of them.
+/// Hands all the bytes to a sink, in as many pieces as it takes them. Where the sink fails, it
+/// holds a front of them.
 pub fn write_out<W: Sink>(sink: &mut W, bytes: &[u8]) -> Result<(), FileFault>
     ensures ok { OnOk result (Appends (W.holds sink.old) (W.holds sink.new) bytes.now) }
     ensures whole { OnOk result (W.has_failed sink.new → W.has_failed sink.old) }

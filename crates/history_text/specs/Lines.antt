@@ -1,5 +1,7 @@
 -- What a script is: the text of its lines, what a line can say, and which lines may follow others.
-use Rattle.std.specs.Prelude.{◌≡◌, ◌⊎◌, ℕ, ◌+◌, ◌<◌, ◌≤◌, ◌^◌, List, [], ◌∷◌, ◌++◌, length, Bool, true, false, not, ◌&&◌, ◌==◌, nat_lt, nat_le, if◌then◌else◌, Option, None, Some, option_map, option_and_then, Result, Ok, Err, codes, decimal}
+use Rattle.std.specs.Prelude.{◌≡◌, ◌⊎◌, ℕ, ◌+◌, ◌<◌, ◌≤◌, ◌^◌, List, [], ◌∷◌, ◌++◌, length, Bool, true, false, not}
+use Rattle.std.specs.Prelude.{◌&&◌, ◌==◌, nat_lt, nat_le, if◌then◌else◌, Option, None, Some, option_map}
+use Rattle.std.specs.Prelude.{option_and_then, Result, Ok, Err, codes, decimal}
 use Rattle.std.specs.Fmt.{signed_decimal}
 use Rattle.std.specs.List.{join_with_byte, slice_split, list_all, list_any}
 use Rattle.std.specs.Str.{bytes_eq}
@@ -11,8 +13,10 @@ use Rattle.history_text.specs.declared.lines.Line.TheVariants.{World, Object, St
 use Rattle.history_text.specs.declared.lines.StepLine.{StepLine}
 use Rattle.history_text.specs.declared.lines.StepLine.TheVariants.{Attach, Begin, Go, Expire, Spurious, Tick, Relayout}
 use Rattle.history_text.specs.declared.lines.Call.{Call}
-use Rattle.history_text.specs.declared.lines.Call.TheVariants.{Enter, Exit, Wait, Notify, NotifyAll, Holds, Interrupt, Interrupted, IsInterrupted, End}
-use Rattle.history_text.specs.Words.{IsBelow, is_name, name_from, number_from, signed_from, nanos_from, low_text, low_from}
+use Rattle.history_text.specs.declared.lines.Call.TheVariants.{Enter, Exit, Wait, Notify, NotifyAll, Holds, Interrupt}
+use Rattle.history_text.specs.declared.lines.Call.TheVariants.{Interrupted, IsInterrupted, End}
+use Rattle.history_text.specs.Words.{IsBelow, is_name, name_from, number_from, signed_from, nanos_from, low_text}
+use Rattle.history_text.specs.Words.{low_from}
 
 -- ---- the text
 

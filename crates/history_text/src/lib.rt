@@ -1,8 +1,8 @@
 //! The texts of scripts: which bytes are the text of which lines, read and written.
 //!
-//! `docs/FORMATS.md` has the form of a script. `specs/Lines.antt` has it as definitions: the text of
-//! a line, what a line can say, and which lines may follow others. `read_script` answers the lines
-//! exactly where the bytes are their text, and else the first line that breaks a rule.
+//! `docs/FORMATS.md` has the form of a script. `specs/Lines.antt` has it as definitions: the text
+//! of a line, what a line can say, and which lines may follow others. `read_script` answers the
+//! lines exactly where the bytes are their text, and else the first line that breaks a rule.
 #![tactic(auto)]
 
 mod lines;

@@ -8,8 +8,8 @@ use lock_word::Split;
 pub enum Call<'a> {
     Enter(Name<'a>),
     Exit(Name<'a>),
-    /// The time is any number of 64 bits and any of 32: the call itself finds out whether they are in
-    /// their ranges.
+    /// The time is any number of 64 bits and any of 32: the call itself finds out whether they are
+    /// in their ranges.
     Wait {
         object: Name<'a>,
         millis: i64,
@@ -42,8 +42,8 @@ pub enum StepLine<'a> {
 /// A line of a script.
 #[derive(Debug, Drop)]
 pub enum Line<'a> {
-    /// The most fat monitors, 0 to 8,388,608; the most live threads, 1 to the greatest index of the split;
-    /// and the split of the header words.
+    /// The most fat monitors, 0 to 8,388,608; the most live threads, 1 to the greatest index of the
+    /// split; and the split of the header words.
     World {
         monitors: u32,
         indices: u16,

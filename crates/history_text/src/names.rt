@@ -11,8 +11,8 @@ use std::marker::Model;
 /// The most bytes that a name has.
 const LONGEST_NAME: usize = 32;
 
-/// The name of a thread or an object: 1 to 32 of the bytes `a` to `z`, `0` to `9` and `_`, the first a
-/// letter.
+/// The name of a thread or an object: 1 to 32 of the bytes `a` to `z`, `0` to `9` and `_`, the
+/// first a letter.
 #[derive(Debug, Drop)]
 pub struct Name<'a> {
     text: &'a str,

@@ -1,11 +1,16 @@
 //! Reading the words of a line.
 
-ghost use Rattle.std.specs.Prelude.{◌≡◌, ◌==◌, ◌-◌, ◌^◌, ◌&&◌, nat_lt, nat_le, pos, negsuc, Some, None, if◌then◌else◌, IfOk, map, option_map, option_and_then};
+ghost use Rattle.std.specs.Prelude.{◌≡◌, ◌==◌, ◌-◌, ◌^◌, ◌&&◌, nat_lt, nat_le, pos, negsuc, Some};
+ghost use Rattle.std.specs.Prelude.{None, if◌then◌else◌, IfOk, map, option_map, option_and_then};
 ghost use Rattle.std.specs.List.{list_all};
 ghost use Rattle.std.specs.Char.{is_ascii_digit};
 ghost use Rattle.history_text.specs.declared.lines.Line.TheVariants.{Object, Step};
-ghost use Rattle.history_text.specs.Words.{is_numeral, signed_from, nanos_from, number_from, name_from, hex_from, low_from};
-ghost use Rattle.history_text.specs.Lines.{begin_from, call_alone, call_naming, call_with, call_timed, wait_from, world_of, split_from, step_of_two, line_of_three, line_of_four, line_from, words_of, line_at};
+ghost use Rattle.history_text.specs.Words.{is_numeral, signed_from, nanos_from, number_from};
+ghost use Rattle.history_text.specs.Words.{name_from, hex_from, low_from};
+ghost use Rattle.history_text.specs.Lines.{begin_from, call_alone, call_naming, call_with};
+ghost use Rattle.history_text.specs.Lines.{call_timed, wait_from, world_of, split_from};
+ghost use Rattle.history_text.specs.Lines.{step_of_two, line_of_three, line_of_four, line_from};
+ghost use Rattle.history_text.specs.Lines.{words_of, line_at};
 
 use crate::lines::{Call, Line, StepLine};
 use crate::names::Name;

@@ -1,10 +1,13 @@
 //! Scripts: lines that follow one another by the rules.
 
-ghost use Rattle.std.specs.Prelude.{◌≡◌, ◌<◌, ◌≤◌, ◌++◌, ◌∷◌, ◌==◌, ◌&&◌, ◌||◌, [], ℕ, List, true, length, map, position, string_bytes, IfErr, IfOk, IfSome, MatchOption, OnOk, Err, Ok};
+ghost use Rattle.std.specs.Prelude.{◌≡◌, ◌<◌, ◌≤◌, ◌++◌, ◌∷◌, ◌==◌, ◌&&◌, ◌||◌, [], ℕ, List, true};
+ghost use Rattle.std.specs.Prelude.{length, map, position, string_bytes, IfErr, IfOk, IfSome};
+ghost use Rattle.std.specs.Prelude.{MatchOption, OnOk, Err, Ok};
 ghost use Rattle.std.specs.List.{list_any};
 ghost use Rattle.std.specs.Str.{bytes_eq};
 ghost use Rattle.history_text.specs.declared.lines.Line.{Line as LineData};
-ghost use Rattle.history_text.specs.Lines.{is_object, may_follow, next_from, lines_from, parts_of, script_text, IsBeginning, IsFirstBad, IsScript};
+ghost use Rattle.history_text.specs.Lines.{is_object, may_follow, next_from, lines_from, parts_of};
+ghost use Rattle.history_text.specs.Lines.{script_text, IsBeginning, IsFirstBad, IsScript};
 ghost use Rattle.history_text.specs.Noted.{IsNoted, may_follow_by, with_object};
 ghost use Rattle.history_text.specs.Scripts.{Gives, IsReasonFor};
 
@@ -161,7 +164,8 @@ fn cut_line(bytes: &[u8]) -> Option<(&[u8], &[u8])>
     }
 }
 
-/// The lines of the longest beginning of some bytes that keeps the rules, and the bytes that are left.
+/// The lines of the longest beginning of some bytes that keeps the rules, and the bytes that are
+/// left.
 #[tactic(auto, using(crate::proofs::Beginnings::beginning_steps))]
 pub fn read_beginning<'a>(
     alloc: Global,
@@ -195,8 +199,8 @@ fn lines_of<'a>(alloc: Global, bytes: &'a [u8]) -> Result<Vec<Line<'a>>, FileFau
     Ok(lines)
 }
 
-/// The script that some bytes are, or why they are none: the first line that is bad, or more bytes than
-/// a script has, whatever their lines are.
+/// The script that some bytes are, or why they are none: the first line that is bad, or more bytes
+/// than a script has, whatever their lines are.
 pub fn read_script<'a>(alloc: Global, bytes: &'a [u8]) -> Result<Script<'a>, FileFault>
     // What is read is written so.
     ensures found { IfOk result (λ script. IsScript script × (bytes.now ≡ script_text script)) }

@@ -66,7 +66,10 @@ waiting_count l o = count_by (does_wait o) (map.values l)
 
 -- a thread, once all have been taken out of the wait set of o
 abbrev pub notified_record : ObjectId → ThreadRecord → ThreadRecord
-notified_record o r = record { live = record { flag = r.live.flag; act = after_notify_all o r.live.act }; owned = r.owned }
+notified_record o r = record {
+  live = record { flag = r.live.flag; act = after_notify_all o r.live.act };
+  owned = r.owned;
+}
 
 -- every member of the wait set of o leaves it
 abbrev pub all_back : LiveThreads → ObjectId → LiveThreads

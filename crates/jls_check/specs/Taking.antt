@@ -191,7 +191,8 @@ bad_argument v t = bad_argument_of v t (wish v t)
 
 abbrev pub early_of : MachineState → ThreadId → Option Wish → Option MachineState
 early_of v t None = None
-early_of v t (Some w) = if is_good w.millis w.nanos && w.flag then Some (put_reply v t false reply.Interrupted) else None
+early_of v t (Some w) =
+    if is_good w.millis w.nanos && w.flag then Some (put_reply v t false reply.Interrupted) else None
 
 abbrev pub early : MachineState → ThreadId → Option MachineState
 early v t = early_of v t (wish v t)
@@ -354,7 +355,8 @@ may_refuse v t c why = false
 
 abbrev pub refuse_for : MachineState → ThreadId → Cause → Option (Bool × Call) → Option MachineState
 refuse_for v t why None = None
-refuse_for v t why (Some (flag, c)) = if may_refuse v t c why then Some (put_reply v t flag (reply.Refused why)) else None
+refuse_for v t why (Some (flag, c)) =
+    if may_refuse v t c why then Some (put_reply v t flag (reply.Refused why)) else None
 
 abbrev pub refuse : MachineState → ThreadId → Cause → Option MachineState
 refuse v t why = refuse_for v t why (wanted v t)

@@ -39,7 +39,8 @@ impl Machine {
         self.put(thread, flag, Doing::Has(reply));
     }
 
-    /// Writes who owns an object, and how often it is locked. Whoever owns it is live, and has not ended.
+    /// Writes who owns an object, and how often it is locked. Whoever owns it is live, and has not
+    /// ended.
     pub(crate) fn hold(&mut self, object: ObjectId, held: Held)
         requires { MatchOption held.owner (Unit {0}) (λ t. MayOwn self.old.threads t) }
         ensures { self.new ≡ with_held self.old object held }

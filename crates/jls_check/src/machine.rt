@@ -1,6 +1,7 @@
 //! The machine behind some moves.
 
-ghost use Rattle.std.specs.Prelude.{◌≡◌, ◌↔◌, OnOk, OnErr, IsErrOf, IfOk, IsSome, Bool, true, not, length};
+ghost use Rattle.std.specs.Prelude.{◌≡◌, ◌↔◌, OnOk, OnErr, IsErrOf, IfOk, IsSome, Bool, true, not};
+ghost use Rattle.std.specs.Prelude.{length};
 ghost use Rattle.step_core.specs.Machine.{opening, over_at, Steps};
 ghost use Rattle.step_core.specs.Lasting.{LastsBut, MoveReturns};
 ghost use Rattle.jls_check.specs.LiveThreads.{live_of, some_waits};
@@ -57,8 +58,8 @@ impl Model for Machine {
 }
 
 impl Machine {
-    /// The machine before all moves: no thread is live, nobody owns an object, and the moment is 0. An object is named
-    /// by a number below `objects`.
+    /// The machine before all moves: no thread is live, nobody owns an object, and the moment is 0.
+    /// An object is named by a number below `objects`.
     pub fn new(alloc: Global, objects: u32) -> Result<Machine, Memory>
         ensures { IfOk result (λ machine. state machine ≡ opening objects) }
     {
@@ -69,17 +70,19 @@ impl Machine {
         })
     }
 
-    /// Takes a move, if it is lawful now (JLS SE 8, 17.1 and 17.2). It is refused with [`Broken`](MoveFault::Broken)
-    /// exactly where the machine may not make it, and with [`Memory`](MoveFault::Memory) at most where it is an Attach.
+    /// Takes a move, if it is lawful now (JLS SE 8, 17.1 and 17.2). It is refused with
+    /// [`Broken`](MoveFault::Broken) exactly where the machine may not make it, and with
+    /// [`Memory`](MoveFault::Memory) at most where it is an Attach.
     ///
-    /// No notification is lost: a thread that is back from a wait set stays so or has the reply for its reason, and
-    /// keeps that until the move Return of just that reply.
+    /// No notification is lost: a thread that is back from a wait set stays so or has the reply for
+    /// its reason, and keeps that until the move Return of just that reply.
     pub fn take(&mut self, made: Move) -> Result<(), MoveFault>
         ensures taken { OnOk result (Steps (state self.old) made (state self.new)) }
         ensures broken { IsErrOf result Broken ↔ IsUnlawful (state self.old) made }
         ensures memory { IsErrOf result NoMemory → IsAttach made }
         ensures kept { OnErr result (self.new ≡ self.old) }
-        ensures lasting { OnOk result (LastsBut (state self.old) (MoveReturns made) (state self.new)) }
+        ensures lasting { OnOk result
+            (LastsBut (state self.old) (MoveReturns made) (state self.new)) }
     {
         // A law, by which a move that is taken keeps what lasts.
         every_move_keeps_what_lasts();
@@ -88,7 +91,8 @@ impl Machine {
 
     fn advance(&mut self, made: Move) -> Result<(), MoveFault>
         ensures was { IsSound self.old }
-        ensures exact { (room : Bool) × (record { answer = result; after = self.new } ≡ answered room self.old made) }
+        ensures exact { (room : Bool)
+            × (record { answer = result; after = self.new } ≡ answered room self.old made) }
     {
         // A use of a field, by which the state is known to be sound.
         let _ = &self.moment;

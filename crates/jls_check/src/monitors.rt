@@ -76,8 +76,8 @@ impl Held {
     }
 }
 
-/// A thread did this, if it was live, and does that from now on: it leaves the wait set that it was in, and joins the
-/// one that it goes into.
+/// A thread did this, if it was live, and does that from now on: it leaves the wait set that it was
+/// in, and joins the one that it goes into.
 pub(crate) fn count_waits(objects: &mut [ObjectRecord], was: Option<Live>, act: Doing)
     requires waited { MatchOption was (Unit {0}) (λ x. HasWaiter objects.old x.act) }
     requires room { CanCountOneMore (left_by objects.old was) act }

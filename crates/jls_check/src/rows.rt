@@ -16,7 +16,8 @@ use step_core::Doing;
 
 impl Machine {
     pub(crate) fn attach(&mut self, thread: ThreadId) -> Result<(), MoveFault>
-        ensures { (room : Bool) × (record { answer = result; after = self.new } ≡ attached room self.old thread) }
+        ensures { (room : Bool)
+            × (record { answer = result; after = self.new } ≡ attached room self.old thread) }
     {
         if self.threads.get(thread).is_some() {
             return Err(MoveFault::Broken);
@@ -49,7 +50,8 @@ impl Machine {
     }
 
     pub(crate) fn make_call(&mut self, thread: ThreadId, call: Call) -> Result<(), MoveFault>
-        ensures { record { answer = result; after = self.new } ≡ taken self.old (rows.make_call self.old thread call) }
+        ensures { record { answer = result; after = self.new }
+            ≡ taken self.old (rows.make_call self.old thread call) }
     {
         let Some(
             Live {
@@ -68,7 +70,8 @@ impl Machine {
     }
 
     pub(crate) fn lock(&mut self, thread: ThreadId) -> Result<(), MoveFault>
-        ensures { record { answer = result; after = self.new } ≡ taken self.old (rows.lock self.old thread) }
+        ensures { record { answer = result; after = self.new }
+            ≡ taken self.old (rows.lock self.old thread) }
     {
         let Some((flag, Call::Enter(object))) = self.wanted(thread) else {
             return Err(MoveFault::Broken);
@@ -83,7 +86,8 @@ impl Machine {
     }
 
     pub(crate) fn unlock(&mut self, thread: ThreadId) -> Result<(), MoveFault>
-        ensures { record { answer = result; after = self.new } ≡ taken self.old (rows.unlock self.old thread) }
+        ensures { record { answer = result; after = self.new }
+            ≡ taken self.old (rows.unlock self.old thread) }
     {
         let Some((flag, Call::Exit(object))) = self.wanted(thread) else {
             return Err(MoveFault::Broken);
@@ -98,7 +102,8 @@ impl Machine {
     }
 
     pub(crate) fn illegal(&mut self, thread: ThreadId) -> Result<(), MoveFault>
-        ensures { record { answer = result; after = self.new } ≡ taken self.old (rows.illegal self.old thread) }
+        ensures { record { answer = result; after = self.new }
+            ≡ taken self.old (rows.illegal self.old thread) }
     {
         let Some((flag, call)) = self.wanted(thread) else {
             return Err(MoveFault::Broken);
@@ -114,7 +119,8 @@ impl Machine {
     }
 
     pub(crate) fn test_clear(&mut self, thread: ThreadId) -> Result<(), MoveFault>
-        ensures { record { answer = result; after = self.new } ≡ taken self.old (rows.test_clear self.old thread) }
+        ensures { record { answer = result; after = self.new }
+            ≡ taken self.old (rows.test_clear self.old thread) }
     {
         let Some((flag, Call::Interrupted)) = self.wanted(thread) else {
             return Err(MoveFault::Broken);
@@ -124,7 +130,8 @@ impl Machine {
     }
 
     pub(crate) fn ask(&mut self, thread: ThreadId) -> Result<(), MoveFault>
-        ensures { record { answer = result; after = self.new } ≡ taken self.old (rows.ask self.old thread) }
+        ensures { record { answer = result; after = self.new }
+            ≡ taken self.old (rows.ask self.old thread) }
     {
         let (flag, answer) = match self.wanted(thread) {
             Some((flag, Call::Holds(object))) => (flag, self.owns(thread, object)),
@@ -139,7 +146,8 @@ impl Machine {
     }
 
     pub(crate) fn refuse(&mut self, thread: ThreadId, cause: Cause) -> Result<(), MoveFault>
-        ensures { record { answer = result; after = self.new } ≡ taken self.old (rows.refuse self.old thread cause) }
+        ensures { record { answer = result; after = self.new }
+            ≡ taken self.old (rows.refuse self.old thread cause) }
     {
         let Some((flag, call)) = self.wanted(thread) else {
             return Err(MoveFault::Broken);
@@ -152,7 +160,8 @@ impl Machine {
     }
 
     pub(crate) fn end(&mut self, thread: ThreadId) -> Result<(), MoveFault>
-        ensures { record { answer = result; after = self.new } ≡ taken self.old (rows.end self.old thread) }
+        ensures { record { answer = result; after = self.new }
+            ≡ taken self.old (rows.end self.old thread) }
     {
         let Some((flag, Call::End)) = self.wanted(thread) else {
             return Err(MoveFault::Broken);
@@ -167,7 +176,8 @@ impl Machine {
     }
 
     pub(crate) fn time(&mut self, now: u64) -> Result<(), MoveFault>
-        ensures { record { answer = result; after = self.new } ≡ taken self.old (rows.time self.old now) }
+        ensures { record { answer = result; after = self.new }
+            ≡ taken self.old (rows.time self.old now) }
     {
         if now < self.moment {
             return Err(MoveFault::Broken);

@@ -1,4 +1,5 @@
-//! Runs of moves where memory is ample, which no contract can say, and between them moves that are not lawful.
+//! Runs of moves where memory is ample, which no contract can say, and between them moves that are
+//! not lawful.
 
 use super::*;
 use fast_path::Call;

@@ -1,9 +1,11 @@
 //! The live threads, by their numbers.
 
-ghost use Rattle.std.specs.Prelude.{◌≡◌, ◌+◌, ◌≤◌, ◌<◌, ◌^◌, IsSome, Some, OnOk, OnErr, MatchOption};
+ghost use Rattle.std.specs.Prelude.{◌≡◌, ◌+◌, ◌≤◌, ◌<◌, ◌^◌, IsSome, Some, OnOk, OnErr};
+ghost use Rattle.std.specs.Prelude.{MatchOption};
 ghost use Rattle.std.specs.FinMap as map;
 ghost use Rattle.step_core.specs.Machine.{after_notify_all};
-ghost use Rattle.jls_check.specs.LiveThreads.{live_of, owned_of, with_live, without_live, lost, gained, all_back};
+ghost use Rattle.jls_check.specs.LiveThreads.{live_of, owned_of, with_live, without_live, lost};
+ghost use Rattle.jls_check.specs.LiveThreads.{gained, all_back};
 
 use fat_monitor::Why;
 use lock_word::{Memory, ObjectId, ThreadId};

@@ -16,7 +16,8 @@ use step_core::Doing;
 
 impl Machine {
     pub(crate) fn bad_argument(&mut self, thread: ThreadId) -> Result<(), MoveFault>
-        ensures { record { answer = result; after = self.new } ≡ taken self.old (rows.bad_argument self.old thread) }
+        ensures { record { answer = result; after = self.new }
+            ≡ taken self.old (rows.bad_argument self.old thread) }
     {
         let Some(wish) = self.wish(thread) else {
             return Err(MoveFault::Broken);
@@ -29,7 +30,8 @@ impl Machine {
     }
 
     pub(crate) fn early(&mut self, thread: ThreadId) -> Result<(), MoveFault>
-        ensures { record { answer = result; after = self.new } ≡ taken self.old (rows.early self.old thread) }
+        ensures { record { answer = result; after = self.new }
+            ≡ taken self.old (rows.early self.old thread) }
     {
         let Some(wish) = self.wish(thread) else {
             return Err(MoveFault::Broken);
@@ -42,7 +44,8 @@ impl Machine {
     }
 
     pub(crate) fn wait(&mut self, thread: ThreadId) -> Result<(), MoveFault>
-        ensures { record { answer = result; after = self.new } ≡ taken self.old (rows.wait self.old thread) }
+        ensures { record { answer = result; after = self.new }
+            ≡ taken self.old (rows.wait self.old thread) }
     {
         let Some(wish) = self.wish(thread) else {
             return Err(MoveFault::Broken);
@@ -62,7 +65,8 @@ impl Machine {
     }
 
     pub(crate) fn notify(&mut self, thread: ThreadId, chosen: ThreadId) -> Result<(), MoveFault>
-        ensures { record { answer = result; after = self.new } ≡ taken self.old (rows.notify self.old thread chosen) }
+        ensures { record { answer = result; after = self.new }
+            ≡ taken self.old (rows.notify self.old thread chosen) }
     {
         let Some((flag, Call::Notify(object))) = self.wanted(thread) else {
             return Err(MoveFault::Broken);
@@ -97,7 +101,8 @@ impl Machine {
     }
 
     pub(crate) fn notify_nobody(&mut self, thread: ThreadId) -> Result<(), MoveFault>
-        ensures { record { answer = result; after = self.new } ≡ taken self.old (rows.notify_nobody self.old thread) }
+        ensures { record { answer = result; after = self.new }
+            ≡ taken self.old (rows.notify_nobody self.old thread) }
     {
         let Some((flag, Call::Notify(object))) = self.wanted(thread) else {
             return Err(MoveFault::Broken);
@@ -110,7 +115,8 @@ impl Machine {
     }
 
     pub(crate) fn notify_all(&mut self, thread: ThreadId) -> Result<(), MoveFault>
-        ensures { record { answer = result; after = self.new } ≡ taken self.old (rows.notify_all self.old thread) }
+        ensures { record { answer = result; after = self.new }
+            ≡ taken self.old (rows.notify_all self.old thread) }
     {
         let Some((flag, Call::NotifyAll(object))) = self.wanted(thread) else {
             return Err(MoveFault::Broken);
@@ -124,7 +130,8 @@ impl Machine {
     }
 
     pub(crate) fn interrupt(&mut self, thread: ThreadId) -> Result<(), MoveFault>
-        ensures { record { answer = result; after = self.new } ≡ taken self.old (rows.interrupt self.old thread) }
+        ensures { record { answer = result; after = self.new }
+            ≡ taken self.old (rows.interrupt self.old thread) }
     {
         let Some((flag, Call::Interrupt(target))) = self.wanted(thread) else {
             return Err(MoveFault::Broken);
@@ -138,7 +145,8 @@ impl Machine {
     }
 
     pub(crate) fn expire(&mut self, thread: ThreadId) -> Result<(), MoveFault>
-        ensures { record { answer = result; after = self.new } ≡ taken self.old (rows.expire self.old thread) }
+        ensures { record { answer = result; after = self.new }
+            ≡ taken self.old (rows.expire self.old thread) }
     {
         let Some(
             Live {
@@ -166,7 +174,8 @@ impl Machine {
     }
 
     pub(crate) fn wake(&mut self, thread: ThreadId) -> Result<(), MoveFault>
-        ensures { record { answer = result; after = self.new } ≡ taken self.old (rows.wake self.old thread) }
+        ensures { record { answer = result; after = self.new }
+            ≡ taken self.old (rows.wake self.old thread) }
     {
         let Some(
             Live {
@@ -187,7 +196,8 @@ impl Machine {
     }
 
     pub(crate) fn relock(&mut self, thread: ThreadId) -> Result<(), MoveFault>
-        ensures { record { answer = result; after = self.new } ≡ taken self.old (rows.relock self.old thread) }
+        ensures { record { answer = result; after = self.new }
+            ≡ taken self.old (rows.relock self.old thread) }
     {
         let Some(
             Live {

@@ -43,15 +43,16 @@ told_in d = (vec_items d.answers, d.stopped)
 abbrev pub told_in_row : Vec (Result Reply LiveFault) Global × Bool → List (Result Reply LiveFault) × Bool
 told_in_row w = (vec_items w.0, w.1)
 
--- The text of a run of these lines: their threads made their calls on a service with their objects, each on a pass of its
--- own from thread 1 on, and the service was closed then. Its text has what they came to.
+-- The text of a run of these lines: their threads made their calls on a service with their objects, each on a
+-- pass of its own from thread 1 on, and the service was closed then. Its text has what they came to.
 pub record IsLiveRun (ls : List Line) (text : List ℕ) : Type 0 where
   pub opening : Opening
   pub lows : opening.lows ≡ lows_of ls
   pub count : opening.count ≡ length (attached ls)
   pub workers : List Worker
   pub starts : map (λ (w : Worker). w.before) workers ≡ map new_holding (new_passes opening 1 opening.count)
-  pub calls : map (λ (w : Worker). w.calls) workers ≡ map (λ t. calls_of (objects_of ls) (attached ls) t ls) (attached ls)
+  pub calls : map (λ (w : Worker). w.calls) workers
+      ≡ map (λ t. calls_of (objects_of ls) (attached ls) t ls) (attached ls)
   pub worked : All (HasWorked opening) workers
   pub closed : Closed
   pub end : IsEnd opening (monitors_in ls) (map (λ (w : Worker). at_rest w.after) workers) closed

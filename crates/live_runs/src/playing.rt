@@ -37,8 +37,8 @@ impl Gate for Open {
     fn after(&self, _worker: usize, _call: usize) {}
 }
 
-/// Runs a live script, each of its threads on a thread of the system, and tells what came of it. Where
-/// its threads wait for each other for ever, so does this.
+/// Runs a live script, each of its threads on a thread of the system, and tells what came of it.
+/// Where its threads wait for each other for ever, so does this.
 pub fn run_script<R: Threads + Wait + Clock + Sync>(
     rt: &R,
     alloc: Global,
@@ -101,7 +101,8 @@ fn drive_all<L: Crew + Send + Sync, R: Threads + Wait + Clock + Sync>(
     requires threads { live.count ≡ length (attached script.now) }
     requires crew { (L.parts ≡ live.count) × (L.passes ≡ live.count)
         × (L.monitors ≡ monitors_in script.now) }
-    requires passes { map (λ w. w.pass) works.items ≡ map new_holding (new_passes live 1 live.count) }
+    requires passes { map (λ w. w.pass) works.items
+        ≡ map new_holding (new_passes live 1 live.count) }
     requires calls { map (λ w. vec_items w.calls) works.items
         ≡ map (λ t. calls_of (objects_of script.now) (attached script.now) t script.now)
         (attached script.now) }

@@ -1,9 +1,13 @@
 //! Running a live script: from a reader's bytes to a writer's text.
 
-ghost use Rattle.std.specs.Prelude.{◌≡◌, ◌<◌, ◌≤◌, ◌⊎◌, ℕ, List, length, string_bytes, take, IsErrOf, IfSome, OnOk, IfErr, IfOk, Err};
+ghost use Rattle.std.specs.Prelude.{◌≡◌, ◌<◌, ◌≤◌, ◌⊎◌, ℕ, List, length, string_bytes, take};
+ghost use Rattle.std.specs.Prelude.{IsErrOf, IfSome, OnOk, IfErr, IfOk, Err};
 ghost use Rattle.std.specs.Io.KnownBytes.{Keeps, Appends};
 ghost use Rattle.live_scripts.specs.Rules.{IsFirstBadLive};
-ghost use Rattle.history_streams.specs.declared.faults.FileFault.TheVariants.{BadLine, BadMove, Broken, Read as ReadFault, Write as WriteFault};
+ghost use Rattle.history_streams.specs.declared.faults.FileFault.TheVariants.{BadLine, BadMove};
+ghost use Rattle.history_streams.specs.declared.faults.FileFault.TheVariants.{Broken};
+ghost use Rattle.history_streams.specs.declared.faults.FileFault.TheVariants.{Read as ReadFault};
+ghost use Rattle.history_streams.specs.declared.faults.FileFault.TheVariants.{Write as WriteFault};
 ghost use Rattle.live_runs.specs.declared.faults.RunFault.TheVariants.{File};
 ghost use Rattle.live_runs.specs.Faults.{IsRunReason};
 ghost use Rattle.live_runs.specs.Runs.{IsTextOfRun};
@@ -29,8 +33,8 @@ pub fn run_live<S: Source, W: Sink, R: Threads + Wait + Clock + Sync>(
     sink: &mut W,
 ) -> Result<(), RunFault>
     requires { S.given source.old ≡ 0 }
-    // At Ok, neither end has failed in the call, the bytes were the text of a live script within the limit
-    // of scripts, and the whole text of a run of it was written.
+    // At Ok, neither end has failed in the call, the bytes were the text of a live script within
+    // the limit of scripts, and the whole text of a run of it was written.
     ensures written { OnOk result ((text : List ℕ)
         × IfSome (S.left source.old) (λ input. IsTextOfRun input text)
         × Appends (W.holds sink.old) (W.holds sink.new) text) }
@@ -38,8 +42,8 @@ pub fn run_live<S: Source, W: Sink, R: Threads + Wait + Clock + Sync>(
     ensures written_whole { OnOk result (W.has_failed sink.new → W.has_failed sink.old) }
     ensures within { OnOk result (IfSome (S.left source.old) (λ input. length input ≤ MOST_BYTES)) }
 
-    // Else a fault tells its cause, and only where writing failed was something written: the front of
-    // the text.
+    // Else a fault tells its cause, and only where writing failed was something written: the front
+    // of the text.
     ensures bad_line { (line : ℕ) → result ≡ Err (File (BadLine line))
         → IfSome (S.left source.old) (λ input. IsFirstBadLive input line) }
     ensures read { IsErrOf result (File ReadFault)

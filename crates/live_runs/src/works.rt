@@ -1,6 +1,7 @@
 //! The works of the threads of a live script, and what they came to.
 
-ghost use Rattle.std.specs.Prelude.{◌≡◌, ◌≤◌, ◌++◌, ◌∷◌, [], IfOk, IfSome, IfNone, length, map, vec_capacity};
+ghost use Rattle.std.specs.Prelude.{◌≡◌, ◌≤◌, ◌++◌, ◌∷◌, [], IfOk, IfSome, IfNone, length, map};
+ghost use Rattle.std.specs.Prelude.{vec_capacity};
 ghost use Rattle.live_runs.specs.Runs.{told_in, told_in_row};
 
 use fast_path::Call;

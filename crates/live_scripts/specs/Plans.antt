@@ -5,7 +5,8 @@ use Rattle.std.specs.Str.{bytes_eq}
 use Rattle.lock_word.specs.declared.ObjectId.{ObjectId}
 use Rattle.lock_word.specs.declared.ThreadId.{ThreadId}
 use Rattle.fast_path.specs.declared.calls.Call.{Call}
-use Rattle.fast_path.specs.declared.calls.Call.TheVariants.{Enter, Exit, Wait, Notify, NotifyAll, Holds, Interrupt, Interrupted, IsInterrupted, End}
+use Rattle.fast_path.specs.declared.calls.Call.TheVariants.{Enter, Exit, Wait, Notify, NotifyAll, Holds, Interrupt}
+use Rattle.fast_path.specs.declared.calls.Call.TheVariants.{Interrupted, IsInterrupted, End}
 use Rattle.history_text.specs.declared.lines.Call.{Call as CallLine}
 use Rattle.history_text.specs.declared.lines.Call.TheVariants as line
 use Rattle.history_text.specs.declared.lines.StepLine.{StepLine}
@@ -38,7 +39,8 @@ call_in objects threads line.End = End
 
 abbrev pub calls_in_step : List (List ℕ) → List (List ℕ) → List ℕ → StepLine → List Call
 calls_in_step objects threads thread (step.Attach t) = []
-calls_in_step objects threads thread (step.Begin t call) = if bytes_eq t thread then call_in objects threads call ∷ [] else []
+calls_in_step objects threads thread (step.Begin t call) =
+    if bytes_eq t thread then call_in objects threads call ∷ [] else []
 calls_in_step objects threads thread (step.Go t) = []
 calls_in_step objects threads thread (step.Expire t) = []
 calls_in_step objects threads thread (step.Spurious t) = []

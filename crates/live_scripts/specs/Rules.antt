@@ -1,5 +1,6 @@
 -- What a live script is: a script of attaches and begins, whose threads may run on threads of the system.
-use Rattle.std.specs.Prelude.{◌≡◌, ◌⊎◌, ◌<◌, ◌≤◌, ◌+◌, ℕ, List, [], ◌∷◌, ◌++◌, length, Bool, true, false, not, ◌&&◌, nat_lt}
+use Rattle.std.specs.Prelude.{◌≡◌, ◌⊎◌, ◌<◌, ◌≤◌, ◌+◌, ℕ, List, [], ◌∷◌, ◌++◌, length, Bool, true, false, not, ◌&&◌}
+use Rattle.std.specs.Prelude.{nat_lt}
 use Rattle.std.specs.List.{list_any}
 use Rattle.std.specs.Str.{bytes_eq}
 use Rattle.lock_word.specs.declared.Split.{Split}
@@ -11,7 +12,8 @@ use Rattle.history_text.specs.declared.lines.Line.TheVariants.{World, Object, St
 use Rattle.history_text.specs.declared.lines.StepLine.{StepLine}
 use Rattle.history_text.specs.declared.lines.StepLine.TheVariants.{Attach, Begin, Go, Expire, Spurious, Tick, Relayout}
 use Rattle.history_text.specs.declared.lines.Call.{Call}
-use Rattle.history_text.specs.declared.lines.Call.TheVariants.{Enter, Exit, Wait, Notify, NotifyAll, Holds, Interrupt, Interrupted, IsInterrupted, End}
+use Rattle.history_text.specs.declared.lines.Call.TheVariants.{Enter, Exit, Wait, Notify, NotifyAll, Holds, Interrupt}
+use Rattle.history_text.specs.declared.lines.Call.TheVariants.{Interrupted, IsInterrupted, End}
 use Rattle.history_text.specs.Lines.{Fits, Continues, IsScript, may_follow, line_text, script_text}
 
 abbrev pub attached_by : StepLine → List (List ℕ)
@@ -90,8 +92,8 @@ Runs earlier (l ∷ ls) = (may_run earlier l ≡ true) × Runs (earlier ++ l ∷
 abbrev pub IsLiveScript : List Line → Type 0
 IsLiveScript ls = IsScript ls × Runs [] ls × (0 < length (attached ls))
 
--- Line n is the first that breaks a rule of live scripts: right lines stand before it, and what stands there begins with
--- no line that may follow them and run. Where nothing stands there, no thread is attached.
+-- Line n is the first that breaks a rule of live scripts: right lines stand before it, and what stands there
+-- begins with no line that may follow them and run. Where nothing stands there, no thread is attached.
 pub record IsFirstBadLive (bytes : List ℕ) (n : ℕ) : Type 0 where
   pub before : List Line
   pub rest : List ℕ

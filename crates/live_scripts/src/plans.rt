@@ -2,7 +2,9 @@
 
 ghost use Rattle.std.specs.Prelude.{◌≡◌, ◌≤◌, ◌<◌, ◌++◌, IfOk, OnOk, length, map};
 ghost use Rattle.live_scripts.specs.Rules.{IsLiveScript, attached};
-ghost use Rattle.live_scripts.specs.Plans.{call_in, calls_in, calls_of, lows_in, lows_of, monitors_in, object_of, objects_in, objects_of, place_of, thread_of};
+ghost use Rattle.live_scripts.specs.Plans.{call_in, calls_in, calls_of, lows_in, lows_of};
+ghost use Rattle.live_scripts.specs.Plans.{monitors_in, object_of, objects_in, objects_of};
+ghost use Rattle.live_scripts.specs.Plans.{place_of, thread_of};
 ghost use Rattle.live_scripts.specs.Planned.{IsPlanOf};
 
 use crate::LiveScript;
@@ -12,10 +14,10 @@ use history_text::{Line, Name, StepLine};
 use lock_word::{ObjectId, ThreadId};
 use std::alloc::{AllocError, Global};
 
-/// The names of a live script, and what its threads call by the numbers of them. Objects are numbered
-/// from 0 in the order of their lines, threads from 1 in the order of theirs. An object that is not
-/// declared has the number of the objects, which none has; a thread that is not attached the number of
-/// the threads and 1.
+/// The names of a live script, and what its threads call by the numbers of them. Objects are
+/// numbered from 0 in the order of their lines, threads from 1 in the order of theirs. An object
+/// that is not declared has the number of the objects, which none has; a thread that is not
+/// attached the number of the threads and 1.
 #[derive(Debug, Drop)]
 pub struct LivePlan<'a> {
     /// The most fat monitors.
@@ -60,7 +62,8 @@ fn thread_of(threads: &[&str], name: &Name<'_>) -> ThreadId
 fn call_of(objects: &[&str], threads: &[&str], call: &history_text::Call<'_>) -> Call
     requires objects { length objects.now ≤ 65535 }
     requires threads { length threads.now ≤ 64 }
-    ensures { result ≡ call_in (map (λ t. t.now) objects.now) (map (λ t. t.now) threads.now) call.now }
+    ensures { result
+        ≡ call_in (map (λ t. t.now) objects.now) (map (λ t. t.now) threads.now) call.now }
 {
     match call {
         history_text::Call::Enter(object) => Call::Enter(object_of(objects, object)),
@@ -97,7 +100,8 @@ fn take_call(
     requires objects { length objects.now ≤ 65535 }
     requires threads { length threads.now ≤ 64 }
     ensures { OnOk result (calls.new.items ≡ calls.old.items
-        ++ calls_in (map (λ t. t.now) objects.now) (map (λ t. t.now) threads.now) thread.now line.now) }
+        ++ calls_in (map (λ t. t.now) objects.now)
+        (map (λ t. t.now) threads.now) thread.now line.now) }
 {
     match line {
         Line::Step(
@@ -126,7 +130,8 @@ fn calls_of(
     requires objects { length objects.now ≤ 65535 }
     requires threads { length threads.now ≤ 64 }
     ensures { IfOk result (λ calls. calls.items
-        ≡ calls_of (map (λ t. t.now) objects.now) (map (λ t. t.now) threads.now) thread.now lines.now) }
+        ≡ calls_of (map (λ t. t.now) objects.now)
+        (map (λ t. t.now) threads.now) thread.now lines.now) }
 {
     let mut calls = Vec::new(alloc);
     'lines: for line in lines {
@@ -215,8 +220,8 @@ fn rows_of(
     requires objects { length objects.now ≤ 65535 }
     requires threads { length threads.now ≤ 64 }
     ensures { IfOk result (λ rows. map (λ v. v.items) rows.items
-        ≡ map (λ t. calls_of (map (λ t. t.now) objects.now) (map (λ t. t.now) threads.now) t.now lines.now)
-        threads.now) }
+        ≡ map (λ t. calls_of (map (λ t. t.now) objects.now)
+        (map (λ t. t.now) threads.now) t.now lines.now) threads.now) }
 {
     let mut rows = Vec::new(alloc);
     'threads: for thread in threads {

@@ -40,8 +40,8 @@ impl<'a> LiveScript<'a> {
     }
 }
 
-/// The number of the first bad line, where these lines are the longest beginning that keeps the rules of
-/// scripts, and these bytes are left; None where they are a live script.
+/// The number of the first bad line, where these lines are the longest beginning that keeps the
+/// rules of scripts, and these bytes are left; None where they are a live script.
 fn first_bad(alloc: Global, lines: &[Line<'_>], rest: &[u8]) -> Result<Option<u64>, AllocError>
     ensures { IfOk result (λ bad. (bytes : List ℕ) → IsBeginning bytes lines.now rest.now
         → MatchOption bad (IsLiveScript lines.now × (bytes ≡ script_text lines.now))
@@ -54,9 +54,9 @@ fn first_bad(alloc: Global, lines: &[Line<'_>], rest: &[u8]) -> Result<Option<u6
     Ok(None)
 }
 
-/// The live script that some bytes are, or why they are none: the first line that is bad, or more bytes
-/// than a script has, whatever their lines are. A script with no thread is bad at the line behind its
-/// last.
+/// The live script that some bytes are, or why they are none: the first line that is bad, or more
+/// bytes than a script has, whatever their lines are. A script with no thread is bad at the line
+/// behind its last.
 pub fn read_live<'a>(alloc: Global, bytes: &'a [u8]) -> Result<LiveScript<'a>, FileFault>
     // What is read is written so.
     ensures found { IfOk result (λ script. IsLiveScript script × (bytes.now ≡ script_text script)) }

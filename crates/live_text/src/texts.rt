@@ -1,9 +1,11 @@
 //! The text of a live script that was run.
 
-ghost use Rattle.std.specs.Prelude.{◌≡◌, ◌<◌, ◌^◌, ◌++◌, ◌∷◌, [], IfOk, OnOk, length, map, string_bytes, sum, vec_items};
+ghost use Rattle.std.specs.Prelude.{◌≡◌, ◌<◌, ◌^◌, ◌++◌, ◌∷◌, [], IfOk, OnOk, length, map};
+ghost use Rattle.std.specs.Prelude.{string_bytes, sum, vec_items};
 ghost use Rattle.live_scripts.specs.Plans.{objects_of};
 ghost use Rattle.live_scripts.specs.Rules.{attached};
-ghost use Rattle.live_text.specs.Texts.{answer_text, answers_text, deeds_text, each_text, live_text, object_text, stop_text, thread_text};
+ghost use Rattle.live_text.specs.Texts.{answer_text, answers_text, deeds_text, each_text};
+ghost use Rattle.live_text.specs.Texts.{live_text, object_text, stop_text, thread_text};
 
 use fat_monitor::Reply;
 use live_scripts::{LiveScript, plan_of};
@@ -12,8 +14,8 @@ use lock_word::{Memory, Word};
 use std::alloc::{AllocError, Global};
 use std::fmt::Write;
 
-/// The text of a live script that was run: a line for each thread, with what its calls came to; a line
-/// for each object, with its word; and how many deeds the record has.
+/// The text of a live script that was run: a line for each thread, with what its calls came to; a
+/// line for each object, with its word; and how many deeds the record has.
 ///
 /// There is one worker for each thread of the script, in the order of their lines, and one word for
 /// each object.

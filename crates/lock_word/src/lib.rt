@@ -8,7 +8,8 @@ ghost use Rattle.std.specs.Prelude.{◌≡◌, ◌<◌, ◌^◌, ◌↔◌, ℕ,
 ghost use Rattle.lock_word.specs.declared.Lock.{Lock};
 ghost use Rattle.lock_word.specs.declared.Split.{Split};
 ghost use Rattle.lock_word.specs.Names.{hex_digit};
-ghost use Rattle.lock_word.specs.Layout.{greatest_index, greatest_count, word_of, lock_of, low_of, with_lock, Fits, IsMalformed};
+ghost use Rattle.lock_word.specs.Layout.{greatest_index, greatest_count, word_of, lock_of, low_of};
+ghost use Rattle.lock_word.specs.Layout.{with_lock, Fits, IsMalformed};
 
 #[cfg(test)]
 mod tests;
@@ -64,8 +65,8 @@ fn hex_digit(digit: u32) -> u8
     }
 }
 
-/// How a thin lock divides bits 30 to 8 of its word between the index of its owner and its count. The
-/// other locks have the same words in both splits.
+/// How a thin lock divides bits 30 to 8 of its word between the index of its owner and its count.
+/// The other locks have the same words in both splits.
 #[derive(Clone, Copy, PartialEq, Eq, Hash, Debug)]
 pub enum Split {
     /// 15 bits of index, 1 to 32,767, and 8 bits of count, 0 to 255: for many threads.
@@ -101,8 +102,8 @@ impl Split {
 pub enum Lock {
     /// Nobody owns the monitor.
     Free,
-    /// The thread with this index owns the monitor and holds it `count + 1` times. The split has the
-    /// ranges of the two.
+    /// The thread with this index owns the monitor and holds it `count + 1` times. The split has
+    /// the ranges of the two.
     Thin { index: u16, count: u16 },
     /// The fat monitor with this number, 0 to 8,388,607, has owner and holds.
     Fat { monitor: u32 },
@@ -201,8 +202,9 @@ pub fn with_lock(split: Split, word: Word, lock: Lock) -> Word
     encode(split, lock, (word.0 % 256) as u8)
 }
 
-/// The layout is one to one in each split: what `encode` writes, `decode` reads back; a word that is not
-/// malformed is the one word of its lock and low byte; and another lock leaves the low byte as it is.
+/// The layout is one to one in each split: what `encode` writes, `decode` reads back; a word that
+/// is not malformed is the one word of its lock and low byte; and another lock leaves the low byte
+/// as it is.
 #[tactic(auto, using(crate::proofs::Words::read_back, crate::proofs::Words::one_spelling, crate::proofs::Words::low_kept))]
 pub fn layout_is_one_to_one()
     ensures read_back { (s : Split) (l : Lock) (low : ℕ) → Fits s l → low < 256

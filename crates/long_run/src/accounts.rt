@@ -10,8 +10,8 @@ use live_turns::Crew;
 use lock_word::{Memory, ObjectId};
 use std::alloc::Global;
 
-/// An account for each object, and what the workers call. A worker pays 1 in after each enter, while it
-/// owns the object, by a load and a store that are not one atomic step.
+/// An account for each object, and what the workers call. A worker pays 1 in after each enter,
+/// while it owns the object, by a load and a store that are not one atomic step.
 #[derive(Drop)]
 pub struct Accounts {
     plans: Vec<Plan>,

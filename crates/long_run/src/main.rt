@@ -1,10 +1,10 @@
-//! A long run of the live service: threads of the system make calls of every kind at random, and what
-//! must hold afterwards is checked from outside.
+//! A long run of the live service: threads of the system make calls of every kind at random, and
+//! what must hold afterwards is checked from outside.
 //!
-//! A round opens a service of four objects with 2 to 8 threads, and closes it. All threads but one are
-//! workers, which make 10,000 calls each; the last tells the moments and notifies, so that every wait
-//! ends. With no argument there are 2 rounds, with 8 and 7 threads, and else as many as the argument
-//! says: `rt run -- 250` makes more than 10,000,000 calls.
+//! A round opens a service of four objects with 2 to 8 threads, and closes it. All threads but one
+//! are workers, which make 10,000 calls each; the last tells the moments and notifies, so that
+//! every wait ends. With no argument there are 2 rounds, with 8 and 7 threads, and else as many as
+//! the argument says: `rt run -- 250` makes more than 10,000,000 calls.
 #![tactic(auto)]
 
 mod accounts;

@@ -63,7 +63,8 @@ impl Plan {
         Ok(())
     }
 
-    /// An object, and within it one with a higher number, so that no two workers wait for each other.
+    /// An object, and within it one with a higher number, so that no two workers wait for each
+    /// other.
     fn hold_two(&mut self, seed: &mut Seed) -> Result<(), Memory> {
         let outer = seed.below(OBJECTS - 1);
         let inner = outer + 1 + seed.below(OBJECTS - 1 - outer);

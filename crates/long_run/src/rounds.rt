@@ -91,7 +91,8 @@ fn work<L: Crew + Send + Sync, R: Threads + Wait + Clock + Sync>(
         rt,
         move || -> Option<Vec<Worked<L>>>
             requires { All (CanDrive live.now) works.items }
-            ensures { IfSome result (λ v. All (λ d. d.pass.words.opening ≡ live.entry.now) v.items) }
+            ensures { IfSome result
+                (λ v. All (λ d. d.pass.words.opening ≡ live.entry.now) v.items) }
         { drive_all(rt, alloc, live, accounts, works, is_over) },
         move || -> Kept<L>
             requires { keeper.words.opening ≡ live.now }

@@ -1,8 +1,8 @@
-//! Scripts with a bad line, from a table: each row has the number of the first bad line, a space, and
-//! the script.
+//! Scripts with a bad line, from a table: each row has the number of the first bad line, a space,
+//! and the script.
 //!
-//! In the script of a row `|` stands for a line feed, `~` for a carriage return, and `^` for the byte
-//! FF, which is no text. No script has one of these three.
+//! In the script of a row `|` stands for a line feed, `~` for a carriage return, and `^` for the
+//! byte FF, which is no text. No script has one of these three.
 
 use crate::comparing::{ends_in, play as report_of};
 use history::FileFault;

@@ -58,8 +58,8 @@ impl Draft {
         Ok(())
     }
 
-    /// Adds so many enters by x of the free object, as a thin word counts at most: an exchange of the free
-    /// word, and then a store for each further one.
+    /// Adds so many enters by x of the free object, as a thin word counts at most: an exchange of
+    /// the free word, and then a store for each further one.
     pub fn enter_thinly(&mut self, times: u32) -> Result<(), AllocError> {
         let mut word = self.held_once;
         for enter in 0..times {

@@ -76,8 +76,8 @@ fn many_threads(alloc: Global) -> Result<(String, String), AllocError> {
     Ok((script, report))
 }
 
-/// A script of as many bytes as one may have, 16,777,216: a world in 10, a step in 6, and 508,400 steps
-/// in 33 each.
+/// A script of as many bytes as one may have, 16,777,216: a world in 10, a step in 6, and 508,400
+/// steps in 33 each.
 fn many_bytes(alloc: Global) -> Result<(String, String), AllocError> {
     let mut script = String::from_str(alloc, "world 4 4\n")?;
     let mut report = String::new(alloc);

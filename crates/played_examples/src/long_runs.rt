@@ -28,8 +28,8 @@ const FAT_EXIT: [(&str, &str); 3] = [
     ("go x", "go x act Exit = Exited"),
 ];
 
-/// Plays the long runs, each with the number of its moves: one for an attach, one for a call, and two
-/// more where the call replies.
+/// Plays the long runs, each with the number of its moves: one for an attach, one for a call, and
+/// two more where the call replies.
 pub fn play<R: Print + AllocGlobal>(rt: &R) -> io::Result<bool> {
     let alloc = rt.alloc();
     let mut all_right = true;

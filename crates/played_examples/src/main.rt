@@ -1,6 +1,6 @@
-//! Plays the examples: each script of a folder is to have the report and the history beside it, and the
-//! dump beside it if there is one, each script of the table `bad_scripts` its first bad line, and each long
-//! example, which is made here, its report and a history of so many moves.
+//! Plays the examples: each script of a folder is to have the report and the history beside it, and
+//! the dump beside it if there is one, each script of the table `bad_scripts` its first bad line,
+//! and each long example, which is made here, its report and a history of so many moves.
 //!
 //! The folder is the word behind the program's name, or the one that the program runs in. There is
 //! one line for each example, and the exit status is 1 where one came out otherwise.

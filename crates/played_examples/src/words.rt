@@ -1,5 +1,5 @@
-//! The command line of `thinmon`: a file, a file with a bad line, a file that is not there, and words
-//! that are no order.
+//! The command line of `thinmon`: a file, a file with a bad line, a file that is not there, and
+//! words that are no order.
 
 use command_line::serve_words;
 use std::io;

@@ -41,7 +41,8 @@ IsOwn w t l n = (i : ℕ) × (index_of w.seats t ≡ Some i) × (l ≡ Thin i n)
 abbrev pub GoChanges : WorldState → ThreadId → Atomic → WorldState → Type 0
 GoChanges w t (Load o x) w' = Shows w o x × Same w w'
 GoChanges w t (Lost o x) w' = Shows w o x × (lock_of w.split x.0 ≢ Free) × Same w w'
-GoChanges w t (Won o x y) w' = Shows w o x × (lock_of w.split x.0 ≡ Free) × IsOwn w t (lock_of w.split y.0) 0 × Writes w o y w'
+GoChanges w t (Won o x y) w' =
+    Shows w o x × (lock_of w.split x.0 ≡ Free) × IsOwn w t (lock_of w.split y.0) 0 × Writes w o y w'
 GoChanges w t (Stored o x y) w' = Shows w o x × ((n : ℕ) × IsOwn w t (lock_of w.split x.0) n) × Writes w o y w'
 GoChanges w t (Bound o m) w' =
     (o.0 < length w.words) × (m ≡ length w.fats.monitors)

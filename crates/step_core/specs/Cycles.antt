@@ -54,7 +54,8 @@ AreDistinct (x ∷ xs) = AllByRecursion (λ y. x ≡ y → ⊥) xs × AreDistinc
 -- lowest
 abbrev pub IsCycleOf : {A : Type 0} → (A → ℕ) → (A → Option A) → List A → Type 0
 IsCycleOf number f [] = ⊥
-IsCycleOf number f (a ∷ rest) = LeadsThrough f a rest a × AreDistinct (a ∷ rest) × AllByRecursion (λ b. number a < number b) rest
+IsCycleOf number f (a ∷ rest) =
+    LeadsThrough f a rest a × AreDistinct (a ∷ rest) × AllByRecursion (λ b. number a < number b) rest
 
 -- the number of the first of a list
 abbrev pub first_number : {A : Type 0} → (A → ℕ) → List A → ℕ
@@ -63,7 +64,8 @@ first_number number (a ∷ rest) = number a
 
 abbrev pub AscendByFirst : {A : Type 0} → (A → ℕ) → List (List A) → Type 0
 AscendByFirst number [] = Unit {0}
-AscendByFirst number (c ∷ cs) = AllByRecursion (λ d. first_number number c < first_number number d) cs × AscendByFirst number cs
+AscendByFirst number (c ∷ cs) =
+    AllByRecursion (λ d. first_number number c < first_number number d) cs × AscendByFirst number cs
 
 -- exactly the cycles, by their lowest
 pub record AreCyclesOf {A : Type 0} (number : A → ℕ) (f : A → Option A) (lists : List (List A)) : Type 0 where

@@ -69,7 +69,11 @@ grant_of f (Some u) = Some (granting u (post_at f u))
 -- the call gets its reply, after which another thread may have become the owner, and returns with it
 abbrev pub move_grant_and_return : Atomic → Move → Option Move → ThreadId → Reply → Did
 move_grant_and_return a m None t r = move_and_return a m t r
-move_grant_and_return a m (Some g) t r = record { atomic = a; moves = Some m ∷ Some g ∷ Some (move.Return t r) ∷ []; reply = Some r }
+move_grant_and_return a m (Some g) t r = record {
+  atomic = a;
+  moves = Some m ∷ Some g ∷ Some (move.Return t r) ∷ [];
+  reply = Some r;
+}
 
 -- the call is a wait
 abbrev pub is_wait : Call → Bool
@@ -85,7 +89,8 @@ parking c a t g =
 -- what the fat action of a call told
 abbrev pub did_action : Call → Action → FatState → ThreadId → Done → Did
 did_action c a f t d = elim d.answer [
-  | answer.Reply r ↦ move_grant_and_return (atomic.Acted a (answer.Reply r)) (move_for c r d.chosen t) (grant_of f d.granted) t r
+  | answer.Reply r ↦
+      move_grant_and_return (atomic.Acted a (answer.Reply r)) (move_for c r d.chosen t) (grant_of f d.granted) t r
   | answer.Parked ↦ parking c (atomic.Acted a answer.Parked) t (grant_of f d.granted)
   | answer.Quiet ↦ no_move (atomic.Acted a answer.Quiet)
 ]

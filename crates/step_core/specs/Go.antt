@@ -1,5 +1,6 @@
 -- What a Go leaves and does, from the load of a word to an action on the fat monitors.
-use Rattle.std.specs.Prelude.{ℕ, ◌+◌, Bool, true, false, if◌then◌else◌, nat_lt, List, length, slice_set, Option, Some, None, Result, Ok, Err}
+use Rattle.std.specs.Prelude.{ℕ, ◌+◌, Bool, true, false, if◌then◌else◌, nat_lt, List, length, slice_set, Option, Some}
+use Rattle.std.specs.Prelude.{None, Result, Ok, Err}
 use Rattle.lock_word.specs.declared.ThreadId.{ThreadId}
 use Rattle.lock_word.specs.declared.ObjectId.{ObjectId}
 use Rattle.lock_word.specs.declared.Word.{Word}
@@ -31,7 +32,8 @@ use Rattle.fast_path.specs.Table.{next_of}
 use Rattle.step_core.specs.declared.places.Place.{Place}
 use Rattle.step_core.specs.declared.places.Place.TheVariants.{Idle, InCall, Ending, AtPost}
 use Rattle.step_core.specs.declared.places.Stage.{Stage}
-use Rattle.step_core.specs.declared.places.Stage.TheVariants.{Begun, Taking, Storing, Binding, Acting, Won, Bound, Inflated, Direct}
+use Rattle.step_core.specs.declared.places.Stage.TheVariants.{Begun, Taking, Storing, Binding, Acting, Won, Bound}
+use Rattle.step_core.specs.declared.places.Stage.TheVariants.{Inflated, Direct}
 use Rattle.step_core.specs.declared.machine.Move.TheVariants as move
 use Rattle.step_core.specs.declared.steps.Atomic.{Atomic}
 use Rattle.step_core.specs.declared.steps.Atomic.TheVariants as atomic
@@ -85,7 +87,8 @@ stored_at w o l = atomic.Stored o (word_at w o.0) (new_word w o l)
 abbrev pub after_load : WorldState → ThreadId → MonitorCall → Bool → Next → AfterGo
 after_load w t c contended (next.Reply r) =
     place_only w Idle (move_and_return (load_of w c.object) (move_for (call_of c) r None t) t r)
-after_load w t c contended (next.Cas l) = place_only w (InCall (Taking c.object contended)) (no_move (load_of w c.object))
+after_load w t c contended (next.Cas l) =
+    place_only w (InCall (Taking c.object contended)) (no_move (load_of w c.object))
 after_load w t c contended (next.Store l) = place_only w (InCall (Storing c l)) (no_move (load_of w c.object))
 after_load w t c contended next.Bind =
     place_only w (InCall (Binding c (count_of (lock_at w c.object.0)))) (no_move (load_of w c.object))
@@ -99,7 +102,8 @@ entering o = record { object = o; operation = op.Enter }
 -- an exchange that finds this lock: only the free one is taken
 abbrev pub after_take : WorldState → ℕ → ThreadId → ObjectId → Bool → Lock → AfterGo
 after_take w k t o true Free =
-    word_written w o (new_word w o (Thin (k + 1) 0)) (InCall (Won o)) (one_move (won_at w o (Thin (k + 1) 0)) (move.Lock t))
+    word_written w o (new_word w o (Thin (k + 1) 0)) (InCall (Won o))
+    (one_move (won_at w o (Thin (k + 1) 0)) (move.Lock t))
 after_take w k t o false Free =
     word_written w o (new_word w o (Thin (k + 1) 0)) Idle
     (move_and_return (won_at w o (Thin (k + 1) 0)) (move.Lock t) t reply.Entered)
@@ -115,7 +119,8 @@ stored_reply p = reply.Entered
 abbrev pub after_store : WorldState → ThreadId → MonitorCall → Lock → AfterGo
 after_store w t c l =
     word_written w c.object (new_word w c.object l) Idle
-    (move_and_return (stored_at w c.object l) (move_for (call_of c) (stored_reply c.operation) None t) t (stored_reply c.operation))
+    (move_and_return (stored_at w c.object l) (move_for (call_of c) (stored_reply c.operation) None t) t
+    (stored_reply c.operation))
 
 -- A bind of an object that is held n times; refused for a cause, or not. A contended enter that has won
 -- has its reply, and drops the inflation where it is refused.
@@ -130,9 +135,11 @@ after_bind w t c false n (Some cause) =
 -- the store of a fat word
 abbrev pub after_publish : WorldState → ThreadId → MonitorCall → Bool → ℕ → AfterGo
 after_publish w t c true m =
-    word_written w c.object (new_word w c.object (Fat m)) Idle (return_alone (stored_at w c.object (Fat m)) t reply.Entered)
+    word_written w c.object (new_word w c.object (Fat m)) Idle
+    (return_alone (stored_at w c.object (Fat m)) t reply.Entered)
 after_publish w t c false m =
-    word_written w c.object (new_word w c.object (Fat m)) (InCall (Inflated c m)) (no_move (stored_at w c.object (Fat m)))
+    word_written w c.object (new_word w c.object (Fat m)) (InCall (Inflated c m))
+    (no_move (stored_at w c.object (Fat m)))
 
 -- the fat action of an operation's own name
 abbrev pub action_on : Operation → ℕ → Action
@@ -164,12 +171,14 @@ after_act w t c a = after_told w t c a (acted w.fats t a).answer (acted w.fats t
 
 -- why a bind is refused, if it is; room says whether the memory is granted
 abbrev pub bind_cause : Bool → FatState → Option Cause
-bind_cause room f = if nat_lt (length f.monitors) f.limit then (if room then None else Some cause.Memory) else Some cause.NoMonitor
+bind_cause room f =
+    if nat_lt (length f.monitors) f.limit then (if room then None else Some cause.Memory) else Some cause.NoMonitor
 
 -- a load by a thread that is to end, of a word that is its own thin one or not
 abbrev pub after_look_as : WorldState → ThreadId → ℕ → Bool → AfterGo
 after_look_as w t n true =
-    place_only w Idle (move_and_return (load_of w (record { 0 = n })) (move.Refuse t cause.StillOwner) t (reply.Refused cause.StillOwner))
+    place_only w Idle
+    (move_and_return (load_of w (record { 0 = n })) (move.Refuse t cause.StillOwner) t (reply.Refused cause.StillOwner))
 after_look_as w t n false = place_only w (Ending (n + 1)) (no_move (load_of w (record { 0 = n })))
 
 -- What a Go does at each stage of a call.

@@ -44,9 +44,11 @@ MoveReturns m u r = m ≡ move.Return u r
 -- what is left of threads that are back, for whatever reason, and of replies, but for those that are returned
 pub record LastsBut (s : State) (returns : ThreadId → Reply → Type 0) (s' : State) : Type 0 where
   -- a thread that is back stays so, or has the reply for its reason
-  pub back : (u : ThreadId) (o : ObjectId) (n : ℕ) (w : Why) → IsBack s u o n w → IsBack s' u o n w ⊎ HasReply s' u (reply_of w)
+  pub back : (u : ThreadId) (o : ObjectId) (n : ℕ) (w : Why) → IsBack s u o n w
+      → IsBack s' u o n w ⊎ HasReply s' u (reply_of w)
   -- whoever was notified first keeps an interrupt that came since
-  pub pending : (u : ThreadId) (o : ObjectId) (n : ℕ) → Is s u true (Back o n Notified) → Is s' u true (Back o n Notified) ⊎ Is s' u true (Has WaitOver)
+  pub pending : (u : ThreadId) (o : ObjectId) (n : ℕ) → Is s u true (Back o n Notified)
+      → Is s' u true (Back o n Notified) ⊎ Is s' u true (Has WaitOver)
   pub replied : (u : ThreadId) (r : Reply) → HasReply s u r → HasReply s' u r ⊎ returns u r
 
 -- what a step with this reply leaves of them

@@ -17,9 +17,10 @@ pub record AreWithinLimits (lows : List ℕ) (monitors indices : ℕ) (split : S
 abbrev pub reached : List ℕ → ℕ → ℕ → Split → List (Request × Bool) → WorldState
 reached lows monitors indices split steps = world_after (opening_world lows monitors indices split) steps
 
--- This holds of every list of steps, of any number of threads and in any interleaving: of the low bytes and the world of
--- the opening, the steps, and the world that they lead to.
+-- This holds of every list of steps, of any number of threads and in any interleaving: of the low bytes and the
+-- world of the opening, the steps, and the world that they lead to.
 abbrev pub OfEveryList : (List ℕ → WorldState → List (Request × Bool) → WorldState → Type 0) → Type 0
 OfEveryList P =
-    (lows : List ℕ) (monitors indices : ℕ) (split : Split) (steps : List (Request × Bool)) → AreWithinLimits lows monitors indices split
+    (lows : List ℕ) (monitors indices : ℕ) (split : Split) (steps : List (Request × Bool))
+    → AreWithinLimits lows monitors indices split
     → P lows (opening_world lows monitors indices split) steps (reached lows monitors indices split steps)

@@ -1,6 +1,7 @@
 -- The abstract machine of object monitors (JLS SE 8, 17.1 and 17.2): its states, its moves and its runs. It knows
 -- no header word, thread index, inflation, place in a call or number of a monitor.
-use Rattle.std.specs.Prelude.{◌≡◌, ◌⊎◌, ◌↔◌, ℕ, ◌+◌, ◌*◌, ◌<◌, ◌≤◌, Bool, true, false, if◌then◌else◌, ◌==◌, List, [], ◌∷◌, ℤ, pos, ◌≤ℤ◌, nat_abs, Option, Some, None, MatchOption}
+use Rattle.std.specs.Prelude.{◌≡◌, ◌⊎◌, ◌↔◌, ℕ, ◌+◌, ◌*◌, ◌<◌, ◌≤◌, Bool, true, false, if◌then◌else◌, ◌==◌, List, []}
+use Rattle.std.specs.Prelude.{◌∷◌, ℤ, pos, ◌≤ℤ◌, nat_abs, Option, Some, None, MatchOption}
 use Rattle.std.specs.Option.{option_map}
 use Rattle.lock_word.specs.declared.ThreadId.{ThreadId}
 use Rattle.lock_word.specs.declared.ObjectId.{ObjectId}
@@ -114,7 +115,9 @@ after_notify_all o (Has r) = Has r
 
 -- every member of the wait set of o leaves it
 abbrev pub all_notified : State → ObjectId → State
-all_notified s o = record s { thread = λ u. option_map (λ x. record { flag = x.flag; act = after_notify_all o x.act }) (s.thread u) }
+all_notified s o = record s {
+  thread = λ u. option_map (λ x. record { flag = x.flag; act = after_notify_all o x.act }) (s.thread u);
+}
 
 -- what a thread does once it has been with_interrupt: it comes back, if it waited
 abbrev pub after_interrupt : Doing → Doing
@@ -195,13 +198,16 @@ Steps s (move.Illegal t) s' =
     (flag : Bool) × (c : Call) × (o : ObjectId) × Calls s t flag c × (owner_only c ≡ Some o) × (OwnedBy s o t → ⊥)
     × (s' ≡ with_reply s t flag reply.IllegalMonitorState)
 Steps s (move.BadArgument t) s' =
-    (flag : Bool) × (o : ObjectId) × (millis nanos : ℤ) × Calls s t flag (call.Wait o millis nanos) × OwnedBy s o t × (AreGood millis nanos → ⊥)
+    (flag : Bool) × (o : ObjectId) × (millis nanos : ℤ) × Calls s t flag (call.Wait o millis nanos) × OwnedBy s o t
+    × (AreGood millis nanos → ⊥)
     × (s' ≡ with_reply s t flag reply.IllegalArgument)
 Steps s (move.Early t) s' =
-    (o : ObjectId) × (millis nanos : ℤ) × Calls s t true (call.Wait o millis nanos) × OwnedBy s o t × AreGood millis nanos
+    (o : ObjectId) × (millis nanos : ℤ) × Calls s t true (call.Wait o millis nanos) × OwnedBy s o t
+    × AreGood millis nanos
     × (s' ≡ with_reply s t false reply.Interrupted)
 Steps s (move.Wait t) s' =
-    (o : ObjectId) × (millis nanos : ℤ) × Calls s t false (call.Wait o millis nanos) × OwnedBy s o t × AreGood millis nanos
+    (o : ObjectId) × (millis nanos : ℤ) × Calls s t false (call.Wait o millis nanos) × OwnedBy s o t
+    × AreGood millis nanos
     × (s' ≡ with_monitor (now_is s t false (Waits o (s.monitor o).count (over_at s.moment millis nanos))) o free)
 Steps s (move.Notify t (Some u)) s' =
     (flag : Bool) × (o : ObjectId) × Calls s t flag (call.Notify o) × OwnedBy s o t
@@ -216,7 +222,8 @@ Steps s (move.NotifyAll t) s' =
 Steps s (move.Interrupt t) s' =
     (flag : Bool) × (u : ThreadId) × (x : Thread) × Calls s t flag (call.Interrupt u) × (s.thread u ≡ Some x)
     × (s' ≡ with_reply (with_thread s u (Some (with_interrupt x))) t (if t.0 == u.0 then true else flag) reply.Done)
-Steps s (move.TestClear t) s' = (flag : Bool) × Calls s t flag call.Interrupted × (s' ≡ with_reply s t false (yes_or_no flag))
+Steps s (move.TestClear t) s' =
+    (flag : Bool) × Calls s t flag call.Interrupted × (s' ≡ with_reply s t false (yes_or_no flag))
 Steps s (move.Expire t) s' =
     (flag : Bool) × (o : ObjectId) × (n d : ℕ) × Is s t flag (Waits o n (Some d)) × (d ≤ s.moment)
     × (s' ≡ now_is s t flag (Back o n why.Elapsed))
@@ -227,11 +234,15 @@ Steps s (move.Relock t) s' =
     (flag : Bool) × (o : ObjectId) × (n : ℕ) × (w : Why) × Is s t flag (Back o n w) × Unowned s o
     × (s' ≡ with_monitor (with_reply s t (flag_back w flag) (reply_of w)) o (held t n))
 Steps s (move.Ask t) s' =
-    (flag answer : Bool) × (c : Call) × Calls s t flag c × IsAnswer s t c answer × (s' ≡ with_reply s t flag (yes_or_no answer))
+    (flag answer : Bool) × (c : Call) × Calls s t flag c × IsAnswer s t c answer
+    × (s' ≡ with_reply s t flag (yes_or_no answer))
 Steps s (move.Refuse t cause) s' =
-    (flag : Bool) × (c : Call) × Calls s t flag c × MayRefuse s t c cause × (s' ≡ with_reply s t flag (reply.Refused cause))
+    (flag : Bool) × (c : Call) × Calls s t flag c × MayRefuse s t c cause
+    × (s' ≡ with_reply s t flag (reply.Refused cause))
 Steps s (move.Time now) s' = (s.moment ≤ now) × (s' ≡ record s { moment = now })
-Steps s (move.End t) s' = (flag : Bool) × Calls s t flag call.End × ((o : ObjectId) → OwnedBy s o t → ⊥) × (s' ≡ with_reply s t flag reply.Ended)
+Steps s (move.End t) s' =
+    (flag : Bool) × Calls s t flag call.End × ((o : ObjectId) → OwnedBy s o t → ⊥)
+    × (s' ≡ with_reply s t flag reply.Ended)
 
 -- one move after another
 abbrev pub Run : State → List Move → State → Type 0

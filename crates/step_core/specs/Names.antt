@@ -3,7 +3,8 @@ use Rattle.std.specs.Prelude.{ℕ, List, codes}
 use Rattle.step_core.specs.declared.steps.Fault.{Fault}
 use Rattle.step_core.specs.declared.worlds.relayout.RelayoutFault.{RelayoutFault}
 use Rattle.step_core.specs.declared.worlds.relayout.RelayoutFault.TheVariants as relayout
-use Rattle.step_core.specs.declared.steps.Fault.TheVariants.{NoIndex, Memory, Known, NoThread, NoObject, InCall, NotCalling, Parked, NotDue, Backwards, NotWaiting}
+use Rattle.step_core.specs.declared.steps.Fault.TheVariants.{NoIndex, Memory, Known, NoThread, NoObject, InCall}
+use Rattle.step_core.specs.declared.steps.Fault.TheVariants.{NotCalling, Parked, NotDue, Backwards, NotWaiting}
 
 abbrev pub fault_name : Fault → List ℕ
 fault_name NoIndex = codes "NoIndex"

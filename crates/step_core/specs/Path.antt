@@ -21,7 +21,8 @@ use Rattle.fast_path.specs.Table.{next_of}
 use Rattle.step_core.specs.declared.places.Place.{Place}
 use Rattle.step_core.specs.declared.places.Place.TheVariants.{Idle, InCall, Ending, AtPost}
 use Rattle.step_core.specs.declared.places.Stage.{Stage}
-use Rattle.step_core.specs.declared.places.Stage.TheVariants.{Begun, Taking, Storing, Binding, Acting, Won, Bound, Inflated, Direct}
+use Rattle.step_core.specs.declared.places.Stage.TheVariants.{Begun, Taking, Storing, Binding, Acting, Won, Bound}
+use Rattle.step_core.specs.declared.places.Stage.TheVariants.{Inflated, Direct}
 use Rattle.step_core.specs.declared.steps.Atomic.{Atomic}
 use Rattle.step_core.specs.declared.steps.Atomic.TheVariants as atomic
 use Rattle.step_core.specs.declared.steps.Did.{Did}
@@ -129,7 +130,8 @@ point_next c contended k next.Bind = At (InCall (Binding c (count_of k)))
 point_next c contended k (next.Fat m) = At (InCall (Acting c m))
 
 abbrev pub point_loaded : Split → ℕ → MonitorCall → Bool → Atomic → Point
-point_loaded z me c contended (atomic.Load p x) = point_next c contended (lock_of z x.0) (next_of z c.operation (lock_of z x.0) me)
+point_loaded z me c contended (atomic.Load p x) =
+    point_next c contended (lock_of z x.0) (next_of z c.operation (lock_of z x.0) me)
 point_loaded z me c contended a = At Idle
 
 -- after an exchange

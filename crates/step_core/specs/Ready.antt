@@ -9,12 +9,19 @@ use Rattle.fat_monitor.specs.declared.actions.Action.TheVariants as action
 use Rattle.fat_monitor.specs.FatState.{FatState}
 use Rattle.step_core.specs.declared.places.Place.{Place}
 use Rattle.step_core.specs.declared.places.Stage.{Stage}
-use Rattle.step_core.specs.declared.places.Stage.TheVariants.{Begun, Taking, Storing, Binding, Acting, Won, Bound, Inflated, Direct}
+use Rattle.step_core.specs.declared.places.Stage.TheVariants.{Begun, Taking, Storing, Binding, Acting, Won, Bound}
+use Rattle.step_core.specs.declared.places.Stage.TheVariants.{Inflated, Direct}
 use Rattle.step_core.specs.World.{WorldState, low_word}
 
 -- a world of these parts
 abbrev pub world_of : Split → List Word → List (Option ThreadId) → List Place → FatState → WorldState
-world_of split words seats places fats = record { split = split; words = words; seats = seats; places = places; fats = fats }
+world_of split words seats places fats = record {
+  split = split;
+  words = words;
+  seats = seats;
+  places = places;
+  fats = fats;
+}
 
 -- a world of these words and fat state, without threads
 abbrev pub bare : Split → List Word → FatState → WorldState

@@ -9,7 +9,8 @@ use Rattle.step_core.specs.declared.machine.Doing.TheVariants.{Idle, Waits}
 use Rattle.step_core.specs.declared.steps.Step.{Step}
 use Rattle.step_core.specs.declared.steps.Step.TheVariants as step
 use Rattle.step_core.specs.declared.steps.Fault.{Fault}
-use Rattle.step_core.specs.declared.steps.Fault.TheVariants.{NoIndex, Memory, Known, NoThread, NoObject, InCall, NotCalling, Parked, NotDue, Backwards, NotWaiting}
+use Rattle.step_core.specs.declared.steps.Fault.TheVariants.{NoIndex, Memory, Known, NoThread, NoObject, InCall}
+use Rattle.step_core.specs.declared.steps.Fault.TheVariants.{NotCalling, Parked, NotDue, Backwards, NotWaiting}
 use Rattle.step_core.specs.Machine.{Thread, Is, Exists}
 use Rattle.step_core.specs.World.{WorldState}
 use Rattle.step_core.specs.Shown.{shown}
@@ -33,7 +34,8 @@ IsParked w t = Stands w.fats.standing.lines t
 
 -- t waits, and the moment has come at which its wait is over
 abbrev pub IsDue : WorldState → ThreadId → Type 0
-IsDue w t = (flag : Bool) × (o : ObjectId) × (n d : ℕ) × Is (shown w) t flag (Waits o n (Some d)) × (d ≤ (shown w).moment)
+IsDue w t =
+    (flag : Bool) × (o : ObjectId) × (n d : ℕ) × Is (shown w) t flag (Waits o n (Some d)) × (d ≤ (shown w).moment)
 
 -- t waits
 abbrev pub IsWaiting : WorldState → ThreadId → Type 0
@@ -52,7 +54,8 @@ IsRefused w (step.Attach t) Known = IsLive w t
 IsRefused w (step.Attach t) NoIndex = IsNotLive w t × IsFull w
 IsRefused w (step.Attach t) Memory = IsNotLive w t × HasFreeIndex w
 IsRefused w (step.Begin t c) NoThread = IsNotLive w t
-IsRefused w (step.Begin t c) NoObject = IsLive w t × ((o : ObjectId) × (object_of c ≡ Some o) × ((shown w).objects ≤ o.0))
+IsRefused w (step.Begin t c) NoObject =
+    IsLive w t × ((o : ObjectId) × (object_of c ≡ Some o) × ((shown w).objects ≤ o.0))
 IsRefused w (step.Begin t c) InCall = IsBusy w t × Exists (shown w).objects c
 IsRefused w (step.Go t) NoThread = IsNotLive w t
 IsRefused w (step.Go t) NotCalling = IsIdle w t

@@ -1,6 +1,7 @@
--- A change between the splits of a header word, in a world at rest: each thin lock whose count does not fit is inflated, and
--- then every word is written anew.
-use Rattle.std.specs.Prelude.{ℕ, zero, suc, ◌+◌, ◌≡◌, Bool, true, false, if◌then◌else◌, not, nat_lt, ◌||◌, map, count_by, length, slice_set, Option, Some, None, Result, Ok, Err}
+-- A change between the splits of a header word, in a world at rest: each thin lock whose count does not fit is
+-- inflated, and then every word is written anew.
+use Rattle.std.specs.Prelude.{ℕ, zero, suc, ◌+◌, ◌≡◌, Bool, true, false, if◌then◌else◌, not, nat_lt, ◌||◌, map}
+use Rattle.std.specs.Prelude.{count_by, length, slice_set, Option, Some, None, Result, Ok, Err}
 use Rattle.lock_word.specs.declared.ThreadId.{ThreadId}
 use Rattle.lock_word.specs.declared.Word.{Word}
 use Rattle.lock_word.specs.declared.Lock.{Lock}
@@ -119,5 +120,6 @@ after_relayout room w s =
     else (if is_same_split s w.split then record { answer = Ok 0; after = w }
     else (if nat_lt (greatest_index s) (length w.seats) then relayout_refused w fault.IndexTooWide
     else (if nat_lt w.fats.limit (length w.fats.monitors + deep_in s w) then relayout_refused w fault.NoMonitor
-    else (if room || not (nat_lt w.fats.spare (deep_in s w)) then record { answer = Ok (deep_in s w); after = relaid s w }
+    else (if room || not (nat_lt w.fats.spare (deep_in s w))
+    then record { answer = Ok (deep_in s w); after = relaid s w }
     else relayout_refused w fault.Memory))))

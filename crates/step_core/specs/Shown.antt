@@ -15,7 +15,8 @@ use Rattle.step_core.specs.declared.machine.Doing.TheVariants as doing
 use Rattle.step_core.specs.declared.places.Place.{Place}
 use Rattle.step_core.specs.declared.places.Place.TheVariants.{Idle, InCall, Ending, AtPost}
 use Rattle.step_core.specs.declared.places.Stage.{Stage}
-use Rattle.step_core.specs.declared.places.Stage.TheVariants.{Begun, Taking, Storing, Binding, Acting, Won, Bound, Inflated, Direct}
+use Rattle.step_core.specs.declared.places.Stage.TheVariants.{Begun, Taking, Storing, Binding, Acting, Won, Bound}
+use Rattle.step_core.specs.declared.places.Stage.TheVariants.{Inflated, Direct}
 use Rattle.step_core.specs.Machine.{State, Thread, Monitor, free}
 use Rattle.step_core.specs.World.{WorldState, place_at, lock_at}
 
@@ -50,7 +51,8 @@ act_of f (Granted r) p = doing.Has r
 -- the thread at a seat
 abbrev pub thread_of : WorldState → ThreadId → Option ℕ → Option Thread
 thread_of w t None = None
-thread_of w t (Some k) = Some (record { flag = flag_at w.fats t; act = act_of w.fats (post_at w.fats t) (place_at w k) })
+thread_of w t (Some k) =
+    Some (record { flag = flag_at w.fats t; act = act_of w.fats (post_at w.fats t) (place_at w k) })
 
 -- who owns an object with this lock, and how often: its word says it alone
 abbrev pub monitor_of : WorldState → Lock → Monitor

@@ -1,6 +1,7 @@
 -- What holds of every world.
 use Rattle.step_core.specs.World.{place_at, word_at, lock_at, is_own, WorldState}
-use Rattle.std.specs.Prelude.{Some, ◌≢◌, is_some, count_by, ◌≡◌, ℕ, ◌+◌, ◌-◌, ◌<◌, ◌≤◌, length, Option, None, IsSome, false, ◌⊎◌}
+use Rattle.std.specs.Prelude.{Some, ◌≢◌, is_some, count_by, ◌≡◌, ℕ, ◌+◌, ◌-◌, ◌<◌, ◌≤◌, length, Option, None, IsSome}
+use Rattle.std.specs.Prelude.{false, ◌⊎◌}
 use Rattle.lock_word.specs.declared.ThreadId.{ThreadId}
 use Rattle.lock_word.specs.declared.Lock.{Lock}
 use Rattle.lock_word.specs.declared.Lock.TheVariants.{Free, Thin, Fat}
@@ -16,7 +17,8 @@ use Rattle.fast_path.specs.Table.{next_of}
 use Rattle.step_core.specs.declared.places.Place.{Place}
 use Rattle.step_core.specs.declared.places.Place.TheVariants.{Idle, InCall, Ending, AtPost}
 use Rattle.step_core.specs.declared.places.Stage.{Stage}
-use Rattle.step_core.specs.declared.places.Stage.TheVariants.{Begun, Taking, Storing, Binding, Acting, Won, Bound, Inflated, Direct}
+use Rattle.step_core.specs.declared.places.Stage.TheVariants.{Begun, Taking, Storing, Binding, Acting, Won, Bound}
+use Rattle.step_core.specs.declared.places.Stage.TheVariants.{Inflated, Direct}
 
 -- the object of the call exists
 abbrev pub Reaches : WorldState → MonitorCall → Type 0
@@ -25,7 +27,8 @@ Reaches w c = c.object.0 < length w.words
 -- a lock that object p may show: a thin one is a live thread's, and a fat one is of a monitor that is bound to p
 abbrev pub MayShow : WorldState → ℕ → Lock → Type 0
 MayShow w p Free = Unit {0}
-MayShow w p (Thin i c) = (1 ≤ i) × (i ≤ greatest_index w.split) × (c ≤ greatest_count w.split) × IsSome (holder_at w.seats (i - 1))
+MayShow w p (Thin i c) =
+    (1 ≤ i) × (i ≤ greatest_index w.split) × (c ≤ greatest_count w.split) × IsSome (holder_at w.seats (i - 1))
 MayShow w p (Fat m) = (m < length w.fats.monitors) × ((monitor_at w.fats m).object.0 ≡ p)
 
 -- The thread at seat k may stand at this stage of a call: what it found when it loaded still stands, since a
@@ -35,9 +38,11 @@ FittingStage w k (Begun c contended) = Reaches w c
 FittingStage w k (Taking o contended) = o.0 < length w.words
 FittingStage w k (Storing c l) =
     Reaches w c
-    × ((n : ℕ) × (lock_at w c.object.0 ≡ Thin (k + 1) n) × (next_of w.split c.operation (Thin (k + 1) n) (k + 1) ≡ next.Store l))
+    × ((n : ℕ) × (lock_at w c.object.0 ≡ Thin (k + 1) n)
+    × (next_of w.split c.operation (Thin (k + 1) n) (k + 1) ≡ next.Store l))
 FittingStage w k (Binding c n) =
-    Reaches w c × (lock_at w c.object.0 ≡ Thin (k + 1) n) × (next_of w.split c.operation (Thin (k + 1) n) (k + 1) ≡ next.Bind)
+    Reaches w c × (lock_at w c.object.0 ≡ Thin (k + 1) n)
+    × (next_of w.split c.operation (Thin (k + 1) n) (k + 1) ≡ next.Bind)
 FittingStage w k (Acting c m) = Reaches w c × (lock_at w c.object.0 ≡ Fat m)
 FittingStage w k (Won o) = (o.0 < length w.words) × (lock_at w o.0 ≡ Thin (k + 1) 0)
 FittingStage w k (Bound c won m) =
@@ -71,7 +76,8 @@ Agrees q p = p ≡ Some Out
 -- a monitor that is bound is shown by its object, or somebody is to store it
 abbrev pub IsPublished : WorldState → ℕ → Type 0
 IsPublished w m =
-    (lock_at w (monitor_at w.fats m).object.0 ≡ Fat m) ⊎ ((j : ℕ) × (j < length w.places) × (bound_by (place_at w j) ≡ Some m))
+    (lock_at w (monitor_at w.fats m).object.0 ≡ Fat m)
+    ⊎ ((j : ℕ) × (j < length w.places) × (bound_by (place_at w j) ≡ Some m))
 
 -- what every world keeps
 pub record IsSound (w : WorldState) : Type 0 where

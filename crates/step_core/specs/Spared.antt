@@ -14,7 +14,8 @@ use Rattle.step_core.specs.Shown.{shown}
 pub record IsSpared (s s' : State) : Type 0 where
   pub monitors : (o : ObjectId) → s'.monitor o ≡ s.monitor o
   pub wait_sets : (u : ThreadId) (o : ObjectId) → is_waiting (s'.thread u) o ≡ is_waiting (s.thread u) o
-  pub flags : (u : ThreadId) → option_map (λ (x : Thread). x.flag) (s'.thread u) ≡ option_map (λ (x : Thread). x.flag) (s.thread u)
+  pub flags : (u : ThreadId)
+      → option_map (λ (x : Thread). x.flag) (s'.thread u) ≡ option_map (λ (x : Thread). x.flag) (s.thread u)
 
 -- a call that is refused leaves them
 abbrev pub Spares : WorldState → Option Reply → WorldState → Type 0

@@ -1,5 +1,6 @@
 -- What a step answers and leaves: the step relation.
-use Rattle.std.specs.Prelude.{ℕ, Bool, true, false, if◌then◌else◌, nat_lt, List, [], ◌∷◌, ◌+◌, length, slice_set, Option, Some, None, Result, Ok, Err}
+use Rattle.std.specs.Prelude.{ℕ, Bool, true, false, if◌then◌else◌, nat_lt, List, [], ◌∷◌, ◌+◌, length, slice_set}
+use Rattle.std.specs.Prelude.{Option, Some, None, Result, Ok, Err}
 use Rattle.lock_word.specs.declared.ThreadId.{ThreadId}
 use Rattle.thread_index.specs.Indices.{seat_of, free_seat}
 use Rattle.fat_monitor.specs.FatState.{FatState, with_thread, with_moment}
@@ -46,7 +47,11 @@ accept w d = record { answer = Ok d; after = w }
 
 -- the world with thread t at seat k, in no call
 abbrev pub with_live : WorldState → ℕ → ThreadId → WorldState
-with_live w k t = record w { seats = slice_set w.seats k (Some t); places = slice_set w.places k Idle; fats = with_thread w.fats t }
+with_live w k t = record w {
+  seats = slice_set w.seats k (Some t);
+  places = slice_set w.places k Idle;
+  fats = with_thread w.fats t;
+}
 
 -- an attach of a thread with this seat, if it has one, where this seat is the lowest free one, if one is
 abbrev pub after_attach : Bool → WorldState → ThreadId → Option ℕ → Option ℕ → AfterStep
@@ -63,13 +68,15 @@ first_place subject.End = Ending 0
 
 -- the begin of a call by the thread at seat k, which stands at this place
 abbrev pub after_begin_at : WorldState → ℕ → ThreadId → Call → Place → AfterStep
-after_begin_at w k t c Idle = accept (record w { places = slice_set w.places k (first_place (subject_of c)) }) (one_move Label (move.Call t c))
+after_begin_at w k t c Idle =
+    accept (record w { places = slice_set w.places k (first_place (subject_of c)) }) (one_move Label (move.Call t c))
 after_begin_at w k t c p = refuse w fault.InCall
 
 -- a call that names an object asks whether it exists
 abbrev pub after_begin_on : WorldState → ℕ → ThreadId → Call → Option ObjectId → AfterStep
 after_begin_on w k t c None = after_begin_at w k t c (place_at w k)
-after_begin_on w k t c (Some o) = if nat_lt o.0 (length w.words) then after_begin_at w k t c (place_at w k) else refuse w fault.NoObject
+after_begin_on w k t c (Some o) =
+    if nat_lt o.0 (length w.words) then after_begin_at w k t c (place_at w k) else refuse w fault.NoObject
 
 abbrev pub after_begin : WorldState → ThreadId → Call → Option ℕ → AfterStep
 after_begin w t c None = refuse w fault.NoThread
@@ -84,7 +91,9 @@ world_ended w k f r = record w { places = slice_set w.places k Idle; fats = f }
 -- the action End of thread t at seat k, as it told; it always replies
 abbrev pub after_end : WorldState → ℕ → ThreadId → Result Done ActFault → FatState → AfterStep
 after_end w k t (Ok d) f = elim d.answer [
-  | answer.Reply r ↦ accept (world_ended w k f r) (move_and_return (Acted action.End (answer.Reply r)) (move_for call.End r None t) t r)
+  | answer.Reply r ↦
+      accept (world_ended w k f r)
+      (move_and_return (Acted action.End (answer.Reply r)) (move_for call.End r None t) t r)
   | answer.Parked ↦ accept w (no_move (Acted action.End answer.Parked))
   | answer.Quiet ↦ accept w (no_move (Acted action.End answer.Quiet))
 ]
@@ -97,7 +106,8 @@ did_collect t a = no_move (Acted action.Collect a)
 
 -- the thread at seat k takes the reply that it was granted, as the action told, or is parked still
 abbrev pub after_collect : WorldState → ℕ → ThreadId → Result Done ActFault → FatState → AfterStep
-after_collect w k t (Ok d) f = accept (with_go w k (fats_changed w f Idle (did_collect t d.answer))) (did_collect t d.answer)
+after_collect w k t (Ok d) f =
+    accept (with_go w k (fats_changed w f Idle (did_collect t d.answer))) (did_collect t d.answer)
 after_collect w k t (Err e) f = refuse w fault.Parked
 
 -- a load by thread t at seat k, which is to end and has loaded the words of the objects below n
@@ -137,7 +147,12 @@ wake_up = record { action = action.Spurious; made = λ t. move.Spurious t; fault
 -- the wait of a thread ends so, or may not: what the action told and left
 abbrev pub after_wait_end_as : WaitEnd → WorldState → ThreadId → Result Done ActFault → FatState → AfterStep
 after_wait_end_as x w t (Ok d) f =
-    accept (record w { fats = f }) (record { atomic = Acted x.action d.answer; moves = Some (x.made t) ∷ grant_of f d.granted ∷ None ∷ []; reply = None })
+    accept (record w { fats = f })
+    (record {
+      atomic = Acted x.action d.answer;
+      moves = Some (x.made t) ∷ grant_of f d.granted ∷ None ∷ [];
+      reply = None;
+    })
 after_wait_end_as x w t (Err e) f = refuse w x.fault
 
 abbrev pub after_wait_end : WaitEnd → WorldState → ThreadId → Option ℕ → AfterStep
@@ -147,7 +162,8 @@ after_wait_end x w t (Some k) = after_wait_end_as x w t (acted w.fats t x.action
 -- the moment is told; it never falls
 abbrev pub after_tick : WorldState → ℕ → AfterStep
 after_tick w now =
-    if nat_lt now w.fats.moment then refuse w fault.Backwards else accept (record w { fats = with_moment w.fats now }) (one_move Label (move.Time now))
+    if nat_lt now w.fats.moment then refuse w fault.Backwards
+    else accept (record w { fats = with_moment w.fats now }) (one_move Label (move.Time now))
 
 -- One step. It is a function but for memory: room says whether a growth that the step asks for is granted.
 abbrev pub step_of : Bool → WorldState → Step → AfterStep

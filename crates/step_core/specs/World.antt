@@ -1,4 +1,5 @@
--- A world as contracts see it: the split of its header words, the words, the threads by index, the place of each in its call, and the fat state.
+-- A world as contracts see it: the split of its header words, the words, the threads by index, the place of each
+-- in its call, and the fat state.
 use Rattle.std.specs.Prelude.{ℕ, List, slice_index_or, Option, None, map, replicate, Bool, false, ◌==◌}
 use Rattle.lock_word.specs.declared.ThreadId.{ThreadId}
 use Rattle.lock_word.specs.declared.Word.{Word}
@@ -11,8 +12,8 @@ use Rattle.fat_monitor.specs.FatState as fat
 use Rattle.step_core.specs.declared.places.Place.{Place}
 use Rattle.step_core.specs.declared.places.Place.TheVariants.{Idle}
 
--- the split of each word; the word of each object; who has each index, by seat, which is the index less one; the place of the
--- thread at each seat; and the fat state
+-- the split of each word; the word of each object; who has each index, by seat, which is the index less one; the
+-- place of the thread at each seat; and the fat state
 pub record WorldState : Type 0 where
   pub split : Split
   pub words : List Word
@@ -27,7 +28,13 @@ low_word n = record { 0 = n }
 -- the world in which nothing has happened
 abbrev pub opening_world : List ℕ → ℕ → ℕ → Split → WorldState
 opening_world lows monitors indices split =
-    record { split = split; words = map low_word lows; seats = replicate indices None; places = replicate indices Idle; fats = fat.opened monitors }
+    record {
+      split = split;
+      words = map low_word lows;
+      seats = replicate indices None;
+      places = replicate indices Idle;
+      fats = fat.opened monitors;
+    }
 
 abbrev pub place_at : WorldState → ℕ → Place
 place_at w k = slice_index_or w.places k Idle

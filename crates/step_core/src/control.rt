@@ -1,6 +1,8 @@
-//! The steps that are no Go: a thread is attached or begins a call, a wait ends by itself, the moment is told.
+//! The steps that are no Go: a thread is attached or begins a call, a wait ends by itself, the
+//! moment is told.
 
-ghost use Rattle.std.specs.Prelude.{◌≡◌, ◌≤◌, List, [], ◌∷◌, length, Bool, true, Option, Some, None, IsSome, is_some, count_by};
+ghost use Rattle.std.specs.Prelude.{◌≡◌, ◌≤◌, List, [], ◌∷◌, length, Bool, true, Option, Some};
+ghost use Rattle.std.specs.Prelude.{None, IsSome, is_some, count_by};
 ghost use Rattle.lock_word.specs.declared.ThreadId.{ThreadId};
 ghost use Rattle.lock_word.specs.declared.Word.{Word};
 ghost use Rattle.lock_word.specs.declared.Split.{Split};

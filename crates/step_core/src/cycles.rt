@@ -1,4 +1,5 @@
-//! The law of cycles of owners: of threads each of which waits for an object that the next one owns.
+//! The law of cycles of owners: of threads each of which waits for an object that the next one
+//! owns.
 
 ghost use Rattle.std.specs.Prelude.{ℕ, List, Bool};
 ghost use Rattle.std.specs.List.{Contains};
@@ -14,8 +15,8 @@ ghost use Rattle.step_core.specs.Lasting.{NeverReturns};
 ghost use Rattle.step_core.specs.Laws.{OfEveryList};
 ghost use Rattle.step_core.specs.Cycles.{IsCycle};
 
-/// A cycle of owners stays the same cycle, whatever move the abstract machine makes, so over every run and
-/// every list of steps; and none of its threads returns from its call.
+/// A cycle of owners stays the same cycle, whatever move the abstract machine makes, so over every
+/// run and every list of steps; and none of its threads returns from its call.
 #[tactic(auto, using(crate::proofs::Lists::Rings::cycle_stays, crate::proofs::Lists::Rings::none_returns, crate::proofs::Lists::Rings::cycle_lasts, crate::proofs::Lists::Rings::reached_silent))]
 pub fn a_cycle_of_owners_stays()
     ensures stays { (s s' : State) (m : Move) (c : List ThreadId)

@@ -88,8 +88,8 @@ fn collect(
     Ok(Did::return_alone(Atomic::Acted { action, answer }, thread, reply))
 }
 
-/// Ends a thread that owns no object thinly: unless it owns a fat monitor, it is live no longer, and its
-/// index is free.
+/// Ends a thread that owns no object thinly: unless it owns a fat monitor, it is live no longer,
+/// and its index is free.
 fn end(
     indices: &mut Indices,
     places: &mut [Place],

@@ -1,13 +1,17 @@
-//! The laws of every list of steps: of any number of threads, in any interleaving, and whatever memory
-//! is granted. A list of steps pairs each step with whether the growth that it asks for is granted.
+//! The laws of every list of steps: of any number of threads, in any interleaving, and whatever
+//! memory is granted. A list of steps pairs each step with whether the growth that it asks for is
+//! granted.
 
-ghost use Rattle.std.specs.Prelude.{◌≡◌, ◌⊎◌, ℕ, ◌+◌, ◌<◌, List, length, Bool, true, false, Option, Some, None};
+ghost use Rattle.std.specs.Prelude.{◌≡◌, ◌⊎◌, ℕ, ◌+◌, ◌<◌, List, length, Bool, true, false, Option};
+ghost use Rattle.std.specs.Prelude.{Some, None};
 ghost use Rattle.lock_word.specs.declared.ThreadId.{ThreadId};
 ghost use Rattle.lock_word.specs.declared.ObjectId.{ObjectId};
 ghost use Rattle.fat_monitor.specs.declared.actions.Reply.{Reply};
-ghost use Rattle.fat_monitor.specs.declared.actions.Reply.TheVariants.{WaitOver, Interrupted as Throws};
+ghost use Rattle.fat_monitor.specs.declared.actions.Reply.TheVariants.{WaitOver};
+ghost use Rattle.fat_monitor.specs.declared.actions.Reply.TheVariants.{Interrupted as Throws};
 ghost use Rattle.fat_monitor.specs.declared.actions.Why.{Why};
-ghost use Rattle.fat_monitor.specs.declared.actions.Why.TheVariants.{Notified, Interrupted, Elapsed, Spurious};
+ghost use Rattle.fat_monitor.specs.declared.actions.Why.TheVariants.{Notified, Interrupted};
+ghost use Rattle.fat_monitor.specs.declared.actions.Why.TheVariants.{Elapsed, Spurious};
 ghost use Rattle.thread_index.specs.Indices.{IsOneToOne};
 ghost use Rattle.fast_path.specs.declared.Call.TheVariants as call;
 ghost use Rattle.step_core.specs.declared.steps.Request.{Request};
@@ -20,12 +24,14 @@ ghost use Rattle.step_core.specs.Shown.{shown};
 ghost use Rattle.step_core.specs.Requests.{moves_after, world_after};
 ghost use Rattle.step_core.specs.Labels.{labels_of, labels_after};
 ghost use Rattle.step_core.specs.Patient.{goes_of, AllLinger};
-ghost use Rattle.step_core.specs.Lasting.{IsBack, IsNotified, HasReply, NeverReturns, LastsBut, MoveReturns};
+ghost use Rattle.step_core.specs.Lasting.{IsBack, IsNotified, HasReply, NeverReturns, LastsBut};
+ghost use Rattle.step_core.specs.Lasting.{MoveReturns};
 ghost use Rattle.step_core.specs.Kept.{Keeps};
 ghost use Rattle.step_core.specs.Laws.{OfEveryList};
 
-/// The moves that the steps hand out are a run of the abstract machine, from its opening state to the
-/// state that the world shows then; and the labels of the run are exactly those of the accepted steps.
+/// The moves that the steps hand out are a run of the abstract machine, from its opening state to
+/// the state that the world shows then; and the labels of the run are exactly those of the accepted
+/// steps.
 #[tactic(auto, using(crate::proofs::Lists::Reached::reached_run, crate::proofs::Lists::Reached::reached_labels))]
 pub fn every_list_of_steps_is_a_run()
     ensures run { OfEveryList (λ lows w steps v.
@@ -34,16 +40,17 @@ pub fn every_list_of_steps_is_a_run()
         labels_of (moves_after w steps) ≡ labels_after w steps) }
 {}
 
-/// Live threads have distinct indices; the objects, and bits 7 to 0 of each word, are those of the opening.
+/// Live threads have distinct indices; the objects, and bits 7 to 0 of each word, are those of the
+/// opening.
 #[tactic(auto, using(crate::proofs::Lists::Reached::reached_distinct))]
 pub fn every_list_of_steps_keeps_the_world()
     ensures distinct { OfEveryList (λ lows w steps v. IsOneToOne v.seats) }
     ensures kept { OfEveryList (λ lows w steps v. Keeps w v) }
 {}
 
-/// A call replies, parks or meets another thread within four Go steps of its thread: where it does none of
-/// that over more steps, its thread makes fewer than four accepted Go steps of them. An end takes one for
-/// each object, and one more.
+/// A call replies, parks or meets another thread within four Go steps of its thread: where it does
+/// none of that over more steps, its thread makes fewer than four accepted Go steps of them. An end
+/// takes one for each object, and one more.
 #[tactic(auto, using(crate::proofs::Lists::Reached::reached_four, crate::proofs::Lists::Reached::reached_all))]
 pub fn every_call_is_patient()
     ensures within_four { OfEveryList (λ lows w steps v.
@@ -56,10 +63,10 @@ pub fn every_call_is_patient()
         → AllLinger v t more → goes_of t more < length lows + 1) }
 {}
 
-/// A thread that was notified stays so, whatever steps come, until its call has the reply that its wait is
-/// over, and so does one whose time was over, or that woke spuriously; one that an interrupt took out of the wait set stays so until its
-/// call has the reply Interrupted; and a reply, however it was given, is kept until the thread's own Go returns
-/// with it.
+/// A thread that was notified stays so, whatever steps come, until its call has the reply that its
+/// wait is over, and so does one whose time was over, or that woke spuriously; one that an
+/// interrupt took out of the wait set stays so until its call has the reply Interrupted; and a
+/// reply, however it was given, is kept until the thread's own Go returns with it.
 #[tactic(auto, using(crate::proofs::Lists::Reached::reached_notified, crate::proofs::Lists::Reached::reached_interrupted, crate::proofs::Lists::Reached::reached_elapsed, crate::proofs::Lists::Reached::reached_spurious, crate::proofs::Lists::Reached::reached_kept))]
 pub fn no_notification_is_lost()
     ensures notified { OfEveryList (λ lows w steps v.
@@ -88,11 +95,11 @@ pub fn no_notification_is_lost()
         → HasReply (shown (world_after v more)) u r) }
 {}
 
-/// A waiter that is both notified and interrupted (JLS SE 8, 17.2.4), move by move of the abstract machine.
-/// Where the interrupt comes first, the waiter leaves the wait set for it, a notify goes to another member of
-/// the set, if there is one, and the wait throws, when the interrupt is forgotten. Where the notification
-/// comes first, the wait returns normally, with the interrupt pending. It never returns normally with its
-/// interrupt forgotten.
+/// A waiter that is both notified and interrupted (JLS SE 8, 17.2.4), move by move of the abstract
+/// machine. Where the interrupt comes first, the waiter leaves the wait set for it, a notify goes
+/// to another member of the set, if there is one, and the wait throws, when the interrupt is
+/// forgotten. Where the notification comes first, the wait returns normally, with the interrupt
+/// pending. It never returns normally with its interrupt forgotten.
 #[tactic(auto, using(crate::proofs::Lists::Waiters::first_interrupted, crate::proofs::Lists::Waiters::not_chosen, crate::proofs::Lists::Waiters::another, crate::proofs::Lists::Waiters::thrown, crate::proofs::Lists::Waiters::first_notified, crate::proofs::Lists::Waiters::pending, crate::proofs::Lists::Waiters::returned, crate::proofs::Lists::Waiters::never_lost))]
 pub fn a_waiter_throws_or_keeps_its_interrupt()
     ensures first_interrupted { (s s' : State) (t u : ThreadId) (mine theirs : Bool)
@@ -125,9 +132,9 @@ pub fn a_waiter_throws_or_keeps_its_interrupt()
         → Is s' u false (doing.Has WaitOver) → ⊥ }
 {}
 
-/// What each move of the abstract machine leaves: a thread that is back from a wait set, for whatever reason, stays
-/// so or has the reply for its reason, a notified one with the interrupt that it has; and a reply is kept until the
-/// move Return of just that reply.
+/// What each move of the abstract machine leaves: a thread that is back from a wait set, for
+/// whatever reason, stays so or has the reply for its reason, a notified one with the interrupt
+/// that it has; and a reply is kept until the move Return of just that reply.
 #[tactic(auto, using(crate::proofs::Clauses::Lasting::move_lasts))]
 pub fn every_move_keeps_what_lasts()
     ensures { (s s' : State) (m : Move) → Steps s m s' → LastsBut s (MoveReturns m) s' }

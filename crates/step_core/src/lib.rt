@@ -1,17 +1,20 @@
 //! The monitor service of a Java virtual machine, one atomic step at a time.
 //!
-//! A [`World`] has the header words of its objects, its threads with an index each, the place of each
-//! thread in its call, and the fat monitors. [`World::step`] does one atomic step: one load, exchange
-//! or store of one header word, or one action on the fat monitors; to attach a thread, to begin a call,
-//! to let a timed wait expire and to tell the moment are steps too. Each step hands out the moves of the
-//! abstract machine of `docs/MACHINE.md` (JLS SE 8, 17.1 and 17.2) that it made.
+//! A [`World`] has the header words of its objects, its threads with an index each, the place of
+//! each thread in its call, and the fat monitors. [`World::step`] does one atomic step: one load,
+//! exchange or store of one header word, or one action on the fat monitors; to attach a thread, to
+//! begin a call, to let a timed wait expire and to tell the moment are steps too. Each step hands
+//! out the moves of the abstract machine of `docs/MACHINE.md` (JLS SE 8, 17.1 and 17.2) that it
+//! made.
 //!
-//! A caller attaches a thread once, begins its calls one after another, and does the Go steps of each:
+//! A caller attaches a thread once, begins its calls one after another, and does the Go steps of
+//! each:
 //!
 //! ```text
 //! use step_core::{Answer, Atomic, Call, Fault, Reply, Step, ThreadId, World};
 //!
-//! /// Begins a call, and lets the thread go. None: it is parked, or another thread owns the object.
+//! /// Begins a call, and lets the thread go. None: it is parked, or another thread owns the
+//! /// object.
 //! fn turn(world: &mut World, thread: ThreadId, call: Call) -> Result<Option<Reply>, Fault> {
 //!     world.step(Step::Begin { thread, call })?;
 //!     // A call replies, parks or meets another thread within four Go steps; an End may take more.

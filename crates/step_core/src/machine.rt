@@ -11,8 +11,8 @@ pub enum Doing {
     Idle,
     /// It has made this call, which has no answer yet.
     Wants(Call),
-    /// It stands in the object's wait set, and gave up so many holds. The deadline is a moment in nanoseconds; a
-    /// wait of no limit has none.
+    /// It stands in the object's wait set, and gave up so many holds. The deadline is a moment in
+    /// nanoseconds; a wait of no limit has none.
     Waits {
         object: ObjectId,
         holds: u16,
@@ -61,8 +61,8 @@ pub enum Move {
     BadArgument {
         thread: ThreadId,
     },
-    /// It owns the object that it wants to wait on, and is interrupted: it does not wait, and the interrupt
-    /// is forgotten.
+    /// It owns the object that it wants to wait on, and is interrupted: it does not wait, and the
+    /// interrupt is forgotten.
     Early {
         thread: ThreadId,
     },
@@ -70,7 +70,8 @@ pub enum Move {
     Wait {
         thread: ThreadId,
     },
-    /// It takes this thread out of the wait set of the object that it owns; None where nobody waits.
+    /// It takes this thread out of the wait set of the object that it owns; None where nobody
+    /// waits.
     Notify {
         thread: ThreadId,
         chosen: Option<ThreadId>,
@@ -95,8 +96,8 @@ pub enum Move {
     Spurious {
         thread: ThreadId,
     },
-    /// It is back from a wait set, and locks the object as often as before; where an interrupt took it out
-    /// of there, the interrupt is forgotten.
+    /// It is back from a wait set, and locks the object as often as before; where an interrupt took
+    /// it out of there, the interrupt is forgotten.
     Relock {
         thread: ThreadId,
     },

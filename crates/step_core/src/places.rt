@@ -10,11 +10,11 @@ pub enum Place {
     Idle,
     /// At a stage of a call on an object, or about interrupts.
     InCall(Stage),
-    /// It is to end. It loaded the words of the objects below `loaded`, none of which it owns thinly, and
-    /// is to load the next one, or to act where there is none.
+    /// It is to end. It loaded the words of the objects below `loaded`, none of which it owns
+    /// thinly, and is to load the next one, or to act where there is none.
     Ending { loaded: u32 },
-    /// Its post among the fat monitors says it: it stands in a line, or was granted its reply, which its
-    /// next Go collects.
+    /// Its post among the fat monitors says it: it stands in a line, or was granted its reply,
+    /// which its next Go collects.
     AtPost,
 }
 
@@ -51,8 +51,8 @@ pub enum Stage {
     Won {
         object: ObjectId,
     },
-    /// It bound the monitor, and is to store the fat word; `won` says of an enter that it has won the
-    /// word after contention.
+    /// It bound the monitor, and is to store the fat word; `won` says of an enter that it has won
+    /// the word after contention.
     Bound {
         call: MonitorCall,
         won: bool,

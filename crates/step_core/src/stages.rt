@@ -11,7 +11,9 @@ ghost use Rattle.fat_monitor.specs.declared.actions.Action.TheVariants.{End};
 ghost use Rattle.fast_path.specs.Table.{next_of};
 ghost use Rattle.step_core.specs.World.{lock_at, is_own};
 ghost use Rattle.step_core.specs.Ready.{bare, AreFormed, IsReady, IsOwnAction};
-ghost use Rattle.step_core.specs.Go.{after_load, after_take, after_store, after_bind, after_publish, after_act, after_stage, action_on, action_about, bind_cause, entering, stored_reply};
+ghost use Rattle.step_core.specs.Go.{after_load, after_take, after_store, after_bind};
+ghost use Rattle.step_core.specs.Go.{after_publish, after_act, after_stage, action_on};
+ghost use Rattle.step_core.specs.Go.{action_about, bind_cause, entering, stored_reply};
 ghost use Rattle.step_core.specs.Step.{after_look};
 
 use crate::steps::{grant_of, move_for};
@@ -20,7 +22,8 @@ use fast_path::{Call, InterruptCall, MonitorCall, Next, Operation};
 use fat_monitor::{Action, Answer, Cause, Fats, Reply};
 use lock_word::{Lock, ObjectId, Split, ThreadId, Word, lock_of, with_lock};
 
-/// One Go of the thread with index `me` from a stage of its call: where it stands then, and what it did.
+/// One Go of the thread with index `me` from a stage of its call: where it stands then, and what it
+/// did.
 #[inline(always)]
 pub(crate) fn go_from(
     split: Split,
@@ -206,8 +209,8 @@ fn stored_reply(operation: Operation) -> Reply
     }
 }
 
-/// Binds a fat monitor to the call's object, which the thread holds this often. Where none can be had,
-/// an enter that has won already drops the inflation, and any other call is refused.
+/// Binds a fat monitor to the call's object, which the thread holds this often. Where none can be
+/// had, an enter that has won already drops the inflation, and any other call is refused.
 fn bind(fats: &mut Fats, thread: ThreadId, call: MonitorCall, won: bool, holds: u16) -> (Place, Did)
     requires attached { IsAttached fats.old thread }
     requires low { 1 ≤ holds }

@@ -23,7 +23,8 @@ pub enum Step {
     Go { thread: ThreadId },
     /// The thread's wait is over: its deadline has come.
     Expire { thread: ThreadId },
-    /// The thread's wait is over for no reason that a program can see: a spurious wake-up (JLS SE 8, 17.2.1).
+    /// The thread's wait is over for no reason that a program can see: a spurious wake-up (JLS SE
+    /// 8, 17.2.1).
     Spurious { thread: ThreadId },
     /// This is the moment now, in nanoseconds; it never falls.
     Tick { now: u64 },
@@ -94,9 +95,9 @@ pub struct Did {
 
 /// Why a step was refused. The world is then unchanged.
 ///
-/// Attach answers the first of Known, NoIndex and Memory whose cause holds; Begin of NoThread, NoObject
-/// and InCall; Go of NoThread, NotCalling and Parked; Expire of NoThread and NotDue; Spurious of NoThread
-/// and NotWaiting; Tick Backwards.
+/// Attach answers the first of Known, NoIndex and Memory whose cause holds; Begin of NoThread,
+/// NoObject and InCall; Go of NoThread, NotCalling and Parked; Expire of NoThread and NotDue;
+/// Spurious of NoThread and NotWaiting; Tick Backwards.
 #[derive(Clone, Copy, PartialEq, Eq, Hash, Debug)]
 pub enum Fault {
     /// Every index belongs to a live thread.

@@ -1,6 +1,7 @@
 //! The world, and its steps.
 
-ghost use Rattle.std.specs.Prelude.{◌≡◌, ◌+◌, ◌<◌, ◌≤◌, length, Bool, true, Option, IfOk, IfErr, IfSome, OnOk, OnErr, Some, None};
+ghost use Rattle.std.specs.Prelude.{◌≡◌, ◌+◌, ◌<◌, ◌≤◌, length, Bool, true, Option, IfOk, IfErr};
+ghost use Rattle.std.specs.Prelude.{IfSome, OnOk, OnErr, Some, None};
 ghost use Rattle.std.specs.Option.{option_map};
 ghost use Rattle.lock_word.specs.Layout.{greatest_index};
 ghost use Rattle.fat_monitor.specs.FatState.{monitor_at, StandBehindOwners};
@@ -32,8 +33,8 @@ use std::alloc::Global;
 use std::marker::Model;
 use thread_index::Indices;
 
-/// Objects with a header word each, live threads with an index each, the place of each thread in its
-/// call, and the fat monitors.
+/// Objects with a header word each, live threads with an index each, the place of each thread in
+/// its call, and the fat monitors.
 #[derive(Drop)]
 pub struct World {
     split: Split,
@@ -62,8 +63,8 @@ impl Model for World {
 
 impl World {
     /// A world with one free object for each low byte, 0 to 65,535 of them; with at most `monitors`
-    /// fat monitors, 0 to 8,388,608; and without threads, of which at most `indices`, 1 to 32,767, are
-    /// live at once: 2,047 where the split is [`Deep`](Split::Deep).
+    /// fat monitors, 0 to 8,388,608; and without threads, of which at most `indices`, 1 to 32,767,
+    /// are live at once: 2,047 where the split is [`Deep`](Split::Deep).
     pub fn new(
         alloc: Global,
         lows: &[u8],
@@ -94,12 +95,13 @@ impl World {
 
     /// Does one step. A step that is refused leaves the world as it is.
     ///
-    /// The moves that it hands out lead the abstract machine from the state that the world showed to the
-    /// one that it shows then. Only an Attach may be refused for want of memory; a Go that finds no
-    /// memory for a fat monitor is accepted, and says so in its atomic step.
+    /// The moves that it hands out lead the abstract machine from the state that the world showed
+    /// to the one that it shows then. Only an Attach may be refused for want of memory; a Go that
+    /// finds no memory for a fat monitor is accepted, and says so in its atomic step.
     #[inline(always)]
     pub fn step(&mut self, step: Step) -> Result<Did, Fault>
-        // The answer and the new world are those of the step relation; room is whether memory is granted.
+        // The answer and the new world are those of the step relation; room is whether memory is
+        // granted.
         ensures exact { (room : Bool) × (record { answer = result; after = self.new }
             ≡ step_of room self.old step) }
 
@@ -110,7 +112,8 @@ impl World {
         ensures run { Run (shown self.old) (moves_of result) (shown self.new) }
         ensures labels { IfOk result (HasLabels step) }
 
-        // A fault is answered where it is the first of the step's faults whose cause holds, and only there.
+        // A fault is answered where it is the first of the step's faults whose cause holds, and
+        // only there.
         ensures refused { IfErr result (IsRefused self.old step) }
         ensures accepted { OnOk result (IsAcceptable self.old step) }
         ensures unchanged { OnErr result (self.new ≡ self.old) }
@@ -121,12 +124,13 @@ impl World {
         // A Go is one step on the path of its call, from its beginning to its reply.
         ensures path { IfOk result (λ d. StepsOnPath self.old step d self.new) }
 
-        // A thread that is back from a wait set stays so until it has its reply, and a reply stays until it is
-        // returned.
+        // A thread that is back from a wait set stays so until it has its reply, and a reply stays
+        // until it is returned.
         ensures lasting { IfOk result (λ d. Lasts (shown self.old) step d.reply (shown self.new)) }
 
-        // A Go replies, parks, meets another thread, or lowers the steps that its call has left; no other thread's
-        // step changes them. The objects stay, and so does the low byte of each word.
+        // A Go replies, parks, meets another thread, or lowers the steps that its call has left; no
+        // other thread's step changes them. The objects stay, and so does the low byte of each
+        // word.
         ensures patient { IfOk result (λ d. IsPatient self.old step d self.new) }
         ensures kept { Keeps self.old self.new }
 

@@ -1,6 +1,6 @@
 //! `thinmon run [--moves] [FILE]` plays a script of monitor steps and prints its report or its
-//! history, `thinmon dump [FILE]` a dump of its last world; `thinmon check [FILE]` judges a history;
-//! `thinmon live [FILE]` runs the threads of a live script on threads of the system.
+//! history, `thinmon dump [FILE]` a dump of its last world; `thinmon check [FILE]` judges a
+//! history; `thinmon live [FILE]` runs the threads of a live script on threads of the system.
 //!
 //! `docs/FORMATS.md` has the forms of scripts, reports, dumps, histories and live scripts.
 #![tactic(auto)]

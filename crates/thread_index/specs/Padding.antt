@@ -1,5 +1,6 @@
 -- Seats of which only the first are written down, and what is written down of them beside.
-use Rattle.std.specs.Prelude.{◌≡◌, ℕ, ◌-◌, ◌*◌, ◌≤◌, List, ◌++◌, length, replicate, Option, None, is_some, if◌then◌else◌, nat_eq}
+use Rattle.std.specs.Prelude.{◌≡◌, ℕ, ◌-◌, ◌*◌, ◌≤◌, List, ◌++◌, length, replicate, Option, None, is_some}
+use Rattle.std.specs.Prelude.{if◌then◌else◌, nat_eq}
 use Rattle.std.specs.HashMap.{HashMap, get}
 use Rattle.lock_word.specs.declared.ThreadId.{ThreadId}
 use Rattle.thread_index.specs.BitRows.{bit_of}
@@ -21,12 +22,14 @@ abbrev pub taken_bit : Option ThreadId → ℕ
 taken_bit holder = (if is_some holder then 1 else 0)
 
 -- a bit for each seat is 1 where somebody has it, and the table has the seat of each thread
-pub record TellsSeats {S : Type 0} (seats : List (Option ThreadId)) (words : List ℕ) (table : HashMap ℕ ℕ S) : Type 0 where
+pub record TellsSeats {S : Type 0} (seats : List (Option ThreadId)) (words : List ℕ)
+    (table : HashMap ℕ ℕ S) : Type 0 where
   pub bits : (k : ℕ) → bit_of words k ≡ taken_bit (holder_at seats k)
   pub look_up : (t : ThreadId) → get nat_eq table t.0 ≡ seat_of seats t
 
 -- what holds of the holders, the limit, the words and the table of each `Indices`
-pub record IsWhole {S : Type 0} (holders : List (Option ThreadId)) (limit : ℕ) (words : List ℕ) (table : HashMap ℕ ℕ S) : Type 0 where
+pub record IsWhole {S : Type 0} (holders : List (Option ThreadId)) (limit : ℕ) (words : List ℕ)
+    (table : HashMap ℕ ℕ S) : Type 0 where
   pub kept : IsKept holders limit
   pub told : TellsSeats (padded holders limit) words table
   pub room : length holders ≤ 64 * length words

@@ -1,6 +1,7 @@
 //! A row of bits in words of 64.
 
-ghost use Rattle.std.specs.Prelude.{◌≡◌, ◌+◌, ◌*◌, ◌/◌, ◌<◌, ◌≤◌, ℕ, [], length, max, slice_index, OnOk};
+ghost use Rattle.std.specs.Prelude.{◌≡◌, ◌+◌, ◌*◌, ◌/◌, ◌<◌, ◌≤◌, ℕ, [], length, max, slice_index};
+ghost use Rattle.std.specs.Prelude.{OnOk};
 ghost use Rattle.thread_index.specs.BitRows.{bit_of, AreSetBelow, SameOtherWords, SetsBit};
 
 use std::alloc::{AllocError, Global};

@@ -6,8 +6,11 @@
 //! the seat of each thread, and bits tell which seats are taken.
 #![tactic(auto)]
 
-ghost use Rattle.std.specs.Prelude.{◌≡◌, ◌↔◌, ◌-◌, ◌<◌, ◌≤◌, ◌+◌, ℕ, length, max, replicate, slice_set, is_ok, if◌then◌else◌, IsOk, IsSome, IfOk, IfErr, IfSome, OnOk, OnErr, Some, None};
-ghost use Rattle.thread_index.specs.Indices.{seat_of, free_seat, holder_at, holder_of, index_of, given_back, IsOneToOne};
+ghost use Rattle.std.specs.Prelude.{◌≡◌, ◌↔◌, ◌-◌, ◌<◌, ◌≤◌, ◌+◌, ℕ, length, max, replicate};
+ghost use Rattle.std.specs.Prelude.{slice_set, is_ok, if◌then◌else◌, IsOk, IsSome, IfOk, IfErr};
+ghost use Rattle.std.specs.Prelude.{IfSome, OnOk, OnErr, Some, None};
+ghost use Rattle.thread_index.specs.Indices.{seat_of, free_seat, holder_at, holder_of, index_of};
+ghost use Rattle.thread_index.specs.Indices.{given_back, IsOneToOne};
 
 mod bit_row;
 mod seat_bits;

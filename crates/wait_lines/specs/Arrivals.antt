@@ -1,5 +1,6 @@
 -- The lines that the rows of nodes show.
-use Rattle.std.specs.Prelude.{◌≡◌, ℕ, ◌==◌, ◌<◌, ◌≤◌, ◌&&◌, Bool, List, [], ◌∷◌, ◌++◌, map as list_map, filter, length, slice_index_or, count_by}
+use Rattle.std.specs.Prelude.{◌≡◌, ℕ, ◌==◌, ◌<◌, ◌≤◌, ◌&&◌, Bool, List, [], ◌∷◌, ◌++◌, map as list_map, filter, length}
+use Rattle.std.specs.Prelude.{slice_index_or, count_by}
 use Rattle.std.specs.Ordering.{nat_cmp}
 use Rattle.std.specs.FinMap as map
 use Rattle.lock_word.specs.declared.ThreadId.{ThreadId}
@@ -7,7 +8,8 @@ use Rattle.wait_lines.specs.declared.Role.{Role}
 use Rattle.wait_lines.specs.declared.Role.TheVariants.{Entry}
 use Rattle.wait_lines.specs.declared.links.Spot.{Spot}
 use Rattle.wait_lines.specs.declared.links.Ends.{Ends}
-use Rattle.wait_lines.specs.Lines.{LineMap, Key, key, line, with_line, role_number, is_thread, Standing, LinesState, standing, IsOrderly}
+use Rattle.wait_lines.specs.Lines.{LineMap, Key, key, line, with_line, role_number, is_thread, Standing, LinesState}
+use Rattle.wait_lines.specs.Lines.{standing, IsOrderly}
 use Rattle.wait_lines.specs.Links.{Chart}
 use Rattle.wait_lines.specs.Rows.{rows_of, row_at, AreLinked}
 
@@ -31,7 +33,8 @@ threads_in arrivals m r = list_map (λ a. a.thread) (filter (is_in m r) arrivals
 
 abbrev pub lines_of : List Arrival → LineMap
 lines_of [] = map.empty
-lines_of (a ∷ arrivals) = with_line (lines_of arrivals) a.place a.role (a.thread ∷ line (lines_of arrivals) a.place a.role)
+lines_of (a ∷ arrivals) =
+    with_line (lines_of arrivals) a.place a.role (a.thread ∷ line (lines_of arrivals) a.place a.role)
 
 abbrev pub nodes_of : List Arrival → map.FinMap nat_cmp ℕ
 nodes_of [] = map.empty
@@ -68,7 +71,10 @@ shown c = record { lines = lines_of (arrivals_of c); nodes = nodes_of (arrivals_
 
 -- each line has one record
 abbrev pub HaveOne : List Key → List (List ℕ) → Type 0
-HaveOne ks rs = (i j : ℕ) → i < length ks → j < length ks → slice_index_or ks i (key 0 Entry) ≡ slice_index_or ks j (key 0 Entry) → 0 < length (row_at rs i) → 0 < length (row_at rs j) → i ≡ j
+HaveOne ks rs =
+    (i j : ℕ) → i < length ks → j < length ks
+    → slice_index_or ks i (key 0 Entry) ≡ slice_index_or ks j (key 0 Entry)
+    → 0 < length (row_at rs i) → 0 < length (row_at rs j) → i ≡ j
 
 -- what always holds of the chart
 pub record IsKept (c : Chart) : Type 0 where

@@ -1,5 +1,6 @@
 -- Which threads wait in which line, in order of joining.
-use Rattle.std.specs.Prelude.{◌≡◌, ◌≢◌, ℕ, ◌==◌, ◌≤◌, Bool, not, List, [], ◌∷◌, ◌++◌, length, filter, count_by, sum_by, Contains, Some}
+use Rattle.std.specs.Prelude.{◌≡◌, ◌≢◌, ℕ, ◌==◌, ◌≤◌, Bool, not, List, [], ◌∷◌, ◌++◌, length, filter, count_by, sum_by}
+use Rattle.std.specs.Prelude.{Contains, Some}
 use Rattle.std.specs.Option.{unwrap_or}
 use Rattle.std.specs.Ordering.{nat_cmp, ordering_then}
 use Rattle.std.specs.declared.cmp.Ordering.{Ordering}
@@ -102,7 +103,8 @@ nobody = record { lines = map.empty; reservations = 0 }
 
 -- what always holds of lines and reservations
 pub record IsOrderly (s : Standing) : Type 0 where
-  pub one_line : (t : ThreadId) (m n : ℕ) (r q : Role) → StandsIn s.lines t m r → StandsIn s.lines t n q → (m ≡ n) × (r ≡ q)
+  pub one_line : (t : ThreadId) (m n : ℕ) (r q : Role) → StandsIn s.lines t m r → StandsIn s.lines t n q
+      → (m ≡ n) × (r ≡ q)
   pub once : (t : ThreadId) (m : ℕ) (r : Role) → times_in t (line s.lines m r) ≤ 1
   pub filled : IsFilled s.lines
   pub within : total_count s.lines ≤ s.reservations

@@ -1,5 +1,6 @@
 -- Records of lines in rows of buckets, by the places and the roles of their lines.
-use Rattle.std.specs.Prelude.{◌≡◌, ⊤, false, if◌then◌else◌, ℕ, suc, ◌+◌, ◌*◌, ◌%◌, ◌<◌, ◌≤◌, List, [], ◌∷◌, ◌++◌, length, max, slice_index_or}
+use Rattle.std.specs.Prelude.{◌≡◌, ⊤, false, if◌then◌else◌, ℕ, suc, ◌+◌, ◌*◌, ◌%◌, ◌<◌, ◌≤◌, List, [], ◌∷◌, ◌++◌}
+use Rattle.std.specs.Prelude.{length, max, slice_index_or}
 use Rattle.wait_lines.specs.declared.Role.{Role}
 use Rattle.wait_lines.specs.declared.Role.TheVariants.{Entry}
 use Rattle.wait_lines.specs.Lines.{Key, key, role_number}

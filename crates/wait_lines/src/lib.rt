@@ -1,14 +1,16 @@
 //! The entry lines and the wait sets of monitors (JLS SE 8, 17.2).
 //!
 //! Each monitor has two lines: the threads that ask for it, and its wait set, the threads that wait
-//! until they are notified or interrupted, or their time is over. JLS SE 8 gives neither an order. Here
-//! each keeps the order of joining.
+//! until they are notified or interrupted, or their time is over. JLS SE 8 gives neither an order.
+//! Here each keeps the order of joining.
 #![tactic(auto)]
 
-ghost use Rattle.std.specs.Prelude.{◌≡◌, ◌↔◌, ◌+◌, ◌<◌, ◌≤◌, ℕ, length, IsTrue, IfSome, IfNone, OnOk, OnErr, slice_get};
+ghost use Rattle.std.specs.Prelude.{◌≡◌, ◌↔◌, ◌+◌, ◌<◌, ◌≤◌, ℕ, length, IsTrue, IfSome, IfNone};
+ghost use Rattle.std.specs.Prelude.{OnOk, OnErr, slice_get};
 ghost use Rattle.std.specs.Bool.{OnFalse};
 ghost use Rattle.wait_lines.specs.declared.Role.{Role};
-ghost use Rattle.wait_lines.specs.Lines.{line, joined, left, StandsIn, Stands, StandsNowhere, total_count, nobody, standing, IsOrderly, StandsAt};
+ghost use Rattle.wait_lines.specs.Lines.{line, joined, left, StandsIn, Stands, StandsNowhere};
+ghost use Rattle.wait_lines.specs.Lines.{total_count, nobody, standing, IsOrderly, StandsAt};
 ghost use Rattle.std.specs.FinMap as map;
 ghost use Rattle.lock_word.specs.declared.ThreadId.{ThreadId};
 
@@ -41,8 +43,8 @@ pub enum Role {
 /// so what a call costs does not grow with the number of lines or of those who stand in them,
 /// unless it is said to walk.
 ///
-/// A thread stands in one line at most, and once. Joining asks for no memory: it uses a reservation,
-/// and leaving makes that free again.
+/// A thread stands in one line at most, and once. Joining asks for no memory: it uses a
+/// reservation, and leaving makes that free again.
 #[derive(Debug, Drop)]
 pub struct Lines {
     links: Links,
@@ -105,8 +107,8 @@ impl Lines {
         self.links.spots.len() as u16
     }
 
-    /// Takes a thread out of the line that it stands in, and says whether it stood in one. This walks
-    /// the lines.
+    /// Takes a thread out of the line that it stands in, and says whether it stood in one. This
+    /// walks the lines.
     pub fn leave(&mut self, thread: ThreadId) -> bool
         ensures stood { IsTrue result ↔ Stands self.old.lines thread }
         ensures left { (m : ℕ) (r : Role) → StandsIn self.old.lines thread m r

@@ -1,9 +1,11 @@
 //! Which record each line has.
 
-ghost use Rattle.std.specs.Prelude.{◌≡◌, ◌⊎◌, ◌<◌, [], ◌∷◌, length, true, false, IfSome, IfNone, OnOk, OnErr, ℕ, suc};
+ghost use Rattle.std.specs.Prelude.{◌≡◌, ◌⊎◌, ◌<◌, [], ◌∷◌, length, true, false, IfSome, IfNone};
+ghost use Rattle.std.specs.Prelude.{OnOk, OnErr, ℕ, suc};
 ghost use Rattle.wait_lines.specs.Links.{chart, is_node, is_of, ends_at, BeginsAt, IsThere};
 ghost use Rattle.wait_lines.specs.Rows.{row_at};
-ghost use Rattle.wait_lines.specs.Tables.{bucket_of, with_move, with_record, released, IsInRow, IsReleased, IsWhole};
+ghost use Rattle.wait_lines.specs.Tables.{bucket_of, with_move, with_record, released, IsInRow};
+ghost use Rattle.wait_lines.specs.Tables.{IsReleased, IsWhole};
 
 use crate::Role;
 use crate::links::{Links, Node, Stop};

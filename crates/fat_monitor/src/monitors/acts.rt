@@ -1,5 +1,5 @@
-//! The actions of an attached thread, and what they share: how a monitor is handed on, and how a thread leaves
-//! a line.
+//! The actions of an attached thread, and what they share: how a monitor is handed on, and how a
+//! thread leaves a line.
 
 ghost use Rattle.std.specs.Prelude.{true, false, ◌≡◌, ℕ, ◌<◌, length, Some, None, Option, Ok};
 ghost use Rattle.lock_word.specs.declared.ThreadId.{ThreadId};
@@ -8,7 +8,8 @@ ghost use Rattle.fat_monitor.specs.declared.actions.Action.{Action};
 ghost use Rattle.fat_monitor.specs.declared.actions.Answer.{Answer};
 ghost use Rattle.fat_monitor.specs.declared.actions.Post.{Post};
 ghost use Rattle.wait_lines.specs.Lines.{key};
-ghost use Rattle.fat_monitor.specs.FatState.{post_at, post_of, IsAttached, owns_one, monitor_at, is_owned_by, first_of, place_of, ComesBack};
+ghost use Rattle.fat_monitor.specs.FatState.{post_at, post_of, IsAttached, owns_one, monitor_at};
+ghost use Rattle.fat_monitor.specs.FatState.{is_owned_by, first_of, place_of, ComesBack};
 ghost use Rattle.fat_monitor.specs.Acting.{acted, told, handed_on, granted, removed, served};
 
 use super::Fats;
@@ -173,7 +174,8 @@ impl Fats {
         Ok(self.end_wait(thread, Why::Elapsed))
     }
 
-    /// Takes the thread out of the wait set that it stands in, for no reason that a program can see.
+    /// Takes the thread out of the wait set that it stands in, for no reason that a program can
+    /// see.
     pub(super) fn wake(&mut self, thread: ThreadId) -> Result<Done, ActFault>
         ensures { record { answer = result; after = self.new }
             ≡ acted self.old thread Action.Spurious }
@@ -240,8 +242,8 @@ impl Fats {
         Some(next)
     }
 
-    /// Makes a thread that stands in a line of a monitor its owner, with the reply that its post, or the one
-    /// that it is to have, comes back to.
+    /// Makes a thread that stands in a line of a monitor its owner, with the reply that its post,
+    /// or the one that it is to have, comes back to.
     fn grant(&mut self, monitor: u32, thread: ThreadId, post: Post)
         requires bound { monitor < length self.old.monitors }
         requires stands { (r : Role) × (place_of (post_at self.old thread) ≡ Some (key monitor r)) }
@@ -260,8 +262,9 @@ impl Fats {
         self.posts.set(thread, Post::Granted(reply));
     }
 
-    /// Takes a thread out of its wait set: behind an owner it goes to the end of the entry line, and a
-    /// monitor that nobody owns it gets at once. It answers the thread where it got the monitor.
+    /// Takes a thread out of its wait set: behind an owner it goes to the end of the entry line,
+    /// and a monitor that nobody owns it gets at once. It answers the thread where it got the
+    /// monitor.
     fn call_back(&mut self, thread: ThreadId, why: Why) -> Option<ThreadId>
         requires waits { (m : ℕ) × (n : ℕ) × (d : Option ℕ)
             × (post_of self.old thread ≡ Some (Post.Waiting m n d)) }

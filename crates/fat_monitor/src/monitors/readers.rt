@@ -1,7 +1,8 @@
 //! What is told of the fat monitors and of the attached threads.
 
 ghost use Rattle.std.specs.Prelude.{◌≡◌, ◌≤◌, length};
-ghost use Rattle.fat_monitor.specs.FatState.{IsSound, post_of, flag_of, monitor_at, object_at, wait_count};
+ghost use Rattle.fat_monitor.specs.FatState.{IsSound, post_of, flag_of, monitor_at, object_at};
+ghost use Rattle.fat_monitor.specs.FatState.{wait_count};
 
 use super::Fats;
 use crate::Post;
@@ -49,7 +50,8 @@ impl Fats {
             .and_then(|found| found.owner)
     }
 
-    /// How often the owner of a monitor holds it, 0 to 65,535; 0 where nobody owns it or it is not bound.
+    /// How often the owner of a monitor holds it, 0 to 65,535; 0 where nobody owns it or it is not
+    /// bound.
     pub fn holds(&self, monitor: u32) -> u16
         ensures { result ≡ (monitor_at self.now monitor).holds }
     {

@@ -36,7 +36,8 @@ fn monitor_of<B: Kept>(
     Some((monitor, book))
 }
 
-// The receipt for monitor 0, which a world of fat monitors binds to the object for two holds of thread 1.
+// The receipt for monitor 0, which a world of fat monitors binds to the object for two holds of
+// thread 1.
 fn receipt_for_two_holds(alloc: Global) -> Option<Receipt>
     ensures object { IfSome result (λ r. r.object.0 ≡ 0) }
     ensures owner { IfSome result (λ r. r.owner.0 ≡ 1) }
@@ -47,7 +48,8 @@ fn receipt_for_two_holds(alloc: Global) -> Option<Receipt>
     fats.bind(OBJECT, ThreadId(1), 2).ok()
 }
 
-// Acquires the object and nests it, so that the pass holds it twice. False where its word is not free.
+// Acquires the object and nests it, so that the pass holds it twice. False where its word is not
+// free.
 fn hold_twice<B: Kept>(headers: &Headers<B>, pass: &mut Pass<B>, object: ObjectId) -> bool
     requires belongs { pass.old.opening ≡ headers.now }
     requires object { object.0 < length headers.now.lows }
@@ -146,8 +148,8 @@ fn add_often(
     (rounds, pass)
 }
 
-// Opens the words of one object for two passes. Where an allocation is refused, the book comes back,
-// and is opened again.
+// Opens the words of one object for two passes. Where an allocation is refused, the book comes
+// back, and is opened again.
 fn open_for_two(alloc: Global, names: Names) -> Option<(Headers<Names>, Vec<Pass<Names>>)>
     ensures objects { IfSome result (λ r. length r.0.lows ≡ 1) }
     ensures passes { IfSome result (λ r. r.1.items ≡ new_passes r.0 1 2) }

@@ -1,5 +1,5 @@
-//! Want of memory, which only a run with refused allocations meets: what was handed in comes back, and the
-//! same succeeds when it is tried again.
+//! Want of memory, which only a run with refused allocations meets: what was handed in comes back,
+//! and the same succeeds when it is tried again.
 ghost use Rattle.std.specs.Prelude.{◌≡◌, [], length, false, IfOk, All};
 ghost use Rattle.header_words.specs.Passes.{new_passes};
 
@@ -25,8 +25,8 @@ impl Kept for Marked {
     }
 }
 
-/// Opens the words of two objects for two passes; where memory is refused, the book comes back, and is
-/// opened again.
+/// Opens the words of two objects for two passes; where memory is refused, the book comes back, and
+/// is opened again.
 fn open_again(rt: &impl Abort, alloc: Global) -> Result<(Headers<Marked>, Vec<Pass<Marked>>), Fail>
     ensures objects { IfOk result (λ r. length r.0.lows ≡ 2) }
     ensures passes { IfOk result (λ r. r.1.items ≡ new_passes r.0 1 2) }
@@ -42,7 +42,8 @@ fn open_again(rt: &impl Abort, alloc: Global) -> Result<(Headers<Marked>, Vec<Pa
     }
 }
 
-/// Closes the words; where memory is refused, they come back with their passes, and are closed again.
+/// Closes the words; where memory is refused, they come back with their passes, and are closed
+/// again.
 fn close_again(
     rt: &impl Abort,
     alloc: Global,

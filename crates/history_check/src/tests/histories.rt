@@ -29,7 +29,8 @@ fn the_first_fault_in_the_order_of_lines(rt: HostRuntime) {
     );
 }
 
-/// The second line has an unknown name, or a member too many, or is a first line once more, or empty.
+/// The second line has an unknown name, or a member too many, or is a first line once more, or
+/// empty.
 #[test]
 fn a_bad_second_line(rt: HostRuntime) {
     let lines: [&[u8]; 4] = [

@@ -1,7 +1,8 @@
 //! What a step did, built: its atomic step, and the moves that it hands out.
 
 ghost use Rattle.std.specs.Prelude.{◌≡◌};
-ghost use Rattle.step_core.specs.Did.{move_for, no_move, one_move, move_and_return, return_alone, grant_of, move_grant_and_return, parking};
+ghost use Rattle.step_core.specs.Did.{move_for, no_move, one_move, move_and_return, return_alone};
+ghost use Rattle.step_core.specs.Did.{grant_of, move_grant_and_return, parking};
 
 use crate::{Atomic, Did, Move};
 use fast_path::Call;

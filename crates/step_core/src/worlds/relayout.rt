@@ -1,9 +1,12 @@
 //! A change between the splits of a header word, in a world at rest.
 
-ghost use Rattle.std.specs.Prelude.{◌≡◌, ◌<◌, ◌≤◌, ◌+◌, ◌-◌, ℕ, List, length, map, count_by, slice_index_or, Bool, true, false, Option, Some, IsSome, OnOk, OnErr, IfErr};
+ghost use Rattle.std.specs.Prelude.{◌≡◌, ◌<◌, ◌≤◌, ◌+◌, ◌-◌, ℕ, List, length, map, count_by};
+ghost use Rattle.std.specs.Prelude.{slice_index_or, Bool, true, false, Option, Some, IsSome, OnOk};
+ghost use Rattle.std.specs.Prelude.{OnErr, IfErr};
 ghost use Rattle.lock_word.specs.declared.ThreadId.{ThreadId};
 ghost use Rattle.lock_word.specs.declared.Lock.TheVariants.{Thin};
-ghost use Rattle.lock_word.specs.Layout.{lock_of, IsMalformed, Fits, greatest_index, greatest_count};
+ghost use Rattle.lock_word.specs.Layout.{lock_of, IsMalformed, Fits, greatest_index};
+ghost use Rattle.lock_word.specs.Layout.{greatest_count};
 ghost use Rattle.thread_index.specs.Indices.{holder_at, holder_of};
 ghost use Rattle.fat_monitor.specs.FatState.{IsAttached, with_spare};
 ghost use Rattle.step_core.specs.declared.places.Place.{Place};
@@ -11,7 +14,9 @@ ghost use Rattle.step_core.specs.World.{lock_at, low_word};
 ghost use Rattle.step_core.specs.Ready.{world_of};
 ghost use Rattle.step_core.specs.Shown.{shown};
 ghost use Rattle.step_core.specs.Kept.{Keeps};
-ghost use Rattle.step_core.specs.Relayout.{IsAtRest, is_at_rest, holder_rests, is_too_deep, is_deep_word, deep_in, inflated_at, inflated_below, is_same_split, word_in, respelled, after_relayout};
+ghost use Rattle.step_core.specs.Relayout.{IsAtRest, is_at_rest, holder_rests, is_too_deep};
+ghost use Rattle.step_core.specs.Relayout.{is_deep_word, deep_in, inflated_at, inflated_below};
+ghost use Rattle.step_core.specs.Relayout.{is_same_split, word_in, respelled, after_relayout};
 ghost use Rattle.step_core.specs.declared.worlds.relayout.RelayoutFault.TheVariants as fault;
 
 use super::World;
@@ -22,8 +27,8 @@ use std::error::Error;
 use std::fmt;
 use thread_index::Indices;
 
-/// Why a relayout was refused: the first of NotAtRest, IndexTooWide, NoMonitor and Memory whose cause
-/// holds. The world is then unchanged.
+/// Why a relayout was refused: the first of NotAtRest, IndexTooWide, NoMonitor and Memory whose
+/// cause holds. The world is then unchanged.
 #[derive(Clone, Copy, PartialEq, Eq, Hash, Debug)]
 pub enum RelayoutFault {
     /// The system has no memory for the monitors to be bound.
@@ -66,14 +71,17 @@ impl fmt::Display for RelayoutFault {
 impl Error for RelayoutFault {}
 
 impl World {
-    /// Writes every header word in this split. A thin lock whose count does not fit is inflated: in the order
-    /// of objects, each gets the next fat monitor, with its owner and its holds. Answers how many were.
+    /// Writes every header word in this split. A thin lock whose count does not fit is inflated: in
+    /// the order of objects, each gets the next fat monitor, with its owner and its holds. Answers
+    /// how many were.
     ///
-    /// It is made at rest, that is while each live thread is in no call, waits, or is back from a wait set. It
-    /// makes no move of the abstract machine, and the world shows the same state before and after it. Where
-    /// it is refused it leaves the world as it is; at rest and to the split that the world has, too.
+    /// It is made at rest, that is while each live thread is in no call, waits, or is back from a
+    /// wait set. It makes no move of the abstract machine, and the world shows the same state
+    /// before and after it. Where it is refused it leaves the world as it is; at rest and to the
+    /// split that the world has, too.
     pub fn relayout(&mut self, split: Split) -> Result<u32, RelayoutFault>
-        // The answer and the new world are those of the definition; room is whether memory is granted.
+        // The answer and the new world are those of the definition; room is whether memory is
+        // granted.
         ensures exact { (room : Bool) × (record { answer = result; after = self.new }
             ≡ after_relayout room self.old split) }
         ensures rest { OnOk result (IsAtRest (shown self.old)) }
@@ -235,8 +243,8 @@ fn is_too_deep(lock: Lock, split: Split) -> bool
     }
 }
 
-/// Inflates the lock of an object, if it is a thin one whose count does not fit the split `new`. Its fat
-/// word is written in the split `old`.
+/// Inflates the lock of an object, if it is a thin one whose count does not fit the split `new`.
+/// Its fat word is written in the split `old`.
 fn inflate(
     old: Split,
     words: &mut Vec<Word>,

@@ -1,5 +1,5 @@
-//! Want of memory, which only a run with refused allocations meets. What comes is the right answer, or want
-//! of memory, and the same succeeds when it is tried again.
+//! Want of memory, which only a run with refused allocations meets. What comes is the right answer,
+//! or want of memory, and the same succeeds when it is tried again.
 
 use super::streams::{HISTORY, REPORT, SCRIPT};
 use dump::dump_script;
@@ -37,8 +37,8 @@ const LIVE: &[u8] = b"world 1 1\nobject a 00\nattach x\nbegin x enter a\nbegin x
 
 const LIVE_TEXT: &[u8] = b"thread x Entered Exited\nobject a 00000000\nactions 0\n";
 
-/// Whether a call wrote the right text whole. Where it did not, it was refused memory, and wrote nothing; or
-/// the writer was, which has a front of the text.
+/// Whether a call wrote the right text whole. Where it did not, it was refused memory, and wrote
+/// nothing; or the writer was, which has a front of the text.
 fn is_written(
     rt: &impl Abort,
     outcome: Result<(), FileFault>,
