@@ -11,8 +11,8 @@ use crate::LiveScript;
 use crate::rules::note;
 use fast_path::Call;
 use history_text::{Line, Name, StepLine};
-use lock_word::{ObjectId, ThreadId};
-use std::alloc::{AllocError, Global};
+use lock_word::{Memory, ObjectId, ThreadId};
+use std::alloc::Global;
 
 /// The names of a live script, and what its threads call by the numbers of them. Objects are
 /// numbered from 0 in the order of their lines, threads from 1 in the order of theirs. An object
@@ -96,7 +96,7 @@ fn take_call(
     threads: &[&str],
     thread: &str,
     line: &Line<'_>,
-) -> Result<(), AllocError>
+) -> Result<(), Memory>
     requires objects { length objects.now ≤ 65535 }
     requires threads { length threads.now ≤ 64 }
     ensures { OnOk result (calls.new.items ≡ calls.old.items
@@ -126,7 +126,7 @@ fn calls_of(
     objects: &[&str],
     threads: &[&str],
     thread: &str,
-) -> Result<Vec<Call>, AllocError>
+) -> Result<Vec<Call>, Memory>
     requires objects { length objects.now ≤ 65535 }
     requires threads { length threads.now ≤ 64 }
     ensures { IfOk result (λ calls. calls.items
@@ -141,7 +141,7 @@ fn calls_of(
 }
 
 /// The names of the threads that some lines attach.
-fn threads_of<'a>(alloc: Global, lines: &[Line<'a>]) -> Result<Vec<&'a str>, AllocError>
+fn threads_of<'a>(alloc: Global, lines: &[Line<'a>]) -> Result<Vec<&'a str>, Memory>
     ensures { IfOk result (λ v. map (λ t. t.now) v.items ≡ attached lines.now) }
 {
     let mut threads = Vec::new(alloc);
@@ -152,7 +152,7 @@ fn threads_of<'a>(alloc: Global, lines: &[Line<'a>]) -> Result<Vec<&'a str>, All
 }
 
 /// The names of the objects that some lines declare.
-fn objects_of<'a>(alloc: Global, lines: &[Line<'a>]) -> Result<Vec<&'a str>, AllocError>
+fn objects_of<'a>(alloc: Global, lines: &[Line<'a>]) -> Result<Vec<&'a str>, Memory>
     ensures { IfOk result (λ v. map (λ t. t.now) v.items ≡ objects_of lines.now) }
 {
     let mut objects = Vec::new(alloc);
@@ -163,7 +163,7 @@ fn objects_of<'a>(alloc: Global, lines: &[Line<'a>]) -> Result<Vec<&'a str>, All
 }
 
 /// Notes the object that a line declares.
-fn note_object<'a>(objects: &mut Vec<&'a str>, line: &Line<'a>) -> Result<(), AllocError>
+fn note_object<'a>(objects: &mut Vec<&'a str>, line: &Line<'a>) -> Result<(), Memory>
     ensures { OnOk result (map (λ t. t.now) objects.new.items
         ≡ map (λ t. t.now) objects.old.items ++ objects_in line.now) }
 {
@@ -177,7 +177,7 @@ fn note_object<'a>(objects: &mut Vec<&'a str>, line: &Line<'a>) -> Result<(), Al
 }
 
 /// The low bytes of the objects that some lines declare.
-fn lows_of(alloc: Global, lines: &[Line<'_>]) -> Result<Vec<u8>, AllocError>
+fn lows_of(alloc: Global, lines: &[Line<'_>]) -> Result<Vec<u8>, Memory>
     ensures { IfOk result (λ lows. lows.items ≡ lows_of lines.now) }
 {
     let mut lows = Vec::new(alloc);
@@ -188,7 +188,7 @@ fn lows_of(alloc: Global, lines: &[Line<'_>]) -> Result<Vec<u8>, AllocError>
 }
 
 /// Notes the low byte of the object that a line declares.
-fn note_low(lows: &mut Vec<u8>, line: &Line<'_>) -> Result<(), AllocError>
+fn note_low(lows: &mut Vec<u8>, line: &Line<'_>) -> Result<(), Memory>
     ensures { OnOk result (lows.new.items ≡ lows.old.items ++ lows_in line.now) }
 {
     match line {
@@ -216,7 +216,7 @@ fn rows_of(
     lines: &[Line<'_>],
     objects: &[&str],
     threads: &[&str],
-) -> Result<Vec<Vec<Call>>, AllocError>
+) -> Result<Vec<Vec<Call>>, Memory>
     requires objects { length objects.now ≤ 65535 }
     requires threads { length threads.now ≤ 64 }
     ensures { IfOk result (λ rows. map (λ v. v.items) rows.items
@@ -231,7 +231,7 @@ fn rows_of(
 }
 
 /// The names of a live script, and what its threads call.
-pub fn plan_of<'a>(alloc: Global, script: &LiveScript<'a>) -> Result<LivePlan<'a>, AllocError>
+pub fn plan_of<'a>(alloc: Global, script: &LiveScript<'a>) -> Result<LivePlan<'a>, Memory>
     ensures plan { IfOk result (IsPlanOf script.now) }
     ensures rules { IsLiveScript script.now }
 {
