@@ -11,9 +11,6 @@ ghost use Rattle.lock_word.specs.Names.{hex_digit};
 ghost use Rattle.lock_word.specs.Layout.{greatest_index, greatest_count, word_of, lock_of, low_of};
 ghost use Rattle.lock_word.specs.Layout.{with_lock, Fits, IsMalformed};
 
-#[cfg(test)]
-mod tests;
-
 use std::alloc::{AllocError, AllocFailed};
 use std::error::Error;
 use std::{fmt, str};

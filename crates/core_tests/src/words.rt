@@ -1,4 +1,4 @@
-use super::{Lock, Memory, Split, Word, decode, encode, lock_of, with_lock};
+use lock_word::{Lock, Memory, Split, Word, decode, encode, lock_of, with_lock};
 use std::test::Fail;
 
 #[test]
@@ -27,13 +27,12 @@ fn words_and_their_locks(rt: HostRuntime) {
         (0x0000_00A5, Lock::Free, 0xA5),
     ];
     for (bits, lock, low) in rows {
-        assert_eq!(rt;
-            decode(Split::Wide, Word(bits)),
-            Some((lock, low)),
+        assert!(rt;
+            decode(Split::Wide, Word(bits)) == Some((lock, low)),
             "{bits:08X}"
         );
     }
-    assert_eq!(rt;
+    assert!(rt;
         encode(
             Split::Wide,
             Lock::Thin {
@@ -41,20 +40,13 @@ fn words_and_their_locks(rt: HostRuntime) {
                 count: 0
             },
             0
-        ),
-        Word(0x7FFF_0000)
+        ) == Word(0x7FFF_0000)
     );
-    assert_eq!(rt;
-        encode(Split::Wide, Lock::Fat { monitor: 8_388_607 }, 0),
-        Word(0xFFFF_FF00)
-    );
-    assert_eq!(rt; encode(Split::Wide, Lock::Free, 0xA5), Word(0x0000_00A5));
+    assert!(rt; encode(Split::Wide, Lock::Fat { monitor: 8_388_607 }, 0) == Word(0xFFFF_FF00));
+    assert!(rt; encode(Split::Wide, Lock::Free, 0xA5) == Word(0x0000_00A5));
     let word = with_lock(Split::Wide, Word(0x0001_01A5), Lock::Fat { monitor: 9 });
-    assert_eq!(rt; word, Word(0x8000_09A5));
-    assert_eq!(rt;
-        lock_of(Split::Wide, Word(0x8000_09A5)),
-        Lock::Fat { monitor: 9 }
-    );
+    assert!(rt; word == Word(0x8000_09A5));
+    assert!(rt; lock_of(Split::Wide, Word(0x8000_09A5)) == Lock::Fat { monitor: 9 });
 }
 
 #[test]
@@ -89,33 +81,26 @@ fn deep_words_and_their_locks(rt: HostRuntime) {
         (0x0000_00A5, Lock::Free, 0xA5),
     ];
     for (bits, lock, low) in rows {
-        assert_eq!(rt;
-            decode(Split::Deep, Word(bits)),
-            Some((lock, low)),
+        assert!(rt;
+            decode(Split::Deep, Word(bits)) == Some((lock, low)),
             "{bits:08X}"
         );
-        assert_eq!(rt;
-            with_lock(Split::Deep, Word(u32::from(low)), lock),
-            Word(bits)
-        );
+        assert!(rt; with_lock(Split::Deep, Word(u32::from(low)), lock) == Word(bits));
     }
-    assert_eq!(rt; decode(Split::Deep, Word(0x0001_0000)), None);
+    assert!(rt; decode(Split::Deep, Word(0x0001_0000)) == None);
 }
 
 #[test]
 fn index_0_with_a_count_is_no_word(rt: HostRuntime) {
     for bits in [0x0000_0100, 0x0000_FFFF, 0x0000_01A5] {
-        assert_eq!(rt; decode(Split::Wide, Word(bits)), None, "{bits:08X}");
+        assert!(rt; decode(Split::Wide, Word(bits)) == None, "{bits:08X}");
     }
 }
 
 #[test]
 fn texts(rt: HostRuntime) -> Result<(), Fail> {
     let word = Word(0x0001_00A5);
-    assert_eq!(rt; format!(in rt.alloc(); "{word}")?.as_str(), "000100A5");
-    assert_eq!(rt;
-        format!(in rt.alloc(); "{Memory}")?.as_str(),
-        "out of memory"
-    );
+    assert!(rt; format!(in rt.alloc(); "{word}")?.as_str() == "000100A5");
+    assert!(rt; format!(in rt.alloc(); "{Memory}")?.as_str() == "out of memory");
     Ok(())
 }

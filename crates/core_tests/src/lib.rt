@@ -1,0 +1,5 @@
+//! Tests of the crates of the core, a module for each crate.
+#![tactic(auto)]
+
+#[cfg(test)]
+mod words;
