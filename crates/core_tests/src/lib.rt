@@ -2,4 +2,6 @@
 #![tactic(auto)]
 
 #[cfg(test)]
+mod indices;
+#[cfg(test)]
 mod words;

@@ -14,8 +14,6 @@ ghost use Rattle.thread_index.specs.Indices.{given_back, IsOneToOne};
 
 mod bit_row;
 mod seat_bits;
-#[cfg(test)]
-mod tests;
 
 use lock_word::{Memory, ThreadId};
 use seat_bits::SeatBits;

@@ -2,9 +2,9 @@
 
 ghost use Rattle.std.specs.Prelude.{◌<◌, length, IfSome};
 
-use crate::TakeFault;
 use lock_word::ThreadId;
 use std::alloc::Global;
+use thread_index::TakeFault;
 
 #[derive(Drop)]
 pub(super) struct PlainIndices {
