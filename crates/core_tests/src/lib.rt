@@ -4,4 +4,6 @@
 #[cfg(test)]
 mod indices;
 #[cfg(test)]
+mod lines;
+#[cfg(test)]
 mod words;

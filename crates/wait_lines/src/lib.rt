@@ -17,8 +17,6 @@ ghost use Rattle.lock_word.specs.declared.ThreadId.{ThreadId};
 mod iter;
 mod links;
 mod table;
-#[cfg(test)]
-mod tests;
 
 pub use iter::All;
 pub use links::Node;

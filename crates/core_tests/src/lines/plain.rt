@@ -1,8 +1,8 @@
 //! Lines as one plain list of those who stand in them, in order of joining, which each call walks.
 
-use crate::Role;
 use lock_word::ThreadId;
 use std::alloc::{AllocError, Global};
+use wait_lines::Role;
 
 #[derive(Clone, Copy)]
 struct Arrival {

@@ -2,10 +2,11 @@ ghost use Rattle.std.specs.Prelude.{◌≡◌, ◌+◌, ◌<◌, OnOk};
 
 mod plain;
 
-use super::{Lines, Role};
 use lock_word::{Memory, ThreadId};
 use plain::PlainLines;
+use std::alloc::{AllocError, Global};
 use std::test::Fail;
+use wait_lines::{Lines, Role};
 
 /// Makes room for one more thread, and moves this one to the end of a line.
 fn add(lines: &mut Lines, thread: u32, place: u32, role: Role) -> Result<(), Memory>
@@ -19,18 +20,42 @@ fn add(lines: &mut Lines, thread: u32, place: u32, role: Role) -> Result<(), Mem
     Ok(())
 }
 
+/// Whether a line has the threads of the plain one in their order, and its first as first.
+fn is_as_plain(
+    alloc: Global,
+    lines: &Lines,
+    plain: &PlainLines,
+    place: u32,
+    role: Role,
+) -> Result<bool, AllocError> {
+    let all = lines.all(place, role).collect::<Vec<ThreadId>>(alloc)?;
+    let is_same = all == plain.all(alloc, place, role)?;
+    Ok(is_same && lines.first(place, role) == all.first().copied())
+}
+
+/// From the middle of a line of 1,000 outwards: 500, 499, 501, 498 and so on.
+fn outwards(turn: u32) -> ThreadId
+    requires { turn < 1000 }
+{
+    ThreadId(if turn % 2 == 0 {
+        500 + turn / 2
+    } else {
+        499 - turn / 2
+    })
+}
+
 #[test]
 fn two_wait_and_one_leaves(rt: HostRuntime) -> Result<(), Fail> {
     let (five, six) = (ThreadId(5), ThreadId(6));
     let mut lines = Lines::new(rt.alloc());
     add(&mut lines, 5, 0, Role::Waiting)?;
     add(&mut lines, 6, 0, Role::Waiting)?;
-    assert_eq!(rt; lines.first(0, Role::Waiting), Some(five));
+    assert!(rt; lines.first(0, Role::Waiting) == Some(five));
     assert!(rt; lines.leave(five));
-    assert_eq!(rt; lines.first(0, Role::Waiting), Some(six));
+    assert!(rt; lines.first(0, Role::Waiting) == Some(six));
     let mut waiting = lines.all(0, Role::Waiting);
-    assert_eq!(rt; waiting.next(), Some(six));
-    assert_eq!(rt; waiting.next(), None);
+    assert!(rt; waiting.next() == Some(six));
+    assert!(rt; waiting.next() == None);
     assert!(rt; !lines.leave(five));
     Ok(())
 }
@@ -47,9 +72,8 @@ fn lines_are_apart(rt: HostRuntime) -> Result<(), Fail> {
         (1, Role::Waiting, Some(8)),
     ];
     for (place, role, first) in rows {
-        assert_eq!(rt;
-            lines.first(place, role),
-            first.map(ThreadId),
+        assert!(rt;
+            lines.first(place, role) == first.map(ThreadId),
             "{place} {role:?}"
         );
     }
@@ -67,7 +91,7 @@ fn the_middle_one_leaves(rt: HostRuntime) -> Result<(), Fail> {
         .all(9, Role::Entry)
         .map(|thread| thread.0)
         .collect(rt.alloc())?;
-    assert_eq!(rt; line.as_slice(), [3, 2].as_slice());
+    assert!(rt; line.as_slice() == [3, 2].as_slice());
     Ok(())
 }
 
@@ -80,21 +104,15 @@ fn a_long_line_is_emptied_from_the_middle_outwards(rt: HostRuntime) -> Result<()
         plain.join(ThreadId(number), 3, Role::Waiting)?;
     }
     for turn in 0..1000 {
-        let thread = ThreadId(if turn % 2 == 0 {
-            500 + turn / 2
-        } else {
-            499 - turn / 2
-        });
+        let thread = outwards(turn);
         let node = lines.node_of(thread).ok_or("nowhere")?;
         lines.leave_at(node);
         plain.leave(thread);
-        assert_eq!(rt; lines.node_of(thread), None);
-        let all = lines
-            .all(3, Role::Waiting)
-            .collect::<Vec<ThreadId>>(rt.alloc())?;
-        assert!(rt; all == plain.all(rt.alloc(), 3, Role::Waiting)?, "{turn}");
+        assert!(rt; lines.node_of(thread) == None);
+        let is_same = is_as_plain(rt.alloc(), &lines, &plain, 3, Role::Waiting)?;
+        assert!(rt; is_same, "{turn}");
     }
-    assert_eq!(rt; lines.first(3, Role::Waiting), None);
+    assert!(rt; lines.first(3, Role::Waiting) == None);
     Ok(())
 }
 
@@ -119,9 +137,8 @@ fn threads_join_and_leave_in_no_order(rt: HostRuntime) -> Result<(), Fail> {
             add(&mut lines, thread.0, place, role)?;
             plain.join(thread, place, role)?;
         }
-        let all = lines.all(place, role).collect::<Vec<ThreadId>>(rt.alloc())?;
-        assert!(rt; all == plain.all(rt.alloc(), place, role)?, "{round}");
-        assert_eq!(rt; lines.first(place, role), all.first().copied(), "{round}");
+        let is_same = is_as_plain(rt.alloc(), &lines, &plain, place, role)?;
+        assert!(rt; is_same, "{round}");
     }
     Ok(())
 }
@@ -130,9 +147,9 @@ fn threads_join_and_leave_in_no_order(rt: HostRuntime) -> Result<(), Fail> {
 fn there_is_room_for_every_thread(rt: HostRuntime) -> Result<(), Fail> {
     let mut lines = Lines::new(rt.alloc());
     for number in 0..32_767u16 {
-        assert_eq!(rt; lines.reservations(), number);
+        assert!(rt; lines.reservations() == number);
         lines.reserve_one()?;
     }
-    assert_eq!(rt; lines.reservations(), 32_767);
+    assert!(rt; lines.reservations() == 32_767);
     Ok(())
 }
