@@ -6,4 +6,6 @@ mod indices;
 #[cfg(test)]
 mod lines;
 #[cfg(test)]
+mod monitors;
+#[cfg(test)]
 mod words;

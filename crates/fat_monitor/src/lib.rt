@@ -12,8 +12,6 @@ mod monitors;
 mod posts;
 mod receipts;
 mod replies;
-#[cfg(test)]
-mod tests;
 mod times;
 
 pub use actions::{ActFault, Action, Answer, Cause, Done, Post, Reply, Why};

@@ -4,7 +4,7 @@
 ghost use Rattle.std.specs.Prelude.{◌+◌, ◌<◌, ◌≤◌};
 ghost use Rattle.fat_monitor.specs.FatState.{IsAttached, thread_count};
 
-use crate::Fats;
+use fat_monitor::Fats;
 use lock_word::{ObjectId, ThreadId};
 use std::process::Abort;
 

@@ -1,6 +1,6 @@
 use Rattle.std.proofs.Common.{arith}
 use Rattle.fat_monitor.proofs.Effects.{count-with_thread}
-use Rattle.fat_monitor.proofs.tests.attach.Goals as goal
+use Rattle.core_tests.proofs.monitors.attach.Goals as goal
 
 pub returns-clause-count : goal.returns-clause-count
 returns-clause-count g c =

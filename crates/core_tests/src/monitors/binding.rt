@@ -1,7 +1,7 @@
 //! Monitors that are bound.
 
-use crate::tests::{OBJECT, SEVEN, attach};
-use crate::{Cause, Fats};
+use crate::monitors::{OBJECT, SEVEN, attach};
+use fat_monitor::{Cause, Fats};
 use std::test::Fail;
 
 #[test]
@@ -12,10 +12,10 @@ fn a_receipt_tells_what_was_bound(rt: HostRuntime) -> Result<(), Fail> {
         .bind(OBJECT, SEVEN, 3)
         .ok()
         .expect(&rt, "a monitor is left");
-    assert_eq!(rt; receipt.object(), OBJECT);
-    assert_eq!(rt; receipt.owner(), SEVEN);
-    assert_eq!(rt; receipt.holds(), 3);
-    assert_eq!(rt; receipt.monitor(), 0);
+    assert!(rt; receipt.object() == OBJECT);
+    assert!(rt; receipt.owner() == SEVEN);
+    assert!(rt; receipt.holds() == 3);
+    assert!(rt; receipt.monitor() == 0);
     Ok(())
 }
 
@@ -26,10 +26,10 @@ fn a_million_monitors_are_bound(rt: HostRuntime) -> Result<(), Fail> {
     for number in 0..1_000_000 {
         assert!(rt; fats.post(SEVEN).is_some());
         let receipt = fats.bind(OBJECT, SEVEN, 1).ok().ok_or("memory")?;
-        assert_eq!(rt; receipt.monitor(), number);
+        assert!(rt; receipt.monitor() == number);
     }
     assert!(rt; fats.post(SEVEN).is_some());
-    assert_eq!(rt; fats.bind(OBJECT, SEVEN, 1).err(), Some(Cause::NoMonitor));
+    assert!(rt; fats.bind(OBJECT, SEVEN, 1).err() == Some(Cause::NoMonitor));
     Ok(())
 }
 
@@ -37,10 +37,10 @@ fn a_million_monitors_are_bound(rt: HostRuntime) -> Result<(), Fail> {
 fn a_bind_takes_room_that_was_reserved(rt: HostRuntime) -> Result<(), Fail> {
     let mut fats = Fats::new(rt.alloc(), 1);
     attach(&rt, &mut fats, SEVEN);
-    assert_eq!(rt; fats.reserve_monitors(1), Ok(()));
-    assert_eq!(rt; fats.reserve_monitors(0), Ok(()));
-    assert_eq!(rt; fats.spare(), 1);
+    assert!(rt; fats.reserve_monitors(1) == Ok(()));
+    assert!(rt; fats.reserve_monitors(0) == Ok(()));
+    assert!(rt; fats.spare() == 1);
     assert!(rt; fats.bind(OBJECT, SEVEN, 3).is_ok());
-    assert_eq!(rt; fats.spare(), 0);
+    assert!(rt; fats.spare() == 0);
     Ok(())
 }

@@ -1,37 +1,31 @@
 //! What is written, and the numbers of causes.
 
-use crate::{ActFault, Action, AttachFault, Backwards, Cause, Reply};
+use fat_monitor::{ActFault, Action, AttachFault, Backwards, Cause, Reply};
 use std::test::Fail;
 
 #[test]
 fn names_are_written_out(rt: HostRuntime) -> Result<(), Fail> {
     let reply = Reply::Refused(Cause::TooDeep);
-    assert_eq!(rt;
-        format!(in rt.alloc(); "{reply}")?.as_str(),
-        "Refused TooDeep"
-    );
+    assert!(rt; format!(in rt.alloc(); "{reply}")?.as_str() == "Refused TooDeep");
     let action = Action::Enter { monitor: 0 };
-    assert_eq!(rt; format!(in rt.alloc(); "{action}")?.as_str(), "Enter");
+    assert!(rt; format!(in rt.alloc(); "{action}")?.as_str() == "Enter");
     Ok(())
 }
 
 #[test]
 fn faults_are_written_out(rt: HostRuntime) -> Result<(), Fail> {
-    assert_eq!(rt;
-        format!(in rt.alloc(); "{}", AttachFault::Known)?.as_str(),
-        "the thread is attached already"
+    assert!(rt;
+        format!(in rt.alloc(); "{}", AttachFault::Known)?.as_str()
+            == "the thread is attached already"
     );
-    assert_eq!(rt;
-        format!(in rt.alloc(); "{Backwards}")?.as_str(),
-        "the moment would fall"
-    );
+    assert!(rt; format!(in rt.alloc(); "{Backwards}")?.as_str() == "the moment would fall");
     let faults = [
         (ActFault::Parked, "no reply is granted"),
         (ActFault::NotDue, "no wait of the thread is over"),
         (ActFault::NotWaiting, "the thread does not wait"),
     ];
     for (fault, text) in faults {
-        assert_eq!(rt; format!(in rt.alloc(); "{fault}")?.as_str(), text);
+        assert!(rt; format!(in rt.alloc(); "{fault}")?.as_str() == text);
     }
     Ok(())
 }
@@ -46,6 +40,6 @@ fn causes_have_numbers(rt: HostRuntime) {
         (Cause::NoThread, 15),
     ];
     for (cause, number) in rows {
-        assert_eq!(rt; cause.number(), number);
+        assert!(rt; cause.number() == number);
     }
 }
