@@ -12,8 +12,6 @@ ghost use Rattle.fast_path.specs.Calls.{object_of, subject_of};
 ghost use Rattle.fast_path.specs.Table.{next_of, when_free, when_own, when_anothers};
 
 mod calls;
-#[cfg(test)]
-mod tests;
 
 pub use calls::{Call, InterruptCall, MonitorCall, Operation, Subject};
 use fat_monitor::{Reply, are_good};

@@ -1,7 +1,7 @@
 ghost use Rattle.std.specs.Prelude.{IsSome};
 ghost use Rattle.fast_path.specs.Calls.{object_of};
 
-use crate::{Call, Next, decide};
+use fast_path::{Call, Next, decide};
 use fat_monitor::Reply;
 use lock_word::{Lock, ObjectId, Split};
 
@@ -54,12 +54,11 @@ fn a_wait_and_a_notify_call_for_this(rt: HostRuntime) {
         (NOTIFY_ALL, fat, Next::Fat(9)),
     ];
     for (call, lock, next) in rows {
-        assert_eq!(rt;
-            decide(Split::Wide, call, lock, 2),
-            next,
+        assert!(rt;
+            decide(Split::Wide, call, lock, 2) == next,
             "{call:?} {lock:?}"
         );
-        assert_eq!(rt; call.object(), Some(ObjectId(3)));
+        assert!(rt; call.object() == Some(ObjectId(3)));
     }
 }
 
@@ -85,20 +84,18 @@ fn a_loaded_lock_calls_for_this(rt: HostRuntime) {
         (HOLDS, fat, Next::Fat(9)),
     ];
     for (call, lock, next) in rows {
-        assert_eq!(rt;
-            decide(Split::Wide, call, lock, 2),
-            next,
+        assert!(rt;
+            decide(Split::Wide, call, lock, 2) == next,
             "{call:?} {lock:?}"
         );
     }
     for (count, next) in [(255, Next::Store(thin(2, 256))), (4_095, Next::Bind)] {
-        assert_eq!(rt;
-            decide(Split::Deep, ENTER, thin(2, count), 2),
-            next,
+        assert!(rt;
+            decide(Split::Deep, ENTER, thin(2, count), 2) == next,
             "{count}"
         );
     }
-    assert_eq!(rt; ENTER.object(), Some(ObjectId(3)));
-    assert_eq!(rt; HOLDS.object(), Some(ObjectId(3)));
-    assert_eq!(rt; Call::End.object(), None);
+    assert!(rt; ENTER.object() == Some(ObjectId(3)));
+    assert!(rt; HOLDS.object() == Some(ObjectId(3)));
+    assert!(rt; Call::End.object() == None);
 }
