@@ -11,3 +11,5 @@ mod lines;
 mod monitors;
 #[cfg(test)]
 mod words;
+#[cfg(test)]
+mod worlds;

@@ -45,8 +45,6 @@ mod paths;
 mod places;
 mod stages;
 mod steps;
-#[cfg(test)]
-mod tests;
 mod worlds;
 
 // What a caller of a world names beside it, so that it needs no other crate of the service.

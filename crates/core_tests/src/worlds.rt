@@ -1,10 +1,10 @@
 //! What no script can show: memory that is refused, what the readers answer,
 //! and how faults are named.
 
-use crate::{Step, World};
 use fast_path::Call;
 use lock_word::{ObjectId, ThreadId, Word};
 use std::process::Abort;
+use step_core::{Step, World};
 
 mod memory;
 mod names;
@@ -40,7 +40,7 @@ fn enters(rt: &impl Abort, world: &mut World, times: u32) {
 /// What the word of the object shows where x owns it.
 fn shows(rt: &impl Abort, world: &World, word: u32, holds: u16) {
     assert!(rt; A.0 < world.objects());
-    assert_eq!(rt; world.word(A), Word(word));
-    assert_eq!(rt; world.owner(A), Some(X));
-    assert_eq!(rt; world.holds(A), holds);
+    assert!(rt; world.word(A) == Word(word));
+    assert!(rt; world.owner(A) == Some(X));
+    assert!(rt; world.holds(A) == holds);
 }

@@ -1,7 +1,7 @@
 //! How a report names a fault.
 
-use crate::{Fault, RelayoutFault};
 use std::test::Fail;
+use step_core::{Fault, RelayoutFault};
 
 #[test]
 fn faults_have_numbers_and_names(rt: HostRuntime) -> Result<(), Fail> {
@@ -19,8 +19,8 @@ fn faults_have_numbers_and_names(rt: HostRuntime) -> Result<(), Fail> {
         (Fault::NotWaiting, 28, "NotWaiting"),
     ];
     for (fault, number, name) in faults {
-        assert_eq!(rt; fault.number(), number);
-        assert_eq!(rt; format!(in rt.alloc(); "{fault}")?.as_str(), name);
+        assert!(rt; fault.number() == number);
+        assert!(rt; format!(in rt.alloc(); "{fault}")?.as_str() == name);
     }
     Ok(())
 }
@@ -34,8 +34,8 @@ fn faults_of_a_relayout_have_numbers_and_names(rt: HostRuntime) -> Result<(), Fa
         (RelayoutFault::IndexTooWide, 30, "IndexTooWide"),
     ];
     for (fault, number, name) in faults {
-        assert_eq!(rt; fault.number(), number);
-        assert_eq!(rt; format!(in rt.alloc(); "{fault}")?.as_str(), name);
+        assert!(rt; fault.number() == number);
+        assert!(rt; format!(in rt.alloc(); "{fault}")?.as_str() == name);
     }
     Ok(())
 }

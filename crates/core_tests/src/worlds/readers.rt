@@ -1,11 +1,11 @@
 //! What the readers answer.
 
 use super::*;
-use crate::Doing;
 use fat_monitor::Why;
 use lock_word::Split;
 use std::alloc::Global;
 use std::test::Fail;
+use step_core::Doing;
 
 /// A world with one object, low byte A5, and two threads, of which x owns the object once.
 fn owned(rt: &impl Abort, alloc: Global) -> Result<World, Fail> {
@@ -31,22 +31,22 @@ fn waits(rt: &impl Abort, world: &mut World) {
 #[test]
 fn an_index_leads_to_its_thread(rt: HostRuntime) -> Result<(), Fail> {
     let world = owned(&rt, rt.alloc())?;
-    assert_eq!(rt; world.indices(), 4);
-    assert_eq!(rt; world.index(Y), Some(2));
-    assert_eq!(rt; world.thread_at(2), Some(Y));
-    assert_eq!(rt; world.thread_at(0), None);
-    assert_eq!(rt; world.index(ThreadId(2)), None);
+    assert!(rt; world.indices() == 4);
+    assert!(rt; world.index(Y) == Some(2));
+    assert!(rt; world.thread_at(2) == Some(Y));
+    assert!(rt; world.thread_at(0) == None);
+    assert!(rt; world.index(ThreadId(2)) == None);
     Ok(())
 }
 
 #[test]
 fn a_thin_word_shows_owner_and_holds(rt: HostRuntime) -> Result<(), Fail> {
     let world = owned(&rt, rt.alloc())?;
-    assert_eq!(rt; world.objects(), 1);
+    assert!(rt; world.objects() == 1);
     shows(&rt, &world, 0x0001_00A5, 1);
-    assert_eq!(rt; world.doing(X), Some(Doing::Idle));
-    assert_eq!(rt; world.flag(X), Some(false));
-    assert_eq!(rt; world.flag(ThreadId(2)), None);
+    assert!(rt; world.doing(X) == Some(Doing::Idle));
+    assert!(rt; world.flag(X) == Some(false));
+    assert!(rt; world.flag(ThreadId(2)) == None);
     Ok(())
 }
 
@@ -54,13 +54,13 @@ fn a_thin_word_shows_owner_and_holds(rt: HostRuntime) -> Result<(), Fail> {
 fn a_waiter_shows_its_holds_and_its_deadline(rt: HostRuntime) -> Result<(), Fail> {
     let mut world = owned(&rt, rt.alloc())?;
     waits(&rt, &mut world);
-    assert_eq!(rt; world.now(), u64::MAX);
+    assert!(rt; world.now() == u64::MAX);
     let waiting = Doing::Waits {
         object: A,
         holds: 1,
         deadline: Some(9_223_390_483_598_849_517_551_614),
     };
-    assert_eq!(rt; world.doing(X), Some(waiting));
+    assert!(rt; world.doing(X) == Some(waiting));
     assert!(rt; A.0 < world.objects());
     assert!(rt; world.waiting(A, X));
     assert!(rt; !world.waiting(A, Y));
@@ -81,6 +81,6 @@ fn a_thread_that_is_back_shows_why(rt: HostRuntime) -> Result<(), Fail> {
         holds: 1,
         why: Why::Spurious,
     };
-    assert_eq!(rt; world.doing(X), Some(back));
+    assert!(rt; world.doing(X) == Some(back));
     Ok(())
 }

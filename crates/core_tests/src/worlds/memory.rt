@@ -2,19 +2,19 @@
 //! again. Run with each allocation refused in turn, this meets every refusal that there is.
 
 use super::*;
-use crate::{Did, Fault, RelayoutFault};
 use fat_monitor::{Cause, Reply};
 use lock_word::Split;
 use std::alloc::Global;
 use std::test::Fail;
+use step_core::{Did, Fault, RelayoutFault};
 
 /// An attach, tried again where memory was refused.
 fn attaches(rt: &impl Abort, world: &mut World, thread: ThreadId) {
     let step = Step::Attach { thread };
     if let Err(fault) = world.step(step) {
-        assert_eq!(rt; fault, Fault::Memory);
-        assert_eq!(rt; world.index(thread), None);
-        assert_eq!(rt; world.doing(thread), None);
+        assert!(rt; fault == Fault::Memory);
+        assert!(rt; world.index(thread) == None);
+        assert!(rt; world.doing(thread) == None);
         does(rt, world, step);
     }
 }
@@ -29,7 +29,7 @@ fn binds(rt: &impl Abort, world: &mut World) {
         },
     ) = did
     {
-        assert_eq!(rt; reply, Reply::Refused(Cause::Memory));
+        assert!(rt; reply == Reply::Refused(Cause::Memory));
         shows(rt, world, 0x0001_FFA5, 256);
         let call = Call::Enter(A);
         does(rt, world, Step::Begin { thread: X, call });
@@ -68,9 +68,9 @@ fn a_refused_relayout_succeeds_when_tried_again(rt: HostRuntime) -> Result<(), F
     let first = world.relayout(Split::Wide);
     if first == Err(RelayoutFault::Memory) {
         shows(&rt, &world, 0x0011_00A5, 257);
-        assert_eq!(rt; world.relayout(Split::Wide), Ok(1));
+        assert!(rt; world.relayout(Split::Wide) == Ok(1));
     } else {
-        assert_eq!(rt; first, Ok(1));
+        assert!(rt; first == Ok(1));
     }
     shows(&rt, &world, 0x8000_00A5, 257);
     Ok(())
