@@ -8,6 +8,8 @@ mod indices;
 #[cfg(test)]
 mod lines;
 #[cfg(test)]
+mod machines;
+#[cfg(test)]
 mod monitors;
 #[cfg(test)]
 mod words;

@@ -11,8 +11,6 @@ mod faults;
 mod machine;
 mod monitors;
 mod rows;
-#[cfg(test)]
-mod tests;
 mod threads;
 mod waits;
 

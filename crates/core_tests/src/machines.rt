@@ -1,9 +1,9 @@
 //! Runs of moves where memory is ample, which no contract can say, and between them moves that are
 //! not lawful.
 
-use super::*;
 use fast_path::Call;
 use fat_monitor::{Cause, Reply};
+use jls_check::{Machine, MoveFault};
 use lock_word::{Memory, ObjectId, ThreadId};
 use std::process::Abort;
 use step_core::Move;
