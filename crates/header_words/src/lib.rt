@@ -11,8 +11,6 @@ mod kept;
 mod open;
 mod pass;
 mod rule;
-#[cfg(test)]
-mod tests;
 
 pub use close::CloseFault;
 pub use event::{Deed, Event, deeds_keep_low_bytes};

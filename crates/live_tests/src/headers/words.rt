@@ -4,7 +4,7 @@ ghost use Rattle.lock_word.specs.declared.Lock.TheVariants.{Thin};
 ghost use Rattle.header_words.specs.Passes.{depth_at, word_at};
 
 use super::books::Names;
-use crate::{CloseFault, Headers, Kept, Pass};
+use header_words::{CloseFault, Headers, Kept, Pass};
 use lock_word::{ObjectId, Word};
 use std::test::Fail;
 use std::thread::{Threads, join};
@@ -72,21 +72,18 @@ fn one_pass_locks_an_object(rt: HostRuntime) -> Result<(), Fail> {
         panic!(rt; "memory")
     };
     let mut pass = passes.pop().ok_or("one pass")?;
-    assert_eq!(rt; pass.index(), 1);
-    assert_eq!(rt;
-        own_word(&headers, &mut pass).ok_or("free")?,
-        Word(0x0001_00a5)
-    );
+    assert!(rt; pass.index() == 1);
+    assert!(rt; own_word(&headers, &mut pass).ok_or("free")? == Word(0x0001_00a5));
     headers.nest(&mut pass, OBJECT);
-    assert_eq!(rt; headers.load(&mut pass, OBJECT), Word(0x0001_01a5));
-    assert_eq!(rt; pass.depth(OBJECT), 2);
+    assert!(rt; headers.load(&mut pass, OBJECT) == Word(0x0001_01a5));
+    assert!(rt; pass.depth(OBJECT) == 2);
     headers.unnest(&mut pass, OBJECT);
     headers.release(&mut pass, OBJECT);
-    assert_eq!(rt; pass.depth(OBJECT), 0);
+    assert!(rt; pass.depth(OBJECT) == 0);
     passes.push(pass).ok().ok_or("memory")?;
     let (words, names) = headers.close(rt.alloc(), passes).ok().ok_or("closed")?;
-    assert_eq!(rt; names.object(0), None);
-    assert_eq!(rt; words.as_slice(), [Word(0x0000_00a5)].as_slice());
+    assert!(rt; names.object(0) == None);
+    assert!(rt; words.as_slice() == [Word(0x0000_00a5)].as_slice());
     Ok(())
 }
 
@@ -103,9 +100,9 @@ fn two_threads_take_turns(rt: HostRuntime) -> Result<(), Fail> {
         || lock_often(&headers, first, 1_000),
         || lock_often(&headers, second, 1_000),
     );
-    assert_eq!(rt; (one.0, two.0), (1_000, 1_000));
+    assert!(rt; (one.0, two.0) == (1_000, 1_000));
     let (first, mut second) = headers.meet(one.1, two.1);
-    assert_eq!(rt; headers.load(&mut second, OBJECT), Word(0x0000_00a5));
+    assert!(rt; headers.load(&mut second, OBJECT) == Word(0x0000_00a5));
     passes.push(first).ok().ok_or("memory")?;
     let Err(
         CloseFault::WrongPass {
@@ -116,10 +113,10 @@ fn two_threads_take_turns(rt: HostRuntime) -> Result<(), Fail> {
     else {
         panic!(rt; "one pass of two")
     };
-    assert_eq!(rt; passes.len(), 1);
+    assert!(rt; passes.len() == 1);
     passes.push(second).ok().ok_or("memory")?;
     let (words, names) = headers.close(rt.alloc(), passes).ok().ok_or("closed")?;
-    assert_eq!(rt; names.object(0), None);
-    assert_eq!(rt; words.as_slice(), [Word(0x0000_00a5)].as_slice());
+    assert!(rt; names.object(0) == None);
+    assert!(rt; words.as_slice() == [Word(0x0000_00a5)].as_slice());
     Ok(())
 }

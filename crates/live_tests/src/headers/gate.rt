@@ -5,8 +5,8 @@ ghost use Rattle.header_words.specs.Bindings.{Binds, Covers};
 ghost use Rattle.header_words.specs.Passes.{depth_at, new_passes};
 
 use super::books::{Ledger, Names};
-use crate::{Headers, Kept, OpenFault, Pass};
 use fat_monitor::{Fats, Receipt};
+use header_words::{Headers, Kept, OpenFault, Pass};
 use lock_word::{Lock, ObjectId, Split, ThreadId, Word, decode};
 use std::alloc::Global;
 use std::test::Fail;
@@ -183,8 +183,8 @@ fn the_book_is_taken_by_one_pass_at_a_time(rt: HostRuntime) -> Result<(), Fail> 
     let Some(names) = headers.take(&mut second) else {
         panic!(rt; "the gate is open again")
     };
-    assert_eq!(rt; names.object(0), Some(ObjectId(7)));
-    assert_eq!(rt; names.object(1), None);
+    assert!(rt; names.object(0) == Some(ObjectId(7)));
+    assert!(rt; names.object(1) == None);
     headers.give(&mut second, names);
     Ok(())
 }
@@ -203,20 +203,20 @@ fn a_receipt_is_published(rt: HostRuntime) -> Result<(), Fail> {
         panic!(rt; "the gate was open")
     };
     assert!(rt; inflate(&headers, &mut first, names, receipt));
-    assert_eq!(rt; headers.load(&mut first, OBJECT), Word(0x8000_00a5));
-    assert_eq!(rt; first.depth(OBJECT), 0);
+    assert!(rt; headers.load(&mut first, OBJECT) == Word(0x8000_00a5));
+    assert!(rt; first.depth(OBJECT) == 0);
     assert!(rt; !headers.acquire(&mut first, OBJECT));
     let Some((monitor, names)) = monitor_of(&headers, &mut second, OBJECT) else {
         panic!(rt; "the gate is open, and the word is fat")
     };
-    assert_eq!(rt; monitor, 0);
-    assert_eq!(rt; names.object(0), Some(OBJECT));
+    assert!(rt; monitor == 0);
+    assert!(rt; names.object(0) == Some(OBJECT));
     headers.give(&mut second, names);
     passes.push(first).ok().ok_or("memory")?;
     passes.push(second).ok().ok_or("memory")?;
     let (words, names) = headers.close(rt.alloc(), passes).ok().ok_or("closed")?;
-    assert_eq!(rt; words.as_slice(), [Word(0x8000_00a5)].as_slice());
-    assert_eq!(rt; names.object(0), Some(OBJECT));
+    assert!(rt; words.as_slice() == [Word(0x8000_00a5)].as_slice());
+    assert!(rt; names.object(0) == Some(OBJECT));
     Ok(())
 }
 
@@ -231,11 +231,11 @@ fn a_type_with_a_model_is_kept(rt: HostRuntime) -> Result<(), Fail> {
     let Some(ledger) = headers.take(&mut pass) else {
         panic!(rt; "the gate was open")
     };
-    assert_eq!(rt; ledger.len(), 0);
+    assert!(rt; ledger.len() == 0);
     headers.give(&mut pass, ledger);
     passes.push(pass).ok().ok_or("memory")?;
     let (_, ledger) = headers.close(rt.alloc(), passes).ok().ok_or("closed")?;
-    assert_eq!(rt; ledger.object(0), None);
+    assert!(rt; ledger.object(0) == None);
     Ok(())
 }
 
@@ -252,14 +252,14 @@ fn two_threads_add_to_the_book(rt: HostRuntime) -> Result<(), Fail> {
         || add_often(&headers, first, ObjectId(1), 1_000),
         || add_often(&headers, second, ObjectId(2), 1_000),
     );
-    assert_eq!(rt; (one.0, two.0), (1_000, 1_000));
+    assert!(rt; (one.0, two.0) == (1_000, 1_000));
     let (first, second) = headers.meet(one.1, two.1);
     passes.push(first).ok().ok_or("memory")?;
     passes.push(second).ok().ok_or("memory")?;
     let (_, names) = headers.close(rt.alloc(), passes).ok().ok_or("closed")?;
     let objects = names.objects.as_slice();
-    assert_eq!(rt; objects.len(), 2_000);
+    assert!(rt; objects.len() == 2_000);
     let ones = objects.iter().filter(|object| object.0 == 1).count();
-    assert_eq!(rt; ones, 1_000);
+    assert!(rt; ones == 1_000);
     Ok(())
 }

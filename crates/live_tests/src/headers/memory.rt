@@ -3,7 +3,7 @@
 ghost use Rattle.std.specs.Prelude.{◌≡◌, [], length, false, IfOk, All};
 ghost use Rattle.header_words.specs.Passes.{new_passes};
 
-use crate::{CloseFault, Headers, Kept, OpenFault, Pass};
+use header_words::{CloseFault, Headers, Kept, OpenFault, Pass};
 use lock_word::{ObjectId, Word};
 use std::alloc::Global;
 use std::process::Abort;
@@ -35,7 +35,7 @@ fn open_again(rt: &impl Abort, alloc: Global) -> Result<(Headers<Marked>, Vec<Pa
         Ok(opened) => return Ok(opened),
         Err(OpenFault::Memory { book }) => book,
     };
-    assert_eq!(rt; book.mark, 7);
+    assert!(rt; book.mark == 7);
     match Headers::open(alloc, &[0xa5, 0x5a], 2, book) {
         Ok(opened) => Ok(opened),
         Err(OpenFault::Memory { .. }) => Err(Fail::from("refused twice")),
@@ -78,10 +78,7 @@ fn what_was_refused_comes_back_and_succeeds_again(rt: HostRuntime) -> Result<(),
     passes.push(first).ok().ok_or("memory")?;
     passes.push(second).ok().ok_or("memory")?;
     let (words, book) = close_again(&rt, rt.alloc(), headers, passes)?;
-    assert_eq!(rt;
-        words.as_slice(),
-        [Word(0x0002_00a5), Word(0x0000_005a)].as_slice()
-    );
-    assert_eq!(rt; book.mark, 7);
+    assert!(rt; words.as_slice() == [Word(0x0002_00a5), Word(0x0000_005a)].as_slice());
+    assert!(rt; book.mark == 7);
     Ok(())
 }

@@ -5,7 +5,7 @@ ghost use Rattle.std.specs.Vec.{vec_len};
 ghost use Rattle.header_words.specs.Bindings.{Binds};
 ghost use Rattle.lock_word.specs.declared.ObjectId.{ObjectId};
 
-use crate::Kept;
+use header_words::Kept;
 use lock_word::ObjectId;
 use std::alloc::Global;
 use std::marker::Model;
@@ -26,7 +26,7 @@ impl Names {
     }
 
     /// Binds the next monitor. False, and nothing is bound, where there is no memory.
-    #[tactic(auto, using(crate::proofs::Bindings::binds_last))]
+    #[tactic(auto, using(header_words::proofs::Bindings::binds_last))]
     pub fn bind(&mut self, object: ObjectId) -> bool
         ensures grows { (rest : List ObjectId) ×
             (self.new.objects.items ≡ self.old.objects.items ++ rest) }

@@ -1,6 +1,6 @@
 use Rattle.std.proofs.Common.{◌≡◌, sym, ap, ◌∙◌}
 use Rattle.header_words.proofs.Bindings.{publish_prefix}
-use Rattle.header_words.proofs.tests.gate.monitor_of.Goals as goal
+use Rattle.live_tests.proofs.headers.gate.monitor_of.Goals as goal
 
 pub returns-clause-bound : goal.returns-clause-bound
 returns-clause-bound g c =

@@ -1,0 +1,5 @@
+//! Tests of the shared header words and of the live service, a module for each crate.
+#![tactic(auto)]
+
+#[cfg(test)]
+mod headers;
