@@ -18,8 +18,6 @@ mod numbered;
 mod opening;
 mod pass;
 mod places;
-#[cfg(test)]
-mod tests;
 mod turned;
 mod turning;
 mod turns;

@@ -1,5 +1,5 @@
 use Rattle.std.proofs.Common.{◌≡◌}
-use Rattle.live_turns.proofs.tests.turns.what_is_not_there_has_its_fault.Given as goal
+use Rattle.live_tests.proofs.turns.calls.what_is_not_there_has_its_fault.Given as goal
 
 abbrev pub ghosts-strangers_and_moments-L-Ledger : goal.ghosts-strangers_and_moments-L-Ledger
 ghosts-strangers_and_moments-L-Ledger g a = record { name = a.blank.name; parts = a.blank.parts }

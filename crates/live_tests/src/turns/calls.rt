@@ -3,9 +3,9 @@
 ghost use Rattle.std.specs.Prelude.{◌≡◌, false};
 ghost use Rattle.live_turns.specs.Ways.{Belongs};
 
-use crate::{Closed, Crew, LiveFault, Standing, TurnPass, Turns, TurnsClose};
 use fast_path::{InterruptCall, MonitorCall, Operation};
 use fat_monitor::Reply;
+use live_turns::{Closed, Crew, LiveFault, Standing, TurnPass, Turns, TurnsClose};
 use lock_word::{ObjectId, ThreadId, Word};
 use std::alloc::Global;
 use std::marker::Brand;
@@ -188,7 +188,7 @@ fn strangers_and_moments<L: Crew>(rt: &impl Abort, alloc: Global, blank: Blank) 
     let (turns, mut passes) = Turns::<L>::open(alloc, blank, &[0xa5], 1, 2, 10)?;
     let mut second = passes.pop().ok_or("two passes")?;
     let mut first = passes.pop().ok_or("two passes")?;
-    assert_eq!(rt; first.thread(), ThreadId(1));
+    assert!(rt; first.thread() == ThreadId(1));
     let missing = begin(rt, &turns, &mut first, 1, Operation::Enter);
     assert!(rt; missing == Err(LiveFault::NoObject));
     let stranger = ask(

@@ -5,11 +5,11 @@ ghost use Rattle.fat_monitor.specs.FatState.{FatState};
 ghost use Rattle.fat_monitor.specs.Acting.{NamesBound};
 ghost use Rattle.live_turns.specs.Log.{IsThreadOf, IsForBook};
 
-mod turns;
+mod calls;
 
-use crate::{Book, BookFault, Deed, LiveFault, Logged};
 use fat_monitor::{Action, Answer, Done, Post, Reply};
 use header_words::Kept;
+use live_turns::{Book, BookFault, Deed, LiveFault, Logged};
 use lock_word::{ObjectId, ThreadId};
 use std::process::Abort;
 use std::test::Fail;
@@ -100,86 +100,83 @@ fn a_full_record_lets_an_owner_leave_and_a_parked_thread_return(
     rt: HostRuntime,
 ) -> Result<(), Fail> {
     let mut book = Book::new(rt.alloc(), 1, 2, 6)?;
-    assert_eq!(rt; bind(&rt, &mut book, ONE, 1), Ok(0));
-    assert_eq!(rt; places(&book), (1, 4));
-    assert_eq!(rt; act(&rt, &mut book, TWO, ENTER), told(Answer::Parked));
-    assert_eq!(rt; places(&book), (2, 1));
-    assert_eq!(rt; act(&rt, &mut book, ONE, NOTIFY), replied(Reply::Notified));
-    assert_eq!(rt; places(&book), (3, 0));
-    assert_eq!(rt; act(&rt, &mut book, ONE, HOLDS), Err(BookFault::RecordFull));
-    assert_eq!(rt; tick(&rt, &mut book, ONE, 1), Err(BookFault::RecordFull));
+    assert!(rt; bind(&rt, &mut book, ONE, 1) == Ok(0));
+    assert!(rt; places(&book) == (1, 4));
+    assert!(rt; act(&rt, &mut book, TWO, ENTER) == told(Answer::Parked));
+    assert!(rt; places(&book) == (2, 1));
+    assert!(rt; act(&rt, &mut book, ONE, NOTIFY) == replied(Reply::Notified));
+    assert!(rt; places(&book) == (3, 0));
+    assert!(rt; act(&rt, &mut book, ONE, HOLDS) == Err(BookFault::RecordFull));
+    assert!(rt; tick(&rt, &mut book, ONE, 1) == Err(BookFault::RecordFull));
     let granted = Done {
         answer: Answer::Reply(Reply::Exited),
         granted: Some(TWO),
         chosen: None,
     };
-    assert_eq!(rt; act(&rt, &mut book, ONE, EXIT), Ok(granted));
-    assert_eq!(rt; places(&book), (4, 0));
-    assert_eq!(rt; collect(&rt, &mut book, TWO), replied(Reply::Entered));
-    assert_eq!(rt; places(&book), (5, 0));
-    assert_eq!(rt; act(&rt, &mut book, TWO, EXIT), replied(Reply::Exited));
-    assert_eq!(rt; places(&book), (6, 0));
-    assert_eq!(rt; Kept::object(&book, 0), Some(OBJECT));
+    assert!(rt; act(&rt, &mut book, ONE, EXIT) == Ok(granted));
+    assert!(rt; places(&book) == (4, 0));
+    assert!(rt; collect(&rt, &mut book, TWO) == replied(Reply::Entered));
+    assert!(rt; places(&book) == (5, 0));
+    assert!(rt; act(&rt, &mut book, TWO, EXIT) == replied(Reply::Exited));
+    assert!(rt; places(&book) == (6, 0));
+    assert!(rt; Kept::object(&book, 0) == Some(OBJECT));
     Ok(())
 }
 
 #[test]
 fn a_bind_that_fits_can_leave_no_place_for_the_wait(rt: HostRuntime) -> Result<(), Fail> {
     let mut book = Book::new(rt.alloc(), 1, 1, 3)?;
-    assert_eq!(rt; bind(&rt, &mut book, ONE, 3), Err(BookFault::RecordFull));
-    assert_eq!(rt; bind(&rt, &mut book, ONE, 1), Ok(0));
-    assert_eq!(rt; places(&book), (1, 1));
-    assert_eq!(rt; bind(&rt, &mut book, ONE, 1), Err(BookFault::RecordFull));
-    assert_eq!(rt; act(&rt, &mut book, ONE, WAIT), Err(BookFault::RecordFull));
-    assert_eq!(rt; act(&rt, &mut book, ONE, HOLDS), replied(Reply::Yes));
-    assert_eq!(rt; act(&rt, &mut book, ONE, EXIT), replied(Reply::Exited));
-    assert_eq!(rt; places(&book), (3, 0));
+    assert!(rt; bind(&rt, &mut book, ONE, 3) == Err(BookFault::RecordFull));
+    assert!(rt; bind(&rt, &mut book, ONE, 1) == Ok(0));
+    assert!(rt; places(&book) == (1, 1));
+    assert!(rt; bind(&rt, &mut book, ONE, 1) == Err(BookFault::RecordFull));
+    assert!(rt; act(&rt, &mut book, ONE, WAIT) == Err(BookFault::RecordFull));
+    assert!(rt; act(&rt, &mut book, ONE, HOLDS) == replied(Reply::Yes));
+    assert!(rt; act(&rt, &mut book, ONE, EXIT) == replied(Reply::Exited));
+    assert!(rt; places(&book) == (3, 0));
     Ok(())
 }
 
 #[test]
 fn each_thread_that_a_notify_all_removes_frees_a_place(rt: HostRuntime) -> Result<(), Fail> {
     let mut book = Book::new(rt.alloc(), 1, 3, 30)?;
-    assert_eq!(rt; bind(&rt, &mut book, ONE, 5), Ok(0));
-    assert_eq!(rt; places(&book), (1, 24));
-    assert_eq!(rt; act(&rt, &mut book, ONE, WAIT), told(Answer::Parked));
-    assert_eq!(rt; places(&book), (2, 21));
-    assert_eq!(rt; act(&rt, &mut book, TWO, ENTER), replied(Reply::Entered));
-    assert_eq!(rt; act(&rt, &mut book, TWO, WAIT), told(Answer::Parked));
-    assert_eq!(rt; places(&book), (4, 16));
+    assert!(rt; bind(&rt, &mut book, ONE, 5) == Ok(0));
+    assert!(rt; places(&book) == (1, 24));
+    assert!(rt; act(&rt, &mut book, ONE, WAIT) == told(Answer::Parked));
+    assert!(rt; places(&book) == (2, 21));
+    assert!(rt; act(&rt, &mut book, TWO, ENTER) == replied(Reply::Entered));
+    assert!(rt; act(&rt, &mut book, TWO, WAIT) == told(Answer::Parked));
+    assert!(rt; places(&book) == (4, 16));
     let three = ThreadId(3);
-    assert_eq!(rt; act(&rt, &mut book, three, ENTER), replied(Reply::Entered));
-    assert_eq!(rt; places(&book), (5, 14));
-    assert_eq!(rt;
-        act(&rt, &mut book, three, NOTIFY_ALL),
-        replied(Reply::Notified)
-    );
-    assert_eq!(rt; places(&book), (6, 15));
+    assert!(rt; act(&rt, &mut book, three, ENTER) == replied(Reply::Entered));
+    assert!(rt; places(&book) == (5, 14));
+    assert!(rt; act(&rt, &mut book, three, NOTIFY_ALL) == replied(Reply::Notified));
+    assert!(rt; places(&book) == (6, 15));
     Ok(())
 }
 
 #[test]
 fn a_wait_that_is_over_frees_the_place_of_its_expiry(rt: HostRuntime) -> Result<(), Fail> {
     let mut book = Book::new(rt.alloc(), 1, 1, 7)?;
-    assert_eq!(rt; bind(&rt, &mut book, ONE, 1), Ok(0));
-    assert_eq!(rt; act(&rt, &mut book, ONE, WAIT), told(Answer::Parked));
-    assert_eq!(rt; places(&book), (2, 2));
-    assert_eq!(rt; expire(&rt, &mut book, ONE), Err(BookFault::NotDue));
-    assert_eq!(rt; collect(&rt, &mut book, ONE), Err(BookFault::Parked));
-    assert_eq!(rt; tick(&rt, &mut book, ONE, 5), Ok(()));
-    assert_eq!(rt; tick(&rt, &mut book, ONE, 4), Err(BookFault::Backwards));
-    assert_eq!(rt; book.now(), 5);
-    assert_eq!(rt; places(&book), (3, 1));
-    assert_eq!(rt; tick(&rt, &mut book, ONE, 5), Ok(()));
-    assert_eq!(rt; expire(&rt, &mut book, ONE).is_ok(), true);
-    assert_eq!(rt; collect(&rt, &mut book, ONE), replied(Reply::WaitOver));
-    assert_eq!(rt; act(&rt, &mut book, ONE, EXIT), replied(Reply::Exited));
-    assert_eq!(rt; places(&book), (7, 0));
+    assert!(rt; bind(&rt, &mut book, ONE, 1) == Ok(0));
+    assert!(rt; act(&rt, &mut book, ONE, WAIT) == told(Answer::Parked));
+    assert!(rt; places(&book) == (2, 2));
+    assert!(rt; expire(&rt, &mut book, ONE) == Err(BookFault::NotDue));
+    assert!(rt; collect(&rt, &mut book, ONE) == Err(BookFault::Parked));
+    assert!(rt; tick(&rt, &mut book, ONE, 5) == Ok(()));
+    assert!(rt; tick(&rt, &mut book, ONE, 4) == Err(BookFault::Backwards));
+    assert!(rt; book.now() == 5);
+    assert!(rt; places(&book) == (3, 1));
+    assert!(rt; tick(&rt, &mut book, ONE, 5) == Ok(()));
+    assert!(rt; expire(&rt, &mut book, ONE).is_ok());
+    assert!(rt; collect(&rt, &mut book, ONE) == replied(Reply::WaitOver));
+    assert!(rt; act(&rt, &mut book, ONE, EXIT) == replied(Reply::Exited));
+    assert!(rt; places(&book) == (7, 0));
     let ticked = Logged {
         thread: ONE,
         deed: Deed::Ticked { now: 5 },
     };
-    assert_eq!(rt; book.log().get(2).copied(), Some(ticked));
+    assert!(rt; book.log().get(2).copied() == Some(ticked));
     Ok(())
 }
 
@@ -187,11 +184,11 @@ fn a_wait_that_is_over_frees_the_place_of_its_expiry(rt: HostRuntime) -> Result<
 fn a_pass_is_torn_where_the_book_has_it_elsewhere(rt: HostRuntime) -> Result<(), Fail> {
     let book = Book::new(rt.alloc(), 1, 1, 5)?;
     let (parked, full) = (true, true);
-    assert_eq!(rt; book.passes(), 1);
-    assert_eq!(rt; book.check(ONE, !parked, !full), Ok(()));
-    assert_eq!(rt; book.check(ONE, parked, !full), Err(LiveFault::Torn));
-    assert_eq!(rt; book.check(ONE, !parked, full), Err(LiveFault::Torn));
-    assert_eq!(rt; book.check(TWO, !parked, !full), Err(LiveFault::Torn));
-    assert_eq!(rt; LiveFault::Torn.number(), 18);
+    assert!(rt; book.passes() == 1);
+    assert!(rt; book.check(ONE, !parked, !full) == Ok(()));
+    assert!(rt; book.check(ONE, parked, !full) == Err(LiveFault::Torn));
+    assert!(rt; book.check(ONE, !parked, full) == Err(LiveFault::Torn));
+    assert!(rt; book.check(TWO, !parked, !full) == Err(LiveFault::Torn));
+    assert!(rt; LiveFault::Torn.number() == 18);
     Ok(())
 }

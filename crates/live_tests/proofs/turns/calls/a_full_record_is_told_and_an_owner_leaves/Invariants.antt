@@ -1,5 +1,5 @@
 use Rattle.std.proofs.Common.{◌≡◌}
-use Rattle.live_turns.proofs.tests.turns.a_full_record_is_told_and_an_owner_leaves.Given as goal
+use Rattle.live_tests.proofs.turns.calls.a_full_record_is_told_and_an_owner_leaves.Given as goal
 
 abbrev pub ghosts-a_small_record-L-Ledger : goal.ghosts-a_small_record-L-Ledger
 ghosts-a_small_record-L-Ledger g a = record { name = a.blank.name; parts = a.blank.parts }
