@@ -4,4 +4,6 @@
 #[cfg(test)]
 mod headers;
 #[cfg(test)]
+mod threads;
+#[cfg(test)]
 mod turns;

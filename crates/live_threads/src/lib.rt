@@ -9,8 +9,6 @@ mod ending;
 mod live;
 mod looking;
 mod opening;
-#[cfg(test)]
-mod tests;
 mod turning;
 mod waiting;
 

@@ -1,0 +1,140 @@
+//! Two threads that meet at one object.
+
+ghost use Rattle.std.specs.Prelude.{◌≡◌};
+
+use crate::threads::OBJECT;
+use crossbeam_utils::atomic::AtomicCell;
+use fat_monitor::Reply;
+use live_threads::{Live, LivePass};
+use live_turns::{Crew, LiveFault};
+use std::alloc::Global;
+use std::marker::Brand;
+use std::process::Abort;
+use std::sync::Wait;
+use std::sync::ledger::Blank;
+use std::test::Fail;
+use std::thread::{Threads, join, yield_now};
+use std::time::Clock;
+
+/// A timed wait of an owner.
+fn wait_a_moment<L: Crew, R: Wait + Clock>(
+    rt: &R,
+    live: &Live<L>,
+    pass: &mut LivePass<L>,
+) -> Result<Reply, LiveFault>
+    requires here { pass.old.words.opening ≡ live.now }
+{
+    live.wait_on(rt, pass, OBJECT, 0, 1)
+}
+
+/// An enter, a tick and an exit.
+fn enter_and_tick<L: Crew, R: Wait + Clock>(
+    rt: &R,
+    live: &Live<L>,
+    pass: &mut LivePass<L>,
+) -> Result<bool, LiveFault>
+    requires here { pass.old.words.opening ≡ live.now }
+{
+    let entered = live.enter(rt, pass, OBJECT)?;
+    live.tick(rt, pass, 1)?;
+    let exited = live.exit(rt, pass, OBJECT)?;
+    Ok(entered == Reply::Entered && exited == Reply::Exited)
+}
+
+fn a_wait_that_ends<L: Crew + Send + Sync, R: Threads + Wait + Clock + Sync + Abort>(
+    rt: &R,
+    alloc: Global,
+    blank: Blank,
+) -> Result<(), Fail>
+    requires name { blank.name ≡ L.name }
+    requires parts { (blank.parts ≡ L.parts) × (L.parts ≡ 2) }
+    requires crew { (L.passes ≡ 2) × (L.monitors ≡ 1) × (L.places ≡ 20) }
+{
+    let (live, mut passes) = Live::<L>::open(alloc, blank, &[0xa5], 1, 2, 20)?;
+    let mut second = passes.pop().ok_or("two passes")?;
+    let mut first = passes.pop().ok_or("two passes")?;
+    assert!(rt; live.enter(rt, &mut first, OBJECT) == Ok(Reply::Entered));
+    let (waited, ticked) = join(
+        rt,
+        || wait_a_moment(rt, &live, &mut first),
+        || enter_and_tick(rt, &live, &mut second),
+    );
+    assert!(rt; waited == Ok(Reply::WaitOver));
+    assert!(rt; ticked == Ok(true));
+    Ok(())
+}
+
+#[test]
+fn a_timed_wait_ends_by_a_tick(rt: HostRuntime) -> Result<(), Fail> {
+    a_wait_that_ends::<Brand, _>(&rt, rt.alloc(), Blank::new(2))
+}
+
+/// What two threads tell each other while one of them has the book.
+#[derive(Drop)]
+struct Told {
+    lent: AtomicCell<bool>,
+    entered: AtomicCell<bool>,
+}
+
+/// Whether the flag is set before so many looks.
+fn is_seen(flag: &AtomicCell<bool>) -> bool {
+    for _ in 0..10_000_000u32 {
+        if flag.load() {
+            return true;
+        }
+        yield_now();
+    }
+    false
+}
+
+/// Enters and exits a free object while the book is lent, and tells so.
+fn enter_while_lent<L: Crew, R: Wait + Clock>(
+    rt: &R,
+    live: &Live<L>,
+    pass: &mut LivePass<L>,
+    told: &Told,
+) -> Result<bool, LiveFault>
+    requires here { pass.old.words.opening ≡ live.now }
+{
+    let is_lent = is_seen(&told.lent);
+    let entered = live.enter(rt, pass, OBJECT)?;
+    let exited = live.exit(rt, pass, OBJECT)?;
+    told.entered.store(true);
+    Ok(is_lent && entered == Reply::Entered && exited == Reply::Exited)
+}
+
+fn a_book_is_lent<L: Crew + Send + Sync, R: Threads + Wait + Clock + Sync + Abort>(
+    rt: &R,
+    alloc: Global,
+    blank: Blank,
+) -> Result<(), Fail>
+    requires name { blank.name ≡ L.name }
+    requires parts { (blank.parts ≡ L.parts) × (L.parts ≡ 2) }
+    requires crew { (L.passes ≡ 2) × (L.monitors ≡ 1) × (L.places ≡ 20) }
+{
+    let told = Told {
+        lent: AtomicCell::new(false),
+        entered: AtomicCell::new(false),
+    };
+    let (live, mut passes) = Live::<L>::open(alloc, blank, &[0xa5], 1, 2, 20)?;
+    let mut second = passes.pop().ok_or("two passes")?;
+    let mut first = passes.pop().ok_or("two passes")?;
+    let (looked, entered) = join(
+        rt,
+        || {
+            live.look(rt, &mut first, |_| {
+                told.lent.store(true);
+                is_seen(&told.entered)
+            })
+        },
+        || enter_while_lent(rt, &live, &mut second, &told),
+    );
+    assert!(rt; looked);
+    assert!(rt; entered == Ok(true));
+    Ok(())
+}
+
+#[test]
+fn thin_calls_go_on_while_the_book_is_lent(rt: HostRuntime) -> Result<(), Fail> {
+    a_book_is_lent::<Brand, _>(&rt, rt.alloc(), Blank::new(2))
+}

@@ -1,0 +1,134 @@
+//! Want of memory, which only a run with refused allocations meets: what was handed in comes back, and
+//! the same succeeds when it is tried again. A run in which nothing is refused looks at the answers.
+
+ghost use Rattle.std.specs.Prelude.{◌≡◌, IfOk, length, ◌∷◌, []};
+ghost use Rattle.std.specs.List.{All};
+ghost use Rattle.live_threads.specs.Driving.{CanDrive, IsLive};
+
+use crate::threads::OBJECT;
+use crate::threads::works::Open;
+use fast_path::Call;
+use fat_monitor::Reply;
+use live_threads::{DriveFault, Live, LiveClose, LivePass, Work, Worked, drive};
+use live_turns::{Closed, Crew};
+use lock_word::{Memory, Word};
+use std::alloc::Global;
+use std::marker::Brand;
+use std::process::Abort;
+use std::sync::Wait;
+use std::sync::ledger::Blank;
+use std::test::Fail;
+use std::thread::Threads;
+use std::time::Clock;
+
+/// A work of one call.
+fn one_work<L: Crew>(
+    alloc: Global,
+    live: &Live<L>,
+    pass: LivePass<L>,
+) -> Result<Vec<Work<L>>, Memory>
+    requires here { pass.words.opening ≡ live.now }
+    ensures can { IfOk result (λ ws. All (CanDrive live.entry.now) ws.items) }
+{
+    let calls = vec![in alloc; Call::Holds(OBJECT)]?;
+    Ok(vec![in alloc; Work { pass, calls }]?)
+}
+
+/// Drives one work; where memory is refused, the work comes back, and is driven again.
+fn drive_again<L: Crew + Send + Sync, R: Threads + Wait + Clock + Sync + Abort>(
+    rt: &R,
+    alloc: Global,
+    live: &Live<L>,
+    works: Vec<Work<L>>,
+) -> Result<Vec<Worked<L>>, Fail>
+    requires can { All (CanDrive live.now) works.items }
+    ensures here { IfOk result (λ v. All (λ d. d.pass.words.opening ≡ live.entry.now) v.items) }
+{
+    let works = match drive(rt, alloc, live, works, &Open) {
+        Ok(worked) => return Ok(worked),
+        Err(DriveFault::Memory { works }) => works,
+    };
+    assert!(rt; works.len() == 1);
+    match drive(rt, alloc, live, works, &Open) {
+        Ok(worked) => Ok(worked),
+        Err(DriveFault::Memory { .. }) => Err(Fail::from("refused twice")),
+    }
+}
+
+/// Closes a service; where memory is refused, all comes back, and is closed again.
+fn close_again<L: Crew, R: Abort>(
+    rt: &R,
+    alloc: Global,
+    live: Live<L>,
+    passes: Vec<LivePass<L>>,
+) -> Result<Closed, Fail>
+    requires belong { All (λ p. p.words.opening ≡ live) passes.items }
+    requires crew { (L.parts ≡ live.count) × (L.passes ≡ live.count) }
+{
+    let (live, passes) = match live.close(alloc, passes) {
+        Ok(closed) => return Ok(closed),
+        Err(LiveClose::Memory { live, passes }) => (live, passes),
+        Err(_) => return Err(Fail::from("another fault")),
+    };
+    assert!(rt; passes.len() == 1);
+    match live.close(alloc, passes) {
+        Ok(closed) => Ok(closed),
+        Err(_) => Err(Fail::from("refused twice")),
+    }
+}
+
+/// Looks at what one work came to, and closes its service; None where a growth was refused that hands
+/// nothing back.
+fn close_after<L: Crew, R: Abort>(
+    rt: &R,
+    alloc: Global,
+    live: Live<L>,
+    done: Worked<L>,
+) -> Result<Option<Closed>, Fail>
+    requires here { done.pass.words.opening ≡ live }
+    requires crew { (L.parts ≡ live.count) × (L.passes ≡ live.count) }
+{
+    assert!(rt; done.stopped == done.answers.is_empty());
+    for answer in &done.answers {
+        assert!(rt; *answer == Ok(Reply::No));
+    }
+    let Ok(passes) = vec![in alloc; done.pass] else {
+        return Ok(None);
+    };
+    Ok(Some(close_again(rt, alloc, live, passes)?))
+}
+
+/// Opens a service, drives one work, and closes the service; None where a growth was refused that
+/// hands nothing back.
+fn open_drive_and_close<L: Crew + Send + Sync, R: Threads + Wait + Clock + Sync + Abort>(
+    rt: &R,
+    alloc: Global,
+    blank: Blank,
+) -> Result<Option<Closed>, Fail>
+    requires name { blank.name ≡ L.name }
+    requires parts { (blank.parts ≡ L.parts) × (L.parts ≡ 1) }
+    requires crew { (L.passes ≡ 1) × (L.monitors ≡ 1) × (L.places ≡ 10) }
+{
+    let Ok((live, mut passes)) = Live::<L>::open(alloc, blank, &[0xa5], 1, 1, 10) else {
+        return Ok(None);
+    };
+    let pass = passes.pop().ok_or("one pass")?;
+    let Ok(works) = one_work(alloc, &live, pass) else {
+        return Ok(None);
+    };
+    let mut worked = drive_again(rt, alloc, &live, works)?;
+    let done = worked.pop().ok_or("one work")?;
+    close_after(rt, alloc, live, done)
+}
+
+#[test]
+fn what_was_refused_comes_back_and_succeeds_again(rt: HostRuntime) -> Result<(), Fail> {
+    let mut closed = open_drive_and_close::<Brand, _>(&rt, rt.alloc(), Blank::new(1))?;
+    if closed.is_none() {
+        closed = open_drive_and_close::<Brand, _>(&rt, rt.alloc(), Blank::new(1))?;
+    }
+    let closed = closed.ok_or("refused twice")?;
+    assert!(&rt; closed.words.first() == Some(&Word(0xa5)));
+    assert!(&rt; closed.logged.is_empty() && closed.counts.first() == Some(&0));
+    Ok(())
+}

@@ -1,0 +1,235 @@
+//! Two works that are driven.
+
+ghost use Rattle.std.specs.Prelude.{◌≡◌, ◌≤◌, IfOk, length};
+ghost use Rattle.std.specs.List.{All};
+ghost use Rattle.live_threads.specs.Driving.{IsLive, CanDrive};
+
+use crate::threads::{OBJECT, close_both};
+use crossbeam_utils::atomic::AtomicCell;
+use fast_path::Call;
+use fat_monitor::Reply;
+use live_threads::{Gate, Live, Work, drive};
+use live_turns::{Crew, LiveFault};
+use lock_word::{Memory, Word};
+use std::alloc::Global;
+use std::marker::Brand;
+use std::process::Abort;
+use std::sync::Wait;
+use std::sync::ledger::Blank;
+use std::test::Fail;
+use std::thread::{Threads, yield_now};
+use std::time::Clock;
+
+/// What the calls of a worker came to, and whether it was stopped.
+#[derive(Drop)]
+struct Outcome {
+    answers: Vec<Result<Reply, LiveFault>>,
+    stopped: bool,
+}
+
+/// What came of two works, the word of their object after the close, and how many deeds both did.
+#[derive(Drop)]
+struct Driven {
+    first: Outcome,
+    second: Outcome,
+    word: Word,
+    deeds: u64,
+}
+
+/// Drives two works, closes the service, and tells what came of them.
+fn both_are_driven<L: Crew + Send + Sync, G: Gate + Sync, R: Threads + Wait + Clock + Sync + Abort>(
+    rt: &R,
+    alloc: Global,
+    live: Live<L>,
+    gate: &G,
+    works: (Work<L>, Work<L>),
+) -> Result<Driven, Fail>
+    requires first { CanDrive live works.0 }
+    requires second { CanDrive live works.1 }
+    requires crew { (L.parts ≡ live.count) × (L.passes ≡ live.count) }
+{
+    let works = vec![in alloc; works.0, works.1]?;
+    let Ok(mut worked) = drive(rt, alloc, &live, works, gate) else {
+        return Err(Fail::from("memory"));
+    };
+    let second = worked.pop().ok_or("two works")?;
+    let first = worked.pop().ok_or("two works")?;
+    let (word, deeds) = close_both(alloc, live, first.pass, second.pass)?;
+    Ok(Driven {
+        first: Outcome {
+            answers: first.answers,
+            stopped: first.stopped,
+        },
+        second: Outcome {
+            answers: second.answers,
+            stopped: second.stopped,
+        },
+        word,
+        deeds,
+    })
+}
+
+/// Drives two works of these calls, on one object, and tells what came of each.
+fn two_are_driven<L: Crew + Send + Sync, G: Gate + Sync, R: Threads + Wait + Clock + Sync + Abort>(
+    rt: &R,
+    alloc: Global,
+    blank: Blank,
+    places: u32,
+    gate: &G,
+    calls: (Vec<Call>, Vec<Call>),
+) -> Result<Driven, Fail>
+    requires name { blank.name ≡ L.name }
+    requires parts { (blank.parts ≡ L.parts) × (L.parts ≡ 2) }
+    requires crew { (L.passes ≡ 2) × (L.monitors ≡ 1) × (L.places ≡ places) }
+    requires first { All IsLive calls.0.items }
+    requires second { All IsLive calls.1.items }
+{
+    let (live, mut passes) = Live::<L>::open(alloc, blank, &[0xa5], 1, 2, places)?;
+    let second = Work {
+        pass: passes.pop().ok_or("two passes")?,
+        calls: calls.1,
+    };
+    let first = Work {
+        pass: passes.pop().ok_or("two passes")?,
+        calls: calls.0,
+    };
+    both_are_driven(rt, alloc, live, gate, (first, second))
+}
+
+/// Lets every call be made.
+pub(crate) struct Open;
+
+impl Gate for Open {
+    fn before(&self, _worker: usize, _call: usize) -> bool {
+        true
+    }
+
+    fn after(&self, _worker: usize, _call: usize) {}
+}
+
+/// Stops worker 0 before its second call.
+struct First;
+
+impl Gate for First {
+    fn before(&self, worker: usize, call: usize) -> bool {
+        worker != 0 || call < 2
+    }
+
+    fn after(&self, _worker: usize, _call: usize) {}
+}
+
+/// Lets a call be made once the other worker is about to make one too.
+#[derive(Drop)]
+struct Both {
+    first: AtomicCell<bool>,
+    second: AtomicCell<bool>,
+}
+
+impl Gate for Both {
+    fn before(&self, worker: usize, _call: usize) -> bool {
+        let (mine, other) = if worker == 0 {
+            (&self.first, &self.second)
+        } else {
+            (&self.second, &self.first)
+        };
+        mine.store(true);
+        for _ in 0..10_000_000u32 {
+            if other.load() {
+                return true;
+            }
+            yield_now();
+        }
+        false
+    }
+
+    fn after(&self, _worker: usize, _call: usize) {}
+}
+
+/// An enter, so many rounds of a notify and a wait, and a last notify and the exit.
+fn rounds(alloc: Global, times: u32) -> Result<Vec<Call>, Memory>
+    ensures { IfOk result (λ v. All IsLive v.items) }
+{
+    let mut calls = vec![in alloc; Call::Enter(OBJECT)]?;
+    for _ in 0..times {
+        calls.push(Call::Notify(OBJECT))?;
+        calls.push(Call::Wait {
+            object: OBJECT,
+            millis: 0,
+            nanos: 0,
+        })?;
+    }
+    calls.push(Call::Notify(OBJECT))?;
+    calls.push(Call::Exit(OBJECT))?;
+    Ok(calls)
+}
+
+/// Their answers.
+fn answers_of_rounds(alloc: Global, times: u32) -> Result<Vec<Result<Reply, LiveFault>>, Memory> {
+    let mut answers = vec![in alloc; Ok(Reply::Entered)]?;
+    for _ in 0..times {
+        answers.push(Ok(Reply::Notified))?;
+        answers.push(Ok(Reply::WaitOver))?;
+    }
+    answers.push(Ok(Reply::Notified))?;
+    answers.push(Ok(Reply::Exited))?;
+    Ok(answers)
+}
+
+#[test]
+fn two_workers_hand_an_object_to_each_other(rt: HostRuntime) -> Result<(), Fail> {
+    let alloc = rt.alloc();
+    let calls = (rounds(alloc, 1_000)?, rounds(alloc, 1_000)?);
+    let blank = Blank::new(2);
+    let driven = two_are_driven::<Brand, _, _>(&rt, alloc, blank, 8_000, &Open, calls)?;
+    let Driven { first, second, .. } = &driven;
+    let wanted = answers_of_rounds(alloc, 1_000)?;
+    assert!(&rt; first.answers == wanted && !first.stopped);
+    assert!(&rt; second.answers == wanted && !second.stopped);
+    assert!(&rt; driven.word == Word(0x8000_00a5));
+    // The second comer's enter parks, or finds the object without an owner.
+    assert!(&rt; driven.deeds == 6_005 || driven.deeds == 6_006);
+    Ok(())
+}
+
+fn holds_once(alloc: Global) -> Result<Vec<Call>, Memory>
+    ensures { IfOk result (λ v. All IsLive v.items) }
+{
+    Ok(vec![in alloc; Call::Holds(OBJECT)]?)
+}
+
+fn holds_twice(alloc: Global) -> Result<Vec<Call>, Memory>
+    ensures { IfOk result (λ v. All IsLive v.items) }
+{
+    Ok(vec![in alloc; Call::Holds(OBJECT), Call::Interrupted]?)
+}
+
+#[test]
+fn a_gate_stops_a_worker_before_its_second_call(rt: HostRuntime) -> Result<(), Fail> {
+    let alloc = rt.alloc();
+    let calls = (holds_twice(alloc)?, holds_twice(alloc)?);
+    let blank = Blank::new(2);
+    let driven = two_are_driven::<Brand, _, _>(&rt, alloc, blank, 10, &First, calls)?;
+    let Driven { first, second, .. } = &driven;
+    let one = vec![in alloc; Ok(Reply::No)]?;
+    let two = vec![in alloc; Ok(Reply::No), Ok(Reply::No)]?;
+    assert!(&rt; first.answers == one && first.stopped);
+    assert!(&rt; second.answers == two && !second.stopped);
+    Ok(())
+}
+
+#[test]
+fn workers_run_side_by_side(rt: HostRuntime) -> Result<(), Fail> {
+    let alloc = rt.alloc();
+    let both = Both {
+        first: AtomicCell::new(false),
+        second: AtomicCell::new(false),
+    };
+    let calls = (holds_once(alloc)?, holds_once(alloc)?);
+    let blank = Blank::new(2);
+    let driven = two_are_driven::<Brand, _, _>(&rt, alloc, blank, 10, &both, calls)?;
+    let Driven { first, second, .. } = &driven;
+    let no = vec![in alloc; Ok(Reply::No)]?;
+    assert!(&rt; first.answers == no && !first.stopped);
+    assert!(&rt; second.answers == no && !second.stopped);
+    Ok(())
+}

@@ -1,7 +1,0 @@
-use Rattle.std.proofs.Common.{◌≡◌}
-use Rattle.std.specs.List.{All}
-use Rattle.live_threads.specs.Driving.{IsLive}
-use Rattle.live_threads.proofs.tests.works.rounds.Given as goal
-
-abbrev pub invariant-loop : goal.invariant-loop
-invariant-loop l = All IsLive l.calls.items
