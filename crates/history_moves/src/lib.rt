@@ -15,6 +15,3 @@ mod writing;
 pub use lines::{each_line_is_one_move, first_line, line_first, line_move, move_line};
 pub use reading::{each_value_is_one_move, read_move};
 pub use writing::write_move;
-
-#[cfg(test)]
-mod tests;

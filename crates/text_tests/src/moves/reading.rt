@@ -1,6 +1,6 @@
 //! Lines that are read, and lines that are no move.
 
-use crate::{line_first, line_move};
+use history_moves::{line_first, line_move};
 use step_core::{Call, Cause, Move, ObjectId, ThreadId};
 
 /// The greatest thread.

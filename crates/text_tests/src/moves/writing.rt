@@ -1,6 +1,6 @@
 //! Lines that are written.
 
-use crate::{first_line, move_line};
+use history_moves::{first_line, move_line};
 use std::test::Fail;
 use step_core::{Call, Cause, Move, ObjectId, Reply, ThreadId};
 
