@@ -27,15 +27,17 @@ BEHIND = f"""    if Vec::<u8>::with_capacity(rt.alloc(), 1).is_err() {{
 """
 
 TESTS = {
-    "thread_index": {"tests": ["what_was_refused_succeeds_when_tried_again"]},
-    "step_core": {
-        "tests::memory": [
+    "core_tests": {
+        "indices": ["what_was_refused_succeeds_when_tried_again"],
+        "worlds::memory": [
             "what_was_refused_succeeds_when_tried_again",
             "a_refused_relayout_succeeds_when_tried_again",
-        ]
+        ],
     },
-    "header_words": {"tests::memory": ["what_was_refused_comes_back_and_succeeds_again"]},
-    "live_threads": {"tests::memory": ["what_was_refused_comes_back_and_succeeds_again"]},
+    "live_tests": {
+        "headers::memory": ["what_was_refused_comes_back_and_succeeds_again"],
+        "threads::memory": ["what_was_refused_comes_back_and_succeeds_again"],
+    },
     "thinmon": {
         "tests::memory": [
             "a_refused_run_succeeds_when_tried_again",
