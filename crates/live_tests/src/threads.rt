@@ -147,6 +147,28 @@ fn what_is_not_there_leaves_one_deed(rt: HostRuntime) -> Result<(), Fail> {
     Ok(())
 }
 
+/// Interrupts thread 1, and asks whether it is interrupted.
+fn interrupt_the_first<L: Crew, R: Abort + Wait + Clock>(
+    rt: &R,
+    live: &Live<L>,
+    second: &mut LivePass<L>,
+)
+    requires here { second.old.words.opening ≡ live.now }
+{
+    assert!(rt; live.interrupt(rt, second, ThreadId(1)) == Ok(Reply::Done));
+    assert!(rt; live.is_interrupted(rt, second, ThreadId(1)) == Ok(Reply::Yes));
+}
+
+/// A wait of an owner that is interrupted, and its exit.
+fn wait_and_leave<L: Crew, R: Abort + Wait + Clock>(rt: &R, live: &Live<L>, first: &mut LivePass<L>)
+    requires here { first.old.words.opening ≡ live.now }
+{
+    let interrupted = live.wait_on(rt, first, OBJECT, 0, 0);
+    assert!(rt; interrupted == Ok(Reply::Interrupted));
+    assert!(rt; live.interrupted(rt, first) == Ok(Reply::No));
+    assert!(rt; live.exit(rt, first, OBJECT) == EXITED);
+}
+
 /// The calls of an owner, whom another thread interrupts.
 fn one_after_another<L: Crew, R: Abort + Wait + Clock>(
     rt: &R,
@@ -162,12 +184,8 @@ fn one_after_another<L: Crew, R: Abort + Wait + Clock>(
     let mut first = passes.pop().ok_or("two passes")?;
     assert!(rt; live.enter(rt, &mut first, OBJECT) == ENTERED);
     assert!(rt; live.notify_all(rt, &mut first, OBJECT) == Ok(Reply::Notified));
-    assert!(rt; live.interrupt(rt, &mut second, ThreadId(1)) == Ok(Reply::Done));
-    assert!(rt; live.is_interrupted(rt, &mut second, ThreadId(1)) == Ok(Reply::Yes));
-    let interrupted = live.wait_on(rt, &mut first, OBJECT, 0, 0);
-    assert!(rt; interrupted == Ok(Reply::Interrupted));
-    assert!(rt; live.interrupted(rt, &mut first) == Ok(Reply::No));
-    assert!(rt; live.exit(rt, &mut first, OBJECT) == EXITED);
+    interrupt_the_first(rt, &live, &mut second);
+    wait_and_leave(rt, &live, &mut first);
     Ok(())
 }
 
