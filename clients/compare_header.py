@@ -22,6 +22,7 @@ TABLES = {
     "why": ("why_number", "Showing"),
     "step_kind": ("step_of", "Reading"),
     "standing": ("standing_number", "Live"),
+    "deed_kind": ("deed_by", "Ends"),
 }
 STRUCTS = {
     "call": "PlainCall",
@@ -34,12 +35,19 @@ STRUCTS = {
     "doing": "PlainDoing",
     "thread_shown": "PlainThread",
     "turned": "PlainTurned",
+    "end_shown": "PlainEnd",
+    "deed": "PlainDeed",
+    "pass": "PlainPass",
 }
 TYPES = {"u64": "uint64_t", "u32": "uint32_t", "u16": "uint16_t"}
 TYPES |= {"i64": "int64_t", "i32": "int32_t"}
 TYPES |= {rattle: f"nadkhoy_{name}" for name, rattle in STRUCTS.items()}
 # The slots, each with what has its pointer, and the folder of both.
-SLOTS = {"slot": ("WorldSlot", "RawWorld", ""), "live_slot": ("LiveSlot", "RawSeat", "live/")}
+SLOTS = {
+    "slot": ("WorldSlot", "RawWorld", ""),
+    "live_slot": ("LiveSlot", "RawSeat", "live/"),
+    "end_slot": ("EndSlot", "RawEnd", "ends/"),
+}
 TYPES |= {slot: f"nadkhoy_{name}" for name, (slot, _, _) in SLOTS.items()}
 
 
@@ -86,8 +94,12 @@ def numbers_differ():
     for name, (function, module) in TABLES.items():
         ours = without_prefix(header_enum(name), constant_prefix(name))
         theirs = spec_numbers(function, module)
-        # These two are not written by a number of their own line.
-        theirs |= {"atomic_kind": {"LABEL": 0}, "doing_kind": {"WAITS": 3}}.get(name, {})
+        # These are not written by a number of their own line.
+        theirs |= {
+            "atomic_kind": {"LABEL": 0},
+            "doing_kind": {"WAITS": 3},
+            "deed_kind": {"ACTED": 2},
+        }.get(name, {})
         yield name, ours, theirs
     cause = enum_of_source("crates/fat_monitor/src/actions.rt", "Cause")
     yield "cause", without_prefix(header_enum("cause"), "CAUSE_"), cause
@@ -132,7 +144,7 @@ def fields_differ():
 def laid_out(path, name):
     """The types of the fields of a struct, but for what takes no bytes: allocators and ghosts."""
     body = source_struct((CRATE / path).read_text(), name)
-    kinds = re.findall(r"(?m)^    (?:pub )?\w+: ([^{\n]+),$", body)
+    kinds = re.findall(r"(?m)^    (?:pub(?:\(crate\))? )?\w+: ([^{\n]+),$", body)
     return [kind for kind in kinds if kind != "Global"]
 
 
@@ -147,7 +159,7 @@ def slots_differ():
 
 
 def parameters_differ():
-    source = "".join((CRATE / f"src/{name}.rt").read_text() for name in ("lib", "live"))
+    source = "".join((CRATE / f"src/{name}.rt").read_text() for name in ("lib", "live", "ends"))
     for name, inside in re.findall(r'extern "C" fn (nadkhoy_\w+)\(([^)]*)\) -> u32', source):
         theirs = []
         for field, kind in re.findall(r"(\w+): ([^,]+)", inside):
@@ -174,7 +186,7 @@ def main():
                 wrong += 1
                 print(f"{name}: the header has {ours}, the library {theirs}", file=sys.stderr)
     print(f"{compared} compared, {wrong} differ")
-    return 1 if wrong or compared != 41 else 0
+    return 1 if wrong or compared != 52 else 0
 
 
 sys.exit(main())

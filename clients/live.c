@@ -1,7 +1,8 @@
 /* Two threads of the system at one live service. They count to 2000000 under one monitor; they hand
  * 100000 items on by wait and notify; then one thread drives both seats turn by turn, through waits
- * that a tick and an interrupt end, and through each mistake that has a status. With the argument
- * `time` it prints what a pair of enter and exit costs, too. */
+ * that a tick and an interrupt end, and through each mistake that has a status. The services of the
+ * two threads are closed, and their ends read. With the argument `time` it prints what a pair of
+ * enter and exit costs, too. */
 #define _POSIX_C_SOURCE 200809L
 #include "nadkhoy.h"
 
@@ -129,9 +130,43 @@ static uint32_t make_call(player *me, nadkhoy_call call) {
     }
 }
 
-/* Runs two threads to their ends, each with a seat at one new service. */
+/* Reads the end of a service of two passes and one object that nobody owns any more: each pass did
+ * as many deeds as the record has of its thread, and the moment was never told. */
+static void read_end(nadkhoy_end_slot *end) {
+    nadkhoy_end_shown sizes;
+    nadkhoy_deed deed;
+    nadkhoy_pass pass;
+    uint64_t counts[3] = {0, 0, 0};
+    uint32_t word, threads = 0;
+    WANT(nadkhoy_end_sizes(end, &sizes), NADKHOY_DONE);
+    WANT(sizes.objects, 1);
+    WANT(sizes.passes, 2);
+    for (uint32_t i = 0; i < sizes.deeds; i++) {
+        WANT(nadkhoy_end_deed(end, i, &deed), NADKHOY_DONE);
+        WANT(deed.kind == NADKHOY_DEED_BOUND || deed.kind == NADKHOY_DEED_ACTED, 1);
+        WANT(deed.kind == NADKHOY_DEED_BOUND, i == 0);
+        WANT(deed.monitor, 0);
+        counts[deed.thread]++;
+    }
+    for (uint32_t i = 0; i < 2; i++) {
+        WANT(nadkhoy_end_pass(end, i, &pass), NADKHOY_DONE);
+        WANT(pass.deeds, counts[pass.thread]);
+        threads += pass.thread;
+    }
+    WANT(threads, 3);
+    WANT(counts[0] + counts[1] + counts[2], sizes.deeds);
+    WANT(nadkhoy_end_word(end, 0, &word), NADKHOY_DONE);
+    WANT(word, sizes.deeds == 0 ? 0xA5 : 0x800000A5); /* free, or the fat monitor 0 */
+    WANT(nadkhoy_end_word(end, 1, &word), NADKHOY_NO_OBJECT);
+    WANT(nadkhoy_end_deed(end, (uint32_t)sizes.deeds, &deed), NADKHOY_NO_DEED);
+    WANT(nadkhoy_end_pass(end, 2, &pass), NADKHOY_NO_PASS);
+    WANT(nadkhoy_end_free(end), NADKHOY_DONE);
+}
+
+/* Runs two threads to their ends, each with a seat at one new service, and closes it. */
 static void play(void *(*first)(void *), void *(*second)(void *), uint32_t places, uint32_t item) {
     player players[2] = {{NADKHOY_EMPTY, 0, item}, {NADKHOY_EMPTY, 0, item}};
+    nadkhoy_end_slot end = NADKHOY_EMPTY;
     pthread_t threads[2];
     WANT(nadkhoy_live_open(lows, 1, 1, 2, places, &players[0].seat), NADKHOY_DONE);
     WANT(nadkhoy_live_share(&players[0].seat, &players[1].seat), NADKHOY_DONE);
@@ -141,10 +176,13 @@ static void play(void *(*first)(void *), void *(*second)(void *), uint32_t place
     }
     WANT(pthread_create(&threads[0], NULL, first, &players[0]), 0);
     WANT(pthread_create(&threads[1], NULL, second, &players[1]), 0);
-    for (int i = 0; i < 2; i++) {
-        WANT(pthread_join(threads[i], NULL), 0);
-        WANT(nadkhoy_live_leave(&players[i].seat), NADKHOY_DONE);
-    }
+    WANT(pthread_join(threads[0], NULL), 0);
+    WANT(pthread_join(threads[1], NULL), 0);
+    WANT(nadkhoy_live_close(&players[0].seat, &end), NADKHOY_OTHER_SEATS);
+    WANT(nadkhoy_live_leave(&players[0].seat), NADKHOY_DONE);
+    WANT(nadkhoy_live_close(&players[1].seat, &end), NADKHOY_DONE);
+    WANT(nadkhoy_live_close(&players[1].seat, &end), NADKHOY_CLOSED);
+    read_end(&end);
 }
 
 /* What the owner of the object alone reads and writes, by plain loads and stores. */
@@ -314,6 +352,10 @@ static void a_thread_meets_another(void) {
 }
 
 static void an_empty_slot(void) {
+    nadkhoy_end_slot end = NADKHOY_EMPTY;
+    nadkhoy_end_shown sizes;
+    nadkhoy_deed deed;
+    nadkhoy_pass pass;
     uint32_t number = 77;
     turned.reply = 99;
     WANT(begin(&waiter, NADKHOY_CALL_ENTER, 0), NADKHOY_CLOSED);
@@ -325,6 +367,13 @@ static void an_empty_slot(void) {
     WANT(number, 77);
     WANT(nadkhoy_live_share(&waiter, &other), NADKHOY_CLOSED);
     WANT(nadkhoy_live_leave(&waiter), NADKHOY_CLOSED);
+    WANT(nadkhoy_live_close(&waiter, &end), NADKHOY_CLOSED);
+    WANT(nadkhoy_end_sizes(&end, &sizes), NADKHOY_CLOSED);
+    WANT(nadkhoy_end_word(&end, 0, &number), NADKHOY_CLOSED);
+    WANT(nadkhoy_end_deed(&end, 0, &deed), NADKHOY_CLOSED);
+    WANT(nadkhoy_end_pass(&end, 0, &pass), NADKHOY_CLOSED);
+    WANT(nadkhoy_end_free(&end), NADKHOY_CLOSED);
+    WANT(number, 77);
 }
 
 static void sizes_out_of_range(void) {
@@ -370,6 +419,43 @@ static void slots_and_passes(void) {
     WANT(nadkhoy_live_thread(&other, &thread), NADKHOY_DONE);
     WANT(thread, 1);
     WANT(nadkhoy_live_leave(&other), NADKHOY_DONE);
+}
+
+/* A service is closed by its last seat alone, into a slot that is empty; passes that came back are
+ * all there, also those that had no seat. */
+static void a_close(void) {
+    nadkhoy_end_slot end = NADKHOY_EMPTY, full = NADKHOY_EMPTY;
+    nadkhoy_end_shown sizes;
+    nadkhoy_deed deed;
+    nadkhoy_pass pass;
+    uint32_t word;
+    WANT(nadkhoy_live_open(lows, 1, 1, 1, 0, &other), NADKHOY_DONE);
+    WANT(nadkhoy_live_close(&other, &full), NADKHOY_DONE);
+    WANT(nadkhoy_live_open(lows, 1, 1, 64, 9, &waiter), NADKHOY_DONE);
+    WANT(nadkhoy_live_share(&waiter, &other), NADKHOY_DONE);
+    WANT(nadkhoy_live_close(&waiter, &full), NADKHOY_IN_USE);
+    WANT(nadkhoy_live_close(&waiter, &end), NADKHOY_OTHER_SEATS);
+    tells(&other, 7);
+    says(&other, NADKHOY_CALL_ENTER, 0, NADKHOY_REPLY_ENTERED);
+    WANT(nadkhoy_live_leave(&waiter), NADKHOY_DONE);
+    WANT(nadkhoy_live_close(&other, &end), NADKHOY_DONE);
+    WANT(nadkhoy_live_leave(&other), NADKHOY_CLOSED);
+    WANT(nadkhoy_end_sizes(&end, &sizes), NADKHOY_DONE);
+    WANT(sizes.objects, 1);
+    WANT(sizes.deeds, 1);
+    WANT(sizes.passes, 64);
+    WANT(nadkhoy_end_deed(&end, 0, &deed), NADKHOY_DONE);
+    WANT(deed.kind, NADKHOY_DEED_TICKED);
+    WANT(deed.thread, 63);
+    WANT(deed.moment, 7);
+    WANT(nadkhoy_end_word(&end, 0, &word), NADKHOY_DONE);
+    WANT(word, 0x3F00A5); /* held once by the thread 63 */
+    for (uint32_t i = 0; i < 64; i++) {
+        WANT(nadkhoy_end_pass(&end, i, &pass), NADKHOY_DONE);
+        WANT(pass.deeds, pass.thread == 63);
+    }
+    WANT(nadkhoy_end_free(&end), NADKHOY_DONE);
+    WANT(nadkhoy_end_free(&full), NADKHOY_DONE);
 }
 
 static void calls_that_are_refused(void) {
@@ -486,6 +572,7 @@ int main(int count, char **arguments) {
     sizes_out_of_range();
     no_memory();
     slots_and_passes();
+    a_close();
     calls_that_are_refused();
     a_small_record();
     a_thread_meets_another();

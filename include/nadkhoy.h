@@ -6,8 +6,9 @@
  * has.
  *
  * The live service (nadkhoy_live_open and what follows it): several threads of the system share it.
- * Each has a seat at it, in a slot of its own, and drives its calls turn by turn. docs/LIVE.md says
- * what a turn does, and which faults it has. docs/C.md has the loop of an interpreter over each.
+ * Each has a seat at it, in a slot of its own, and drives its calls turn by turn. The last seat may
+ * close it, and its end is read then (nadkhoy_end_sizes and what follows). docs/LIVE.md says what a
+ * turn does, and which faults it has. docs/C.md has the loop of an interpreter over each.
  *
  * Each function answers a status. A call that is refused (a status other than NADKHOY_DONE) does
  * not write what it would have written. On a world, it leaves the world as it is; on a seat, what
@@ -18,8 +19,9 @@
  *
  * What the library cannot see, and the caller promises:
  *
- *   1. A slot, of a world or of a seat, is all zeros, or as the library left it. It is not copied,
- *      and its fields are not written. It may be moved, and its old place is then no slot any more.
+ *   1. A slot, of a world, a seat or an end, is all zeros, or as the library left it. It is not
+ *      copied, and its fields are not written. It may be moved, and its old place is then no slot
+ *      any more.
  *   2. One call at a time has a slot; a call that is given two has both. Where a slot changes
  *      threads, a lock, the start or the join of a thread, or a sequentially consistent atomic
  *      orders the calls. Calls on different slots need no order, those of one service neither. The
@@ -34,8 +36,8 @@
  *   6. No call is made from a signal handler, or left before it returns. A forked child uses no
  *      world and no service that another thread was inside of at the fork.
  *   7. There is enough stack.
- *   8. A world that is not freed, and a service that one of its seats has not left, keep their
- *      memory.
+ *   8. A world or an end that is not freed, and a service that is not closed and that one of its
+ *      seats has not left, keep their memory.
  */
 #ifndef NADKHOY_H
 #define NADKHOY_H
@@ -52,7 +54,7 @@ extern "C" {
 enum nadkhoy_status {
     NADKHOY_DONE = 0,
     NADKHOY_NO_INDEX = 1,        /* attach: every index is a live thread's */
-    NADKHOY_MEMORY = 2,          /* open, attach, relayout; live open, share: no memory for it */
+    NADKHOY_MEMORY = 2,          /* open, attach, relayout; live open, share, close: no memory */
     NADKHOY_KNOWN = 3,           /* attach: the thread is live */
     NADKHOY_NOT_LIVE = 4,        /* begin, go, expire, spurious: the thread is not live */
     NADKHOY_MISSING_OBJECT = 5,  /* begin: the call names an object that the world does not have */
@@ -63,20 +65,23 @@ enum nadkhoy_status {
     NADKHOY_BACKWARDS = 10,      /* tick, live tick: the moment would fall */
     NADKHOY_NO_MONITOR = 11,     /* relayout: too few monitors are left */
     NADKHOY_RECORD_FULL = 16,    /* live begin, turn, tick: too few places are free in the record */
-    NADKHOY_TORN = 18,           /* live begin, turn, tick: the pass is not where the book has it */
+    NADKHOY_TORN = 18,           /* live begin, turn, tick, close: not as the book has it */
     NADKHOY_LIVE_NO_OBJECT = 19, /* live begin: the service has no such object */
     NADKHOY_LIVE_NO_THREAD = 20, /* live begin: the service has no such thread */
     NADKHOY_NOT_WAITING = 28,    /* spurious: the thread does not wait */
     NADKHOY_NOT_AT_REST = 29,    /* relayout: a live thread is in a call, and does not wait */
     NADKHOY_INDEX_TOO_WIDE = 30, /* relayout: more indices than the split can write */
     NADKHOY_CLOSED = 101,        /* the slot is empty */
-    NADKHOY_IN_USE = 102,        /* open, live open, share: the slot is full already */
-    NADKHOY_NO_OBJECT = 103,     /* a reader: the world has no such object */
+    NADKHOY_IN_USE = 102,        /* open, live open, share, close: the slot is full already */
+    NADKHOY_NO_OBJECT = 103,     /* a reader: the world, or the service, has no such object */
     NADKHOY_NO_THREAD = 104,     /* a reader: no such thread is live, or nobody has the index */
     NADKHOY_NO_STEP = 105,       /* step, live begin: the number of the step or call is none */
     NADKHOY_NO_SPLIT = 106,      /* open, relayout: the number of the split is none */
     NADKHOY_RANGE = 107,         /* open, live open: a size is out of range */
-    NADKHOY_NO_PASS = 108        /* share: no pass is left to the seat */
+    NADKHOY_NO_PASS = 108,       /* share: no pass is left to the seat; end pass: no such pass */
+    NADKHOY_OTHER_SEATS = 109,   /* close: there are other seats at the service */
+    NADKHOY_WRONG_PASS = 110,    /* close: a pass is missing */
+    NADKHOY_NO_DEED = 111        /* end deed: the record has no such deed */
 };
 
 /* How a thin word divides its bits between index and count. */
@@ -208,6 +213,13 @@ enum nadkhoy_why {
     NADKHOY_WHY_SPURIOUS = 4
 };
 
+/* What a deed of the record was. */
+enum nadkhoy_deed_kind {
+    NADKHOY_DEED_BOUND = 1,  /* an object got a monitor */
+    NADKHOY_DEED_ACTED = 2,  /* an action on the monitors */
+    NADKHOY_DEED_TICKED = 3  /* the moment was told */
+};
+
 /* Where the call of a seat stands after a turn: what its thread does before the next turn. */
 enum nadkhoy_standing {
     NADKHOY_STANDING_SAID = 1,       /* the call is over, with its reply: no turn is left */
@@ -228,6 +240,13 @@ typedef struct nadkhoy_live_slot {
     void *seat;
     bool full;
 } nadkhoy_live_slot;
+
+/* The place of the end of a live service. All zeros is the empty slot; the fields are the library's
+ * own. */
+typedef struct nadkhoy_end_slot {
+    void *end;
+    bool full;
+} nadkhoy_end_slot;
 
 #define NADKHOY_EMPTY {0, false}
 
@@ -321,6 +340,36 @@ typedef struct nadkhoy_turned {
     uint32_t granted;  /* the thread that the turn made an owner, to be woken; 0 is none */
 } nadkhoy_turned;
 
+/* The sizes of the end of a live service. */
+typedef struct nadkhoy_end_shown {
+    uint64_t objects;
+    uint64_t deeds; /* of the record */
+    uint64_t passes;
+} nadkhoy_end_shown;
+
+/* A deed of the record. What one of its kind does not have is 0. */
+typedef struct nadkhoy_deed {
+    uint64_t moment; /* of a TICKED, in nanoseconds */
+    int64_t millis;  /* of a wait that was asked for */
+    int32_t nanos;
+    uint32_t kind;    /* enum nadkhoy_deed_kind */
+    uint32_t thread;  /* who did it */
+    uint32_t object;  /* of a BOUND */
+    uint32_t holds;   /* how often the thread held it then */
+    uint32_t monitor; /* that was bound, or that the action is on */
+    uint32_t action;  /* enum nadkhoy_action, of an ACTED */
+    uint32_t target;  /* the thread that the action asks about */
+    uint32_t answer;  /* enum nadkhoy_answer */
+    uint32_t reply;   /* enum nadkhoy_reply */
+    uint32_t cause;   /* enum nadkhoy_cause */
+} nadkhoy_deed;
+
+/* A pass of a service in the end. */
+typedef struct nadkhoy_pass {
+    uint64_t deeds; /* how many it did */
+    uint32_t thread;
+} nadkhoy_pass;
+
 /* Makes a world in an empty slot: an object for each low byte, 0 to 65535 of them, at most
  * `monitors` fat monitors, 0 to 8388608, and at most `indices` live threads at once, 1 to 32767 or
  * 2047 by the split. Answers the first of IN_USE, NO_SPLIT, RANGE and MEMORY that holds. */
@@ -407,12 +456,44 @@ uint32_t nadkhoy_live_tick(nadkhoy_live_slot *slot, uint64_t now, uint32_t *told
  * The seat stays as it is. May answer CLOSED. Any thread that has the slot may call it. */
 uint32_t nadkhoy_live_thread(nadkhoy_live_slot *slot, uint32_t *thread);
 
-/* Gives the seat up, with the passes that are left to it, and leaves the slot empty. The last
- * seat that leaves gives back the memory of the service. What the thread of the seat owns stays
- * owned, and a call that it is in stays where it stands: nobody ends either afterwards.
+/* Gives the seat up, and leaves the slot empty. Its pass goes back to the service, with those that
+ * are left to it. The last seat that leaves gives back the memory of the service, which is not
+ * closed then. What the thread of the seat owns stays owned, and a call that it is in stays where
+ * it stands: nobody ends either afterwards.
  *
  * Answers CLOSED where the slot is empty. Any thread that has the slot may call it. */
 uint32_t nadkhoy_live_leave(nadkhoy_live_slot *slot);
+
+/* Closes the service of the last seat: puts its words, its record and its counts into the slot
+ * `end`, which is empty, and leaves the slot of the seat empty. A pass may be in the middle of a
+ * call, of which the words and the record have the beginning then.
+ *
+ * Answers CLOSED or IN_USE (where `end` is full), where both slots are as they were; OTHER_SEATS,
+ * where they are so too; WRONG_PASS (where a pass is missing) or MEMORY, where they are so but that
+ * the passes which came back are left to the seat now, which may share them, make its calls, and
+ * close the service later; or TORN, where the deeds of a pass are not those that the record has
+ * under its number: both slots are empty then, and the service is gone.
+ *
+ * Any thread that has both slots may call it. */
+uint32_t nadkhoy_live_close(nadkhoy_live_slot *slot, nadkhoy_end_slot *end);
+
+/* The readers of an end leave it as it is. Each may answer CLOSED, where the slot is empty. Indices
+ * begin at 0. */
+uint32_t nadkhoy_end_sizes(nadkhoy_end_slot *slot, nadkhoy_end_shown *sizes);
+
+/* Writes the header word of an object. May answer NO_OBJECT. */
+uint32_t nadkhoy_end_word(nadkhoy_end_slot *slot, uint32_t object, uint32_t *word);
+
+/* Writes a deed of the record, which has them in the order in which they were done. May answer
+ * NO_DEED. */
+uint32_t nadkhoy_end_deed(nadkhoy_end_slot *slot, uint32_t index, nadkhoy_deed *deed);
+
+/* Writes the thread of a pass, and how many deeds it did. The passes have no order. May answer
+ * NO_PASS. */
+uint32_t nadkhoy_end_pass(nadkhoy_end_slot *slot, uint32_t index, nadkhoy_pass *pass);
+
+/* Gives the end back, and leaves the slot empty. Answers CLOSED where it is. */
+uint32_t nadkhoy_end_free(nadkhoy_end_slot *slot);
 
 #ifdef __cplusplus
 }

@@ -1,1 +1,3 @@
+mod Finishing
+mod Keeping
 mod Passes

@@ -17,9 +17,10 @@ use Rattle.live_seats.specs.declared.orders.Order.TheVariants.{BeginOn, BeginAbo
 use Rattle.live_seats.specs.declared.orders.Told.{Told}
 use Rattle.live_seats.specs.declared.orders.Told.TheVariants as told
 
--- the opening of its service, its pass, and the passes of those who have no seat yet
+-- the opening of its service, how many fat monitors that may have, its pass, and the passes of those who have no seat
 pub record SeatState : Type 0 where
   pub opening : Opening
+  pub limit : ℕ
   pub pass : PassState
   pub rest : List PassState
 
@@ -112,15 +113,15 @@ abbrev pub PassServes : SeatState → Order → Told → Option SeatState → Op
 PassServes s o x None u = ⊥
 PassServes s o x (Some q) (Some u) = ⊥
 PassServes s o x (Some q) None =
-    (q.opening ≡ s.opening) × (q.rest ≡ s.rest) × Serves s.opening o x s.pass q.pass
+    (q.opening ≡ s.opening) × (q.limit ≡ s.limit) × (q.rest ≡ s.rest) × Serves s.opening o x s.pass q.pass
 
 -- the new seat has the last of the passes that were left
 abbrev pub HasShared : SeatState → Option SeatState → Option SeatState → Type 0
 HasShared s None u = ⊥
 HasShared s (Some q) None = ⊥
 HasShared s (Some q) (Some u) =
-    (q.opening ≡ s.opening) × (q.pass ≡ s.pass) × (s.rest ≡ q.rest ++ u.pass ∷ [])
-    × (u.opening ≡ s.opening) × (u.rest ≡ [])
+    (q.opening ≡ s.opening) × (q.limit ≡ s.limit) × (q.pass ≡ s.pass) × (s.rest ≡ q.rest ++ u.pass ∷ [])
+    × (u.opening ≡ s.opening) × (u.limit ≡ s.limit) × (u.rest ≡ [])
 
 -- A new seat was made, or none: where no pass is left, or the system has no memory for it.
 abbrev pub Shares : SeatState → Told → Option SeatState → Option SeatState → Type 0
@@ -156,13 +157,13 @@ IsOfPass Share = ⊥
 IsOfPass Leave = ⊥
 
 -- a seat of a service that was just opened: its passes are all there, and have done nothing
-abbrev pub IsOpenedWith : List ℕ → ℕ → SeatState → Type 0
-IsOpenedWith lows passes s =
-    (s.opening.lows ≡ lows) × (s.opening.count ≡ passes)
+abbrev pub IsOpenedWith : List ℕ → ℕ → ℕ → SeatState → Type 0
+IsOpenedWith lows monitors passes s =
+    (s.opening.lows ≡ lows) × (s.limit ≡ monitors) × (s.opening.count ≡ passes)
     × (s.rest ++ s.pass ∷ [] ≡ map new_state (new_passes s.opening 1 passes))
 
 abbrev pub IsOpened : Draft → SeatState → Type 0
-IsOpened d s = IsOpenedWith d.lows.items d.passes s
+IsOpened d s = IsOpenedWith d.lows.items d.monitors d.passes s
 
 -- whether a service was opened, and its seat
 abbrev pub HasOpened : Draft → Bool → Option SeatState → Type 0

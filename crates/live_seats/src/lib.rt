@@ -2,12 +2,19 @@
 //! one thread number. A seat carries out one order at a time, by one turn of a call at most.
 #![tactic(auto)]
 
+mod closing;
+mod ending;
+mod house;
+mod member;
 mod opening;
 mod orders;
 mod seat;
 mod serving;
 mod turning;
+mod unclosed;
 
+pub use closing::Ended;
+pub use ending::{Closing, ServiceEnd};
 pub use opening::{Draft, Opened};
 pub use orders::{Order, Told};
 pub use seat::Seat;

@@ -1,10 +1,14 @@
 //! The opening of a service.
 
-ghost use Rattle.std.specs.Prelude.{◌≡◌, ◌≤◌, ◌++◌, ◌∷◌, IfOk, IfSome, IfNone, All, length, map, [], false};
+ghost use Rattle.std.specs.Prelude.{◌≡◌, ◌≤◌, ◌++◌, ◌∷◌, IfOk, IfSome, IfNone, All, Some, length, map, [], false};
+ghost use Rattle.std.specs.Arc.{arc_value};
 ghost use Rattle.header_words.specs.Passes.{new_passes};
 ghost use Rattle.live_turns.specs.Ways.{Belongs, new_state};
-ghost use Rattle.live_seats.specs.Seats.{HasOpened, IsOpened};
+ghost use Rattle.live_seats.specs.Seats.{SeatState, IsOpened};
+ghost use Rattle.live_seats.specs.Kept.{HasOpenedKept};
 
+use crate::house::{House, free_places};
+use crate::member::Member;
 use crate::seat::Seat;
 use c_slots::{MaybeParts, Parts};
 use live_turns::{Crew, TurnPass, Turns};
@@ -35,6 +39,23 @@ fn last_pass<L: Crew>(turns: &Turns<L>, passes: &mut Vec<TurnPass<L>>) -> Option
     passes.pop()
 }
 
+// A house for a service, behind its share.
+fn housed<L: Crew>(
+    alloc: Global,
+    turns: Turns<L>,
+    count: u16,
+) -> Result<Arc<Option<House<L>>, Global>, Memory>
+    requires few { count ≤ 64 }
+    requires crew { L.passes ≡ turns.count }
+    ensures { IfOk result (λ a. arc_value a ≡ Some turns) }
+{
+    let places = free_places(alloc, &turns, count)?;
+    let Ok(home) = Arc::new(alloc, Some(House { turns, places })) else {
+        return Err(Memory);
+    };
+    Ok(home)
+}
+
 // A seat with the last of these passes.
 #[tactic(auto, using(crate::proofs::Passes::new_states_belong))]
 fn seated<L: Crew>(
@@ -42,24 +63,54 @@ fn seated<L: Crew>(
     turns: Turns<L>,
     mut passes: Vec<TurnPass<L>>,
     count: u16,
-) -> Result<Box<Seat<L>>, Memory>
+) -> Result<Member<L>, Memory>
     requires passes { passes.items ≡ map new_state (new_passes turns 1 count) }
     requires some { 1 ≤ count }
-    ensures { IfOk result (λ s. (s.value.opening ≡ turns)
-        × (s.value.rest ++ s.value.pass ∷ [] ≡ map new_state (new_passes turns 1 count))) }
+    requires few { count ≤ 64 }
+    requires crew { L.passes ≡ turns.count }
+    ensures { IfOk result (λ s. (s.opening ≡ turns) × (s.limit ≡ L.monitors)
+        × (s.rest ++ s.pass ∷ [] ≡ map new_state (new_passes turns 1 count))) }
 {
     let Some(pass) = last_pass(&turns, &mut passes) else {
         unreachable!()
     };
-    let Ok(turns) = Arc::new(alloc, turns) else {
-        return Err(Memory);
-    };
-    let seat = Seat {
-        turns,
+    let home = housed(alloc, turns, count)?;
+    Ok(Member {
+        home,
         pass,
         rest: passes,
-    };
-    Ok(Box::new(alloc, seat)?)
+    })
+}
+
+// Opens a service, for a member that has all its passes.
+fn first_member<L: Crew>(alloc: Global, blank: Blank, draft: &Draft) -> Result<Member<L>, Memory>
+    requires name { blank.name ≡ L.name }
+    requires parts { (blank.parts ≡ L.parts) × (L.parts ≡ draft.now.passes) }
+    requires crew { (L.passes ≡ draft.now.passes) × (L.monitors ≡ draft.now.monitors)
+        × (L.places ≡ draft.now.places) }
+    requires objects { length draft.now.lows.items ≤ 65535 }
+    requires some { 1 ≤ draft.now.passes }
+    requires few { draft.now.passes ≤ 64 }
+    requires monitors { draft.now.monitors ≤ 8388608 }
+    ensures { IfOk result (λ s. IsOpened draft.now s) }
+{
+    let (turns, passes) = Turns::<L>::open(
+        alloc,
+        blank,
+        draft.lows.as_slice(),
+        draft.monitors,
+        draft.passes,
+        draft.places,
+    )?;
+    seated(alloc, turns, passes, draft.passes)
+}
+
+// Keeps a seat with this member.
+fn boxed<L: Crew>(alloc: Global, member: Member<L>) -> Result<Box<Seat<L>>, Memory>
+    ensures { IfOk result (λ s. s.value ≡ record { member = Some member }) }
+{
+    let member = Some(member);
+    Ok(Box::new(alloc, Seat { member })?)
 }
 
 // Opens a service, with a seat that has all its passes.
@@ -72,17 +123,11 @@ fn first_seat<L: Crew>(alloc: Global, blank: Blank, draft: &Draft) -> Result<Box
     requires some { 1 ≤ draft.now.passes }
     requires few { draft.now.passes ≤ 64 }
     requires monitors { draft.now.monitors ≤ 8388608 }
-    ensures { IfOk result (λ s. IsOpened draft.now s.value) }
+    ensures { IfOk result (λ s. (v : SeatState) × (s.value ≡ record { member = Some v })
+        × IsOpened draft.now v) }
 {
-    let (turns, passes) = Turns::<L>::open(
-        alloc,
-        blank,
-        draft.lows.as_slice(),
-        draft.monitors,
-        draft.passes,
-        draft.places,
-    )?;
-    seated(alloc, turns, passes, draft.passes)
+    let member = first_member(alloc, blank, draft)?;
+    boxed(alloc, member)
 }
 
 /// The seat of a service that was opened, taken apart, if there was memory for it.
@@ -104,7 +149,7 @@ impl<L: Crew> Seat<L> {
         requires some { 1 ≤ draft.passes }
         requires few { draft.passes ≤ 64 }
         requires monitors { draft.monitors ≤ 8388608 }
-        ensures { HasOpened draft result.found result.seat.value }
+        ensures { HasOpenedKept draft result.found result.seat.value }
     {
         match first_seat(alloc, blank, &draft) {
             Ok(seat) => Opened {

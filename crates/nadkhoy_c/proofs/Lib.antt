@@ -1,3 +1,4 @@
 mod AsBox
+mod AsEnd
 mod Options
 mod Steps

@@ -1,6 +1,8 @@
 pub mod Changing
+pub mod Ends
 pub mod Live
 pub mod Raw
+pub mod RawEnd
 pub mod RawSeat
 pub mod Reading
 pub mod Showing

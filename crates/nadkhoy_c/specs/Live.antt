@@ -123,21 +123,21 @@ is_out_of_range objects monitors passes places =
     || (nat_lt passes 1 || (nat_lt 64 passes || nat_lt 1048576 places)))
 
 -- the slot has a seat of a new service with these low bytes, or there was no memory for it
-abbrev pub IsNewService : List ℕ → ℕ → ℕ → Option SeatState → Type 0
-IsNewService lows passes n s' =
-    ((n ≡ 0) × ((v : SeatState) × (s' ≡ Some v) × IsOpenedWith lows passes v))
+abbrev pub IsNewService : List ℕ → ℕ → ℕ → ℕ → Option SeatState → Type 0
+IsNewService lows monitors passes n s' =
+    ((n ≡ 0) × ((v : SeatState) × (s' ≡ Some v) × IsOpenedWith lows monitors passes v))
     ⊎ ((n ≡ status_number status.Memory) × (s' ≡ None))
 
 -- where the sizes are out of range, or are not
-abbrev pub OpensWithin : Bool → List ℕ → ℕ → ℕ → Option SeatState → Type 0
-OpensWithin true lows passes n s' = (n ≡ status_number status.Range) × (s' ≡ None)
-OpensWithin false lows passes n s' = IsNewService lows passes n s'
+abbrev pub OpensWithin : Bool → List ℕ → ℕ → ℕ → ℕ → Option SeatState → Type 0
+OpensWithin true lows monitors passes n s' = (n ≡ status_number status.Range) × (s' ≡ None)
+OpensWithin false lows monitors passes n s' = IsNewService lows monitors passes n s'
 
 -- what an opening answers, and the seat in the slot then
 abbrev pub Opens : Option SeatState → List ℕ → ℕ → ℕ → ℕ → ℕ → Option SeatState → Type 0
 Opens (Some v) lows monitors passes places n s' = (n ≡ status_number status.InUse) × (s' ≡ Some v)
 Opens None lows monitors passes places n s' =
-    OpensWithin (is_out_of_range (length lows) monitors passes places) lows passes n s'
+    OpensWithin (is_out_of_range (length lows) monitors passes places) lows monitors passes n s'
 
 -- One more seat of the service of a slot, for an empty one: what is answered, and the seats in the two then.
 abbrev pub SharesSeat : Option SeatState → Option SeatState → ℕ → Option SeatState → Option SeatState → Type 0

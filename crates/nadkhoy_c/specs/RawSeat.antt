@@ -11,16 +11,16 @@ use Rattle.std.specs.contracts.impls.GlobalAllocator.TheImpl.{ghosts}
 use Rattle.std.specs.contracts.marker.Brand as Brand
 use Rattle.std.specs.declared.sync.ledger.Ledger as Ledger
 use Rattle.live_turns.specs.declared.desks.Crew as Crew
+use Rattle.live_seats.specs.Kept.{kept}
 use Rattle.live_seats.specs.Seats.{SeatState, SeatServes}
 use Rattle.live_seats.specs.contracts.seat.Seat as Seat
 use Rattle.live_seats.specs.declared.orders.Order.{Order}
 use Rattle.live_seats.specs.declared.orders.Told.{Told}
 use Rattle.c_slots.specs.Maybe.{maybe_owns}
 
--- the numbers of the crew of a service: those of its ledger, and what it was opened with
+-- the numbers of the crew of a service: the name of its ledger, and what it was opened with
 pub record Numbers : Type 0 where
   pub name : ℕ
-  pub parts : ℕ
   pub monitors : ℕ
   pub passes : ℕ
   pub places : ℕ
@@ -30,7 +30,7 @@ abbrev pub marker : RattleType
 marker = arg (ty_struct [] tnil) no Brand.the_row
 
 abbrev pub ledger_of : Numbers → Ledger.Ghosts marker.Denot
-ledger_of n = record { name = n.name; parts = n.parts }
+ledger_of n = record { name = n.name; parts = n.passes }
 
 abbrev pub crew_of : Numbers → Crew.Ghosts marker.Denot
 crew_of n = record { monitors = n.monitors; passes = n.passes; places = n.places }
@@ -40,7 +40,7 @@ abbrev pub seat_row : Numbers → RattleType
 seat_row n = Seat.the_row (param 0 marker) (crew_of n) (ledger_of n)
 
 abbrev pub seat_owns : Numbers → Global → Ptr → Option SeatState → Fml
-seat_owns n a p x = maybe_owns (ghosts.dealloc_token a) (seat_row n) p x
+seat_owns n a p x = maybe_owns (ghosts.dealloc_token a) (seat_row n) p (kept x)
 
 -- a seat carried out this order
 abbrev pub HasServed : Option SeatState → Order → Told → Option SeatState → Option SeatState → Type 0

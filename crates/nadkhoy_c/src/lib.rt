@@ -6,6 +6,7 @@ ghost use Rattle.nadkhoy_c.specs.Changing.{AfterCall, Opened, after_open, after_
 ghost use Rattle.nadkhoy_c.specs.Showing.{Reading, read, sizes_shown, object_shown, thread_shown, waiting_shown, holder_shown};
 
 mod changing;
+mod ends;
 mod laws;
 mod live;
 mod plain;
@@ -18,11 +19,12 @@ mod status;
 mod tests;
 mod writing;
 
+pub use ends::{EndSlot, RawEnd};
 pub use laws::every_call_is_read_back;
-pub use live::{Answered, LiveSlot, RawSeat, Started};
+pub use live::{Answered, Finished, LiveSlot, RawSeat, Started};
 pub use plain::{
-    PlainAtomic, PlainCall, PlainDid, PlainDoing, PlainMove, PlainObject, PlainSizes, PlainStep,
-    PlainThread, PlainTurned,
+    PlainAtomic, PlainCall, PlainDeed, PlainDid, PlainDoing, PlainEnd, PlainMove, PlainObject,
+    PlainPass, PlainSizes, PlainStep, PlainThread, PlainTurned,
 };
 pub use raw::RawWorld;
 pub use slot::WorldSlot;

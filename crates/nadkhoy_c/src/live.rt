@@ -2,8 +2,11 @@
 //! threads of the system may use at once.
 
 ghost use Rattle.std.specs.Prelude.{◌≡◌, ◌≤◌, Option, Some, None, length};
+ghost use Rattle.live_seats.specs.Ends.{Closes};
+ghost use Rattle.live_seats.specs.declared.ending.ServiceEnd.{ServiceEnd};
 ghost use Rattle.live_seats.specs.Seats.{SeatState, Shares};
 ghost use Rattle.live_seats.specs.declared.orders.Order.TheVariants as order;
+ghost use Rattle.nadkhoy_c.specs.Ends.{ClosesSeat, HasClosed};
 ghost use Rattle.nadkhoy_c.specs.Live.{Answers, IsNewService, Opens, SharesSeat, leave_status, order_of, turned_out, number_out};
 ghost use Rattle.nadkhoy_c.specs.RawSeat.{HasServed};
 
@@ -11,10 +14,11 @@ mod raw;
 mod slot;
 mod telling;
 
+use crate::ends::{EndSlot, RawEnd, closing_status};
 use crate::plain::{PlainCall, PlainTurned};
 use crate::status::Status;
-use live_seats::{Draft, Order, Told};
-pub use raw::{Answered, RawSeat, Started};
+use live_seats::{Closing, Draft, Order, Told};
+pub use raw::{Answered, Finished, RawSeat, Started};
 pub use slot::LiveSlot;
 use std::alloc::Global;
 use std::sync::ledger::Blank;
@@ -34,7 +38,7 @@ fn open(
     requires some { 1 ≤ passes }
     requires few { passes ≤ 64 }
     requires monitors { monitors ≤ 8388608 }
-    ensures { IsNewService lows.now passes result slot.new.raw.value }
+    ensures { IsNewService lows.now monitors passes result slot.new.raw.value }
 {
     let Ok(lows) = lows.to_vec(alloc) else {
         return Status::Memory.number();
@@ -219,8 +223,8 @@ pub extern "C" fn nadkhoy_live_thread(alloc: Global, slot: &mut LiveSlot, thread
     told_status(answered.told)
 }
 
-/// Gives the seat up, and leaves the slot empty. The last one who leaves gives back what the service
-/// took. The passes that are left to a seat are given up with it.
+/// Gives the seat up, and leaves the slot empty. Its pass goes back to the service, with those that are
+/// left to it. The last one who leaves gives back what the service took.
 ///
 /// Answers Closed or Done.
 #[unsafe(no_mangle)]
@@ -232,4 +236,58 @@ pub extern "C" fn nadkhoy_live_leave(alloc: Global, slot: &mut LiveSlot) -> u32
         Some(seat) => told_status(seat.serve(alloc, Order::Leave).told),
         None => Status::Closed.number(),
     }
+}
+
+// Puts a seat back into an empty slot, if it is there.
+fn put_back(alloc: Global, slot: &mut LiveSlot, told: Closing, seat: RawSeat)
+    requires empty { slot.old.raw.value ≡ None }
+    requires closes { (v : SeatState) × (e : Option ServiceEnd) × Closes v told seat.value e }
+    ensures { slot.new.raw.value ≡ seat.value }
+{
+    match told {
+        Closing::Others | Closing::WrongPass | Closing::Memory => {
+            *slot = LiveSlot::of(alloc, seat);
+        }
+        Closing::Done | Closing::Torn => {}
+    }
+}
+
+// Puts the end of a service into an empty slot, if it was closed.
+fn place_end(slot: &mut EndSlot, told: Closing, end: RawEnd)
+    requires empty { slot.old.raw.value ≡ None }
+    requires closes { (v : SeatState) × (q : Option SeatState) × Closes v told q end.value }
+    ensures { slot.new.raw.value ≡ end.value }
+{
+    match told {
+        Closing::Done => *slot = EndSlot::of(end),
+        Closing::Others | Closing::WrongPass | Closing::Memory | Closing::Torn => {}
+    }
+}
+
+/// Closes the service of a seat, where there is no other seat, and puts its words, its record and its
+/// counts into `end`, which is empty; the slot of the seat is empty then.
+///
+/// Answers Closed, InUse where `end` is full, OtherSeats where there are other seats, or WrongPass
+/// where passes are missing, Memory, 18 where a pass is torn, or Done. Where it answers 18 the seat is
+/// gone. After the other refusals it is as it was, and may have more passes left to it.
+#[unsafe(no_mangle)]
+pub extern "C" fn nadkhoy_live_close(alloc: Global, slot: &mut LiveSlot, end: &mut EndSlot) -> u32
+    ensures { ClosesSeat slot.old.raw.value end.old.raw.value result
+        slot.new.raw.value end.new.raw.value }
+{
+    let Some(seat) = slot.take(alloc) else {
+        return Status::Closed.number();
+    };
+    if end.is_full() {
+        *slot = LiveSlot::of(alloc, seat);
+        return Status::InUse.number();
+    }
+    let Finished {
+        seat,
+        end: made,
+        told,
+    } = seat.close(alloc);
+    put_back(alloc, slot, told, seat);
+    place_end(end, told, made);
+    closing_status(told)
 }

@@ -150,3 +150,53 @@ pub struct PlainTurned {
     /// The number of the thread that the turn made an owner; 0 for none.
     pub granted: u32,
 }
+
+/// The sizes of the end of a live service.
+#[repr(C)]
+#[derive(Clone, Copy, PartialEq, Eq, Debug)]
+pub struct PlainEnd {
+    pub objects: u64,
+    /// How many deeds the record has.
+    pub deeds: u64,
+    pub passes: u64,
+}
+
+/// A deed of the record of a live service. What a deed of its kind does not have is 0.
+#[repr(C)]
+#[derive(Clone, Copy, PartialEq, Eq, Debug)]
+pub struct PlainDeed {
+    /// The moment that was told, in nanoseconds.
+    pub moment: u64,
+    /// Milliseconds, and nanoseconds, of a wait.
+    pub millis: i64,
+    pub nanos: i32,
+    /// 1 to 3, in the order of [`Deed`](live_turns::Deed).
+    pub kind: u32,
+    /// Who did it.
+    pub thread: u32,
+    /// The object that got a monitor, and how often the thread held it.
+    pub object: u32,
+    pub holds: u32,
+    /// The monitor that was bound, or that the action is on.
+    pub monitor: u32,
+    /// 1 to 13, in the order of [`Action`](step_core::Action).
+    pub action: u32,
+    /// The thread that the action asks about.
+    pub target: u32,
+    /// 1 a reply, 2 parked, 3 neither.
+    pub answer: u32,
+    /// 1 to 12, in the order of [`Reply`](step_core::Reply).
+    pub reply: u32,
+    /// Why the action was refused.
+    pub cause: u32,
+}
+
+/// A pass of a live service in the end.
+#[repr(C)]
+#[derive(Clone, Copy, PartialEq, Eq, Debug)]
+pub struct PlainPass {
+    /// How many deeds it did.
+    pub deeds: u64,
+    /// The number of its thread.
+    pub thread: u32,
+}

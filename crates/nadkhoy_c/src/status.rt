@@ -25,8 +25,14 @@ pub enum Status {
     NoSplit = 106,
     /// There are too many objects, monitors or places, or too few or too many indices or passes.
     Range = 107,
-    /// No pass of the service is left for another seat.
+    /// No pass of the service is left for another seat, or there is no such pass.
     NoPass = 108,
+    /// Other seats are at the service.
+    OtherSeats = 109,
+    /// Passes of the service are missing.
+    WrongPass = 110,
+    /// The record has no such deed.
+    NoDeed = 111,
 }
 
 impl Status {
@@ -45,6 +51,9 @@ impl Status {
             Status::NoSplit => 106,
             Status::Range => 107,
             Status::NoPass => 108,
+            Status::OtherSeats => 109,
+            Status::WrongPass => 110,
+            Status::NoDeed => 111,
         }
     }
 }

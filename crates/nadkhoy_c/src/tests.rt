@@ -1,5 +1,6 @@
 //! Each call from the Rattle side: what is refused, and a step that is taken.
 
+mod ends;
 mod live;
 
 use crate::writing::{NO_CALL, NO_CHANGE, NO_MOVE};

@@ -171,7 +171,7 @@ fn plain_move_or_none(it: Option<Move>) -> PlainMove
     }
 }
 
-fn action_number(action: Action) -> u32
+pub(crate) fn action_number(action: Action) -> u32
     ensures { result ≡ action_number action }
 {
     match action {
@@ -191,7 +191,7 @@ fn action_number(action: Action) -> u32
     }
 }
 
-fn answer_number(answer: Answer) -> u32
+pub(crate) fn answer_number(answer: Answer) -> u32
     ensures { result ≡ answer_number answer }
 {
     match answer {

@@ -2,10 +2,12 @@
 
 ghost use Rattle.std.specs.Prelude.{◌≡◌, ◌≤◌, Option, Some, None, IsSome, length};
 ghost use Rattle.live_seats.specs.Seats.{SeatState, HasOpened};
+ghost use Rattle.nadkhoy_c.specs.Ends.{HasClosed};
 ghost use Rattle.nadkhoy_c.specs.RawSeat.{Numbers, seat_owns, HasServed};
 
+use crate::ends::RawEnd;
 use c_slots::{MaybeParts, Parts};
-use live_seats::{Draft, Opened, Order, Seat, Served, Told};
+use live_seats::{Closing, Draft, Ended, Opened, Order, Seat, Served, Told};
 use std::alloc::Global;
 use std::marker::{Brand, Model};
 use std::ptr;
@@ -40,6 +42,15 @@ pub struct Answered {
     pub seat: RawSeat,
     pub other: RawSeat,
     pub told: Told,
+}
+
+/// What came of a close: the seat afterwards if it is not gone, the end of the service if it was
+/// closed, and what is told.
+#[derive(Drop)]
+pub struct Finished {
+    pub seat: RawSeat,
+    pub end: RawEnd,
+    pub told: Closing,
 }
 
 impl RawSeat {
@@ -90,6 +101,35 @@ impl RawSeat {
             },
             other: RawSeat {
                 at: next as *mut (),
+                alloc: with,
+            },
+            told,
+        }
+    }
+
+    /// Closes the service of a seat.
+    pub fn close(self, alloc: Global) -> Finished
+        requires { IsSome self.value }
+        ensures { HasClosed self.value result.told result.seat.value result.end.value }
+    {
+        let RawSeat { at, alloc: heap } = self;
+        let ptr = at as *mut Seat<Brand>;
+        let Ended { seat, end, told } = Seat::<Brand>::close(alloc, Parts { ptr, alloc: heap });
+        let MaybeParts {
+            ptr: at,
+            alloc: heap,
+        } = seat;
+        let MaybeParts {
+            ptr: made,
+            alloc: with,
+        } = end;
+        Finished {
+            seat: RawSeat {
+                at: at as *mut (),
+                alloc: heap,
+            },
+            end: RawEnd {
+                at: made as *mut (),
                 alloc: with,
             },
             told,

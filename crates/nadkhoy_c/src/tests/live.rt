@@ -8,7 +8,7 @@ use crate::writing::NO_CALL;
 use crate::{LiveSlot, PlainCall, PlainTurned};
 use std::alloc::Global;
 
-const NOTHING: PlainTurned = PlainTurned {
+pub(crate) const NOTHING: PlainTurned = PlainTurned {
     standing: 77,
     reply: 77,
     cause: 77,
@@ -22,7 +22,7 @@ const ENTERED: PlainTurned = PlainTurned {
     granted: 0,
 };
 
-fn begin(alloc: Global, slot: &mut LiveSlot, kind: u32, turned: &mut PlainTurned) -> u32 {
+pub(crate) fn begin(alloc: Global, slot: &mut LiveSlot, kind: u32, turned: &mut PlainTurned) -> u32 {
     let call = PlainCall { kind, ..NO_CALL };
     nadkhoy_live_begin(alloc, slot, &call, turned)
 }

@@ -59,7 +59,7 @@ module _ {M : Type 1} {𝓤 : Ura M} (𝓛 : Logic 𝓤) (at_mem : Memory → SP
       let Post = (walk_of 𝓛 F.ended stayed (F.clauses 𝓛 at_mem run)).post z in
       let p : Ptr = null_ptr in let a = z.0.3.0 in
       let To = type_at (F.signature).result tt in
-      let made : To.Denot = record { at = p; alloc = a; numbers = record { name = 0; parts = 0; monitors = 0; passes = 0; places = 0 }; value = None } in
+      let made : To.Denot = record { at = p; alloc = a; numbers = record { name = 0; monitors = 0; passes = 0; places = 0 }; value = None } in
       qed 𝓛 ((‵ ftrue ⊛ ‵ (fsep ((P E).own_val a z.0.4.0) ftrue)) ∷ raw (emp 𝓤) ∷ []) ∵ split ! $ drop ! $ fsplit ! $
       handle_tells E.al ! a z.0.4.0 (λ h ea fa. move ! (1 ∷ 2 ∷ []) $ drop ! $ drop ! $
       let w = both p h in

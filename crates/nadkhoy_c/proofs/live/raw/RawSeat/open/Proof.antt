@@ -8,8 +8,9 @@ use Rattle.live_seats.specs.contracts.opening.Draft as Draft
 use Rattle.live_seats.proofs.opening.Draft.TheLaws as draft
 use Rattle.core.specs.contracts.ledger.Blank as Blank
 use Rattle.core.proofs.ledger.Blank.TheLaws as blank
-use Rattle.live_seats.specs.Seats.{HasOpened}
-use Rattle.nadkhoy_c.specs.RawSeat.{Numbers, marker, crew_of, ledger_of}
+use Rattle.std.specs.declared.option.Option.{Option}
+use Rattle.live_seats.specs.Kept.{HasOpenedKept}
+use Rattle.nadkhoy_c.specs.RawSeat.{Numbers, marker, crew_of, ledger_of, seat_row}
 use Rattle.core.proofs.marker.Brand.TheLaws as Brand
 use Rattle.core.specs.contracts.marker.Brand as brand
 use Rattle.live_turns.specs.contracts.desks.BrandCrew.TheImpl as crew
@@ -39,7 +40,7 @@ open_spec 𝓤 𝓛 𝓜 𝓡 wired =
     f.Key.name code.function (code.unfolded 𝓤 𝓛.H 𝓜 𝓡 wired)
     (λ κs. ((λ x. heap.lowered x ∷ []), ((λ x. blank.lowered x ∷ []), ((λ x. draft.lowered x ∷ []), tt)))) (λ κs. (heap.lowers.val_is, (blank.lowers.val_is, (draft.lowers.val_is, tt)))) (λ κs qs bounds a _ are.
     let h = a.0 in let b = a.1.0 in let d = a.1.1.0 in
-    let n : Numbers = record { name = b.name; parts = b.parts; monitors = d.monitors; passes = d.passes; places = d.places } in
+    let n : Numbers = record { name = b.name; monitors = d.monitors; passes = d.passes; places = d.places } in
     let z : (walk_of 𝓛 f.ended stayed c).Ghost = ((κs, qs, bounds, a, (heap.lowered h ∷ [], (blank.lowered b ∷ [], (draft.lowered d ∷ [], tt)))), tt) in
     let G = triple_of 𝓛 (g.signature marker (crew_of n) crew.dict (ledger_of n) ledger.dict) (g.spec marker (crew_of n) crew.dict (ledger_of n) ledger.dict 𝓛 𝓜.mem 𝓡.returns) in
     let GE = g.ended marker (crew_of n) crew.dict (ledger_of n) ledger.dict in
@@ -60,17 +61,18 @@ open_spec 𝓤 𝓛 𝓜 𝓡 wired =
     use0 𝓛 (raw (fact 𝓤 (1 ≤ d.passes))) (fact_i 𝓤 _ (emp 𝓤) one) $ join ! $
     use0 𝓛 (raw (fact 𝓤 (length d.lows.items ≤ 65535))) (fact_i 𝓤 _ (emp 𝓤) objects) $ join ! $
     use0 𝓛 (raw (fact 𝓤 ((n.passes ≡ d.passes) × (n.monitors ≡ d.monitors) × (n.places ≡ d.places)))) (fact_i 𝓤 _ (emp 𝓤) (refl, refl, refl)) $ join ! $
-    use0 𝓛 (raw (fact 𝓤 ((b.parts ≡ n.parts) × (n.parts ≡ d.passes)))) (fact_i 𝓤 _ (emp 𝓤) (refl, parts)) $ join ! $
+    use0 𝓛 (raw (fact 𝓤 ((b.parts ≡ n.passes) × (n.passes ≡ d.passes)))) (fact_i 𝓤 _ (emp 𝓤) (parts, refl)) $ join ! $
     use0 𝓛 (raw (fact 𝓤 (b.name ≡ n.name))) (fact_i 𝓤 _ (emp 𝓤) refl) $ join ! $
     use0 𝓛 (raw (fact 𝓤 (contract.BorrowLft.◌⊑◌ (α ∷ []) marker.lives))) (fact_i 𝓤 _ (emp 𝓤) (⊑_static _)) $ join ! $ move ! (1 ∷ 0 ∷ []) $ join ! $
     use1 𝓛 (raw (G.pre y)) (id⊢ 𝓤 _) $
     calls_at ! (framed 𝓤 𝓛.H 𝓜 (tables 𝓤 𝓛.H 𝓜 𝓡 𝓡.env)) G meets y (and_then ! (get ! refl) (and_then ! (get ! refl) (and_then ! (get ! refl) (no_more !)))) (λ v.
     use1 𝓛 (later (some (λ (r : (type_at (GE.signature).result (α ∷ [], tt)).Denot). ((‵ (flft (α ∷ []) full_share) ⊛ ‵ ftrue) ⊛ ‵ ((type_at (GE.signature).result (α ∷ [], tt)).own_val r (v ∷ []))) ⊛
-    some (λ (ws : Lasts GE y.0.0 y.0.3). ‵ (lasts GE y.0.0 y.0.3 ws) ⊛ raw (fact 𝓤 (HasOpened d r.found r.seat.value)))))) (id⊢ 𝓤 _) $
+    some (λ (ws : Lasts GE y.0.0 y.0.3). ‵ (lasts GE y.0.0 y.0.3 ws) ⊛ raw (fact 𝓤 (HasOpenedKept d r.found r.seat.value)))))) (id⊢ 𝓤 _) $
     await ! tt $ pick ! (λ r. split ! $ split ! $ split ! $ lft_end ! tt $
     move ! (3 ∷ []) $ pick ! (λ ws. split ! $ drop ! $ heard ! _ (λ opens. drop ! $ drop ! $
-    let seat : Sealed.the_row.Denot = record { at = r.seat.ptr; alloc = r.seat.alloc; numbers = n; value = r.seat.value } in
+    let seat : Sealed.the_row.Denot = record { at = r.seat.ptr; alloc = r.seat.alloc; numbers = n; value = opens.0 } in
     let made : Result.the_row.Denot = record { seat = seat; found = r.found } in
+    rewrite ! 0 (λ (o : Option (seat_row n).Denot). ‵ ((type_at (GE.signature).result (α ∷ [], tt)).own_val (record { seat = record { ptr = r.seat.ptr; alloc = r.seat.alloc; value = o }; found = r.found }) (v ∷ []))) opens.1 refl $
     use1 𝓛 (‵ (Result.the_row.own_val made (v ∷ []))) (id⊢ 𝓤 _) $
     peeks ! Result.the_row _ (shows 𝓛 Result.the_row) made (v ∷ []) (λ is.
     let word = result.lowers.val_is made (v ∷ []) is in
@@ -88,5 +90,5 @@ open_spec 𝓤 𝓛 𝓜 𝓡 wired =
     sets ! (agg ! (and_then ! (get ! refl) (and_then ! (get ! refl) (no_more !)))) refl seat_typed $
     sets ! (agg ! (and_then ! (get ! refl) (and_then ! (get ! refl) (no_more !)))) refl all $
     returns ! (look_at ! 0 refl) $ free_all ! refl $
-    suffices ! _ (ends_at 𝓛 f.ended stayed c z (result.lowered made) made (tt, (tt, ((tt, tt), tt))) (tt, (tt, (tt, tt)))) $ says ! opens $
+    suffices ! _ (ends_at 𝓛 f.ended stayed c z (result.lowered made) made (tt, (tt, ((tt, tt), tt))) (tt, (tt, (tt, tt)))) $ says ! opens.2 $
     nothing ! $ nothing ! $ fjoin ! $ nothing ! $ fjoin ! $ nothing ! $ fjoin ! $ join ! $ nothing ! $ join ! $ done !)))))))))))))

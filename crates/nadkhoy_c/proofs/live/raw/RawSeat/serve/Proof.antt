@@ -1,5 +1,5 @@
 -- `serve` calls the function of the crew whose numbers the seat has.
-use Rattle.nadkhoy_c.proofs.Steps.{◌≡◌, List, [], ◌∷◌, refl, sym, ap, proved, full_share, id⊢, ftrue, flft, Val, tables, fact, ‵, raw, ◌⊛◌, some, later, ◌$◌, ◌∵◌, !, qed, done, drop, move, use0, use1, split, join, fjoin, pick, await, rewrite, suffices, enter, of_opd, no_more, and_then, returns, alloc_all, pass_all, free_all, look_at, get, get_in, fld, stop, sub, whole, agg, sets, lands_as, yes, no, plain, nothing, heard, only, calls_at, lasts, Lasts, triple_of, Stays, says, stay_dropped, Goes-dropped, ends_at, framed, peeks, shows, lft_new, lft_end, walk_of, pair_Typed, ⊑_static, rawptr_Lawful, fact_i, emp, type_at, T, has_ty, WT, subst, Typed}
+use Rattle.nadkhoy_c.proofs.Steps.{◌≡◌, ◌∙◌, List, [], ◌∷◌, refl, sym, ap, proved, full_share, id⊢, ftrue, flft, Val, tables, fact, ‵, raw, ◌⊛◌, some, later, ◌$◌, ◌∵◌, !, qed, done, drop, move, use0, use1, split, join, fjoin, pick, await, rewrite, suffices, enter, of_opd, no_more, and_then, returns, alloc_all, pass_all, free_all, look_at, get, get_in, fld, stop, sub, whole, agg, sets, lands_as, yes, no, plain, nothing, heard, only, calls_at, lasts, Lasts, triple_of, Stays, says, stay_dropped, Goes-dropped, ends_at, framed, peeks, shows, lft_new, lft_end, walk_of, pair_Typed, ⊑_static, rawptr_Lawful, fact_i, emp, type_at, T, has_ty, WT, subst, Typed}
 use Rattle.std.specs.Prelude.{IsSome}
 use Rattle.std.specs.declared.option.Option.{Option}
 use Rattle.std.specs.declared.option.Option.TheVariants.{None, Some}
@@ -12,8 +12,9 @@ use Rattle.live_seats.specs.contracts.orders.Order as Asked
 use Rattle.live_seats.proofs.orders.Order.TheLaws as asked
 use Rattle.live_seats.specs.contracts.orders.Told as Said
 use Rattle.live_seats.proofs.orders.Told.TheLaws as said
-use Rattle.live_seats.specs.Seats.{SeatState, SeatServes}
-use Rattle.nadkhoy_c.specs.RawSeat.{Numbers, marker, crew_of, ledger_of}
+use Rattle.live_seats.specs.Seats.{SeatState}
+use Rattle.live_seats.specs.Kept.{ServesKept, kept}
+use Rattle.nadkhoy_c.specs.RawSeat.{Numbers, marker, crew_of, ledger_of, seat_row}
 use Rattle.core.proofs.marker.Brand.TheLaws as Brand
 use Rattle.core.specs.contracts.marker.Brand as brand
 use Rattle.live_turns.specs.contracts.desks.BrandCrew.TheImpl as crew
@@ -67,18 +68,21 @@ serve_spec 𝓤 𝓛 𝓜 𝓡 wired =
     sets ! (of_opd ! (get ! refl)) refl pointer $
     sets ! (agg ! (and_then ! (get ! refl) (and_then ! (get ! refl) (no_more !)))) refl whole_typed $
     lft_new ! tt (λ α.
-    let y : G.Ghost = (((α ∷ [], tt), (full_share, tt), tt, (h, (record { ptr = d.at; alloc = d.alloc; value = found.0 }, (order, tt))), (heap.lowered h ∷ [], (sealed.lowered d ∷ [], (asked.lowered order ∷ [], tt)))), tt) in
+    let y : G.Ghost = (((α ∷ [], tt), (full_share, tt), tt, (h, (record { ptr = d.at; alloc = d.alloc; value = record { member = Some found.0 } }, (order, tt))), (heap.lowered h ∷ [], (sealed.lowered d ∷ [], (asked.lowered order ∷ [], tt)))), tt) in
     nothing ! $ move ! (1 ∷ 0 ∷ []) $ join ! $ join ! $
-    use0 𝓛 (raw (fact 𝓤 (contract.BorrowLft.◌⊑◌ (α ∷ []) marker.lives))) (fact_i 𝓤 _ (emp 𝓤) (⊑_static _)) $ nothing ! $ move ! (1 ∷ 0 ∷ []) $ join ! $ move ! (1 ∷ 0 ∷ []) $ join ! $
+    use0 𝓛 (raw (fact 𝓤 (IsSome (Some found.0)))) (fact_i 𝓤 _ (emp 𝓤) refl) $
+    use0 𝓛 (raw (fact 𝓤 (contract.BorrowLft.◌⊑◌ (α ∷ []) marker.lives))) (fact_i 𝓤 _ (emp 𝓤) (⊑_static _)) $ join ! $ move ! (1 ∷ 0 ∷ []) $ join ! $
     use1 𝓛 (raw (G.pre y)) (id⊢ 𝓤 _) $
     calls_at ! (framed 𝓤 𝓛.H 𝓜 (tables 𝓤 𝓛.H 𝓜 𝓡 𝓡.env)) G meets y (and_then ! (get ! refl) (and_then ! (get ! refl) (and_then ! (get ! refl) (no_more !)))) (λ v.
     use1 𝓛 (later (some (λ (r : (type_at (GE.signature).result (α ∷ [], tt)).Denot). ((‵ (flft (α ∷ []) full_share) ⊛ ‵ ftrue) ⊛ ‵ ((type_at (GE.signature).result (α ∷ [], tt)).own_val r (v ∷ []))) ⊛
-    some (λ (ws : Lasts GE y.0.0 y.0.3). ‵ (lasts GE y.0.0 y.0.3 ws) ⊛ raw (fact 𝓤 (SeatServes found.0 order r.told r.seat.value r.other.value)))))) (id⊢ 𝓤 _) $
+    some (λ (ws : Lasts GE y.0.0 y.0.3). ‵ (lasts GE y.0.0 y.0.3 ws) ⊛ raw (fact 𝓤 (ServesKept (Some found.0) order r.told r.seat.value r.other.value)))))) (id⊢ 𝓤 _) $
     await ! tt $ pick ! (λ r. split ! $ split ! $ split ! $ lft_end ! tt $
     move ! (3 ∷ []) $ pick ! (λ ws. split ! $ drop ! $ heard ! _ (λ serves. drop ! $ drop ! $
-    let seat : Sealed.the_row.Denot = record { at = r.seat.ptr; alloc = r.seat.alloc; numbers = n; value = r.seat.value } in
-    let other : Sealed.the_row.Denot = record { at = r.other.ptr; alloc = r.other.alloc; numbers = n; value = r.other.value } in
+    let seat : Sealed.the_row.Denot = record { at = r.seat.ptr; alloc = r.seat.alloc; numbers = n; value = serves.2.0 } in
+    let other : Sealed.the_row.Denot = record { at = r.other.ptr; alloc = r.other.alloc; numbers = n; value = serves.2.2.0 } in
     let made : Result.the_row.Denot = record { seat = seat; other = other; told = r.told } in
+    rewrite ! 0 (λ (o : Option (seat_row n).Denot). ‵ ((type_at (GE.signature).result (α ∷ [], tt)).own_val (record { seat = record { ptr = r.seat.ptr; alloc = r.seat.alloc; value = o }; other = r.other; told = r.told }) (v ∷ []))) serves.2.1 refl $
+    rewrite ! 0 (λ (o : Option (seat_row n).Denot). ‵ ((type_at (GE.signature).result (α ∷ [], tt)).own_val (record { seat = record { ptr = r.seat.ptr; alloc = r.seat.alloc; value = kept serves.2.0 }; other = record { ptr = r.other.ptr; alloc = r.other.alloc; value = o }; told = r.told }) (v ∷ []))) serves.2.2.1 refl $
     use1 𝓛 (‵ (Result.the_row.own_val made (v ∷ []))) (id⊢ 𝓤 _) $
     peeks ! Result.the_row _ (shows 𝓛 Result.the_row) made (v ∷ []) (λ is.
     let word = result.lowers.val_is made (v ∷ []) is in
@@ -104,5 +108,5 @@ serve_spec 𝓤 𝓛 𝓜 𝓡 wired =
     sets ! (agg ! (and_then ! (get ! refl) (and_then ! (get ! refl) (no_more !)))) refl other_typed $
     sets ! (agg ! (and_then ! (get ! refl) (and_then ! (get ! refl) (and_then ! (get ! refl) (no_more !))))) refl all $
     returns ! (look_at ! 0 refl) $ free_all ! refl $
-    suffices ! _ (ends_at 𝓛 f.ended stayed c z (result.lowered made) made (tt, (tt, (tt, tt))) (tt, (tt, (tt, tt)))) $ says ! (found.0, found.1, serves) $
+    suffices ! _ (ends_at 𝓛 f.ended stayed c z (result.lowered made) made (tt, (tt, (tt, tt))) (tt, (tt, (tt, tt)))) $ says ! (serves.0, found.1 ∙ serves.1, serves.2.2.2) $
     nothing ! $ nothing ! $ fjoin ! $ nothing ! $ fjoin ! $ nothing ! $ fjoin ! $ join ! $ nothing ! $ join ! $ done !)))))))))
