@@ -1,5 +1,5 @@
 -- What a close of a live service answers and leaves, and what the calls that read its end answer.
-use Rattle.std.specs.Prelude.{◌≡◌, ℕ, pos, length, List, slice_get, Option, Some, None}
+use Rattle.std.specs.Prelude.{◌≡◌, ℕ, pos, length, slice_get, Option, Some, None}
 use Rattle.lock_word.specs.declared.ThreadId.{ThreadId}
 use Rattle.lock_word.specs.declared.Word.{Word}
 use Rattle.fat_monitor.specs.declared.actions.Action.{Action}

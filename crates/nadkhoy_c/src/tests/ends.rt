@@ -1,6 +1,6 @@
 //! The close of a service from the Rattle side: what is refused, and what is read of the end.
 
-use super::live::{begin, NOTHING};
+use super::live::{NOTHING, begin};
 use crate::ends::{
     nadkhoy_end_deed, nadkhoy_end_free, nadkhoy_end_pass, nadkhoy_end_sizes, nadkhoy_end_word,
 };
@@ -48,7 +48,10 @@ fn a_service_for_c_is_closed_and_read(rt: HostRuntime) {
     assert_eq!(rt; nadkhoy_live_close(alloc, &mut first, &mut end), 101);
     assert_eq!(rt; nadkhoy_end_sizes(alloc, &mut end, &mut sizes), 101);
     assert_eq!(rt; nadkhoy_end_free(alloc, &mut end), 101);
-    assert_eq!(rt; nadkhoy_live_open(alloc, &[0xA5, 0], 1, 3, 10, &mut first), 0);
+    assert_eq!(rt;
+        nadkhoy_live_open(alloc, &[0xA5, 0], 1, 3, 10, &mut first),
+        0
+    );
     assert_eq!(rt; nadkhoy_live_share(alloc, &mut first, &mut second), 0);
     assert_eq!(rt; begin(alloc, &mut second, 1, &mut turned), 0);
     assert_eq!(rt; nadkhoy_live_close(alloc, &mut first, &mut end), 109);

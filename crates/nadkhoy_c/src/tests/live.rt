@@ -22,7 +22,12 @@ const ENTERED: PlainTurned = PlainTurned {
     granted: 0,
 };
 
-pub(crate) fn begin(alloc: Global, slot: &mut LiveSlot, kind: u32, turned: &mut PlainTurned) -> u32 {
+pub(crate) fn begin(
+    alloc: Global,
+    slot: &mut LiveSlot,
+    kind: u32,
+    turned: &mut PlainTurned,
+) -> u32 {
     let call = PlainCall { kind, ..NO_CALL };
     nadkhoy_live_begin(alloc, slot, &call, turned)
 }

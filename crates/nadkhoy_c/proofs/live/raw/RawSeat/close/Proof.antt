@@ -1,9 +1,9 @@
 -- `close` calls the function of the crew whose numbers the seat has.
-use Rattle.nadkhoy_c.proofs.Steps.{◌≡◌, ◌∙◌, List, [], ◌∷◌, refl, sym, ap, proved, full_share, id⊢, ftrue, flft, Val, tables, fact, ‵, raw, ◌⊛◌, some, later, ◌$◌, ◌∵◌, !, qed, done, drop, move, use0, use1, split, join, fjoin, pick, await, rewrite, suffices, enter, of_opd, no_more, and_then, returns, alloc_all, pass_all, free_all, look_at, get, get_in, fld, stop, sub, whole, agg, sets, lands_as, yes, no, plain, nothing, heard, only, calls_at, lasts, Lasts, triple_of, Stays, says, stay_dropped, Goes-dropped, ends_at, framed, peeks, shows, lft_new, lft_end, walk_of, pair_Typed, ⊑_static, rawptr_Lawful, fact_i, emp, type_at, T, has_ty, WT, subst, Typed}
+use Rattle.nadkhoy_c.proofs.Steps.{◌≡◌, List, [], ◌∷◌, refl, sym, ap, proved, full_share, id⊢, ftrue, flft, Val, tables, fact, ‵, raw, ◌⊛◌, some, later, ◌$◌, ◌∵◌, !, qed, done, drop, move, use0, use1, split, join, fjoin, pick, await, rewrite, suffices, enter, of_opd, no_more, and_then, returns, alloc_all, pass_all, free_all, look_at, get, get_in, fld, stop, sub, whole, agg, sets, lands_as, yes, no, plain, nothing, heard, only, calls_at, lasts, Lasts, triple_of, Stays, says, stay_dropped, Goes-dropped, ends_at, framed, peeks, shows, lft_new, lft_end, walk_of, pair_Typed, ⊑_static, rawptr_Lawful, fact_i, emp, type_at, T, has_ty, WT, subst, Typed}
 use Rattle.std.specs.Prelude.{IsSome}
 use Rattle.std.specs.declared.option.Option.{Option}
 use Rattle.std.specs.declared.option.Option.TheVariants.{None, Some}
-use Rattle.std.proofs.Common.{true≢false}
+use Rattle.std.proofs.Common.{◌∙◌, true≢false}
 use Rattle.nadkhoy_c.specs.contracts.live.raw.RawSeat as Sealed
 use Rattle.nadkhoy_c.specs.contracts.ends.raw.RawEnd as Made
 use Rattle.nadkhoy_c.specs.contracts.live.raw.Finished as Result
@@ -12,7 +12,6 @@ use Rattle.nadkhoy_c.proofs.live.raw.Finished.TheLaws as result
 use Rattle.live_seats.specs.contracts.ending.Closing as Said
 use Rattle.live_seats.proofs.ending.Closing.TheLaws as said
 use Rattle.live_seats.specs.Seats.{SeatState}
-use Rattle.live_seats.specs.Kept.{kept}
 use Rattle.live_seats.specs.Unclosed.{ClosesKept}
 use Rattle.nadkhoy_c.specs.RawSeat.{Numbers, marker, crew_of, ledger_of, seat_row}
 use Rattle.core.proofs.marker.Brand.TheLaws as Brand
@@ -106,5 +105,5 @@ close_spec 𝓤 𝓛 𝓜 𝓡 wired =
     sets ! (agg ! (and_then ! (get ! refl) (and_then ! (get ! refl) (no_more !)))) refl end_typed $
     sets ! (agg ! (and_then ! (get ! refl) (and_then ! (get ! refl) (and_then ! (get ! refl) (no_more !))))) refl all $
     returns ! (look_at ! 0 refl) $ free_all ! refl $
-    suffices ! _ (ends_at 𝓛 f.ended stayed c z (result.lowered made) made (tt, (tt, (tt, tt))) (tt, (tt, (tt, tt)))) $ says ! (closes.0, found.1 ∙ closes.1, closes.2.2) $
-    nothing ! $ nothing ! $ fjoin ! $ nothing ! $ fjoin ! $ nothing ! $ fjoin ! $ join ! $ nothing ! $ join ! $ done !)))))))))
+    suffices ! _ (ends_at 𝓛 f.ended stayed c z (result.lowered made) made (tt, (tt, tt)) (tt, (tt, tt))) $ says ! (closes.0, found.1 ∙ closes.1, closes.2.2) $
+    nothing ! $ nothing ! $ fjoin ! $ nothing ! $ fjoin ! $ join ! $ nothing ! $ join ! $ done !)))))))))

@@ -1,9 +1,9 @@
 -- `serve` calls the function of the crew whose numbers the seat has.
-use Rattle.nadkhoy_c.proofs.Steps.{◌≡◌, ◌∙◌, List, [], ◌∷◌, refl, sym, ap, proved, full_share, id⊢, ftrue, flft, Val, tables, fact, ‵, raw, ◌⊛◌, some, later, ◌$◌, ◌∵◌, !, qed, done, drop, move, use0, use1, split, join, fjoin, pick, await, rewrite, suffices, enter, of_opd, no_more, and_then, returns, alloc_all, pass_all, free_all, look_at, get, get_in, fld, stop, sub, whole, agg, sets, lands_as, yes, no, plain, nothing, heard, only, calls_at, lasts, Lasts, triple_of, Stays, says, stay_dropped, Goes-dropped, ends_at, framed, peeks, shows, lft_new, lft_end, walk_of, pair_Typed, ⊑_static, rawptr_Lawful, fact_i, emp, type_at, T, has_ty, WT, subst, Typed}
+use Rattle.nadkhoy_c.proofs.Steps.{◌≡◌, List, [], ◌∷◌, refl, sym, ap, proved, full_share, id⊢, ftrue, flft, Val, tables, fact, ‵, raw, ◌⊛◌, some, later, ◌$◌, ◌∵◌, !, qed, done, drop, move, use0, use1, split, join, fjoin, pick, await, rewrite, suffices, enter, of_opd, no_more, and_then, returns, alloc_all, pass_all, free_all, look_at, get, get_in, fld, stop, sub, whole, agg, sets, lands_as, yes, no, plain, nothing, heard, only, calls_at, lasts, Lasts, triple_of, Stays, says, stay_dropped, Goes-dropped, ends_at, framed, peeks, shows, lft_new, lft_end, walk_of, pair_Typed, ⊑_static, rawptr_Lawful, fact_i, emp, type_at, T, has_ty, WT, subst, Typed}
 use Rattle.std.specs.Prelude.{IsSome}
 use Rattle.std.specs.declared.option.Option.{Option}
 use Rattle.std.specs.declared.option.Option.TheVariants.{None, Some}
-use Rattle.std.proofs.Common.{true≢false}
+use Rattle.std.proofs.Common.{◌∙◌, true≢false}
 use Rattle.nadkhoy_c.specs.contracts.live.raw.RawSeat as Sealed
 use Rattle.nadkhoy_c.specs.contracts.live.raw.Answered as Result
 use Rattle.nadkhoy_c.proofs.live.raw.RawSeat.TheLaws as sealed
