@@ -240,8 +240,8 @@ fn stays<L: Crew>(
 }
 
 impl<L: Crew> Seat<L> {
-    /// Closes the service of a seat that is taken apart, where there is no other seat, and all passes
-    /// came back. It never waits.
+    /// Closes the service of a seat that is taken apart, where there is no other seat, and all
+    /// passes came back. It never waits.
     pub fn close(alloc: Global, seat: Parts<Seat<L>, Global>) -> Ended<L>
         requires some { IsSome seat.value.member }
         requires parts { L.parts ≡ L.passes }

@@ -19,8 +19,8 @@ pub enum Closing {
     Done,
     /// There are other seats. Nothing was done.
     Others,
-    /// There is no other seat, and the passes that the seat has now are not all of the service's, each
-    /// once.
+    /// There is no other seat, and the passes that the seat has now are not all of the service's,
+    /// each once.
     WrongPass,
     /// The system refused memory. The seat has also what passes came back.
     Memory,

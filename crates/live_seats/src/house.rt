@@ -20,8 +20,8 @@ impl<L: Crew> Fits for Back<L> {
     ghost fits = { λ z b. Belongs z false b.pass.holding };
 }
 
-/// The place of a pass that comes back: free until then, and free again once the pass was taken. What
-/// is in it belongs to the service that it was made for.
+/// The place of a pass that comes back: free until then, and free again once the pass was taken.
+/// What is in it belongs to the service that it was made for.
 pub(crate) type Place<L> = Counted<Option<Back<L>>>;
 
 /// A service, and a place for each of its passes.

@@ -10,8 +10,8 @@ use std::alloc::Global;
 use std::marker::Model;
 use std::sync::Arc;
 
-/// A share of a live service, which is there until it is closed; a pass to it; and the passes of those
-/// who have no seat.
+/// A share of a live service, which is there until it is closed; a pass to it; and the passes of
+/// those who have no seat.
 #[derive(Drop)]
 pub(crate) struct Member<L: Crew> {
     pub(crate) home: Arc<Option<House<L>>, Global>,

@@ -1,5 +1,5 @@
-//! The end of a live service for programs in C: its words, its record and its counts, which are read
-//! by index.
+//! The end of a live service for programs in C: its words, its record and its counts, which are
+//! read by index.
 
 ghost use Rattle.std.specs.Prelude.{◌≡◌, None};
 ghost use Rattle.nadkhoy_c.specs.Ends.{deed_shown, end_free_status, end_sizes_shown, pass_shown, read_end, word_shown};
@@ -77,8 +77,8 @@ pub extern "C" fn nadkhoy_end_deed(
     status
 }
 
-/// Writes how many deeds a pass did, and the number of its thread. The passes have the indices from 0
-/// on, in no order.
+/// Writes how many deeds a pass did, and the number of its thread. The passes have the indices from
+/// 0 on, in no order.
 ///
 /// Answers Closed, NoPass or Done, and writes only then.
 #[unsafe(no_mangle)]

@@ -223,8 +223,8 @@ pub extern "C" fn nadkhoy_live_thread(alloc: Global, slot: &mut LiveSlot, thread
     told_status(answered.told)
 }
 
-/// Gives the seat up, and leaves the slot empty. Its pass goes back to the service, with those that are
-/// left to it. The last one who leaves gives back what the service took.
+/// Gives the seat up, and leaves the slot empty. Its pass goes back to the service, with those that
+/// are left to it. The last one who leaves gives back what the service took.
 ///
 /// Answers Closed or Done.
 #[unsafe(no_mangle)]
@@ -264,12 +264,13 @@ fn place_end(slot: &mut EndSlot, told: Closing, end: RawEnd)
     }
 }
 
-/// Closes the service of a seat, where there is no other seat, and puts its words, its record and its
-/// counts into `end`, which is empty; the slot of the seat is empty then.
+/// Closes the service of a seat, where there is no other seat, and puts its words, its record and
+/// its counts into `end`, which is empty; the slot of the seat is empty then.
 ///
-/// Answers Closed, InUse where `end` is full, OtherSeats where there are other seats, or WrongPass
-/// where passes are missing, Memory, 18 where a pass is torn, or Done. Where it answers 18 the seat is
-/// gone. After the other refusals it is as it was, and may have more passes left to it.
+/// Answers Closed, InUse where `end` is full, OtherSeats where there are other seats, WrongPass
+/// where passes are missing, Memory, 18 where a pass is torn, or Done. Where it answers 18 the seat
+/// is gone. After WrongPass and Memory it may have more passes left to it, and after the other
+/// refusals it is as it was.
 #[unsafe(no_mangle)]
 pub extern "C" fn nadkhoy_live_close(alloc: Global, slot: &mut LiveSlot, end: &mut EndSlot) -> u32
     ensures { ClosesSeat slot.old.raw.value end.old.raw.value result
