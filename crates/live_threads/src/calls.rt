@@ -17,6 +17,7 @@ use std::time::Clock;
 
 impl<L: Crew> Live<L> {
     /// A call on an object.
+    #[inline(always)]
     pub(crate) fn call_on<R: Wait + Clock>(
         &self,
         rt: &R,

@@ -33,6 +33,7 @@ impl<L: Crew> Live<L> {
     }
 
     // The turns of a call behind this one, until it has its reply.
+    #[inline(always)]
     fn finish<R: Wait + Clock>(
         &self,
         rt: &R,
@@ -68,6 +69,7 @@ impl<L: Crew> Live<L> {
     }
 
     // A call on an object, until it has its reply.
+    #[inline(always)]
     pub(crate) fn run_on<R: Wait + Clock>(
         &self,
         rt: &R,

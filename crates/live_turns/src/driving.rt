@@ -16,6 +16,7 @@ use fast_path::{InterruptCall, MonitorCall};
 use step_core::{Place, Point, Stage};
 
 /// Where a pass rests after a turn: in no call once it has its reply.
+#[inline(always)]
 fn resting(point: Point) -> Point
     ensures { result ≡ resting point }
 {
@@ -32,6 +33,7 @@ impl<L: Crew> Turns<L> {
     /// A fault ends the call: [`NoObject`](LiveFault::NoObject) before anything was done,
     /// [`RecordFull`](LiveFault::RecordFull) before its action at the book, and
     /// [`Torn`](LiveFault::Torn) where the pass is not where the book has it.
+    #[inline(always)]
     pub fn begin_on(&self, pass: &mut TurnPass<L>, call: MonitorCall) -> Result<Turned, LiveFault>
         requires belongs { Belongs self.now false pass.old.holding }
         requires idle { pass.old.point ≡ At Idle }
@@ -138,6 +140,7 @@ impl<L: Crew> Turns<L> {
     }
 
     // One turn of a call that stands at this point.
+    #[inline(never)]
     fn turn_from(&self, holder: &mut Holder<L>, point: Point) -> Result<Turned, LiveFault>
         requires belongs { Belongs self.now false holder.old }
         requires knows { Knows point holder.old }

@@ -36,6 +36,7 @@ pub enum Standing {
 
 impl Turned {
     /// The call has its reply.
+    #[inline(always)]
     pub(crate) fn said(reply: Reply) -> Turned
         ensures { result ≡ record { point = Point.Said reply; gate_taken = false; granted = None } }
     {
@@ -47,6 +48,7 @@ impl Turned {
     }
 
     /// The call stands here, and nobody was made an owner.
+    #[inline(always)]
     pub(crate) fn at(stage: Stage, gate_taken: bool) -> Turned
         ensures { result ≡ record {
           point = Point.At (Place.InCall stage);
@@ -82,6 +84,7 @@ impl Turned {
     }
 
     /// Where the call stands, for whoever drives it.
+    #[inline(always)]
     pub fn standing(&self) -> Standing
         ensures { result ≡ standing_of self.now }
     {

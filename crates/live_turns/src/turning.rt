@@ -36,6 +36,7 @@ fn count_of(lock: Lock) -> u16
 
 impl<L: Crew> Turns<L> {
     // Loads the word of an object.
+    #[inline(always)]
     fn load(&self, holder: &mut Holder<L>, object: ObjectId) -> Lock
         requires belongs { Belongs self.now false holder.old }
         requires object { object.0 < length self.now.lows }
@@ -57,6 +58,7 @@ impl<L: Crew> Turns<L> {
     }
 
     // The store that the word of the object calls for, which has this lock.
+    #[inline(always)]
     fn store(&self, holder: &mut Holder<L>, call: MonitorCall, old: Lock, new: Lock) -> Reply
         requires belongs { Belongs self.now false holder.old }
         requires object { call.object.0 < length self.now.lows }
@@ -89,6 +91,7 @@ impl<L: Crew> Turns<L> {
     }
 
     // The exchange of the free word, and the inflation where others were met.
+    #[inline(always)]
     fn acquire(&self, holder: &mut Holder<L>, object: ObjectId, contended: bool) -> Turned
         requires belongs { Belongs self.now false holder.old }
         requires object { object.0 < length self.now.lows }
@@ -114,6 +117,7 @@ impl<L: Crew> Turns<L> {
     }
 
     // A turn of a call on an object, from its load on.
+    #[inline(always)]
     pub(crate) fn turn_from_load(
         &self,
         holder: &mut Holder<L>,

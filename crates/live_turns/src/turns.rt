@@ -96,6 +96,7 @@ impl<L: Crew> Turns<L> {
     }
 
     /// The fat action of a call whose object has this monitor.
+    #[inline(never)]
     pub(crate) fn act(
         &self,
         holder: &mut Holder<L>,
@@ -123,6 +124,7 @@ impl<L: Crew> Turns<L> {
     }
 
     /// The action of a call about interrupts.
+    #[inline(never)]
     pub(crate) fn act_directly(
         &self,
         holder: &mut Holder<L>,
@@ -148,6 +150,7 @@ impl<L: Crew> Turns<L> {
     }
 
     /// What a parked thread does itself.
+    #[inline(never)]
     pub(crate) fn awake(&self, holder: &mut Holder<L>, expired: bool) -> Result<Turned, LiveFault>
         requires belongs { Belongs self.now false holder.old }
         ensures belongs { Belongs self.now false holder.new }
@@ -202,6 +205,7 @@ impl<L: Crew> Turns<L> {
     }
 
     /// The same, by a pass that has not the gate.
+    #[inline(never)]
     pub(crate) fn inflate(
         &self,
         holder: &mut Holder<L>,
@@ -254,6 +258,7 @@ impl<L: Crew> Turns<L> {
     }
 
     /// The same, by a pass that has not the gate.
+    #[inline(never)]
     pub(crate) fn settle(&self, holder: &mut Holder<L>, object: ObjectId) -> Turned
         requires belongs { Belongs self.now false holder.old }
         requires object { object.0 < length self.now.lows }
