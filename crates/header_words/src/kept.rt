@@ -13,3 +13,12 @@ pub trait Kept {
     fn object(&self, monitor: u32) -> Option<ObjectId>
         ensures { result ≡ slice_get (bound self.now) monitor };
 }
+
+/// A book in a box is kept as the book is: a take then moves one pointer.
+impl<B: Kept> Kept for Box<B> {
+    ghost bound = { λ b. B.bound b.value };
+
+    fn object(&self, monitor: u32) -> Option<ObjectId> {
+        self.as_ref().object(monitor)
+    }
+}

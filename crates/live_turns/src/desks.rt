@@ -297,3 +297,30 @@ fn note<L: Crew>(total: &mut ledger::Book<L>, own: &mut Own<L>, entry: Logged)
     total.add(share, 1);
     list.push_reserved(entry);
 }
+
+/// Binds a monitor at the desk in the box, as [`Desk::bind`] does.
+pub(crate) fn bind<L: Crew>(
+    desk: &mut Box<Desk<L>>,
+    own: &mut Own<L>,
+    thread: ThreadId,
+    object: ObjectId,
+    holds: u16,
+) -> Result<Receipt, Refusal>
+    requires low { 1 ≤ holds }
+    requires high { holds ≤ 256 }
+    ensures receipt { IfOk result (λ r. r ≡ record {
+      object = object;
+      owner = thread;
+      holds = holds;
+      monitor = length (bindings desk.old.value.book);
+    }) }
+    ensures own { OnOk result (own.new.list.items ≡ own.old.list.items
+        ++ by thread (Bound object holds (length (bindings desk.old.value.book))) ∷ []) }
+    ensures bindings { OnOk result (bindings desk.new.value.book
+        ≡ bindings desk.old.value.book ++ object ∷ []) }
+    ensures same { OnErr result (bindings desk.new.value.book ≡ bindings desk.old.value.book) }
+    ensures none { OnErr result (own.new.list.items ≡ own.old.list.items) }
+    ensures fault { IfErr result MayRefuse }
+{
+    desk.bind(own, thread, object, holds)
+}

@@ -26,7 +26,7 @@ struct Rest<L: Crew> {
     own: Own<L>,
     point: Point,
     index: u16,
-    words: Snapshot<Pass<Desk<L>>>,
+    words: Snapshot<Pass<Box<Desk<L>>>>,
 }
 
 impl<L: Crew> Model for Rest<L> {
@@ -94,7 +94,7 @@ fn all_agree<L: Crew>(log: &[Logged], rests: &[Rest<L>]) -> bool
 fn rows_for<L: Crew>(
     alloc: Global,
     passes: &[TurnPass<L>],
-) -> Result<(Vec<u64>, Vec<Pass<Desk<L>>>, Vec<Rest<L>>), AllocError>
+) -> Result<(Vec<u64>, Vec<Pass<Box<Desk<L>>>>, Vec<Rest<L>>), AllocError>
     ensures counts { IfOk result (λ r. r.0.items ≡ map count_of passes.now) }
     ensures none { IfOk result (λ r. (r.1.items ≡ []) × (r.2.items ≡ [])) }
     ensures room { IfOk result (λ r. (length passes.now ≤ vec_capacity r.1)
@@ -110,7 +110,7 @@ fn rows_for<L: Crew>(
 // for all.
 fn take_apart<L: Crew>(
     passes: &mut Vec<TurnPass<L>>,
-    words: &mut Vec<Pass<Desk<L>>>,
+    words: &mut Vec<Pass<Box<Desk<L>>>>,
     rests: &mut Vec<Rest<L>>,
 )
     requires room { length passes.old.items ≤ vec_capacity words.old }
@@ -139,7 +139,7 @@ fn take_apart<L: Crew>(
 
 // The passes again.
 fn put_together<L: Crew>(
-    mut words: Vec<Pass<Desk<L>>>,
+    mut words: Vec<Pass<Box<Desk<L>>>>,
     mut rests: Vec<Rest<L>>,
     passes: &mut Vec<TurnPass<L>>,
 )
@@ -238,7 +238,7 @@ impl<L: Crew> Turns<L> {
         alloc: Global,
         mut passes: Vec<TurnPass<L>>,
         counts: Vec<u64>,
-        mut words: Vec<Pass<Desk<L>>>,
+        mut words: Vec<Pass<Box<Desk<L>>>>,
         mut rests: Vec<Rest<L>>,
     ) -> Result<Closed, TurnsClose<L>>
         requires belong { All (λ p. Belongs self false p.holding) passes.items }
@@ -260,7 +260,7 @@ impl<L: Crew> Turns<L> {
             passes: count,
         } = self;
         match headers.close(alloc, words) {
-            Ok((words, desk)) => desk.end(words, counts, rests),
+            Ok((words, desk)) => Box::into_inner(desk).end(words, counts, rests),
             Err(
                 CloseFault::Memory {
                     headers,

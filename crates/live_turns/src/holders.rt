@@ -25,7 +25,7 @@ use step_core::{Place, Point};
 /// The words of a pass, and its own deeds.
 #[derive(Drop)]
 pub(crate) struct Holder<L: Crew> {
-    pub(crate) words: Pass<Desk<L>>,
+    pub(crate) words: Pass<Box<Desk<L>>>,
     pub(crate) own: Own<L>,
 }
 
@@ -89,13 +89,13 @@ impl<L: Crew> Holder<L> {
     /// The fat action of a call on an object.
     pub(crate) fn act_on(
         &mut self,
-        desk: &mut Desk<L>,
+        desk: &mut Box<Desk<L>>,
         call: MonitorCall,
         monitor: u32,
     ) -> Result<Turned, LiveFault>
-        requires binds { Binds (bindings desk.old.book) monitor call.object.0 }
+        requires binds { Binds (bindings desk.old.value.book) monitor call.object.0 }
         ensures words { self.new.words ≡ self.old.words }
-        ensures bindings { bindings desk.new.book ≡ bindings desk.old.book }
+        ensures bindings { bindings desk.new.value.book ≡ bindings desk.old.value.book }
         ensures acting { IfOk result (λ t.
             Went (At (InCall (Acting call monitor))) t.point self.old self.new) }
         ensures inflated { IfOk result (λ t.
@@ -112,11 +112,11 @@ impl<L: Crew> Holder<L> {
     /// The fat action of a call about interrupts.
     pub(crate) fn act_about(
         &mut self,
-        desk: &mut Desk<L>,
+        desk: &mut Box<Desk<L>>,
         call: InterruptCall,
     ) -> Result<Turned, LiveFault>
         ensures words { self.new.words ≡ self.old.words }
-        ensures bindings { bindings desk.new.book ≡ bindings desk.old.book }
+        ensures bindings { bindings desk.new.value.book ≡ bindings desk.old.value.book }
         ensures went { IfOk result (λ t.
             Went (At (InCall (Direct call))) t.point self.old self.new) }
         ensures rests { IfOk result (λ t. (t.gate_taken ≡ false) × RestsAtPost t.point) }
@@ -129,9 +129,13 @@ impl<L: Crew> Holder<L> {
     }
 
     /// What a parked thread does itself, if there is something to do.
-    pub(crate) fn awake(&mut self, desk: &mut Desk<L>, expired: bool) -> Result<Turned, LiveFault>
+    pub(crate) fn awake(
+        &mut self,
+        desk: &mut Box<Desk<L>>,
+        expired: bool,
+    ) -> Result<Turned, LiveFault>
         ensures words { self.new.words ≡ self.old.words }
-        ensures bindings { bindings desk.new.book ≡ bindings desk.old.book }
+        ensures bindings { bindings desk.new.value.book ≡ bindings desk.old.value.book }
         ensures went { IfOk result (λ t. Went (parked expired) t.point self.old self.new) }
         ensures rests { IfOk result (λ t. (t.gate_taken ≡ false) × RestsAtPost t.point) }
         ensures none { OnErr result (self.new.own ≡ self.old.own) }
@@ -152,9 +156,9 @@ impl<L: Crew> Holder<L> {
     }
 
     /// Tells the moment.
-    pub(crate) fn tick(&mut self, desk: &mut Desk<L>, now: u64) -> Result<(), LiveFault>
+    pub(crate) fn tick(&mut self, desk: &mut Box<Desk<L>>, now: u64) -> Result<(), LiveFault>
         ensures words { self.new.words ≡ self.old.words }
-        ensures bindings { bindings desk.new.book ≡ bindings desk.old.book }
+        ensures bindings { bindings desk.new.value.book ≡ bindings desk.old.value.book }
         ensures own { OnOk result (self.new.own ≡ self.old.own
             ++ ticked_by true self.old.words.index now) }
         ensures none { OnErr result (self.new.own ≡ self.old.own) }

@@ -49,7 +49,7 @@ fn fresh_owns<L: Crew>(
 #[tactic(auto, using(crate::proofs::Rows::moved_over))]
 // The passes of these words, each with deeds of its own.
 fn with_owns<L: Crew>(
-    mut words: Vec<Pass<Desk<L>>>,
+    mut words: Vec<Pass<Box<Desk<L>>>>,
     mut owns: Vec<Fresh<L>>,
     mut passes: Vec<TurnPass<L>>,
 ) -> Vec<TurnPass<L>>
@@ -100,7 +100,8 @@ impl<L: Crew> Turns<L> {
         let (total, mut rest) = blank.open::<L>();
         let owns = fresh_owns(alloc, passes, places, &mut rest)?;
         let desk = Desk { book, total, rest };
-        let Ok((headers, words)) = Headers::open(alloc, lows, passes, desk) else {
+        let boxed = Box::new(alloc, desk)?;
+        let Ok((headers, words)) = Headers::open(alloc, lows, passes, boxed) else {
             return Err(Memory);
         };
         let objects = lows.len() as u32;

@@ -14,7 +14,7 @@ ghost use Rattle.live_turns.specs.Book.{bindings};
 ghost use Rattle.live_turns.specs.Points.{Knows, RestsAtPost, Visited};
 ghost use Rattle.live_turns.specs.Ways.{Belongs, Took, Gave, Went, Halted, VisitsBook, parked};
 
-use crate::desks::{Crew, Desk, Refusal};
+use crate::desks::{Crew, Desk, Refusal, bind};
 use crate::holders::Holder;
 use crate::{LiveFault, Turned};
 use fast_path::{InterruptCall, MonitorCall, Operation};
@@ -29,7 +29,7 @@ use step_core::Stage;
 /// A call is driven by turns: each does at once all that can be done at once, and never waits.
 #[derive(Drop)]
 pub struct Turns<L: Crew> {
-    pub(crate) headers: Headers<Desk<L>>,
+    pub(crate) headers: Headers<Box<Desk<L>>>,
     pub(crate) objects: u32,
     pub(crate) passes: u16,
 }
@@ -54,19 +54,19 @@ impl<L: Crew> Turns<L> {
     }
 
     // The gate and the desk behind it; None where another pass has the gate.
-    pub(crate) fn take(&self, holder: &mut Holder<L>) -> Option<Desk<L>>
+    pub(crate) fn take(&self, holder: &mut Holder<L>) -> Option<Box<Desk<L>>>
         requires belongs { Belongs self.now false holder.old }
         ensures { MatchOption result (holder.new ≡ holder.old)
             (λ d. Took holder.old holder.new × Belongs self.now true holder.new
-            × Covers (bindings d.book) holder.new.words.seen) }
+            × Covers (bindings d.value.book) holder.new.words.seen) }
     {
         self.headers.take(&mut holder.words)
     }
 
     // Gives the desk and the gate back.
-    pub(crate) fn give(&self, holder: &mut Holder<L>, desk: Desk<L>)
+    pub(crate) fn give(&self, holder: &mut Holder<L>, desk: Box<Desk<L>>)
         requires belongs { Belongs self.now true holder.old }
-        requires covers { Covers (bindings desk.book) holder.old.words.seen }
+        requires covers { Covers (bindings desk.value.book) holder.old.words.seen }
         ensures gave { Gave holder.old holder.new }
         ensures belongs { Belongs self.now false holder.new }
     {
@@ -74,7 +74,13 @@ impl<L: Crew> Turns<L> {
     }
 
     // The store of the word of the monitor that was bound.
-    fn publish(&self, holder: &mut Holder<L>, desk: &Desk<L>, call: MonitorCall, receipt: Receipt)
+    fn publish(
+        &self,
+        holder: &mut Holder<L>,
+        desk: &Box<Desk<L>>,
+        call: MonitorCall,
+        receipt: Receipt,
+    )
         requires belongs { Belongs self.now true holder.old }
         requires object { call.object.0 < length self.now.lows }
         requires same { receipt.object ≡ call.object }
@@ -83,7 +89,7 @@ impl<L: Crew> Turns<L> {
         requires low { 1 ≤ holder.old.words.index }
         requires high { holder.old.words.index ≤ 32767 }
         requires few { receipt.monitor ≤ 8388607 }
-        requires bound { Binds (bindings desk.now.book) receipt.monitor call.object.0 }
+        requires bound { Binds (bindings desk.now.value.book) receipt.monitor call.object.0 }
         ensures belongs { Belongs self.now true holder.new }
         ensures went { (won : Bool) → Went (At (InCall (Bound call won receipt.monitor)))
             (point_published call won receipt.monitor) holder.old holder.new }
@@ -174,7 +180,7 @@ impl<L: Crew> Turns<L> {
     fn inflate_at(
         &self,
         holder: &mut Holder<L>,
-        desk: &mut Desk<L>,
+        desk: &mut Box<Desk<L>>,
         call: MonitorCall,
         count: u16,
     ) -> Result<Turned, LiveFault>
@@ -182,9 +188,9 @@ impl<L: Crew> Turns<L> {
         requires object { call.object.0 < length self.now.lows }
         requires holds { depth_at holder.old.words call.object.0 ≡ count + 1 }
         requires few { count ≤ 255 }
-        requires covers { Covers (bindings desk.old.book) holder.old.words.seen }
+        requires covers { Covers (bindings desk.old.value.book) holder.old.words.seen }
         ensures belongs { Belongs self.now true holder.new }
-        ensures covers { Covers (bindings desk.new.book) holder.new.words.seen }
+        ensures covers { Covers (bindings desk.new.value.book) holder.new.words.seen }
         ensures went { IfOk result (λ t.
             Went (At (InCall (Binding call count))) t.point holder.old holder.new) }
         ensures rests { IfOk result (λ t. (t.gate_taken ≡ false) × RestsAtPost t.point) }
@@ -193,7 +199,7 @@ impl<L: Crew> Turns<L> {
             Halted f (At (InCall (Binding call count))) holder.old holder.new) }
     {
         let me = holder.thread();
-        match desk.bind(&mut holder.own, me, call.object, count + 1) {
+        match bind(desk, &mut holder.own, me, call.object, count + 1) {
             Ok(receipt) => {
                 let monitor = receipt.monitor();
                 self.publish(holder, desk, call, receipt);
@@ -236,19 +242,19 @@ impl<L: Crew> Turns<L> {
 
     // The inflation by an enter that has won the word after contention, while the pass has the gate.
     // Where it is refused, the enter drops it.
-    fn settle_at(&self, holder: &mut Holder<L>, desk: &mut Desk<L>, object: ObjectId)
+    fn settle_at(&self, holder: &mut Holder<L>, desk: &mut Box<Desk<L>>, object: ObjectId)
         requires belongs { Belongs self.now true holder.old }
         requires object { object.0 < length self.now.lows }
         requires holds { depth_at holder.old.words object.0 ≡ 1 }
-        requires covers { Covers (bindings desk.old.book) holder.old.words.seen }
+        requires covers { Covers (bindings desk.old.value.book) holder.old.words.seen }
         ensures belongs { Belongs self.now true holder.new }
-        ensures covers { Covers (bindings desk.new.book) holder.new.words.seen }
+        ensures covers { Covers (bindings desk.new.value.book) holder.new.words.seen }
         ensures went { Went (At (InCall (Won object))) (Said reply.Entered)
             holder.old holder.new }
         ensures visit { VisitsBook 0 holder.old.words holder.new.words }
     {
         let me = holder.thread();
-        if let Ok(receipt) = desk.bind(&mut holder.own, me, object, 1) {
+        if let Ok(receipt) = bind(desk, &mut holder.own, me, object, 1) {
             let call = MonitorCall {
                 object,
                 operation: Operation::Enter,

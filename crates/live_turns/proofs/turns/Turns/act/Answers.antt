@@ -10,13 +10,13 @@ use Rattle.live_turns.proofs.turns.Turns.act.Goals as goal
 pub act_on-told-requires : goal.act_on-told-requires
 act_on-told-requires g c = record {
   binds =
-      published_still (bindings c.in-Some.desk.book) c.args.monitor c.args.call.object.0 c.args.holder.now.words c.take.new.holder.words c.in-Some.ensures.0.0 c.in-Some.ensures.2
+      published_still (bindings c.in-Some.desk.value.book) c.args.monitor c.args.call.object.0 c.args.holder.now.words c.take.new.holder.words c.in-Some.ensures.0.0 c.in-Some.ensures.2
       c.requires.published;
 }
 
 pub give-requires-clause-covers : goal.give-requires-clause-covers
 give-requires-clause-covers g c =
-    covers_kept (bindings c.in-Some.desk.book) (bindings c.act_on-told.new.desk.book) c.take.new.holder.words c.act_on-told.new.self.words
+    covers_kept (bindings c.in-Some.desk.value.book) (bindings c.act_on-told.new.desk.value.book) c.take.new.holder.words c.act_on-told.new.self.words
     c.act_on-told.ensures.bindings c.act_on-told.ensures.words c.in-Some.ensures.2
 
 pub returns-clause-halted : goal.returns-clause-halted

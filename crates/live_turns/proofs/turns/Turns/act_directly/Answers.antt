@@ -9,7 +9,7 @@ use Rattle.live_turns.proofs.turns.Turns.act_directly.Goals as goal
 
 pub give-requires-clause-covers : goal.give-requires-clause-covers
 give-requires-clause-covers g c =
-    covers_kept (bindings c.in-Some.desk.book) (bindings c.act_about-told.new.desk.book) c.take.new.holder.words c.act_about-told.new.self.words
+    covers_kept (bindings c.in-Some.desk.value.book) (bindings c.act_about-told.new.desk.value.book) c.take.new.holder.words c.act_about-told.new.self.words
     c.act_about-told.ensures.bindings c.act_about-told.ensures.words c.in-Some.ensures.2
 
 pub returns-clause-halted : goal.returns-clause-halted

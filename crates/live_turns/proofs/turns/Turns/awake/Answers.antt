@@ -6,7 +6,7 @@ use Rattle.live_turns.proofs.turns.Turns.awake.Goals as goal
 
 pub give-requires-clause-covers : goal.give-requires-clause-covers
 give-requires-clause-covers g c =
-    covers_kept (bindings c.in-Some.desk.book) (bindings c.awake-told.new.desk.book) c.take.new.holder.words c.awake-told.new.self.words
+    covers_kept (bindings c.in-Some.desk.value.book) (bindings c.awake-told.new.desk.value.book) c.take.new.holder.words c.awake-told.new.self.words
     c.awake-told.ensures.bindings c.awake-told.ensures.words c.in-Some.ensures.2
 
 pub returns-clause-halted : goal.returns-clause-halted

@@ -20,13 +20,13 @@ unreachable-requires g c =
 pub returns-in-Ok-clause-end : goal.returns-in-Ok-clause-end
 returns-in-Ok-clause-end g c =
     both_ok _ _ (IsEnd c.args.self g.L.Crew.monitors c.args.passes.items) c.end.result c.end.ensures.end c.end.ensures.replays
-    (λ x end replays. end_of c.args.self c.self.inside.headers g.L.Crew.monitors c.args.passes.items c.take_apart.new.rests.items c.take_apart.new.words.items c.in-Ok.words c.args.counts c.in-Ok.desk.book x
-    c.self.view_is c.take_apart.ensures.words c.take_apart.ensures.rests (c.in-Ok.desk.passes ∙ c.requires.crew.1) c.in-Ok.desk.monitors c.in-Ok.ensures.words c.requires.counts end replays)
+    (λ x end replays. end_of c.args.self c.self.inside.headers g.L.Crew.monitors c.args.passes.items c.take_apart.new.rests.items c.take_apart.new.words.items c.in-Ok.words c.args.counts c.into_inner.result.book x
+    c.self.view_is c.take_apart.ensures.words c.take_apart.ensures.rests (c.into_inner.result.passes ∙ c.requires.crew.1) c.into_inner.result.monitors (rw c.into_inner.ensures c.in-Ok.ensures.words) c.requires.counts end replays)
 
 pub returns-in-Ok-clause-fault : goal.returns-in-Ok-clause-fault
 returns-in-Ok-clause-fault g c = torn_ends c.args.self.count c.args.passes.items c.end.result c.requires.each c.end.ensures.torn
 
 pub returns-in-Ok-clause-torn : goal.returns-in-Ok-clause-torn
 returns-in-Ok-clause-torn g c =
-    torn_from c.args.self g.L.Crew.monitors c.args.passes.items c.take_apart.new.rests.items c.in-Ok.desk.book c.end.result c.take_apart.ensures.rests (c.in-Ok.desk.passes ∙ c.requires.crew.1)
-    c.in-Ok.desk.monitors c.end.ensures.other c.end.ensures.told c.end.ensures.total c.end.ensures.torn
+    torn_from c.args.self g.L.Crew.monitors c.args.passes.items c.take_apart.new.rests.items c.into_inner.result.book c.end.result c.take_apart.ensures.rests (c.into_inner.result.passes ∙ c.requires.crew.1)
+    c.into_inner.result.monitors c.end.ensures.other c.end.ensures.told c.end.ensures.total c.end.ensures.torn

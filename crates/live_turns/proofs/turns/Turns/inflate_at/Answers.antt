@@ -17,10 +17,10 @@ use Rattle.live_turns.proofs.turns.Turns.inflate_at.Goals as goal
 
 pub returns-in-Ok-clause-covers : goal.returns-in-Ok-clause-covers
 returns-in-Ok-clause-covers g c =
-    let xs = bindings c.args.desk.now.book in
-    let ys = bindings c.bind.new.self.book in
+    let xs = bindings c.args.desk.now.value.book in
+    let ys = bindings c.bind.new.desk.value.book in
     let number = ap (λ (b : Receipt). b.monitor) c.in-Ok.ensures.receipt in
-    covers_kept ys (bindings c.act_on.new.desk.book) c.publish.new.holder.words c.act_on.new.self.words c.act_on.ensures.bindings c.act_on.ensures.words
+    covers_kept ys (bindings c.act_on.new.desk.value.book) c.publish.new.holder.words c.act_on.new.self.words c.act_on.ensures.bindings c.act_on.ensures.words
     (c.publish.ensures.covers ys (covers_bound xs ys c.args.call.object c.holder.inside.words.seen c.in-Ok.ensures.bindings (rw (← c.holder.view_is) at c.requires.covers))
     (binds_bound xs ys c.args.call.object c.in-Ok.receipt.monitor c.in-Ok.ensures.bindings number))
 
@@ -30,7 +30,7 @@ returns-in-Ok-clause-went g c =
     let p : Holding = record { words = c.holder.inside.words; own = c.holder.inside.own.list.items } in
     let q : Holding = record { words = c.holder.inside.words; own = c.bind.new.own.list.items } in
     let me : c.thread-me.result ≡ thread_numbered c.holder.inside.words.index = c.thread-me.ensures.value ∙ ap (λ (h : Holding). thread_numbered h.words.index) (sym c.holder.view_is) in
-    let m = length (bindings c.args.desk.now.book) in
+    let m = length (bindings c.args.desk.now.value.book) in
     let number = ap (λ (b : Receipt). b.monitor) c.in-Ok.ensures.receipt in
     let value : c.monitor-monitor.result ≡ c.in-Ok.receipt.monitor = c.monitor-monitor.ensures.value in
     rw (← c.holder.view_is) (ok_after c.act_on.result (At (InCall (Binding a.call a.count))) (At (InCall (Inflated a.call c.in-Ok.receipt.monitor))) p c.publish.new.holder c.act_on.new.self
@@ -43,7 +43,7 @@ returns-in-Ok-clause-halted g c =
     let p : Holding = record { words = c.holder.inside.words; own = c.holder.inside.own.list.items } in
     let q : Holding = record { words = c.holder.inside.words; own = c.bind.new.own.list.items } in
     let me : c.thread-me.result ≡ thread_numbered c.holder.inside.words.index = c.thread-me.ensures.value ∙ ap (λ (h : Holding). thread_numbered h.words.index) (sym c.holder.view_is) in
-    let m = length (bindings c.args.desk.now.book) in
+    let m = length (bindings c.args.desk.now.value.book) in
     let number = ap (λ (b : Receipt). b.monitor) c.in-Ok.ensures.receipt in
     rw (← c.holder.view_is) (gave_up_after c.act_on.result (At (InCall (Binding a.call a.count))) (Inflated a.call c.in-Ok.receipt.monitor) p c.publish.new.holder c.act_on.new.self
     (inflated_way a.call a.count m c.in-Ok.receipt.monitor p q c.publish.new.holder number refl (rw me at c.in-Ok.ensures.own) (c.publish.ensures.went false))
@@ -51,7 +51,7 @@ returns-in-Ok-clause-halted g c =
 
 pub returns-in-Err-Cause-clause-covers : goal.returns-in-Err-Cause-clause-covers
 returns-in-Err-Cause-clause-covers g c =
-    covers_kept (bindings c.args.desk.now.book) (bindings c.bind.new.self.book) c.holder.inside.words c.holder.inside.words c.in-Err-Cause.ensures.same refl (rw (← c.holder.view_is) at c.requires.covers)
+    covers_kept (bindings c.args.desk.now.value.book) (bindings c.bind.new.desk.value.book) c.holder.inside.words c.holder.inside.words c.in-Err-Cause.ensures.same refl (rw (← c.holder.view_is) at c.requires.covers)
 
 pub returns-in-Err-Cause-clause-went : goal.returns-in-Err-Cause-clause-went
 returns-in-Err-Cause-clause-went g c =
@@ -63,7 +63,7 @@ returns-in-Err-Cause-clause-went g c =
 
 pub returns-in-Err-Fault-clause-covers : goal.returns-in-Err-Fault-clause-covers
 returns-in-Err-Fault-clause-covers g c =
-    covers_kept (bindings c.args.desk.now.book) (bindings c.bind.new.self.book) c.holder.inside.words c.holder.inside.words c.in-Err-Fault.ensures.same refl (rw (← c.holder.view_is) at c.requires.covers)
+    covers_kept (bindings c.args.desk.now.value.book) (bindings c.bind.new.desk.value.book) c.holder.inside.words c.holder.inside.words c.in-Err-Fault.ensures.same refl (rw (← c.holder.view_is) at c.requires.covers)
 
 pub returns-in-Err-Fault-clause-halted : goal.returns-in-Err-Fault-clause-halted
 returns-in-Err-Fault-clause-halted g c =

@@ -5,7 +5,7 @@ use Rattle.live_turns.proofs.turns.Turns.tell.Goals as goal
 
 pub give-requires-clause-covers : goal.give-requires-clause-covers
 give-requires-clause-covers g c =
-    covers_kept (bindings c.in-Some.desk.book) (bindings c.tick-told.new.desk.book) c.take.new.holder.words c.tick-told.new.self.words
+    covers_kept (bindings c.in-Some.desk.value.book) (bindings c.tick-told.new.desk.value.book) c.take.new.holder.words c.tick-told.new.self.words
     c.tick-told.ensures.bindings c.tick-told.ensures.words c.in-Some.ensures.2
 
 pub returns-in-Ok-clause-looked : goal.returns-in-Ok-clause-looked
