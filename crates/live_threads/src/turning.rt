@@ -3,7 +3,6 @@
 ghost use Rattle.std.specs.Prelude.{◌≡◌, IfOk, IfErr, OnOk, OnErr, ◌++◌, true, false};
 ghost use Rattle.step_core.specs.declared.paths.Point.TheVariants.{Said};
 ghost use Rattle.live_turns.specs.Asked.{IsTickFault};
-ghost use Rattle.live_turns.specs.Points.{resting};
 ghost use Rattle.live_turns.specs.Ways.{AddsNoEvent, Went, Halted, VisitsBook, ticked_by};
 ghost use Rattle.live_threads.specs.Calls.{IsAtRest, CalledOn, CalledAbout};
 
@@ -12,7 +11,7 @@ use crate::waiting::Waiting;
 use crossbeam_utils::sync::Parker;
 use fast_path::{InterruptCall, MonitorCall};
 use fat_monitor::Reply;
-use live_turns::{Crew, LiveFault, Standing, TurnPass, Turned};
+use live_turns::{Crew, LiveFault, Standing, TurnPass};
 use std::sync::Wait;
 use std::time::Clock;
 
@@ -32,43 +31,40 @@ impl<L: Crew> Live<L> {
         }
     }
 
-    // The turns of a call behind this one, until it has its reply.
-    #[inline(always)]
+    // The turns of a call that was started, until it has its reply.
+    #[inline(never)]
     fn finish<R: Wait + Clock>(
         &self,
         rt: &R,
         pass: &mut TurnPass<L>,
         parker: &Parker,
-        first: Turned,
     ) -> Result<Reply, LiveFault>
         requires here { pass.old.holding.words.opening ≡ self.now }
         requires gate { pass.old.holding.words.has_gate ≡ false }
-        requires point { pass.old.point ≡ resting first.point }
         ensures went { IfOk result (λ r.
-            Went first.point (Said r) pass.old.holding pass.new.holding) }
+            Went pass.old.point (Said r) pass.old.holding pass.new.holding) }
         ensures halted { IfErr result (λ f.
-            Halted f first.point pass.old.holding pass.new.holding) }
+            Halted f pass.old.point pass.old.holding pass.new.holding) }
         ensures here { pass.new.holding.words.opening ≡ self.now }
         ensures rests { IsAtRest pass.new }
     {
-        let mut turned = first;
         let mut waiting = Waiting::new();
         for _ in rt.forever() {
+            let turned = match self.turns.turn(pass) {
+                Ok(turned) => turned,
+                Err(fault) => return Err(fault),
+            };
             self.ring(turned.granted);
             let standing = turned.standing();
             if let Standing::Said(reply) = standing {
                 return Ok(reply);
             }
             self.wait(rt, &mut waiting, standing, pass, parker);
-            match self.turns.turn(pass) {
-                Ok(next) => turned = next,
-                Err(fault) => return Err(fault),
-            }
         }
         unreachable!()
     }
 
-    // A call on an object, until it has its reply.
+    // A call on an object, until it has its reply. What the word alone decides, it does at once.
     #[inline(always)]
     pub(crate) fn run_on<R: Wait + Clock>(
         &self,
@@ -83,8 +79,9 @@ impl<L: Crew> Live<L> {
         ensures here { pass.new.holding.words.opening ≡ self.now }
         ensures rests { IsAtRest pass.new }
     {
-        match self.turns.begin_on(pass, call) {
-            Ok(turned) => self.finish(rt, pass, parker, turned),
+        match self.turns.start_on(pass, call) {
+            Ok(Some(reply)) => Ok(reply),
+            Ok(None) => self.finish(rt, pass, parker),
             Err(fault) => Err(fault),
         }
     }
@@ -103,8 +100,8 @@ impl<L: Crew> Live<L> {
         ensures here { pass.new.holding.words.opening ≡ self.now }
         ensures rests { IsAtRest pass.new }
     {
-        match self.turns.begin_about(pass, call) {
-            Ok(turned) => self.finish(rt, pass, parker, turned),
+        match self.turns.start_about(pass, call) {
+            Ok(()) => self.finish(rt, pass, parker),
             Err(fault) => Err(fault),
         }
     }

@@ -1,5 +1,5 @@
 -- What one turn of a call came to, and what a pass knows between turns.
-use Rattle.std.specs.Prelude.{◌≡◌, ◌<◌, ◌≤◌, ◌||◌, ◌+◌, Bool, true, false, nat_lt, length}
+use Rattle.std.specs.Prelude.{◌≡◌, ◌<◌, ◌≤◌, ◌||◌, ◌+◌, Bool, true, false, nat_lt, length, Option, Some, None}
 use Rattle.header_words.specs.Bindings.{HasPublish}
 use Rattle.fat_monitor.specs.declared.actions.Reply.{Reply}
 use Rattle.fat_monitor.specs.declared.actions.Reply.TheVariants as reply
@@ -65,6 +65,16 @@ RestsAtPost p = ⊥
 abbrev pub resting : Point → Point
 resting (Said r) = At Idle
 resting p = p
+
+-- where a call stands after its start: it has its reply, or stands where its pass does
+abbrev pub started : Option Reply → Point → Point
+started (Some r) p = Said r
+started None p = p
+
+-- the pass of a call that has its reply is in no call, and that of another in the middle of it
+abbrev pub RestsStarted : Option Reply → Point → Type 0
+RestsStarted (Some r) p = p ≡ At Idle
+RestsStarted None p = (s : Stage) × (p ≡ At (InCall s))
 
 -- the next step of a call that stands here is at the book
 abbrev pub is_at_book : Point → Bool

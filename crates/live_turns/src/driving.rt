@@ -99,7 +99,7 @@ impl<L: Crew> Turns<L> {
     }
 
     // Whether the call names a thread that the service does not have.
-    fn is_stranger(&self, call: InterruptCall) -> bool
+    pub(crate) fn is_stranger(&self, call: InterruptCall) -> bool
         ensures { result ≡ names_stranger self.now call }
     {
         match call {

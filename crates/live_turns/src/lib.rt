@@ -18,6 +18,7 @@ mod numbered;
 mod opening;
 mod pass;
 mod places;
+mod starting;
 mod turned;
 mod turning;
 mod turns;

@@ -25,7 +25,7 @@ use lock_word::{Lock, ObjectId, Split, lock_of};
 use step_core::{Place, Point, Stage};
 
 /// The count of a thin lock; 0 for another.
-fn count_of(lock: Lock) -> u16
+pub(crate) fn count_of(lock: Lock) -> u16
     ensures { result ≡ count_of lock }
 {
     match lock {
@@ -37,7 +37,7 @@ fn count_of(lock: Lock) -> u16
 impl<L: Crew> Turns<L> {
     // Loads the word of an object.
     #[inline(always)]
-    fn load(&self, holder: &mut Holder<L>, object: ObjectId) -> Lock
+    pub(crate) fn load(&self, holder: &mut Holder<L>, object: ObjectId) -> Lock
         requires belongs { Belongs self.now false holder.old }
         requires object { object.0 < length self.now.lows }
         ensures belongs { Belongs self.now false holder.new }
@@ -59,7 +59,13 @@ impl<L: Crew> Turns<L> {
 
     // The store that the word of the object calls for, which has this lock.
     #[inline(always)]
-    fn store(&self, holder: &mut Holder<L>, call: MonitorCall, old: Lock, new: Lock) -> Reply
+    pub(crate) fn store(
+        &self,
+        holder: &mut Holder<L>,
+        call: MonitorCall,
+        old: Lock,
+        new: Lock,
+    ) -> Reply
         requires belongs { Belongs self.now false holder.old }
         requires object { call.object.0 < length self.now.lows }
         requires thin { (n : ℕ) → (depth_at holder.old.words call.object.0 ≡ n + 1)
@@ -71,6 +77,7 @@ impl<L: Crew> Turns<L> {
         ensures went { Went (At (InCall (Storing call new))) (Said result)
             holder.old holder.new }
         ensures loaded { (p : PassValue) → Loaded false (Said result) p holder.new.words }
+        ensures visit { VisitsBook 0 holder.old.words holder.new.words }
     {
         let object = call.object;
         match (call.operation, new) {

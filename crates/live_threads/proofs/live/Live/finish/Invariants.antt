@@ -1,5 +1,4 @@
 use Rattle.std.proofs.Common.{◌≡◌, false}
-use Rattle.live_turns.specs.Points.{resting}
 use Rattle.live_turns.specs.Ways.{Went}
 use Rattle.live_threads.proofs.live.Live.finish.Given as goal
 
@@ -7,6 +6,5 @@ abbrev pub invariant-loop : goal.invariant-loop
 invariant-loop g l = record {
   here : l.pass.holding.words.opening ≡ l.self;
   gate : l.pass.holding.words.has_gate ≡ false;
-  point : l.pass.point ≡ resting l.turned.point;
-  went : Went l.fn.first.point l.turned.point l.fn.pass.holding l.pass.holding;
+  went : Went l.fn.pass.point l.pass.point l.fn.pass.holding l.pass.holding;
 }

@@ -1,0 +1,126 @@
+//! The start of a call, before any turn that needs the book.
+
+ghost use Rattle.std.specs.Prelude.{◌≡◌, ◌<◌, ◌≤◌, IfOk, IfErr, OnOk, length, false, true};
+ghost use Rattle.std.specs.Bool.{OnTrue, OnFalse};
+ghost use Rattle.fat_monitor.specs.declared.actions.Reply.TheVariants as reply;
+ghost use Rattle.header_words.specs.Passes.{depth_at};
+ghost use Rattle.step_core.specs.declared.places.Place.TheVariants.{Idle, InCall};
+ghost use Rattle.step_core.specs.declared.places.Stage.TheVariants.{Begun, Taking, Direct};
+ghost use Rattle.step_core.specs.declared.paths.Point.TheVariants.{At, Said};
+ghost use Rattle.step_core.specs.Go.{entering};
+ghost use Rattle.live_turns.specs.declared.faults.LiveFault.{LiveFault};
+ghost use Rattle.live_turns.specs.Points.{RestsStarted, started, names_stranger};
+ghost use Rattle.live_turns.specs.Ways.{Belongs, Went, VisitsBook};
+
+use crate::desks::Crew;
+use crate::holders::Holder;
+use crate::turning::count_of;
+use crate::{LiveFault, TurnPass, Turns};
+use fast_path::{InterruptCall, MonitorCall, Next, Operation};
+use fat_monitor::Reply;
+use lock_word::{ObjectId, Split};
+use step_core::{Place, Point, Stage};
+
+// The pass is in the middle of a call, at this stage.
+#[inline(never)]
+fn stay(point: &mut Point, stage: Stage)
+    ensures { point.new ≡ At (InCall stage) }
+{
+    *point = Point::At(Place::InCall(stage));
+}
+
+impl<L: Crew> Turns<L> {
+    // The exchange of the free word, by an enter that has met nobody: whether it won the word.
+    #[inline(always)]
+    fn exchange(&self, holder: &mut Holder<L>, object: ObjectId) -> bool
+        requires belongs { Belongs self.now false holder.old }
+        requires object { object.0 < length self.now.lows }
+        requires free { depth_at holder.old.words object.0 ≡ 0 }
+        ensures belongs { Belongs self.now false holder.new }
+        ensures won { OnTrue result (Went (At (InCall (Taking object false))) (Said reply.Entered)
+            holder.old holder.new) }
+        ensures lost { OnFalse result (Went (At (InCall (Taking object false)))
+            (At (InCall (Begun (entering object) true))) holder.old holder.new) }
+        ensures visit { VisitsBook 0 holder.old.words holder.new.words }
+    {
+        self.headers.acquire(&mut holder.words, object)
+    }
+
+    /// Starts a call on an object (JLS SE 8, 17.1 and 17.2) by its steps on the word of the object:
+    /// a load, and an exchange or a store where the word calls for one. They are the whole call
+    /// where the object is free or held thinly by the thread, and the call need not wait; the
+    /// answer is its reply then. Else it is None, the pass is in the middle of the call, and
+    /// [`turn`](Turns::turn) goes on.
+    ///
+    /// The fault is [`NoObject`](LiveFault::NoObject), before anything was done.
+    #[inline(always)]
+    pub fn start_on(
+        &self,
+        pass: &mut TurnPass<L>,
+        call: MonitorCall,
+    ) -> Result<Option<Reply>, LiveFault>
+        requires belongs { Belongs self.now false pass.old.holding }
+        requires idle { pass.old.point ≡ At Idle }
+        ensures belongs { Belongs self.now false pass.new.holding }
+        ensures went { IfOk result (λ said. Went (At (InCall (Begun call false)))
+            (started said pass.new.point) pass.old.holding pass.new.holding) }
+        ensures rests { IfOk result (λ said. RestsStarted said pass.new.point) }
+        ensures there { OnOk result (call.object.0 < length self.now.lows) }
+        ensures fault { IfErr result (λ f. (f ≡ LiveFault.NoObject)
+            × (length self.now.lows ≤ call.object.0) × (pass.new ≡ pass.old)) }
+        ensures did { VisitsBook 0 pass.old.holding.words pass.new.holding.words }
+    {
+        let object = call.object;
+        if object.0 >= self.objects {
+            return Err(LiveFault::NoObject);
+        }
+        let lock = self.load(&mut pass.holder, object);
+        match call.operation.next(Split::Wide, lock, pass.holder.index()) {
+            Next::Reply(reply) => Ok(Some(reply)),
+            Next::Store(new) => Ok(Some(self.store(&mut pass.holder, call, lock, new))),
+            Next::Cas(_) => {
+                if self.exchange(&mut pass.holder, object) {
+                    return Ok(Some(Reply::Entered));
+                }
+                let operation = Operation::Enter;
+                let call = MonitorCall { object, operation };
+                let contended = true;
+                stay(&mut pass.point, Stage::Begun { call, contended });
+                Ok(None)
+            }
+            Next::Spin => {
+                let contended = true;
+                stay(&mut pass.point, Stage::Begun { call, contended });
+                Ok(None)
+            }
+            Next::Bind => {
+                let count = count_of(lock);
+                stay(&mut pass.point, Stage::Binding { call, count });
+                Ok(None)
+            }
+            Next::Fat(monitor) => {
+                stay(&mut pass.point, Stage::Acting { call, monitor });
+                Ok(None)
+            }
+        }
+    }
+
+    /// Starts a call about interrupts (JLS SE 8, 17.2.3): nothing is done yet, and
+    /// [`turn`](Turns::turn) goes on.
+    ///
+    /// The fault is [`NoThread`](LiveFault::NoThread).
+    pub fn start_about(&self, pass: &mut TurnPass<L>, call: InterruptCall) -> Result<(), LiveFault>
+        requires idle { pass.old.point ≡ At Idle }
+        ensures same { pass.new.holding ≡ pass.old.holding }
+        ensures point { OnOk result (pass.new.point ≡ At (InCall (Direct call))) }
+        ensures there { OnOk result (names_stranger self.now call ≡ false) }
+        ensures fault { IfErr result (λ f. (f ≡ LiveFault.NoThread)
+            × (names_stranger self.now call ≡ true) × (pass.new ≡ pass.old)) }
+    {
+        if self.is_stranger(call) {
+            return Err(LiveFault::NoThread);
+        }
+        stay(&mut pass.point, Stage::Direct { call });
+        Ok(())
+    }
+}
