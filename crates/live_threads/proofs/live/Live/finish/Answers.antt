@@ -20,7 +20,7 @@ loop-preserved g c =
 pub returns-in-Said-clause-went : goal.returns-in-Said-clause-went
 returns-in-Said-clause-went g c =
     let said : c.in-Ok.turned.point ≡ Said c.in-Said.reply =
-        said_at c.in-Ok.turned.gate_taken c.in-Ok.turned.point c.in-Said.reply (sym c.standing-standing.ensures ∙ c.in-Said.is) in
+    said_at c.in-Ok.turned.gate_taken c.in-Ok.turned.point c.in-Said.reply (sym c.standing-standing.ensures ∙ c.in-Said.is) in
     went_then c.args.pass.now.point c.loop.pass.point (Said c.in-Said.reply) c.args.pass.now.holding c.loop.pass.holding c.turn.new.pass.holding c.loop.invariant.went
     (subst (λ (s : Point). Went c.loop.pass.point s c.loop.pass.holding c.turn.new.pass.holding) said c.in-Ok.ensures.went)
 

@@ -15,5 +15,5 @@ returns-clause-lost g c =
     let p : Holding = record { words = c.holder.inside.words; own = c.holder.inside.own.list.items } in
     let q : Holding = record { words = c.acquire.new.pass; own = c.holder.inside.own.list.items } in
     rw (← c.holder.view_is) (OnFalse_from c.acquire.result _ (λ e.
-      let lost = OnFalse_at e c.acquire.ensures.lost in
-      lose_way c.args.object false lost.0 p q lost.1 refl))
+    let lost = OnFalse_at e c.acquire.ensures.lost in
+    lose_way c.args.object false lost.0 p q lost.1 refl))
