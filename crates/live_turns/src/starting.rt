@@ -5,7 +5,7 @@ ghost use Rattle.std.specs.Bool.{OnTrue, OnFalse};
 ghost use Rattle.fat_monitor.specs.declared.actions.Reply.TheVariants as reply;
 ghost use Rattle.header_words.specs.Passes.{depth_at};
 ghost use Rattle.step_core.specs.declared.places.Place.TheVariants.{Idle, InCall};
-ghost use Rattle.step_core.specs.declared.places.Stage.TheVariants.{Begun, Taking, Direct};
+ghost use Rattle.step_core.specs.declared.places.Stage.TheVariants.{Begun, Taking, Binding, Acting, Direct};
 ghost use Rattle.step_core.specs.declared.paths.Point.TheVariants.{At, Said};
 ghost use Rattle.step_core.specs.Go.{entering};
 ghost use Rattle.live_turns.specs.declared.faults.LiveFault.{LiveFault};
@@ -16,17 +16,43 @@ use crate::desks::Crew;
 use crate::holders::Holder;
 use crate::turning::count_of;
 use crate::{LiveFault, TurnPass, Turns};
-use fast_path::{InterruptCall, MonitorCall, Next, Operation};
+use fast_path::{InterruptCall, MonitorCall, Next};
 use fat_monitor::Reply;
 use lock_word::{ObjectId, Split};
 use step_core::{Place, Point, Stage};
 
-// The pass is in the middle of a call, at this stage.
+// Where a call stands that goes on. Each is a function of its own, so that a call that is over at
+// once has nothing of it.
+
+// It has met another thread at the word.
 #[inline(never)]
-fn stay(point: &mut Point, stage: Stage)
-    ensures { point.new ≡ At (InCall stage) }
+fn stay_contended(point: &mut Point, call: &MonitorCall)
+    ensures { point.new ≡ At (InCall (Begun call.now true)) }
 {
-    *point = Point::At(Place::InCall(stage));
+    let contended = true;
+    *point = Point::At(Place::InCall(Stage::Begun {
+        call: *call,
+        contended,
+    }));
+}
+
+// It is to bind a monitor to its object.
+#[inline(never)]
+fn stay_binding(point: &mut Point, call: &MonitorCall, count: u16)
+    ensures { point.new ≡ At (InCall (Binding call.now count)) }
+{
+    *point = Point::At(Place::InCall(Stage::Binding { call: *call, count }));
+}
+
+// It is to act on the monitor of its object.
+#[inline(never)]
+fn stay_acting(point: &mut Point, call: &MonitorCall, monitor: u32)
+    ensures { point.new ≡ At (InCall (Acting call.now monitor)) }
+{
+    *point = Point::At(Place::InCall(Stage::Acting {
+        call: *call,
+        monitor,
+    }));
 }
 
 impl<L: Crew> Turns<L> {
@@ -82,24 +108,19 @@ impl<L: Crew> Turns<L> {
                 if self.exchange(&mut pass.holder, object) {
                     return Ok(Some(Reply::Entered));
                 }
-                let operation = Operation::Enter;
-                let call = MonitorCall { object, operation };
-                let contended = true;
-                stay(&mut pass.point, Stage::Begun { call, contended });
+                stay_contended(&mut pass.point, &call);
                 Ok(None)
             }
             Next::Spin => {
-                let contended = true;
-                stay(&mut pass.point, Stage::Begun { call, contended });
+                stay_contended(&mut pass.point, &call);
                 Ok(None)
             }
             Next::Bind => {
-                let count = count_of(lock);
-                stay(&mut pass.point, Stage::Binding { call, count });
+                stay_binding(&mut pass.point, &call, count_of(lock));
                 Ok(None)
             }
             Next::Fat(monitor) => {
-                stay(&mut pass.point, Stage::Acting { call, monitor });
+                stay_acting(&mut pass.point, &call, monitor);
                 Ok(None)
             }
         }
@@ -120,7 +141,7 @@ impl<L: Crew> Turns<L> {
         if self.is_stranger(call) {
             return Err(LiveFault::NoThread);
         }
-        stay(&mut pass.point, Stage::Direct { call });
+        pass.point = Point::At(Place::InCall(Stage::Direct { call }));
         Ok(())
     }
 }

@@ -1,6 +1,7 @@
 use Rattle.std.specs.Prelude.{◌≡◌, ◌+◌, true, false}
 use Rattle.std.proofs.Common.{rules, refl, ap, sym, ◌∙◌, subst}
 use Rattle.lock_word.specs.Layout.{count_of}
+use Rattle.fast_path.specs.declared.calls.Operation.{Operation}
 use Rattle.fast_path.specs.declared.Next.TheVariants as next
 use Rattle.fat_monitor.specs.declared.actions.Reply.TheVariants as reply
 use Rattle.header_words.specs.Passes.{depth_at}
@@ -28,16 +29,18 @@ returns-then-exchange-clause-went g c =
 
 pub returns-else-exchange-clause-went : goal.returns-else-exchange-clause-went
 returns-else-exchange-clause-went g c =
-    rw (← c.pass.view_is) (subst (λ (s : Point). Went (At (InCall (Begun c.args.call false))) s c.pass.inside.holder c.exchange.new.holder) (sym c.stay.ensures)
+    rw (← c.pass.view_is) (subst (λ (s : Point). Went (At (InCall (Begun c.args.call false))) s c.pass.inside.holder c.exchange.new.holder) (sym (c.stay_contended.ensures
+    ∙ ap (λ (p : Operation). At (InCall (Begun (record { object = c.args.call.object; operation = p }) true)))
+    (cas_fact c.args.call.operation c.load-lock.result c.in-Cas.field-0 c.index.result (sym c.next.ensures ∙ c.in-Cas.is)).1))
     (went_then (At (InCall (Begun c.args.call false))) (At (InCall (Taking c.args.call.object false))) (At (InCall (Begun (entering c.args.call.object) true))) c.pass.inside.holder c.load-lock.new.holder c.exchange.new.holder
     (first_way c.args.call false c.load-lock.result (next.Cas c.in-Cas.field-0) c.index.result c.pass.inside.holder c.load-lock.new.holder (c.load-lock.ensures.went c.args.call false refl) c.index.ensures c.load-lock.ensures.index (sym c.in-Cas.is ∙ c.next.ensures))
     c.if-exchange.ensures.lost))
 
 pub invariant_of-pass-in-Bind : goal.invariant_of-pass-in-Bind
 invariant_of-pass-in-Bind g c =
-    let holds : depth_at c.load-lock.new.holder.words c.args.call.object.0 ≡ c.count_of-count.result + 1 = rw c.count_of-count.ensures (bind_depth c.args.call.operation c.load-lock.result c.load-lock.new.holder.words.index (depth_at c.load-lock.new.holder.words c.args.call.object.0)
+    let holds : depth_at c.load-lock.new.holder.words c.args.call.object.0 ≡ c.count_of.result + 1 = rw c.count_of.ensures (bind_depth c.args.call.operation c.load-lock.result c.load-lock.new.holder.words.index (depth_at c.load-lock.new.holder.words c.args.call.object.0)
     (rw (← c.index.ensures) (sym c.next.ensures ∙ c.in-Bind.is)) c.load-lock.ensures.thin) in
-    subst (λ (s : Point). Knows s c.load-lock.new.holder) (sym c.stay-in-Bind.ensures) (search rules, holds, search rules)
+    subst (λ (s : Point). Knows s c.load-lock.new.holder) (sym c.stay_binding.ensures) (search rules, holds, search rules)
 
 pub returns-in-Reply-clause-went : goal.returns-in-Reply-clause-went
 returns-in-Reply-clause-went g c =
@@ -51,15 +54,15 @@ returns-in-Store-clause-went g c =
 
 pub returns-in-Spin-clause-went : goal.returns-in-Spin-clause-went
 returns-in-Spin-clause-went g c =
-    rw (← c.pass.view_is) (subst (λ (s : Point). Went (At (InCall (Begun c.args.call false))) s c.pass.inside.holder c.load-lock.new.holder) (sym c.stay-in-Spin.ensures)
+    rw (← c.pass.view_is) (subst (λ (s : Point). Went (At (InCall (Begun c.args.call false))) s c.pass.inside.holder c.load-lock.new.holder) (sym c.stay_contended-in-Spin.ensures)
     (first_way c.args.call false c.load-lock.result next.Spin c.index.result c.pass.inside.holder c.load-lock.new.holder (c.load-lock.ensures.went c.args.call false refl) c.index.ensures c.load-lock.ensures.index (sym c.in-Spin.is ∙ c.next.ensures)))
 
 pub returns-in-Bind-clause-went : goal.returns-in-Bind-clause-went
 returns-in-Bind-clause-went g c =
-    rw (← c.pass.view_is) (subst (λ (s : Point). Went (At (InCall (Begun c.args.call false))) s c.pass.inside.holder c.load-lock.new.holder) (sym c.stay-in-Bind.ensures)
-    (rw c.count_of-count.ensures (first_way c.args.call false c.load-lock.result next.Bind c.index.result c.pass.inside.holder c.load-lock.new.holder (c.load-lock.ensures.went c.args.call false refl) c.index.ensures c.load-lock.ensures.index (sym c.in-Bind.is ∙ c.next.ensures))))
+    rw (← c.pass.view_is) (subst (λ (s : Point). Went (At (InCall (Begun c.args.call false))) s c.pass.inside.holder c.load-lock.new.holder) (sym c.stay_binding.ensures)
+    (rw c.count_of.ensures (first_way c.args.call false c.load-lock.result next.Bind c.index.result c.pass.inside.holder c.load-lock.new.holder (c.load-lock.ensures.went c.args.call false refl) c.index.ensures c.load-lock.ensures.index (sym c.in-Bind.is ∙ c.next.ensures))))
 
 pub returns-in-Fat-clause-went : goal.returns-in-Fat-clause-went
 returns-in-Fat-clause-went g c =
-    rw (← c.pass.view_is) (subst (λ (s : Point). Went (At (InCall (Begun c.args.call false))) s c.pass.inside.holder c.load-lock.new.holder) (sym c.stay-in-Fat.ensures)
+    rw (← c.pass.view_is) (subst (λ (s : Point). Went (At (InCall (Begun c.args.call false))) s c.pass.inside.holder c.load-lock.new.holder) (sym c.stay_acting.ensures)
     (first_way c.args.call false c.load-lock.result (next.Fat c.in-Fat.monitor) c.index.result c.pass.inside.holder c.load-lock.new.holder (c.load-lock.ensures.went c.args.call false refl) c.index.ensures c.load-lock.ensures.index (sym c.in-Fat.is ∙ c.next.ensures)))
