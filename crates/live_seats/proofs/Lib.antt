@@ -1,3 +1,4 @@
 mod Finishing
 mod Keeping
 mod Passes
+mod Started

@@ -10,7 +10,7 @@ ghost use Rattle.live_seats.specs.declared.orders.Order.TheVariants.{BeginOn, Be
 
 use crate::orders::{Order, Told};
 use fast_path::{InterruptCall, MonitorCall};
-use live_turns::{Crew, TurnPass, Turned, Turns};
+use live_turns::{Crew, Standing, TurnPass, Turned, Turns};
 use step_core::{Place, Point};
 
 fn is_idle<L: Crew>(pass: &TurnPass<L>) -> bool
@@ -33,7 +33,21 @@ fn told(turned: Turned) -> Told
     }
 }
 
-// The first turn of a call on an object.
+// The turn of a call on an object that its start has not ended.
+#[inline(never)]
+fn go_on<L: Crew>(turns: &Turns<L>, pass: &mut TurnPass<L>) -> Told
+    requires belongs { Belongs turns.now false pass.old.holding }
+    requires calling { pass.old.point ≡ At Idle → ⊥ }
+    ensures belongs { Belongs turns.now false pass.new.holding }
+    ensures serves { Serves turns.now Turn result pass.old pass.new }
+{
+    match turns.turn(pass) {
+        Ok(turned) => told(turned),
+        Err(fault) => Told::Fault(fault),
+    }
+}
+
+// The first turn of a call on an object: its start, and where that has not ended it, one turn more.
 fn begin_on<L: Crew>(turns: &Turns<L>, pass: &mut TurnPass<L>, call: MonitorCall) -> Told
     requires belongs { Belongs turns.now false pass.old.holding }
     ensures belongs { Belongs turns.now false pass.new.holding }
@@ -42,8 +56,12 @@ fn begin_on<L: Crew>(turns: &Turns<L>, pass: &mut TurnPass<L>, call: MonitorCall
     if !is_idle(pass) {
         return Told::InCall;
     }
-    match turns.begin_on(pass, call) {
-        Ok(turned) => told(turned),
+    match turns.start_on(pass, call) {
+        Ok(Some(reply)) => Told::Turned {
+            standing: Standing::Said(reply),
+            granted: None,
+        },
+        Ok(None) => go_on(turns, pass),
         Err(fault) => Told::Fault(fault),
     }
 }
@@ -72,10 +90,7 @@ fn turn<L: Crew>(turns: &Turns<L>, pass: &mut TurnPass<L>) -> Told
     if is_idle(pass) {
         return Told::NotCalling;
     }
-    match turns.turn(pass) {
-        Ok(turned) => told(turned),
-        Err(fault) => Told::Fault(fault),
-    }
+    go_on(turns, pass)
 }
 
 // Tells the moment.

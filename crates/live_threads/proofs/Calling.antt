@@ -1,4 +1,4 @@
--- What a call came to, from its first turn and from those behind it.
+-- What a call came to, from its start and from the turns behind it.
 use Rattle.std.specs.Prelude.{◌≡◌, ◌<◌, Bool, true, false, length, Result, Ok, Err, IfOk, IfErr}
 use Rattle.std.proofs.Common.{refl, ap}
 use Rattle.fat_monitor.specs.declared.actions.Reply.{Reply}
@@ -12,10 +12,9 @@ use Rattle.step_core.specs.declared.paths.Point.TheVariants.{At, Expired, Said}
 use Rattle.live_turns.specs.declared.turned.Standing.{Standing}
 use Rattle.live_turns.specs.declared.turned.Standing.TheVariants as standing
 use Rattle.live_turns.specs.declared.faults.LiveFault.{LiveFault}
-use Rattle.live_turns.specs.declared.faults.LiveFault.TheVariants as fault
 use Rattle.live_turns.specs.Points.{standing_at, resting, GivenUpOn, GivenUpAbout, names_stranger}
 use Rattle.live_turns.specs.Ways.{Holding, Went, Halted}
-use Rattle.live_turns.proofs.Going.{went_then, halted_then}
+use Rattle.live_turns.proofs.Going.{went_then, given_up_on, given_up_about}
 use Rattle.live_threads.specs.Calls.{CalledOn, CalledAbout}
 
 -- the reply of a standing, if it has one
@@ -40,22 +39,7 @@ rests_there b (Said x) h = absurd (h x refl)
 rests_there b (At p) h = refl
 rests_there b Expired h = refl
 
--- a fault behind the first turn
-given_up_on : (z : Opening) (c : MonitorCall) (t : Point) (f : LiveFault) (p q r : Holding) → c.object.0 < length z.lows → Went (At (InCall (Begun c false))) t p q → Halted f t q r → GivenUpOn z c f p r
-given_up_on z c t fault.NoObject p q r lt w k = absurd k.last
-given_up_on z c t fault.Backwards p q r lt w k = (lt, halted_then fault.Backwards (At (InCall (Begun c false))) t p q r w k)
-given_up_on z c t fault.RecordFull p q r lt w k = (lt, halted_then fault.RecordFull (At (InCall (Begun c false))) t p q r w k)
-given_up_on z c t fault.Torn p q r lt w k = (lt, halted_then fault.Torn (At (InCall (Begun c false))) t p q r w k)
-given_up_on z c t fault.NoThread p q r lt w k = (lt, halted_then fault.NoThread (At (InCall (Begun c false))) t p q r w k)
-
-given_up_about : (z : Opening) (c : InterruptCall) (t : Point) (f : LiveFault) (p q r : Holding) → names_stranger z c ≡ false → Went (At (InCall (Direct c))) t p q → Halted f t q r → GivenUpAbout z c f p r
-given_up_about z c t fault.NoThread p q r out w k = absurd k.last
-given_up_about z c t fault.Backwards p q r out w k = (out, halted_then fault.Backwards (At (InCall (Direct c))) t p q r w k)
-given_up_about z c t fault.RecordFull p q r out w k = (out, halted_then fault.RecordFull (At (InCall (Direct c))) t p q r w k)
-given_up_about z c t fault.Torn p q r out w k = (out, halted_then fault.Torn (At (InCall (Direct c))) t p q r w k)
-given_up_about z c t fault.NoObject p q r out w k = (out, halted_then fault.NoObject (At (InCall (Direct c))) t p q r w k)
-
--- a call, by its first turn and by what the turns behind it came to
+-- a call, by its start and by what the turns behind it came to
 pub finished_on : (z : Opening) (c : MonitorCall) (t : Point) (x : Result Reply LiveFault) (p q r : Holding) → c.object.0 < length z.lows → Went (At (InCall (Begun c false))) t p q
     → IfOk x (λ y. Went t (Said y) q r) → IfErr x (λ f. Halted f t q r) → CalledOn z c x p r
 finished_on z c t (Ok y) p q r lt w ok err = (lt, went_then (At (InCall (Begun c false))) t (Said y) p q r w ok)

@@ -1,5 +1,5 @@
 -- Ways of a call, one after another.
-use Rattle.std.specs.Prelude.{◌≡◌, ℕ, ◌+◌, ◌<◌, ◌≤◌, ◌%◌, Bool, true, false, List, [], ◌∷◌, ◌++◌}
+use Rattle.std.specs.Prelude.{◌≡◌, ℕ, ◌+◌, ◌<◌, ◌≤◌, ◌%◌, Bool, true, false, List, [], ◌∷◌, ◌++◌, length}
 use Rattle.std.proofs.Common.{refl, arith, sym, ◌∙◌, ap, subst}
 use Rattle.std.proofs.lemmas.List.{append_assoc, append-nil}
 use Rattle.lock_word.specs.declared.Word.{Word}
@@ -18,9 +18,9 @@ use Rattle.fast_path.specs.declared.calls.InterruptCall.{InterruptCall}
 use Rattle.header_words.specs.declared.event.Deed.{Deed as WordDeed}
 use Rattle.header_words.specs.declared.event.Deed.TheVariants as word
 use Rattle.header_words.specs.Events.{event}
-use Rattle.header_words.specs.Passes.{PassValue, MakesEvent}
+use Rattle.header_words.specs.Passes.{Opening, PassValue, MakesEvent}
 use Rattle.step_core.specs.declared.places.Place.TheVariants.{InCall, AtPost}
-use Rattle.step_core.specs.declared.places.Stage.TheVariants.{Binding, Acting, Won, Bound, Inflated, Direct}
+use Rattle.step_core.specs.declared.places.Stage.TheVariants.{Begun, Binding, Acting, Won, Bound, Inflated, Direct}
 use Rattle.step_core.specs.declared.paths.Point.{Point}
 use Rattle.step_core.specs.declared.paths.Point.TheVariants.{At, Expired, Said}
 use Rattle.step_core.specs.declared.steps.Atomic.{Atomic}
@@ -29,8 +29,10 @@ use Rattle.step_core.specs.Go.{action_on, action_about, entering}
 use Rattle.step_core.specs.Path.{IsBindCause, IsTold, Follows, Leads, point_after, point_published, point_told, point_waited}
 use Rattle.live_turns.specs.declared.deeds.Deed.TheVariants as deed
 use Rattle.live_turns.specs.declared.faults.LiveFault.{LiveFault}
+use Rattle.live_turns.specs.declared.faults.LiveFault.TheVariants as fault
 use Rattle.live_turns.specs.Log.{thread_numbered}
 use Rattle.live_turns.specs.Asked.{own_action, IsAwake}
+use Rattle.live_turns.specs.Points.{GivenUpOn, GivenUpAbout, names_stranger}
 use Rattle.live_turns.specs.Ways.{by, Holding, stored_deed, event_of, events_of, deed_of, deeds_of, Went, Halted, MayHalt, Took, Gave, parked}
 
 Leads-append : (me : ℕ) (s t u : Point) (es fs : List Atomic) → Leads Wide me s es t → Leads Wide me t fs u → Leads Wide me s (es ++ fs) u
@@ -123,6 +125,21 @@ halted_held f s p p' q' q out took k gave = record { point = k.point; last = k.l
 
 pub halted_here : (f : LiveFault) (s : Point) (p q : Holding) → MayHalt f s → q.words ≡ p.words → q.own ≡ p.own → Halted f s p q
 halted_here f s p q last words own = record { point = s; last = last; went = went_same s p q words own }
+
+-- a call was given up behind its start
+pub given_up_on : (z : Opening) (c : MonitorCall) (t : Point) (f : LiveFault) (p q r : Holding) → c.object.0 < length z.lows → Went (At (InCall (Begun c false))) t p q → Halted f t q r → GivenUpOn z c f p r
+given_up_on z c t fault.NoObject p q r lt w k = absurd k.last
+given_up_on z c t fault.Backwards p q r lt w k = (lt, halted_then fault.Backwards (At (InCall (Begun c false))) t p q r w k)
+given_up_on z c t fault.RecordFull p q r lt w k = (lt, halted_then fault.RecordFull (At (InCall (Begun c false))) t p q r w k)
+given_up_on z c t fault.Torn p q r lt w k = (lt, halted_then fault.Torn (At (InCall (Begun c false))) t p q r w k)
+given_up_on z c t fault.NoThread p q r lt w k = (lt, halted_then fault.NoThread (At (InCall (Begun c false))) t p q r w k)
+
+pub given_up_about : (z : Opening) (c : InterruptCall) (t : Point) (f : LiveFault) (p q r : Holding) → names_stranger z c ≡ false → Went (At (InCall (Direct c))) t p q → Halted f t q r → GivenUpAbout z c f p r
+given_up_about z c t fault.NoThread p q r out w k = absurd k.last
+given_up_about z c t fault.Backwards p q r out w k = (out, halted_then fault.Backwards (At (InCall (Direct c))) t p q r w k)
+given_up_about z c t fault.RecordFull p q r out w k = (out, halted_then fault.RecordFull (At (InCall (Direct c))) t p q r w k)
+given_up_about z c t fault.Torn p q r out w k = (out, halted_then fault.Torn (At (InCall (Direct c))) t p q r w k)
+given_up_about z c t fault.NoObject p q r out w k = (out, halted_then fault.NoObject (At (InCall (Direct c))) t p q r w k)
 
 -- The ways of single steps of a call.
 
