@@ -8,7 +8,7 @@ use Rattle.history.specs.Plans.{IsPlanOf}
 use Rattle.history.specs.Reports.{IsReportOf}
 use Rattle.history.specs.declared.plans.Plan.{Plan}
 use Rattle.dump.specs.Dumps.{IsDumpOf}
-use Rattle.live_runs.specs.Runs.{IsRunOf}
+use Rattle.live_runs.specs.Runs.{IsTextOfRun}
 use Rattle.command_line.specs.declared.orders.Task.{Task}
 use Rattle.command_line.specs.declared.orders.Task.TheVariants.{Run, Moves, Check, Dump, Live}
 
@@ -29,4 +29,4 @@ IsDone Check left rest given held holds =
 IsDone Dump left rest given held holds =
     (text : List ℕ) × IfSome left (λ input. IsDumpOf input text) × Appends held holds text
 IsDone Live left rest given held holds =
-    (text : List ℕ) × IfSome left (λ input. IsRunOf input text) × Appends held holds text
+    (text : List ℕ) × IfSome left (λ input. IsTextOfRun input text) × Appends held holds text
