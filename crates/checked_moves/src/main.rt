@@ -10,8 +10,6 @@ mod plain;
 mod random;
 mod random_moves;
 mod random_worlds;
-#[cfg(test)]
-mod tests;
 mod trouble;
 
 use std::process::ExitCode;
