@@ -80,10 +80,13 @@ posted_in records keys = record {
 abbrev pub posts_in : Slab Record → List (ℕ × ℕ) → map.FinMap nat_cmp Post
 posts_in records keys = values_of (λ r. r.post) Out records keys
 
+-- the slot of this key has the record of the thread with this number
+abbrev pub LeadsTo : Slab Record → ℕ → ℕ → Type 0
+LeadsTo records t k = (r : Record) × (get records k ≡ Some r) × (r.thread.0 ≡ t)
+
 -- each key leads to the record of its thread
 abbrev pub LeadToRecords : Slab Record → List (ℕ × ℕ) → Type 0
-LeadToRecords records keys =
-    (t k : ℕ) → lookup (nat_eq t) keys ≡ Some k → (r : Record) × (get records k ≡ Some r) × (r.thread.0 ≡ t)
+LeadToRecords records keys = (t k : ℕ) → lookup (nat_eq t) keys ≡ Some k → LeadsTo records t k
 
 -- each record has the key of its thread
 abbrev pub HaveKeys : Slab Record → List (ℕ × ℕ) → Type 0

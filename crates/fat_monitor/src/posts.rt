@@ -1,13 +1,15 @@
 //! The attached threads: where each stands, and whether it is interrupted.
 
 ghost use Rattle.std.specs.Prelude.{◌≡◌, ◌<◌, ◌↔◌, OnOk, OnErr, IsErrOf, IsSome, Some, None, false};
-ghost use Rattle.std.specs.Prelude.{cond};
+ghost use Rattle.std.specs.Prelude.{IsTrue, cond, nat_eq};
+ghost use Rattle.std.specs.Map.{lookup};
 ghost use Rattle.std.specs.Option.{unwrap_or};
 ghost use Rattle.std.specs.FinMap as map;
 ghost use Rattle.lock_word.specs.declared.ThreadId.{ThreadId};
 ghost use Rattle.fat_monitor.specs.declared.actions.Post.{Post};
 ghost use Rattle.fat_monitor.specs.FatState.{waits, wait_count};
 ghost use Rattle.fat_monitor.specs.Slots.{nobody_posted, with_thread_posted, without_thread_posted};
+ghost use Rattle.fat_monitor.specs.Slots.{HaveKeys, LeadsTo};
 ghost use Rattle.fat_monitor.specs.Slots.{with_parked, count_of, one_less, one_more, handed_over};
 
 use crate::{AttachFault, Post};
@@ -60,6 +62,34 @@ impl Model for Posts {
         × (p.waiting ≡ wait_count (posts_in p.records p.keys.entries)) };
 }
 
+// Whether the slot of this key has the record of the thread.
+fn is_at(records: &Slab<Record>, key: usize, thread: ThreadId) -> bool
+    ensures { IsTrue result → LeadsTo records.now thread.0 key }
+{
+    match records.get(key) {
+        Some(record) => record.thread.0 == thread.0,
+        None => false,
+    }
+}
+
+// The key of a thread's record; None where the thread is not attached. It is looked for first where
+// it is if threads were attached in the order of their numbers, from 1 or from 0 on: that needs no
+// hash.
+fn key_of(records: &Slab<Record>, keys: &HashMap<u32, usize>, thread: ThreadId) -> Option<usize>
+    requires { HaveKeys records.now keys.now.entries }
+    ensures { result ≡ lookup (nat_eq thread.0) keys.now.entries }
+{
+    let number = thread.0 as usize;
+    let before = number.wrapping_sub(1);
+    if is_at(records, before, thread) {
+        return Some(before);
+    }
+    if is_at(records, number, thread) {
+        return Some(number);
+    }
+    keys.get(&thread.0).copied()
+}
+
 /// One where a thread with this post stands in a wait set.
 fn one_waiting(post: Post) -> usize
     ensures { result ≡ cond (waits post) 1 0 }
@@ -100,8 +130,8 @@ impl Posts {
     pub(crate) fn get(&self, thread: ThreadId) -> Option<Post>
         ensures { result ≡ map.get self.now.posts thread.0 }
     {
-        let key = self.keys.get(&thread.0)?;
-        let record = self.records.get(*key)?;
+        let key = key_of(&self.records, &self.keys, thread)?;
+        let record = self.records.get(key)?;
         Some(record.post)
     }
 
@@ -109,10 +139,10 @@ impl Posts {
     pub(crate) fn flag(&self, thread: ThreadId) -> bool
         ensures { result ≡ unwrap_or (map.get self.now.flags thread.0) false }
     {
-        let Some(key) = self.keys.get(&thread.0) else {
+        let Some(key) = key_of(&self.records, &self.keys, thread) else {
             return false;
         };
-        match self.records.get(*key) {
+        match self.records.get(key) {
             Some(record) => record.flag,
             None => unreachable!(),
         }
@@ -123,10 +153,10 @@ impl Posts {
         ensures count { result ≡ count_of self.now.owned thread }
         ensures attached { 0 < result → IsSome (map.get self.now.posts thread.0) }
     {
-        let Some(key) = self.keys.get(&thread.0) else {
+        let Some(key) = key_of(&self.records, &self.keys, thread) else {
             return 0;
         };
-        match self.records.get(*key) {
+        match self.records.get(key) {
             Some(record) => record.owned,
             None => unreachable!(),
         }
@@ -169,10 +199,10 @@ impl Posts {
         requires { IsSome (map.get self.old.posts thread.0) }
         ensures { self.new ≡ record self.old { posts = map.insert self.old.posts thread.0 post } }
     {
-        let Some(key) = self.keys.get(&thread.0) else {
+        let Some(key) = key_of(&self.records, &self.keys, thread) else {
             unreachable!();
         };
-        let Some(record) = self.records.get_mut(*key) else {
+        let Some(record) = self.records.get_mut(key) else {
             unreachable!();
         };
         let before = one_waiting(record.post);
@@ -187,10 +217,10 @@ impl Posts {
         requires { IsSome (map.get self.now.posts thread.0) }
         ensures { map.get self.now.nodes thread.0 ≡ Some result.0 }
     {
-        let Some(key) = self.keys.get(&thread.0) else {
+        let Some(key) = key_of(&self.records, &self.keys, thread) else {
             unreachable!();
         };
-        match self.records.get(*key) {
+        match self.records.get(key) {
             Some(record) => record.node,
             None => unreachable!(),
         }
@@ -201,10 +231,10 @@ impl Posts {
         requires { IsSome (map.get self.old.posts thread.0) }
         ensures { self.new ≡ with_parked self.old thread post node.0 }
     {
-        let Some(key) = self.keys.get(&thread.0) else {
+        let Some(key) = key_of(&self.records, &self.keys, thread) else {
             unreachable!();
         };
-        let Some(record) = self.records.get_mut(*key) else {
+        let Some(record) = self.records.get_mut(key) else {
             unreachable!();
         };
         let before = one_waiting(record.post);
@@ -225,10 +255,10 @@ impl Posts {
         requires { IsSome (map.get self.old.posts thread.0) }
         ensures { self.new ≡ record self.old { flags = map.insert self.old.flags thread.0 flag } }
     {
-        let Some(key) = self.keys.get(&thread.0) else {
+        let Some(key) = key_of(&self.records, &self.keys, thread) else {
             unreachable!();
         };
-        let Some(record) = self.records.get_mut(*key) else {
+        let Some(record) = self.records.get_mut(key) else {
             unreachable!();
         };
         record.flag = flag;
@@ -271,10 +301,10 @@ impl Posts {
         requires { IsSome (map.get self.old.posts thread.0) }
         ensures { self.new ≡ record self.old { owned = map.insert self.old.owned thread.0 count } }
     {
-        let Some(key) = self.keys.get(&thread.0) else {
+        let Some(key) = key_of(&self.records, &self.keys, thread) else {
             unreachable!();
         };
-        let Some(record) = self.records.get_mut(*key) else {
+        let Some(record) = self.records.get_mut(key) else {
             unreachable!();
         };
         record.owned = count;

@@ -6,10 +6,10 @@ use Rattle.fat_monitor.proofs.posts.Posts.flag.Goals as goal
 pub returns-in_default : goal.returns-in_default
 returns-in_default c =
     rw (← c.self.view_is) (
-    ap (λ (o : Option Bool). unwrap_or o false) (sym (no_value-values_of (λ r. r.flag) false c.self.inside.records c.self.inside.keys.entries c.args.thread.0 (sym c.in_default.ensures.value))))
+    ap (λ (o : Option Bool). unwrap_or o false) (sym (no_value-values_of (λ r. r.flag) false c.self.inside.records c.self.inside.keys.entries c.args.thread.0 (sym c.in_default.ensures))))
 
 pub returns : goal.returns
 returns c =
     rw (← c.self.view_is) (
     ap (λ (o : Option Bool). unwrap_or o false)
-    (sym (value-values_of (λ r. r.flag) false c.self.inside.records c.self.inside.keys.entries c.args.thread.0 c.in-Some.key.now c.in-Some-get.record.now (sym c.in-Some.ensures.value) (sym c.in-Some-get.ensures))))
+    (sym (value-values_of (λ r. r.flag) false c.self.inside.records c.self.inside.keys.entries c.args.thread.0 c.in-Some.key c.in-Some-get.record.now (sym c.in-Some.ensures) (sym c.in-Some-get.ensures))))
