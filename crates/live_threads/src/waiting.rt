@@ -4,13 +4,19 @@ use crate::bells::Bell;
 use crossbeam_utils::Backoff;
 use crossbeam_utils::sync::Parker;
 use std::sync::Wait;
-use std::thread;
 use std::time::{Clock, Duration};
+use std::{hint, thread};
 
 // The shortest and the longest sleep of a call that meets other threads, in microseconds.
 const FIRST_SLEEP: u64 = 50;
 
 const LONGEST_SLEEP: u64 = 1_000;
+
+// How often a parked call looks at its bell before it sleeps: first with one pause of the processor
+// between two looks, so that it hears the bell at once, and then it lets others run.
+const LOOKS: u32 = 128;
+
+const YIELDS: u32 = 4;
 
 // How long a parked call sleeps at most before it looks again, in milliseconds.
 const PARKED_SLEEP: u64 = 10;
@@ -20,7 +26,8 @@ const PARKED_SLEEP: u64 = 10;
 pub(crate) struct Waiting {
     meeting: Backoff,
     next_sleep: u64,
-    listening: Backoff,
+    // Whether the call has parked and slept: from then on it sleeps at once.
+    has_slept: bool,
 }
 
 impl Waiting {
@@ -29,7 +36,7 @@ impl Waiting {
         Waiting {
             meeting: Backoff::new(),
             next_sleep: FIRST_SLEEP,
-            listening: Backoff::new(),
+            has_slept: false,
         }
     }
 
@@ -45,20 +52,30 @@ impl Waiting {
     }
 
     /// Waits before the next turn of a call that has parked, until the bell rings, or for some
-    /// milliseconds: it looks at the bell with growing turns, and then sleeps.
+    /// milliseconds: it looks at the bell for some microseconds, and then sleeps.
     pub(crate) fn listen<R: Wait + Clock>(&mut self, rt: &R, bell: &Bell, parker: &Parker) {
         self.meeting.reset();
         self.next_sleep = FIRST_SLEEP;
-        for _ in rt.forever() {
-            if bell.has_rung() {
-                return;
-            }
-            if self.listening.is_completed() {
-                parker.park_timeout(rt, Duration::from_millis(PARKED_SLEEP));
-                bell.has_rung();
-                return;
-            }
-            self.listening.snooze();
+        if !self.has_slept && hears(bell) {
+            return;
+        }
+        self.has_slept = true;
+        parker.park_timeout(rt, Duration::from_millis(PARKED_SLEEP));
+        bell.has_rung();
+    }
+}
+
+// Whether the bell rings while it is looked at.
+fn hears(bell: &Bell) -> bool {
+    for look in 0..LOOKS + YIELDS {
+        if bell.has_rung() {
+            return true;
+        }
+        if look < LOOKS {
+            hint::spin_loop();
+        } else {
+            thread::yield_now();
         }
     }
+    false
 }
