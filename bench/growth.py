@@ -76,16 +76,16 @@ def spread(objects):
     """One thread waits on each object, and another notifies each."""
     notifier = name("t", objects)
     for number in range(objects):
-        thread, place = name("t", number), name("o", number)
-        yield from call(thread, f"enter {place}", 2)
-        yield from call(thread, f"wait {place} 0 0", 4)
+        thread, monitor = name("t", number), name("o", number)
+        yield from call(thread, f"enter {monitor}", 2)
+        yield from call(thread, f"wait {monitor} 0 0", 4)
     for number in range(objects):
-        thread, place = name("t", number), name("o", number)
-        yield from call(notifier, f"enter {place}", 2)
-        yield from call(notifier, f"notify {place}", 2)
-        yield from call(notifier, f"exit {place}", 2)
+        thread, monitor = name("t", number), name("o", number)
+        yield from call(notifier, f"enter {monitor}", 2)
+        yield from call(notifier, f"notify {monitor}", 2)
+        yield from call(notifier, f"exit {monitor}", 2)
         yield f"go {thread}"
-        yield from call(thread, f"exit {place}", 2)
+        yield from call(thread, f"exit {monitor}", 2)
 
 
 def user_seconds():

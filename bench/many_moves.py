@@ -22,25 +22,25 @@ def move(kind, thread, **members):
     return {"move": kind, "thread": thread, **members}
 
 
-def whole_call(thread, call, place, answer, reply):
+def whole_call(thread, call, monitor, answer, reply):
     """A call, its answer and its return."""
-    yield move("Call", thread, call=call, object=place)
+    yield move("Call", thread, call=call, object=monitor)
     yield answer
     yield move("Return", thread, reply=reply)
 
 
-def one_round(waiter, notifier, place):
+def one_round(waiter, notifier, monitor):
     """The waiter waits on an object, the notifier notifies it, and both give up the object."""
-    yield from whole_call(waiter, "Enter", place, move("Lock", waiter), "Entered")
-    yield move("Call", waiter, call="Wait", object=place, millis=0, nanos=0)
+    yield from whole_call(waiter, "Enter", monitor, move("Lock", waiter), "Entered")
+    yield move("Call", waiter, call="Wait", object=monitor, millis=0, nanos=0)
     yield move("Wait", waiter)
-    yield from whole_call(notifier, "Enter", place, move("Lock", notifier), "Entered")
+    yield from whole_call(notifier, "Enter", monitor, move("Lock", notifier), "Entered")
     chosen = move("Notify", notifier, chosen=waiter)
-    yield from whole_call(notifier, "Notify", place, chosen, "Notified")
-    yield from whole_call(notifier, "Exit", place, move("Unlock", notifier), "Exited")
+    yield from whole_call(notifier, "Notify", monitor, chosen, "Notified")
+    yield from whole_call(notifier, "Exit", monitor, move("Unlock", notifier), "Exited")
     yield move("Relock", waiter)
     yield move("Return", waiter, reply="WaitOver")
-    yield from whole_call(waiter, "Exit", place, move("Unlock", waiter), "Exited")
+    yield from whole_call(waiter, "Exit", monitor, move("Unlock", waiter), "Exited")
 
 
 def moves(threads):

@@ -20,7 +20,7 @@
  * What the library cannot see, and the caller promises:
  *
  *   1. A slot, of a world, a seat or an end, is all zeros, or as the library left it. It is not
- *      copied, and its fields are not written. It may be moved, and its old place is then no slot
+ *      copied, and its fields are not written. It may be moved, and where it was is then no slot
  *      any more.
  *   2. One call at a time has a slot; a call that is given two has both. Where a slot changes
  *      threads, a lock, the start or the join of a thread, or a sequentially consistent atomic
@@ -228,20 +228,20 @@ enum nadkhoy_standing {
     NADKHOY_STANDING_PARKED = 4      /* sleep until a turn has `granted` this thread, or a tick */
 };
 
-/* The place of a world. All zeros is the empty slot; the fields are the library's own. */
+/* The slot of a world. All zeros is the empty slot; the fields are the library's own. */
 typedef struct nadkhoy_slot {
     void *world;
     bool full;
 } nadkhoy_slot;
 
-/* The place of a seat at a live service. All zeros is the empty slot; the fields are the library's
+/* The slot of a seat at a live service. All zeros is the empty slot; the fields are the library's
  * own. */
 typedef struct nadkhoy_live_slot {
     void *seat;
     bool full;
 } nadkhoy_live_slot;
 
-/* The place of the end of a live service. All zeros is the empty slot; the fields are the library's
+/* The slot of the end of a live service. All zeros is the empty slot; the fields are the library's
  * own. */
 typedef struct nadkhoy_end_slot {
     void *end;

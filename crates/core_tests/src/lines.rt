@@ -9,14 +9,14 @@ use std::test::Fail;
 use wait_lines::{Lines, Role};
 
 /// Makes room for one more thread, and moves this one to the end of a line.
-fn add(lines: &mut Lines, thread: u32, place: u32, role: Role) -> Result<(), Memory>
+fn add(lines: &mut Lines, thread: u32, monitor: u32, role: Role) -> Result<(), Memory>
     requires { lines.old.reservations < 32767 }
     ensures { OnOk result (lines.new.reservations ≡ lines.old.reservations + 1) }
 {
     let thread = ThreadId(thread);
     let _stood = lines.leave(thread);
     lines.reserve_one()?;
-    lines.join(thread, place, role);
+    lines.join(thread, monitor, role);
     Ok(())
 }
 
@@ -25,12 +25,12 @@ fn is_as_plain(
     alloc: Global,
     lines: &Lines,
     plain: &PlainLines,
-    place: u32,
+    monitor: u32,
     role: Role,
 ) -> Result<bool, AllocError> {
-    let all = lines.all(place, role).collect::<Vec<ThreadId>>(alloc)?;
-    let is_same = all == plain.all(alloc, place, role)?;
-    Ok(is_same && lines.first(place, role) == all.first().copied())
+    let all = lines.all(monitor, role).collect::<Vec<ThreadId>>(alloc)?;
+    let is_same = all == plain.all(alloc, monitor, role)?;
+    Ok(is_same && lines.first(monitor, role) == all.first().copied())
 }
 
 /// From the middle of a line of 1,000 outwards: 500, 499, 501, 498 and so on.
@@ -71,10 +71,10 @@ fn lines_are_apart(rt: HostRuntime) -> Result<(), Fail> {
         (1, Role::Entry, None),
         (1, Role::Waiting, Some(8)),
     ];
-    for (place, role, first) in rows {
+    for (monitor, role, first) in rows {
         assert!(rt;
-            lines.first(place, role) == first.map(ThreadId),
-            "{place} {role:?}"
+            lines.first(monitor, role) == first.map(ThreadId),
+            "{monitor} {role:?}"
         );
     }
     Ok(())
@@ -124,7 +124,7 @@ fn threads_join_and_leave_in_no_order(rt: HostRuntime) -> Result<(), Fail> {
     for round in 0..600u32 {
         state = state.wrapping_mul(1_664_525).wrapping_add(1_013_904_223);
         let thread = ThreadId((state >> 8) % 60);
-        let place = (state >> 16) % 90;
+        let monitor = (state >> 16) % 90;
         let role = if state >> 31 == 0 {
             Role::Entry
         } else {
@@ -134,10 +134,10 @@ fn threads_join_and_leave_in_no_order(rt: HostRuntime) -> Result<(), Fail> {
         if (state >> 24) % 4 == 0 {
             let _stood = lines.leave(thread);
         } else {
-            add(&mut lines, thread.0, place, role)?;
-            plain.join(thread, place, role)?;
+            add(&mut lines, thread.0, monitor, role)?;
+            plain.join(thread, monitor, role)?;
         }
-        let is_same = is_as_plain(rt.alloc(), &lines, &plain, place, role)?;
+        let is_same = is_as_plain(rt.alloc(), &lines, &plain, monitor, role)?;
         assert!(rt; is_same, "{round}");
     }
     Ok(())

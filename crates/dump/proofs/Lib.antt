@@ -2,6 +2,6 @@ pub mod Walks
 pub mod Marks
 pub mod Passes
 pub mod Parts
-pub mod Places
+pub mod Positions
 pub mod Seats
 pub mod Written

@@ -36,20 +36,20 @@ in_at [] i d within = absurd (omega (arith, within))
 in_at (x ∷ xs) zero d within = inl refl
 in_at (x ∷ xs) (suc i) d within = inr (in_at xs i d (omega (arith, within)))
 
-pub not_yet : (path : List ℕ) (place v d : ℕ) → place < length path → (IsIn v (take place path) → ⊥) → (get_or path place d ≡ v → ⊥) → IsIn v (take (place + 1) path) → ⊥
-not_yet path place v d within before other i = by_case (in_push v (get_or path place d) (take place path) (subst (IsIn v) (take_more path place d within) i))
+pub not_yet : (path : List ℕ) (position v d : ℕ) → position < length path → (IsIn v (take position path) → ⊥) → (get_or path position d ≡ v → ⊥) → IsIn v (take (position + 1) path) → ⊥
+not_yet path position v d within before other i = by_case (in_push v (get_or path position d) (take position path) (subst (IsIn v) (take_more path position d within) i))
   where
-    by_case : IsIn v (take place path) ⊎ (v ≡ get_or path place d) → ⊥
+    by_case : IsIn v (take position path) ⊎ (v ≡ get_or path position d) → ⊥
     by_case (inl j) = before j
     by_case (inr same) = other (sym same)
 
-pub part_here : (path : List ℕ) (place v d : ℕ) → place < length path → get_or path place d ≡ v → IsPartFrom v path (drop place path)
-part_here path place v d within is =
-    let rest : drop place path ≡ v ∷ drop (suc place) path = drop-cons path place d within ∙ ap (λ (x : ℕ). x ∷ drop (suc place) path) is in
-    inr (take place path, drop (suc place) path, rest, sym (take-append-drop place path) ∙ ap (λ (l : List ℕ). take place path ++ l) rest)
+pub part_here : (path : List ℕ) (position v d : ℕ) → position < length path → get_or path position d ≡ v → IsPartFrom v path (drop position path)
+part_here path position v d within is =
+    let rest : drop position path ≡ v ∷ drop (suc position) path = drop-cons path position d within ∙ ap (λ (x : ℕ). x ∷ drop (suc position) path) is in
+    inr (take position path, drop (suc position) path, rest, sym (take-append-drop position path) ∙ ap (λ (l : List ℕ). take position path ++ l) rest)
 
-pub part_none : (path : List ℕ) (place v : ℕ) → length path < place + 1 → (IsIn v (take place path) → ⊥) → IsPartFrom v path []
-part_none path place v all before = inl (refl, λ i. before (subst (IsIn v) (sym (take_all place path (omega (arith, all)))) i))
+pub part_none : (path : List ℕ) (position v : ℕ) → length path < position + 1 → (IsIn v (take position path) → ⊥) → IsPartFrom v path []
+part_none path position v all before = inl (refl, λ i. before (subst (IsIn v) (sym (take_all position path (omega (arith, all)))) i))
 
 -- a slice of all of a vector, once it is written back
 pub whole_again : {A : Type 0} (ws items : List A) (n : ℕ) → length ws ≡ length items → n ≡ length items → take n (ws ++ drop (length ws) items) ≡ ws

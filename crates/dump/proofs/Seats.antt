@@ -18,9 +18,9 @@ use Rattle.step_core.specs.Machine.{Thread}
 use Rattle.step_core.specs.World.{WorldState}
 use Rattle.step_core.specs.Shown.{shown, thread_of}
 use Rattle.dump.specs.Rows.{IsIn}
-use Rattle.dump.specs.Threads.{IsLive, Ascend, AreLiveThreads, HaveSeats, threads_numbered, with_holder, thread_of_place}
+use Rattle.dump.specs.Threads.{IsLive, Ascend, AreLiveThreads, HaveSeats, threads_numbered, with_holder, thread_at_position}
 use Rattle.dump.proofs.Walks.{all_in, all_from, contains_in, in_push, in_end, in_front}
-use Rattle.dump.proofs.Places.{in_contains, in_map, from_map, place_in, rises, three_ways}
+use Rattle.dump.proofs.Positions.{in_contains, in_map, from_map, position_in, rises, three_ways}
 
 -- ---- the seats, one after the other
 
@@ -160,19 +160,19 @@ same_not_greater n e = by_order (nat_cmp n n) e (ranked n n (nat_cmp n n) refl)
 
 pub nowhere : (ts : List ThreadId) (t : ThreadId) (i : ℕ) → Ascend ts → IsBinarySearchResult (λ u. nat_cmp u.0 t.0) ts (Err i) → IsIn t ts → ⊥
 nowhere ts t i up found there =
-    let place = place_in ts t there in
-    let sorted : IsSortedBy (λ (a b : ThreadId). is_lt (nat_cmp a.0 b.0)) ts = λ k d low high. at_place k d high in
+    let position = position_in ts t there in
+    let sorted : IsSortedBy (λ (a b : ThreadId). is_lt (nat_cmp a.0 b.0)) ts = λ k d low high. at_position k d high in
     let parts = found (searchable_from_sorted nat_cmp_total (λ (u : ThreadId). u.0) ts t.0 sorted) in
-    by_order place.0 place.1 place.2 parts.0 parts.1 (three_ways place.0 i)
+    by_order position.0 position.1 position.2 parts.0 parts.1 (three_ways position.0 i)
   where
-    at_place : (k : ℕ) (d : ThreadId) → k + 1 < length ts → is_lt (nat_cmp (slice_index_or ts (k + 1) d).0 (slice_index_or ts k d).0) ≡ false
-    at_place k d high =
-        let below : (thread_of_place ts k).0 < (thread_of_place ts (k + 1)).0 = rises ts up k (k + 1) (omega arith) high in
-        let one : slice_index_or ts (k + 1) d ≡ thread_of_place ts (k + 1) = get_or_default ts (k + 1) d (record { 0 = 0 }) high in
-        let other : slice_index_or ts k d ≡ thread_of_place ts k = get_or_default ts k d (record { 0 = 0 }) (omega (arith, high)) in
-        rw (one, other) (not_less (thread_of_place ts (k + 1)).0 (thread_of_place ts k).0 below)
+    at_position : (k : ℕ) (d : ThreadId) → k + 1 < length ts → is_lt (nat_cmp (slice_index_or ts (k + 1) d).0 (slice_index_or ts k d).0) ≡ false
+    at_position k d high =
+        let below : (thread_at_position ts k).0 < (thread_at_position ts (k + 1)).0 = rises ts up k (k + 1) (omega arith) high in
+        let one : slice_index_or ts (k + 1) d ≡ thread_at_position ts (k + 1) = get_or_default ts (k + 1) d (record { 0 = 0 }) high in
+        let other : slice_index_or ts k d ≡ thread_at_position ts k = get_or_default ts k d (record { 0 = 0 }) (omega (arith, high)) in
+        rw (one, other) (not_less (thread_at_position ts (k + 1)).0 (thread_at_position ts k).0 below)
 
-    by_order : (k : ℕ) → k < length ts → thread_of_place ts k ≡ t → ((j : ℕ) (d : ThreadId) → 0 ≤ j → j < i → nat_cmp (slice_index_or ts j d).0 t.0 ≡ Less)
+    by_order : (k : ℕ) → k < length ts → thread_at_position ts k ≡ t → ((j : ℕ) (d : ThreadId) → 0 ≤ j → j < i → nat_cmp (slice_index_or ts j d).0 t.0 ≡ Less)
         → ((j : ℕ) (d : ThreadId) → i ≤ j → j < length ts → nat_cmp (slice_index_or ts j d).0 t.0 ≡ Greater) → (k < i) ⊎ ((k ≡ i) ⊎ (i < k)) → ⊥
     by_order k within is low high (inl h) = same_not_less t.0 (subst (λ (u : ThreadId). nat_cmp u.0 t.0 ≡ Less) is (low k (record { 0 = 0 }) (omega arith) h))
     by_order k within is low high (inr (inl h)) = same_not_greater t.0 (subst (λ (u : ThreadId). nat_cmp u.0 t.0 ≡ Greater) is (high k (record { 0 = 0 }) (omega (arith, h)) within))

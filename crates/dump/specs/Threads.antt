@@ -34,18 +34,18 @@ with_holder numbers (Some t) = numbers ++ t.0 ∷ []
 abbrev pub threads_numbered : List ℕ → List ThreadId
 threads_numbered numbers = map (λ n. record { 0 = n }) numbers
 
--- the thread at a place
-abbrev pub thread_of_place : List ThreadId → ℕ → ThreadId
-thread_of_place threads k = slice_index_or threads k (record { 0 = 0 })
+-- the thread at a position
+abbrev pub thread_at_position : List ThreadId → ℕ → ThreadId
+thread_at_position threads k = slice_index_or threads k (record { 0 = 0 })
 
--- the place of a thread among some: none where it is not among them, or is none itself
-abbrev pub IsPlace : List ThreadId → Option ThreadId → Option ℕ → Type 0
-IsPlace threads None place = place ≡ None
-IsPlace threads (Some t) None = IsIn t threads → ⊥
-IsPlace threads (Some t) (Some k) = (k < length threads) × (thread_of_place threads k ≡ t)
+-- the position of a thread among some: none where it is not among them, or is none itself
+abbrev pub IsPosition : List ThreadId → Option ThreadId → Option ℕ → Type 0
+IsPosition threads None position = position ≡ None
+IsPosition threads (Some t) None = IsIn t threads → ⊥
+IsPosition threads (Some t) (Some k) = (k < length threads) × (thread_at_position threads k ≡ t)
 
--- the row has for each thread the place of its next one
+-- the row has for each thread the position of its next one
 abbrev pub IsRowOf : (ThreadId → Option ThreadId) → List ThreadId → List (Option ℕ) → Type 0
 IsRowOf next threads row =
     (length row ≡ length threads)
-    × ((k : ℕ) → k < length threads → IsPlace threads (next (thread_of_place threads k)) (slice_index_or row k None))
+    × ((k : ℕ) → k < length threads → IsPosition threads (next (thread_at_position threads k)) (slice_index_or row k None))

@@ -4,7 +4,7 @@ ghost use Rattle.std.specs.Prelude.{◌≡◌, ℕ, ◌<◌, List, IfOk, OnOk, l
 ghost use Rattle.step_core.specs.Cycles.{AreCycles};
 ghost use Rattle.step_core.specs.Shown.{shown};
 ghost use Rattle.dump.specs.Rows.{IsIn};
-ghost use Rattle.dump.specs.Threads.{AreLiveThreads, thread_of_place};
+ghost use Rattle.dump.specs.Threads.{AreLiveThreads, thread_at_position};
 
 use crate::rows::cycles_of_row;
 use crate::waits::{live_threads, next_row};
@@ -31,41 +31,41 @@ pub(crate) fn cycles_among(
     ensures { IfOk result (λ cycles. AreCycles (shown world.now) (map vec_items cycles.items)) }
 {
     let row = next_row(alloc, world, threads)?;
-    let places = cycles_of_row(alloc, &row)?;
-    let cycles = threads_of_all(alloc, threads, &places)?;
+    let positions = cycles_of_row(alloc, &row)?;
+    let cycles = threads_of_all(alloc, threads, &positions)?;
     Ok(cycles)
 }
 
-/// For each list of places, the threads there.
+/// For each list of positions, the threads there.
 fn threads_of_all(
     alloc: Global,
     threads: &[ThreadId],
     lists: &[Vec<usize>],
 ) -> Result<Vec<Vec<ThreadId>>, AllocError>
-    requires { (list : List ℕ) (place : ℕ) → IsIn list (map vec_items lists.now)
-        → IsIn place list → place < length threads.now }
+    requires { (list : List ℕ) (position : ℕ) → IsIn list (map vec_items lists.now)
+        → IsIn position list → position < length threads.now }
     ensures { IfOk result (λ all. map vec_items all.items
-        ≡ map (map (thread_of_place threads.now)) (map vec_items lists.now)) }
+        ≡ map (map (thread_at_position threads.now)) (map vec_items lists.now)) }
 {
     let mut all = Vec::new(alloc);
-    'lists: for places in lists {
-        all.push(threads_of(alloc, threads, places)?)?;
+    'lists: for positions in lists {
+        all.push(threads_of(alloc, threads, positions)?)?;
     }
     Ok(all)
 }
 
-/// The threads at some places.
+/// The threads at some positions.
 fn threads_of(
     alloc: Global,
     threads: &[ThreadId],
-    places: &[usize],
+    positions: &[usize],
 ) -> Result<Vec<ThreadId>, AllocError>
-    requires { (place : ℕ) → IsIn place places.now → place < length threads.now }
-    ensures { IfOk result (λ found. found.items ≡ map (thread_of_place threads.now) places.now) }
+    requires { (position : ℕ) → IsIn position positions.now → position < length threads.now }
+    ensures { IfOk result (λ found. found.items ≡ map (thread_at_position threads.now) positions.now) }
 {
     let mut found = Vec::new(alloc);
-    'places: for place in places {
-        found.push(threads[*place])?;
+    'positions: for position in positions {
+        found.push(threads[*position])?;
     }
     Ok(found)
 }

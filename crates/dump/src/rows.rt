@@ -95,9 +95,9 @@ fn ring_of(walk: &Walk) -> &[usize]
 fn part_from(path: &[usize], number: usize) -> &[usize]
     ensures { IsPartFrom number path.now result.now }
 {
-    'places: for place in 0..path.len() {
-        if path[place] == number {
-            return &path[place..];
+    'positions: for position in 0..path.len() {
+        if path[position] == number {
+            return &path[position..];
         }
     }
     &[]

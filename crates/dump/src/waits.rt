@@ -5,7 +5,7 @@ ghost use Rattle.std.specs.List.{Contains};
 ghost use Rattle.std.specs.List.Sorted.{IsStrictlyIncreasing};
 ghost use Rattle.step_core.specs.Cycles.{next, object_wanted};
 ghost use Rattle.step_core.specs.Shown.{shown};
-ghost use Rattle.dump.specs.Threads.{AreLiveThreads, Ascend, HaveSeats, IsPlace, IsRowOf};
+ghost use Rattle.dump.specs.Threads.{AreLiveThreads, Ascend, HaveSeats, IsPosition, IsRowOf};
 ghost use Rattle.dump.specs.Threads.{threads_numbered, with_holder};
 
 use lock_word::{ObjectId, ThreadId};
@@ -65,7 +65,7 @@ fn with_numbers(alloc: Global, numbers: &[u32]) -> Result<Vec<ThreadId>, AllocEr
     Ok(threads)
 }
 
-/// For each of some threads, the place of its next one among them.
+/// For each of some threads, the position of its next one among them.
 pub fn next_row(
     alloc: Global,
     world: &World,
@@ -76,18 +76,18 @@ pub fn next_row(
 {
     let mut row = Vec::new(alloc);
     'threads: for thread in threads {
-        row.push(place_of(threads, next_of(world, *thread)))?;
+        row.push(position_of(threads, next_of(world, *thread)))?;
     }
     Ok(row)
 }
 
-/// The place of a thread among some by rising number.
-fn place_of(threads: &[ThreadId], thread: Option<ThreadId>) -> Option<usize>
+/// The position of a thread among some by rising number.
+fn position_of(threads: &[ThreadId], thread: Option<ThreadId>) -> Option<usize>
     requires { Ascend threads.now }
-    ensures { IsPlace threads.now thread result }
+    ensures { IsPosition threads.now thread result }
 {
     match threads.binary_search(&thread?) {
-        Ok(place) => Some(place),
+        Ok(position) => Some(position),
         Err(_) => None,
     }
 }

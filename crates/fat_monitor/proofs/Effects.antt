@@ -20,7 +20,7 @@ use Rattle.fat_monitor.specs.declared.actions.Why.{Why}
 use Rattle.fat_monitor.specs.declared.actions.Why.TheVariants as why
 use Rattle.fat_monitor.specs.declared.actions.Action.{Action}
 use Rattle.fat_monitor.specs.declared.actions.Action.TheVariants as action
-use Rattle.fat_monitor.specs.FatState.{FatState, IsSound, IsAttached, monitor_at, post_of, post_at, thread_count, line_of, first_of, flag_at, flag_of, with_post, with_flag, with_thread, without_thread, place_of, is_owned_by, owns_one}
+use Rattle.fat_monitor.specs.FatState.{FatState, IsSound, IsAttached, monitor_at, post_of, post_at, thread_count, line_of, first_of, flag_at, flag_of, with_post, with_flag, with_thread, without_thread, line_key_of, is_owned_by, owns_one}
 use Rattle.fat_monitor.specs.Acting.{Outcome, acted, entered, exited, waited, notified, interrupted, asked, expired, woken, collected, are_good, handed_on, sent_back, all_removed, parked, removed, reply_back, reply_granted, MayAct}
 use Rattle.fat_monitor.proofs.PostMaps.{get-insert_by, get-remove_by}
 use Rattle.fat_monitor.proofs.SoundGrants.{granted-is}
@@ -65,7 +65,7 @@ KeepsPosts-insert t p k v here why =
         rw (same, get-insert_by p k v k, eq-eqb k k refl) ((λ h. absurd (not_out.1 (same_Some v Out h))), (λ h. absurd (not_out.0 h)))
     out u other (inr apart) w = rw (get-insert_by p k v u, ne_eqb u k apart) ((λ h. h), (λ h. h))
 
--- a waiter that gets a reply, or another place in a line, stays attached, and is not out
+-- a waiter that gets a reply, or another line key, stays attached, and is not out
 KeepsPosts-sent_back : (t : ℕ) (f : FatState) (u : ThreadId) (m n : ℕ) (d : Option ℕ) (w : Why) (o : Option ThreadId) → post_of f u ≡ Some (Waiting m n d)
     → KeepsPosts t f.threads (sent_back f u m (Back m n w) o).threads
 KeepsPosts-sent_back t f u m n d w None e =
@@ -89,10 +89,10 @@ KeepsPosts-all_removed t f (u ∷ us) =
     KeepsPosts-then t f.threads (removed f u why.Notified (post_at f u)).threads (all_removed f (u ∷ us)).threads
     (KeepsPosts-removed t f u why.Notified (post_of f u) refl) (KeepsPosts-all_removed t (removed f u why.Notified (post_at f u)) us)
 
--- whoever has a place in a line is not out
-not_out : (o : Option Post) (p : Post) (k : Key) → o ≡ Some p → place_of p ≡ Some k → o ≢ Some Out
-not_out o p k e place h =
-    let same : p ≡ Out = same_Some p Out (sym e ∙ h) in let none : place_of Out ≡ Some k = ap place_of (sym same) ∙ place in cc
+-- whoever has a line key is not out
+not_out : (o : Option Post) (p : Post) (k : Key) → o ≡ Some p → line_key_of p ≡ Some k → o ≢ Some Out
+not_out o p k e in_line h =
+    let same : p ≡ Out = same_Some p Out (sym e ∙ h) in let none : line_key_of Out ≡ Some k = ap line_key_of (sym same) ∙ in_line in cc
 
 -- the first of an entry line was not out, and has a grant after it
 KeepsPosts-handed_on : (t : ℕ) (f : FatState) (m : ℕ) (o : Option ThreadId) → IsSound f → first_of f m Entry ≡ o → KeepsPosts t f.threads (handed_on f m o).threads

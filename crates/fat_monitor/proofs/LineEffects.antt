@@ -13,7 +13,7 @@ use Rattle.fat_monitor.specs.declared.actions.Post.{Post}
 use Rattle.fat_monitor.specs.declared.actions.Post.TheVariants.{Out, Entering, Waiting, Back, Granted}
 use Rattle.fat_monitor.specs.declared.actions.Why.{Why}
 use Rattle.fat_monitor.specs.declared.actions.Why.TheVariants as why
-use Rattle.fat_monitor.specs.FatState.{FatState, IsSound, IsProper, IsHeld, monitor_at, post_of, post_at, line_of, first_of, with_post, place_of}
+use Rattle.fat_monitor.specs.FatState.{FatState, IsSound, IsProper, IsHeld, monitor_at, post_of, post_at, line_of, first_of, with_post, line_key_of}
 use Rattle.fat_monitor.specs.Acting.{all_removed}
 use Rattle.fat_monitor.proofs.PostMaps.{get-insert_by}
 use Rattle.fat_monitor.proofs.WaitSets.{queued, all_queued, wait_set-queued}
@@ -32,29 +32,29 @@ pub first_entering : (f : FatState) (m : ℕ) (u : ThreadId) → IsSound f → f
 first_entering f m u sound first =
     let stood = sound.standing u m Entry (StandsIn-first f.standing.lines u m Entry first) in by_post stood.0 stood.1 stood.2 (sound.proper u stood.0 stood.1)
   where
-    by_post : (p : Post) → post_of f u ≡ Some p → place_of p ≡ Some (key m Entry) → IsProper f p → (post_of f u ≡ Some (Entering m)) ⊎ ((n : ℕ) × (w : Why) × (post_of f u ≡ Some (Back m n w)) × IsHeld n)
-    by_post Out e place proper = absurd (cc)
-    by_post (Entering k) e place proper =
-        let same : k ≡ m = ap (λ (j : Key). j.0) (same_Some (key k Entry) (key m Entry) place) in inl (e ∙ ap (λ (j : ℕ). Some (Entering j)) same)
-    by_post (Waiting k n d) e place proper =
-        let same : WaitSet ≡ Entry = ap (λ (j : Key). j.1) (same_Some (key k WaitSet) (key m Entry) place) in absurd (cc)
-    by_post (Back k n w) e place proper =
-        let same : k ≡ m = ap (λ (j : Key). j.0) (same_Some (key k Entry) (key m Entry) place) in inr (n, w, e ∙ ap (λ (j : ℕ). Some (Back j n w)) same, proper.1)
-    by_post (Granted r) e place proper = absurd (cc)
+    by_post : (p : Post) → post_of f u ≡ Some p → line_key_of p ≡ Some (key m Entry) → IsProper f p → (post_of f u ≡ Some (Entering m)) ⊎ ((n : ℕ) × (w : Why) × (post_of f u ≡ Some (Back m n w)) × IsHeld n)
+    by_post Out e in_line proper = absurd (cc)
+    by_post (Entering k) e in_line proper =
+        let same : k ≡ m = ap (λ (j : Key). j.0) (same_Some (key k Entry) (key m Entry) in_line) in inl (e ∙ ap (λ (j : ℕ). Some (Entering j)) same)
+    by_post (Waiting k n d) e in_line proper =
+        let same : WaitSet ≡ Entry = ap (λ (j : Key). j.1) (same_Some (key k WaitSet) (key m Entry) in_line) in absurd (cc)
+    by_post (Back k n w) e in_line proper =
+        let same : k ≡ m = ap (λ (j : Key). j.0) (same_Some (key k Entry) (key m Entry) in_line) in inr (n, w, e ∙ ap (λ (j : ℕ). Some (Back j n w)) same, proper.1)
+    by_post (Granted r) e in_line proper = absurd (cc)
 
 pub first_waiting : (f : FatState) (m : ℕ) (u : ThreadId) → IsSound f → first_of f m WaitSet ≡ Some u → (n : ℕ) × (d : Option ℕ) × (post_of f u ≡ Some (Waiting m n d)) × IsHeld n
 first_waiting f m u sound first =
     let stood = sound.standing u m WaitSet (StandsIn-first f.standing.lines u m WaitSet first) in by_post stood.0 stood.1 stood.2 (sound.proper u stood.0 stood.1)
   where
-    by_post : (p : Post) → post_of f u ≡ Some p → place_of p ≡ Some (key m WaitSet) → IsProper f p → (n : ℕ) × (d : Option ℕ) × (post_of f u ≡ Some (Waiting m n d)) × IsHeld n
-    by_post Out e place proper = absurd (cc)
-    by_post (Entering k) e place proper =
-        let same : Entry ≡ WaitSet = ap (λ (j : Key). j.1) (same_Some (key k Entry) (key m WaitSet) place) in absurd (cc)
-    by_post (Waiting k n d) e place proper =
-        let same : k ≡ m = ap (λ (j : Key). j.0) (same_Some (key k WaitSet) (key m WaitSet) place) in (n, d, e ∙ ap (λ (j : ℕ). Some (Waiting j n d)) same, proper.1)
-    by_post (Back k n w) e place proper =
-        let same : Entry ≡ WaitSet = ap (λ (j : Key). j.1) (same_Some (key k Entry) (key m WaitSet) place) in absurd (cc)
-    by_post (Granted r) e place proper = absurd (cc)
+    by_post : (p : Post) → post_of f u ≡ Some p → line_key_of p ≡ Some (key m WaitSet) → IsProper f p → (n : ℕ) × (d : Option ℕ) × (post_of f u ≡ Some (Waiting m n d)) × IsHeld n
+    by_post Out e in_line proper = absurd (cc)
+    by_post (Entering k) e in_line proper =
+        let same : Entry ≡ WaitSet = ap (λ (j : Key). j.1) (same_Some (key k Entry) (key m WaitSet) in_line) in absurd (cc)
+    by_post (Waiting k n d) e in_line proper =
+        let same : k ≡ m = ap (λ (j : Key). j.0) (same_Some (key k WaitSet) (key m WaitSet) in_line) in (n, d, e ∙ ap (λ (j : ℕ). Some (Waiting j n d)) same, proper.1)
+    by_post (Back k n w) e in_line proper =
+        let same : Entry ≡ WaitSet = ap (λ (j : Key). j.1) (same_Some (key k Entry) (key m WaitSet) in_line) in absurd (cc)
+    by_post (Granted r) e in_line proper = absurd (cc)
 
 -- a list with no first thread has none
 empty_line : (us : List ThreadId) (u : ThreadId) → slice_get us 0 ≡ None → Contains us u → ⊥
@@ -135,14 +135,14 @@ post-listed f (u ∷ us) v h = at (λ k. post-listed (queued f u why.Notified (p
 pub post-all_removed : (f : FatState) (m : ℕ) (u : ThreadId) → IsSound f → IsSome (monitor_at f m).owner → post_of (all_removed f (line_of f m WaitSet)) u ≡ option_map (called_back m) (post_of f u)
 post-all_removed f m u sound owned = ap (λ (g : FatState). post_of g u) (wait_set-queued f m sound owned) ∙ at (cases_contains (line_of f m WaitSet) u)
   where
-    here : (p : Post) → place_of p ≡ Some (key m WaitSet) → called p ≡ called_back m p
-    here Out place = refl
-    here (Entering k) place = refl
-    here (Waiting k n d) place =
-        let same : k ≡ m = ap (λ (j : Key). j.0) (same_Some (key k WaitSet) (key m WaitSet) place) in
+    here : (p : Post) → line_key_of p ≡ Some (key m WaitSet) → called p ≡ called_back m p
+    here Out in_line = refl
+    here (Entering k) in_line = refl
+    here (Waiting k n d) in_line =
+        let same : k ≡ m = ap (λ (j : Key). j.0) (same_Some (key k WaitSet) (key m WaitSet) in_line) in
         sym (cond-true (k == m) (Back k n why.Notified) (Waiting k n d) (eq-eqb k m same))
-    here (Back k n w) place = refl
-    here (Granted r) place = refl
+    here (Back k n w) in_line = refl
+    here (Granted r) in_line = refl
 
     elsewhere : (Contains (line_of f m WaitSet) u → ⊥) → (o : Option Post) → post_of f u ≡ o → o ≡ option_map (called_back m) o
     elsewhere absent None e = refl

@@ -10,17 +10,17 @@ use Rattle.wait_lines.specs.declared.Role.{Role}
 use Rattle.wait_lines.specs.Lines.{NodeMap, key}
 use Rattle.fat_monitor.specs.declared.actions.Post.{Post}
 use Rattle.fat_monitor.specs.declared.actions.Post.TheVariants.{Out, Entering, Waiting, Back, Granted}
-use Rattle.fat_monitor.specs.FatState.{stands, place_of}
+use Rattle.fat_monitor.specs.FatState.{stands, line_key_of}
 use Rattle.fat_monitor.specs.Fats.{AreSeated}
 use Rattle.fat_monitor.proofs.PostMaps.{get-insert_by, get-remove_by}
 
--- a post with a place is one of a thread that stands in a line
-pub place_stands : (p : Post) (m : ℕ) (r : Role) → place_of p ≡ Some (key m r) → stands p ≡ true
-place_stands Out m r e = absurd (cc)
-place_stands (Entering n) m r e = refl
-place_stands (Waiting n k d) m r e = refl
-place_stands (Back n k w) m r e = refl
-place_stands (Granted q) m r e = absurd (cc)
+-- a post with a line key is one of a thread that stands in a line
+pub line_key_stands : (p : Post) (m : ℕ) (r : Role) → line_key_of p ≡ Some (key m r) → stands p ≡ true
+line_key_stands Out m r e = absurd (cc)
+line_key_stands (Entering n) m r e = refl
+line_key_stands (Waiting n k d) m r e = refl
+line_key_stands (Back n k w) m r e = refl
+line_key_stands (Granted q) m r e = absurd (cc)
 
 module _ (posts : map.FinMap nat_cmp Post) (kept nodes : NodeMap) (seated : AreSeated posts kept nodes) (t : ThreadId) where
   -- another thread's post and nodes stay where those of a thread are written

@@ -13,7 +13,7 @@ use Rattle.fat_monitor.specs.declared.actions.Post.{Post}
 use Rattle.fat_monitor.specs.declared.actions.Post.TheVariants.{Out, Entering, Waiting, Back, Granted}
 use Rattle.fat_monitor.specs.declared.actions.Why.TheVariants as why
 use Rattle.fat_monitor.specs.declared.monitors.Monitor.{Monitor}
-use Rattle.fat_monitor.specs.FatState.{FatState, IsSound, IsProper, IsHeld, ComesBack, monitor_at, post_of, post_at, first_of, with_owner, with_post, with_lines, place_of}
+use Rattle.fat_monitor.specs.FatState.{FatState, IsSound, IsProper, IsHeld, ComesBack, monitor_at, post_of, post_at, first_of, with_owner, with_post, with_lines, line_key_of}
 use Rattle.fat_monitor.specs.Acting.{granted, settled, handed_on, parked, holds_granted, reply_granted}
 use Rattle.fat_monitor.proofs.SoundSteps.{get-written_other, standing_bound, monitor-written, IsSound-flags, IsSound-left, IsSound-with_owner}
 use Rattle.fat_monitor.proofs.SoundOwners.{owned_holds, stands_nowhere, post_at-is, owned_bound, holds_owned, IsSound-freed, IsSound-waiting}
@@ -75,11 +75,11 @@ granted-is f m u p r =
     ap (λ (g : FatState). with_lines (with_post (with_owner g m (Some u) (holds_granted p)) u (Granted (reply_granted p))) (left f.standing.lines u m r)) (settled-is f u p)
 
 -- a thread that stands in a line leaves it and owns the monitor
-pub IsSound-granted : (f : FatState) (m : ℕ) (u : ThreadId) (p q : Post) (r : Role) → IsSound f → post_of f u ≡ Some q → place_of q ≡ Some (key m r) → ComesBack p → IsSound (granted f m u p r)
-IsSound-granted f m u p q r sound here place comes =
+pub IsSound-granted : (f : FatState) (m : ℕ) (u : ThreadId) (p q : Post) (r : Role) → IsSound f → post_of f u ≡ Some q → line_key_of q ≡ Some (key m r) → ComesBack p → IsSound (granted f m u p r)
+IsSound-granted f m u p q r sound here in_line comes =
     subst (λ g. IsSound g) (sym (granted-is f m u p r))
     (IsSound-flags unflagged (granted_flags f u p)
-    (IsSound-with_owner outside m (Some u) (holds_granted p) (IsSound-left f u q (Granted (reply_granted p)) m r sound here place (reply_granted-proper f p) refl)
+    (IsSound-with_owner outside m (Some u) (holds_granted p) (IsSound-left f u q (Granted (reply_granted p)) m r sound here in_line (reply_granted-proper f p) refl)
     (standing_bound f u m r sound stood) held.1 (owned_holds u (holds_granted p) held.0) (λ v stands_in. refl)
     (λ v s stands_in owns. StandsNowhere-left f.standing u m r sound.orderly stood m s (subst (λ x. StandsIn outside.standing.lines x m s) (sym (same_Some u v owns)) stands_in))))
   where
@@ -90,7 +90,7 @@ IsSound-granted f m u p q r sound here place comes =
     unflagged = with_owner outside m (Some u) (holds_granted p)
 
     stood : StandsIn f.standing.lines u m r
-    stood = sound.posted u q m r here place
+    stood = sound.posted u q m r here in_line
 
     held : IsHeld (holds_granted p)
     held = holds_granted-held p comes

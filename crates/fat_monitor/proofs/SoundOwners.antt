@@ -19,12 +19,12 @@ use Rattle.fat_monitor.specs.declared.actions.Post.{Post}
 use Rattle.fat_monitor.specs.declared.actions.Post.TheVariants.{Out, Entering, Waiting, Granted}
 use Rattle.fat_monitor.specs.declared.actions.Reply.{Reply}
 use Rattle.fat_monitor.specs.declared.monitors.Monitor.{Monitor}
-use Rattle.fat_monitor.specs.FatState.{FatState, IsSound, IsFair, IsHeld, unbound, opened, monitor_at, post_of, post_at, thread_count, line_of, first_of, with_owner, with_post, with_thread, without_thread, bound_with, place_of, stands, stand_count, StandBehindOwners}
+use Rattle.fat_monitor.specs.FatState.{FatState, IsSound, IsFair, IsHeld, unbound, opened, monitor_at, post_of, post_at, thread_count, line_of, first_of, with_owner, with_post, with_thread, without_thread, bound_with, line_key_of, stands, stand_count, StandBehindOwners}
 use Rattle.fat_monitor.specs.Acting.{parked}
 use Rattle.fat_monitor.proofs.PostMaps.{get-remove_by}
 use Rattle.fat_monitor.proofs.Counts.{count-empty, count-insert, count-remove}
 use Rattle.fat_monitor.proofs.SoundCounts.{len-insert_new, len-remove_le}
-use Rattle.fat_monitor.proofs.SoundSteps.{get-written_other, written_cases, no_place, IsProper-kept, standing_bound, nowhere, room_for_one, proper_after, IsSound-with_post, IsSound-parked, IsSound-with_owner}
+use Rattle.fat_monitor.proofs.SoundSteps.{get-written_other, written_cases, no_line_key, IsProper-kept, standing_bound, nowhere, room_for_one, proper_after, IsSound-with_post, IsSound-parked, IsSound-with_owner}
 
 -- ---- facts of a sound state
 
@@ -80,7 +80,7 @@ IsSound-opened limit h = record {
   limit = h;
   fair = λ m low. absurd (omega arith);
   proper = λ t p e. absurd (not_posted t p e);
-  posted = λ t p m r e place. absurd (not_posted t p e);
+  posted = λ t p m r e in_line. absurd (not_posted t p e);
   standing = λ t m r stands_in. absurd (nobody_stands t m r stands_in);
   behind = λ t m stands_in. absurd (nobody_stands t m Entry stands_in);
   apart = λ t m r stands_in. absurd (nobody_stands t m r stands_in);
@@ -101,7 +101,7 @@ IsSound-with_thread f t sound fresh few = record {
   limit = sound.limit;
   fair = sound.fair;
   proper = proper_after f (with_thread f t) t Out sound (omega arith) refl tt;
-  posted = λ u p m r e place. posted u p m r place (written_cases f.threads t u Out p e);
+  posted = λ u p m r e in_line. posted u p m r in_line (written_cases f.threads t u Out p e);
   standing = λ u m r stands_in.
       let post = sound.standing u m r stands_in in (post.0, get-written_other f.threads t u Out (another u post.0 post.1) ∙ post.1, post.2);
   behind = sound.behind;
@@ -117,10 +117,10 @@ IsSound-with_thread f t sound fresh few = record {
     another : (u : ThreadId) (p : Post) → post_of f u ≡ Some p → u ≢ t
     another u p e same = let h : None ≡ Some p = sym fresh ∙ ap (λ x. post_of f x) (sym same) ∙ e in cc
 
-    posted : (u : ThreadId) (p : Post) (m : ℕ) (r : Role) → place_of p ≡ Some (key m r) → ((u ≡ t) × (Out ≡ p)) ⊎ ((u ≢ t) × (post_of f u ≡ Some p))
+    posted : (u : ThreadId) (p : Post) (m : ℕ) (r : Role) → line_key_of p ≡ Some (key m r) → ((u ≡ t) × (Out ≡ p)) ⊎ ((u ≢ t) × (post_of f u ≡ Some p))
         → StandsIn f.standing.lines u m r
-    posted u p m r place (inl new) = absurd (no_place Out p (key m r) new.1 refl place)
-    posted u p m r place (inr old) = sound.posted u p m r old.1 place
+    posted u p m r in_line (inl new) = absurd (no_line_key Out p (key m r) new.1 refl in_line)
+    posted u p m r in_line (inr old) = sound.posted u p m r old.1 in_line
 
     orderly : (b : Bool) → (thread_count f == f.standing.reservations) ≡ b
         → IsOrderly (record f.standing { reservations = if b then f.standing.reservations + 1 else f.standing.reservations })
@@ -134,7 +134,7 @@ IsSound-without_thread f t sound out = record {
   limit = sound.limit;
   fair = sound.fair;
   proper = λ u p e. IsProper-kept f (without_thread f t) p (omega arith) (sound.proper u p (before u p e));
-  posted = λ u p m r e place. sound.posted u p m r (before u p e) place;
+  posted = λ u p m r e in_line. sound.posted u p m r (before u p e) in_line;
   standing = λ u m r stands_in. let post = sound.standing u m r stands_in in (post.0, kept u (another u m r stands_in) ∙ post.1, post.2);
   behind = sound.behind;
   apart = sound.apart;

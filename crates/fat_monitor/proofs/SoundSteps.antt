@@ -14,7 +14,7 @@ use Rattle.wait_lines.proofs.LineLemmas.{StandsIn-joined, StandsIn-joined_cases,
 use Rattle.fat_monitor.specs.declared.actions.Post.{Post}
 use Rattle.fat_monitor.specs.declared.actions.Post.TheVariants.{Out, Entering, Waiting, Back, Granted}
 use Rattle.fat_monitor.specs.declared.monitors.Monitor.{Monitor}
-use Rattle.fat_monitor.specs.FatState.{FatState, IsSound, IsProper, IsFair, unbound, monitor_at, post_of, with_owner, with_post, with_lines, place_of, stands, stand_count}
+use Rattle.fat_monitor.specs.FatState.{FatState, IsSound, IsProper, IsFair, unbound, monitor_at, post_of, with_owner, with_post, with_lines, line_key_of, stands, stand_count}
 use Rattle.fat_monitor.specs.Acting.{parked}
 use Rattle.fat_monitor.proofs.PostMaps.{get-insert_by}
 use Rattle.fat_monitor.proofs.Counts.{count-insert}
@@ -47,33 +47,33 @@ written_cases threads t u p q e = at (cases_thread t u)
     at (inl same) = inl (same, same_Some p q (sym (get-written threads t p) ∙ ap (λ (x : ThreadId). map.get (map.insert threads t.0 p) x.0) (sym same) ∙ e))
     at (inr other) = inr (other, sym (get-written_other threads t u p other) ∙ e)
 
--- who has a place stands in a line
-pub stands-place : (p : Post) (k : Key) → place_of p ≡ Some k → stands p ≡ true
-stands-place Out k e = absurd (cc)
-stands-place (Entering m) k e = refl
-stands-place (Waiting m n d) k e = refl
-stands-place (Back m n w) k e = refl
-stands-place (Granted r) k e = absurd (cc)
+-- who has a line key stands in a line
+pub stands-line_key : (p : Post) (k : Key) → line_key_of p ≡ Some k → stands p ≡ true
+stands-line_key Out k e = absurd (cc)
+stands-line_key (Entering m) k e = refl
+stands-line_key (Waiting m n d) k e = refl
+stands-line_key (Back m n w) k e = refl
+stands-line_key (Granted r) k e = absurd (cc)
 
--- who has no place stands in no line
-pub stands-no_place : (p : Post) → place_of p ≡ None → stands p ≡ false
-stands-no_place Out e = refl
-stands-no_place (Entering m) e = absurd (cc)
-stands-no_place (Waiting m n d) e = absurd (cc)
-stands-no_place (Back m n w) e = absurd (cc)
-stands-no_place (Granted r) e = refl
+-- who has no line key stands in no line
+pub stands-no_line_key : (p : Post) → line_key_of p ≡ None → stands p ≡ false
+stands-no_line_key Out e = refl
+stands-no_line_key (Entering m) e = absurd (cc)
+stands-no_line_key (Waiting m n d) e = absurd (cc)
+stands-no_line_key (Back m n w) e = absurd (cc)
+stands-no_line_key (Granted r) e = refl
 
 -- two posts of one thread are one
 pub one_post : (o : Option Post) (p q : Post) → o ≡ Some p → o ≡ Some q → p ≡ q
 one_post o p q e f = same_Some p q (sym e ∙ f)
 
--- a post has one place
-pub one_place : (p q : Post) (k j : Key) → p ≡ q → place_of p ≡ Some k → place_of q ≡ Some j → k ≡ j
-one_place p q k j same e f = same_Some k j (sym e ∙ ap place_of same ∙ f)
+-- a post has one line key
+pub one_line_key : (p q : Post) (k j : Key) → p ≡ q → line_key_of p ≡ Some k → line_key_of q ≡ Some j → k ≡ j
+one_line_key p q k j same e f = same_Some k j (sym e ∙ ap line_key_of same ∙ f)
 
--- a post has not both a place and none
-pub no_place : (p q : Post) (k : Key) → p ≡ q → place_of p ≡ None → place_of q ≡ Some k → ⊥
-no_place p q k same e f = let h : None ≡ Some k = sym e ∙ ap place_of same ∙ f in cc
+-- a post has not both a line key and none
+pub no_line_key : (p q : Post) (k : Key) → p ≡ q → line_key_of p ≡ None → line_key_of q ≡ Some k → ⊥
+no_line_key p q k same e f = let h : None ≡ Some k = sym e ∙ ap line_key_of same ∙ f in cc
 
 -- a proper post is proper where at least as many monitors are bound
 pub IsProper-kept : (f g : FatState) (p : Post) → length f.monitors ≤ length g.monitors → IsProper f p → IsProper g p
@@ -84,29 +84,29 @@ IsProper-kept f g (Back m n w) more proper = let h = proper.0 in (omega arith, p
 IsProper-kept f g (Granted r) more proper = proper
 
 -- a proper post names a bound monitor
-pub place_bound : (f : FatState) (p : Post) (m : ℕ) (r : Role) → IsProper f p → place_of p ≡ Some (key m r) → m < length f.monitors
-place_bound f Out m r proper e = absurd (cc)
-place_bound f (Entering k) m r proper e = let same : k ≡ m = ap (λ (j : Key). j.0) (same_Some (key k Entry) (key m r) e) in omega arith
-place_bound f (Waiting k n d) m r proper e = let h = proper.0 in let same : k ≡ m = ap (λ (j : Key). j.0) (same_Some (key k WaitSet) (key m r) e) in omega arith
-place_bound f (Back k n w) m r proper e = let h = proper.0 in let same : k ≡ m = ap (λ (j : Key). j.0) (same_Some (key k Entry) (key m r) e) in omega arith
-place_bound f (Granted x) m r proper e = absurd (cc)
+pub line_key_bound : (f : FatState) (p : Post) (m : ℕ) (r : Role) → IsProper f p → line_key_of p ≡ Some (key m r) → m < length f.monitors
+line_key_bound f Out m r proper e = absurd (cc)
+line_key_bound f (Entering k) m r proper e = let same : k ≡ m = ap (λ (j : Key). j.0) (same_Some (key k Entry) (key m r) e) in omega arith
+line_key_bound f (Waiting k n d) m r proper e = let h = proper.0 in let same : k ≡ m = ap (λ (j : Key). j.0) (same_Some (key k WaitSet) (key m r) e) in omega arith
+line_key_bound f (Back k n w) m r proper e = let h = proper.0 in let same : k ≡ m = ap (λ (j : Key). j.0) (same_Some (key k Entry) (key m r) e) in omega arith
+line_key_bound f (Granted x) m r proper e = absurd (cc)
 
 -- ---- who stands where
 
 -- a thread stands in lines of bound monitors
 pub standing_bound : (f : FatState) (t : ThreadId) (m : ℕ) (r : Role) → IsSound f → StandsIn f.standing.lines t m r → m < length f.monitors
 standing_bound f t m r sound stands_in =
-    let post = sound.standing t m r stands_in in place_bound f post.0 m r (sound.proper t post.0 post.1) post.2
+    let post = sound.standing t m r stands_in in line_key_bound f post.0 m r (sound.proper t post.0 post.1) post.2
 
--- a thread whose post has no place stands nowhere
-pub nowhere : (f : FatState) (t : ThreadId) (p : Post) → IsSound f → post_of f t ≡ Some p → place_of p ≡ None → StandsNowhere f.standing.lines t
+-- a thread whose post has no line key stands nowhere
+pub nowhere : (f : FatState) (t : ThreadId) (p : Post) → IsSound f → post_of f t ≡ Some p → line_key_of p ≡ None → StandsNowhere f.standing.lines t
 nowhere f t p sound here none m r stands_in =
-    let post = sound.standing t m r stands_in in no_place p post.0 (key m r) (one_post (post_of f t) p post.0 here post.1) none post.2
+    let post = sound.standing t m r stands_in in no_line_key p post.0 (key m r) (one_post (post_of f t) p post.0 here post.1) none post.2
 
 -- and so there is room for it
-pub room_for_one : (f : FatState) (t : ThreadId) (p : Post) → IsSound f → post_of f t ≡ Some p → place_of p ≡ None → total_count f.standing.lines < f.standing.reservations
+pub room_for_one : (f : FatState) (t : ThreadId) (p : Post) → IsSound f → post_of f t ≡ Some p → line_key_of p ≡ None → total_count f.standing.lines < f.standing.reservations
 room_for_one f t p sound here none =
-    let less = stand_count-less f.threads t.0 p here (stands-no_place p none) in let counted = sound.counted in let room = sound.room in omega arith
+    let less = stand_count-less f.threads t.0 p here (stands-no_line_key p none) in let counted = sound.counted in let room = sound.room in omega arith
 
 -- ---- steps
 
@@ -150,14 +150,14 @@ seats_after : (f : FatState) (t : ThreadId) (p q : Post) (a b : Bool) → post_o
 seats_after f t p q a b here was is = rw (here, was, is) at (count-insert stands f.threads t.0 q)
 
 -- a thread outside of lines changes its post, and stays outside
-pub IsSound-with_post : (f : FatState) (t : ThreadId) (p q : Post) → IsSound f → post_of f t ≡ Some p → place_of p ≡ None → IsProper f q → place_of q ≡ None
+pub IsSound-with_post : (f : FatState) (t : ThreadId) (p q : Post) → IsSound f → post_of f t ≡ Some p → line_key_of p ≡ None → IsProper f q → line_key_of q ≡ None
     → IsSound (with_post f t q)
 IsSound-with_post f t p q sound here none proper none_after = record {
   few = sound.few;
   limit = sound.limit;
   fair = sound.fair;
   proper = proper_after f (with_post f t q) t q sound (omega arith) refl proper;
-  posted = λ u x m r e place. posted u x m r place (written_cases f.threads t u q x e);
+  posted = λ u x m r e in_line. posted u x m r in_line (written_cases f.threads t u q x e);
   standing = λ u m r stands_in.
       let post = sound.standing u m r stands_in in
       (post.0, get-written_other f.threads t u q (another u m r stands_in) ∙ post.1, post.2);
@@ -165,22 +165,22 @@ IsSound-with_post f t p q sound here none proper none_after = record {
   apart = sound.apart;
   room = let same = len-insert_same f.threads t.0 p q here in let room = sound.room in omega arith;
   counted =
-      let seats = seats_after f t p q false false here (stands-no_place p none) (stands-no_place q none_after) in let counted = sound.counted in omega arith;
+      let seats = seats_after f t p q false false here (stands-no_line_key p none) (stands-no_line_key q none_after) in let counted = sound.counted in omega arith;
   orderly = sound.orderly;
 }
   where
     another : (u : ThreadId) (m : ℕ) (r : Role) → StandsIn f.standing.lines u m r → u ≢ t
     another u m r stands_in same = nowhere f t p sound here none m r (subst (λ x. StandsIn f.standing.lines x m r) same stands_in)
 
-    posted : (u : ThreadId) (x : Post) (m : ℕ) (r : Role) → place_of x ≡ Some (key m r) → ((u ≡ t) × (q ≡ x)) ⊎ ((u ≢ t) × (post_of f u ≡ Some x))
+    posted : (u : ThreadId) (x : Post) (m : ℕ) (r : Role) → line_key_of x ≡ Some (key m r) → ((u ≡ t) × (q ≡ x)) ⊎ ((u ≢ t) × (post_of f u ≡ Some x))
         → StandsIn f.standing.lines u m r
-    posted u x m r place (inl new) = absurd (no_place q x (key m r) new.1 none_after place)
-    posted u x m r place (inr old) = sound.posted u x m r old.1 place
+    posted u x m r in_line (inl new) = absurd (no_line_key q x (key m r) new.1 none_after in_line)
+    posted u x m r in_line (inr old) = sound.posted u x m r old.1 in_line
 
 -- a thread leaves its line
-pub IsSound-left : (f : FatState) (t : ThreadId) (p q : Post) (m : ℕ) (r : Role) → IsSound f → post_of f t ≡ Some p → place_of p ≡ Some (key m r) → IsProper f q → place_of q ≡ None
+pub IsSound-left : (f : FatState) (t : ThreadId) (p q : Post) (m : ℕ) (r : Role) → IsSound f → post_of f t ≡ Some p → line_key_of p ≡ Some (key m r) → IsProper f q → line_key_of q ≡ None
     → IsSound (with_lines (with_post f t q) (left f.standing.lines t m r))
-IsSound-left f t p q m r sound here place proper none_after = record {
+IsSound-left f t p q m r sound here in_line proper none_after = record {
   few = sound.few;
   limit = sound.limit;
   fair = sound.fair;
@@ -193,7 +193,7 @@ IsSound-left f t p q m r sound here place proper none_after = record {
   apart = λ u n s stands_in. sound.apart u n s (before u n s stands_in);
   room = let same = len-insert_same f.threads t.0 p q here in let room = sound.room in omega arith;
   counted =
-      let seats = seats_after f t p q true false here (stands-place p (key m r) place) (stands-no_place q none_after) in
+      let seats = seats_after f t p q true false here (stands-line_key p (key m r) in_line) (stands-no_line_key q none_after) in
       let lines = total_count-left f.standing t m r sound.orderly stood in
       let counted = sound.counted in
       omega arith;
@@ -201,7 +201,7 @@ IsSound-left f t p q m r sound here place proper none_after = record {
 }
   where
     stood : StandsIn f.standing.lines t m r
-    stood = sound.posted t p m r here place
+    stood = sound.posted t p m r here in_line
 
     before : (u : ThreadId) (n : ℕ) (s : Role) → StandsIn (left f.standing.lines t m r) u n s → StandsIn f.standing.lines u n s
     before u n s stands_in = StandsIn-left_before f.standing.lines t u m n r s stands_in
@@ -210,15 +210,15 @@ IsSound-left f t p q m r sound here place proper none_after = record {
     another u n s stands_in same =
         StandsNowhere-left f.standing t m r sound.orderly stood n s (subst (λ x. StandsIn (left f.standing.lines t m r) x n s) same stands_in)
 
-    posted : (u : ThreadId) (x : Post) (n : ℕ) (s : Role) → place_of x ≡ Some (key n s) → ((u ≡ t) × (q ≡ x)) ⊎ ((u ≢ t) × (post_of f u ≡ Some x))
+    posted : (u : ThreadId) (x : Post) (n : ℕ) (s : Role) → line_key_of x ≡ Some (key n s) → ((u ≡ t) × (q ≡ x)) ⊎ ((u ≢ t) × (post_of f u ≡ Some x))
         → StandsIn (left f.standing.lines t m r) u n s
-    posted u x n s at (inl new) = absurd (no_place q x (key n s) new.1 none_after at)
+    posted u x n s at (inl new) = absurd (no_line_key q x (key n s) new.1 none_after at)
     posted u x n s at (inr old) = StandsIn-left f.standing.lines t u m n r s old.0 (sound.posted u x n s old.1 at)
 
 -- a thread outside of lines joins one: an entry line only behind an owner, and none of its own monitor
-pub IsSound-parked : (f : FatState) (t : ThreadId) (p q : Post) (m : ℕ) (r : Role) → IsSound f → post_of f t ≡ Some p → place_of p ≡ None → IsProper f q → place_of q ≡ Some (key m r)
+pub IsSound-parked : (f : FatState) (t : ThreadId) (p q : Post) (m : ℕ) (r : Role) → IsSound f → post_of f t ≡ Some p → line_key_of p ≡ None → IsProper f q → line_key_of q ≡ Some (key m r)
     → (r ≡ Entry → IsSome (monitor_at f m).owner) → (monitor_at f m).owner ≢ Some t → IsSound (parked f t q m r)
-IsSound-parked f t p q m r sound here none proper place owned other = record {
+IsSound-parked f t p q m r sound here none proper in_line owned other = record {
   few = sound.few;
   limit = sound.limit;
   fair = sound.fair;
@@ -229,7 +229,7 @@ IsSound-parked f t p q m r sound here none proper place owned other = record {
   apart = λ u n s stands_in. apart u n s (cases u n s stands_in);
   room = let same = len-insert_same f.threads t.0 p q here in let room = sound.room in omega arith;
   counted =
-      let seats = seats_after f t p q false true here (stands-no_place p none) (stands-place q (key m r) place) in
+      let seats = seats_after f t p q false true here (stands-no_line_key p none) (stands-line_key q (key m r) in_line) in
       let lines = total_count-joined f.standing.lines t m r in
       let counted = sound.counted in
       omega arith;
@@ -242,20 +242,20 @@ IsSound-parked f t p q m r sound here none proper place owned other = record {
     another : (u : ThreadId) (n : ℕ) (s : Role) → StandsIn f.standing.lines u n s → u ≢ t
     another u n s stands_in same = nowhere f t p sound here none n s (subst (λ x. StandsIn f.standing.lines x n s) same stands_in)
 
-    posted : (u : ThreadId) (x : Post) (n : ℕ) (s : Role) → place_of x ≡ Some (key n s) → ((u ≡ t) × (q ≡ x)) ⊎ ((u ≢ t) × (post_of f u ≡ Some x))
+    posted : (u : ThreadId) (x : Post) (n : ℕ) (s : Role) → line_key_of x ≡ Some (key n s) → ((u ≡ t) × (q ≡ x)) ⊎ ((u ≢ t) × (post_of f u ≡ Some x))
         → StandsIn (joined f.standing.lines t m r) u n s
     posted u x n s at (inl new) =
-        let here_too : key m r ≡ key n s = one_place q x (key m r) (key n s) new.1 place at in
+        let here_too : key m r ≡ key n s = one_line_key q x (key m r) (key n s) new.1 in_line at in
         let joins : StandsIn (joined f.standing.lines t m r) t n s = subst (λ (k : Key). StandsIn (joined f.standing.lines t m r) t k.0 k.1) here_too (StandsIn-joined f.standing.lines t m r) in
         subst (λ v. StandsIn (joined f.standing.lines t m r) v n s) (sym new.0) joins
     posted u x n s at (inr old) = StandsIn-joined_before f.standing.lines t u m n r s (sound.posted u x n s old.1 at)
 
     standing : (u : ThreadId) (n : ℕ) (s : Role) → StandsIn f.standing.lines u n s ⊎ ((t ≡ u) × (key n s ≡ key m r))
-        → (x : Post) × (map.get (map.insert f.threads t.0 q) u.0 ≡ Some x) × (place_of x ≡ Some (key n s))
+        → (x : Post) × (map.get (map.insert f.threads t.0 q) u.0 ≡ Some x) × (line_key_of x ≡ Some (key n s))
     standing u n s (inl before) =
         let post = sound.standing u n s before in (post.0, get-written_other f.threads t u q (another u n s before) ∙ post.1, post.2)
     standing u n s (inr new) =
-        (q, ap (λ (x : ThreadId). map.get (map.insert f.threads t.0 q) x.0) (sym new.0) ∙ get-written f.threads t q, place ∙ ap (λ k. Some k) (sym new.1))
+        (q, ap (λ (x : ThreadId). map.get (map.insert f.threads t.0 q) x.0) (sym new.0) ∙ get-written f.threads t q, in_line ∙ ap (λ k. Some k) (sym new.1))
 
     behind : (u : ThreadId) (n : ℕ) → StandsIn f.standing.lines u n Entry ⊎ ((t ≡ u) × (key n Entry ≡ key m r)) → IsSome (monitor_at f n).owner
     behind u n (inl before) = sound.behind u n before

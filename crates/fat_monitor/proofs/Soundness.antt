@@ -17,7 +17,7 @@ use Rattle.fat_monitor.specs.declared.actions.Action.{Action}
 use Rattle.fat_monitor.specs.declared.actions.Action.TheVariants as action
 use Rattle.fat_monitor.specs.declared.actions.Why.{Why}
 use Rattle.fat_monitor.specs.declared.actions.Why.TheVariants as why
-use Rattle.fat_monitor.specs.FatState.{FatState, IsSound, IsHeld, monitor_at, post_of, post_at, line_of, first_of, flag_at, flag_of, with_post, with_flag, with_lines, is_owned_by, owns_one, place_of}
+use Rattle.fat_monitor.specs.FatState.{FatState, IsSound, IsHeld, monitor_at, post_of, post_at, line_of, first_of, flag_at, flag_of, with_post, with_flag, with_lines, is_owned_by, owns_one, line_key_of}
 use Rattle.fat_monitor.specs.Acting.{acted, sent_back, removed, all_removed, entered, exited, waited, notified, interrupted, asked, expired, woken, collected, by_owner, are_good, deadline, Outcome, NamesBound, MayAct}
 use Rattle.fat_monitor.proofs.SoundCounts.{insert_twice}
 use Rattle.fat_monitor.proofs.SoundSteps.{get-written, IsSound-flags, IsSound-left, IsSound-parked}
@@ -60,14 +60,14 @@ IsSound-all_removed f (u ∷ us) sound = IsSound-all_removed (removed f u why.No
 pub post_waiting : (f : FatState) (u : ThreadId) (m : ℕ) → IsSound f → StandsIn f.standing.lines u m WaitSet → (n : ℕ) × (d : Option ℕ) × (post_of f u ≡ Some (Waiting m n d)) × IsHeld n
 post_waiting f u m sound stands_in = let post = sound.standing u m WaitSet stands_in in at post.0 post.1 post.2
   where
-    at : (p : Post) → post_of f u ≡ Some p → place_of p ≡ Some (key m WaitSet) → (n : ℕ) × (d : Option ℕ) × (post_of f u ≡ Some (Waiting m n d)) × IsHeld n
-    at Out here place = absurd (cc)
-    at (Entering k) here place = let never = ap (λ (j : Key). j.1) (same_Some (key k Entry) (key m WaitSet) place) in absurd (cc)
-    at (Waiting k n d) here place =
-        let same = ap (λ (j : Key). j.0) (same_Some (key k WaitSet) (key m WaitSet) place) in
+    at : (p : Post) → post_of f u ≡ Some p → line_key_of p ≡ Some (key m WaitSet) → (n : ℕ) × (d : Option ℕ) × (post_of f u ≡ Some (Waiting m n d)) × IsHeld n
+    at Out here in_line = absurd (cc)
+    at (Entering k) here in_line = let never = ap (λ (j : Key). j.1) (same_Some (key k Entry) (key m WaitSet) in_line) in absurd (cc)
+    at (Waiting k n d) here in_line =
+        let same = ap (λ (j : Key). j.0) (same_Some (key k WaitSet) (key m WaitSet) in_line) in
         (n, d, here ∙ ap (λ j. Some (Waiting j n d)) same, (sound.proper u (Waiting k n d) here).1)
-    at (Back k n w) here place = let never = ap (λ (j : Key). j.1) (same_Some (key k Entry) (key m WaitSet) place) in absurd (cc)
-    at (Granted r) here place = absurd (cc)
+    at (Back k n w) here in_line = let never = ap (λ (j : Key). j.1) (same_Some (key k Entry) (key m WaitSet) in_line) in absurd (cc)
+    at (Granted r) here in_line = absurd (cc)
 
 -- the first of a list that has no thread twice is not in the rest
 without-first : (u : ThreadId) (us : List ThreadId) → times_in u (u ∷ us) ≤ 1 → without u (u ∷ us) ≡ us

@@ -22,7 +22,7 @@ use Rattle.fat_monitor.specs.declared.actions.Reply.TheVariants as reply
 use Rattle.fat_monitor.specs.declared.actions.Action.{Action}
 use Rattle.fat_monitor.specs.declared.actions.ActFault.{ActFault}
 use Rattle.fat_monitor.specs.declared.actions.Answer.{Answer}
-use Rattle.fat_monitor.specs.FatState.{FatState, IsSound, monitor_at, with_monitor, with_owner, with_flag, unbound, post_of, post_at, is_owned_by, room_for, thread_count, with_thread, place_of}
+use Rattle.fat_monitor.specs.FatState.{FatState, IsSound, monitor_at, with_monitor, with_owner, with_flag, unbound, post_of, post_at, is_owned_by, room_for, thread_count, with_thread, line_key_of}
 use Rattle.fat_monitor.specs.Acting.{Outcome, acted, told, replied, interrupted, parked, granted, holds_granted, reply_granted, MayAct, NamesBound}
 use Rattle.fat_monitor.proofs.PostMaps.{get-insert_by}
 use Rattle.fat_monitor.specs.Slots.{Posted}
@@ -154,11 +154,11 @@ pub owned_by : (o : Option ThreadId) (t : ThreadId) → is_owned_by o t ≡ true
 owned_by None t e = absurd (cc)
 owned_by (Some u) t e = refl
 
--- whoever has a place is attached, at its post
-pub placed : (f : FatState) (t : ThreadId) (k : Key) → place_of (post_at f t) ≡ Some k → (p : Post) × (post_of f t ≡ Some p) × (place_of p ≡ Some k)
-placed f t k place = at (post_of f t) refl place
+-- whoever has a line key is attached, at its post
+pub has_line_key : (f : FatState) (t : ThreadId) (k : Key) → line_key_of (post_at f t) ≡ Some k → (p : Post) × (post_of f t ≡ Some p) × (line_key_of p ≡ Some k)
+has_line_key f t k in_line = at (post_of f t) refl in_line
   where
-    at : (o : Option Post) → post_of f t ≡ o → place_of (unwrap_or o Out) ≡ Some k → (p : Post) × (post_of f t ≡ Some p) × (place_of p ≡ Some k)
+    at : (o : Option Post) → post_of f t ≡ o → line_key_of (unwrap_or o Out) ≡ Some k → (p : Post) × (post_of f t ≡ Some p) × (line_key_of p ≡ Some k)
     at None e none = absurd (cc)
     at (Some p) e is = (p, e, is)
 

@@ -155,13 +155,13 @@ owns_one monitors t = list_any (λ (b : Monitor). is_owned_by b.owner t) monitor
 abbrev pub IsFair : Monitor → Type 0
 IsFair b = (b.holds ≤ 65535) × ((b.owner ≡ None) ↔ (b.holds ≡ 0))
 
--- the line that a thread with this post stands in, and whether it stands in one
-abbrev pub place_of : Post → Option Key
-place_of Out = None
-place_of (Entering m) = Some (key m Entry)
-place_of (Waiting m n d) = Some (key m WaitSet)
-place_of (Back m n w) = Some (key m Entry)
-place_of (Granted r) = None
+-- the key of the line that a thread with this post stands in; none where it stands in none
+abbrev pub line_key_of : Post → Option Key
+line_key_of Out = None
+line_key_of (Entering m) = Some (key m Entry)
+line_key_of (Waiting m n d) = Some (key m WaitSet)
+line_key_of (Back m n w) = Some (key m Entry)
+line_key_of (Granted r) = None
 
 abbrev pub stands : Post → Bool
 stands Out = false
@@ -218,10 +218,10 @@ pub record IsSound (f : FatState) : Type 0 where
   pub fair : (m : ℕ) → m < length f.monitors → IsFair (monitor_at f m)
   pub proper : (t : ThreadId) (p : Post) → post_of f t ≡ Some p → IsProper f p
   -- a thread stands where its post says
-  pub posted : (t : ThreadId) (p : Post) (m : ℕ) (r : Role) → post_of f t ≡ Some p → place_of p ≡ Some (key m r)
+  pub posted : (t : ThreadId) (p : Post) (m : ℕ) (r : Role) → post_of f t ≡ Some p → line_key_of p ≡ Some (key m r)
       → StandsIn f.standing.lines t m r
   pub standing : (t : ThreadId) (m : ℕ) (r : Role) → StandsIn f.standing.lines t m r
-      → (p : Post) × (post_of f t ≡ Some p) × (place_of p ≡ Some (key m r))
+      → (p : Post) × (post_of f t ≡ Some p) × (line_key_of p ≡ Some (key m r))
   -- an entry line is behind an owner, and nobody stands in a line of a monitor that it owns
   pub behind : (t : ThreadId) (m : ℕ) → StandsIn f.standing.lines t m Entry → IsSome (monitor_at f m).owner
   pub apart : (t : ThreadId) (m : ℕ) (r : Role) → StandsIn f.standing.lines t m r → (monitor_at f m).owner ≢ Some t

@@ -119,7 +119,7 @@ exchanges_at bound t key layout z slots id me o low new same is one inside is_lo
     over_key (λ ls c. Allows (Ruled bound ls c) slots id me (o + 1) (λ n. either (eqb n low) new n) (Exchanges (step slots (o + 1) low new none) me)) t key layout z same is
     (exchanges bound z.lows z.count slots id me o low new one inside is_low is_new)
 
--- an object of the table has a place in the row
+-- an object of the table has a position in the row
 pub in_row : {B : Type 0} (index : ℕ) (depths ls : List ℕ) (gate : Bool) (s : Seat (Option B) View) (p : PassValue) (z : Opening) (o : ℕ) → IsPass index depths ls gate s → pass_value s ≡ p → p.opening ≡ z → o < length z.lows → o < length depths
 in_row index depths ls gate s p z o is seen same lt = let e : length s.me.0.lows ≡ length z.lows = ap (λ (q : PassValue). length q.opening.lows) seen ∙ ap (λ (y : Opening). length y.lows) same in let w = is.wide in omega arith
 

@@ -48,7 +48,7 @@ MayFollow lows count e ls =
     (1 ≤ e.pass) × (e.pass ≤ count) × (e.object < length lows)
     × Legal e.pass e.deed (lock_at ls e.object) (slice_index lows e.object)
 
--- the events, each legal in its place, lead from the locks ls to the locks ms
+-- the events, each legal where it stands, lead from the locks ls to the locks ms
 abbrev pub Replays : List ℕ → ℕ → List Lock → List Event → List Lock → Type 0
 Replays lows count ls [] ms = ls ≡ ms
 Replays lows count ls (e ∷ es) ms = MayFollow lows count e ls × Replays lows count (locks_after e ls) es ms

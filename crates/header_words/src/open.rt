@@ -110,7 +110,7 @@ fn new_table<B: Kept>(
     ensures size { IfOk result (λ t. (t.0.shared.table_id.words ≡ length words.now)
         × (t.0.shared.table_id.slots ≡ 1)) }
     ensures key { IfOk result (λ t. t.0.shared.key ≡ layout.now) }
-    ensures place { IfOk result (λ t. t.1.table_id ≡ t.0.shared.table_id) }
+    ensures same_table { IfOk result (λ t. t.1.table_id ≡ t.0.shared.table_id) }
     ensures seat { IfOk result (λ t.
         t.1.me ≡ (opening_view layout.now.lows.items layout.now.count, [])) }
     ensures back { IfErr result (λ fault. fault ≡ Memory book) }

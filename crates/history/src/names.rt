@@ -78,7 +78,7 @@ impl Names {
     pub(crate) fn object(&self, name: &Name<'_>) -> ObjectId
         ensures { result ≡ record { 0 = number_of self.now.objects name.now } }
     {
-        ObjectId(place_of(&self.objects, name.as_str()))
+        ObjectId(position_of(&self.objects, name.as_str()))
     }
 
     /// How many threads have a name: they are numbered from 0.
@@ -125,7 +125,7 @@ fn number_of_name(alloc: Global, names: &mut IndexSet<String>, word: &str) -> Re
 }
 
 /// The number of a name among some: for one that is not there, how many there are.
-fn place_of(names: &IndexSet<String>, word: &str) -> u32
+fn position_of(names: &IndexSet<String>, word: &str) -> u32
     requires { length names.now.keys ≤ MOST_NAMES }
     ensures { result ≡ number_of (map string_bytes names.now.keys) word.now }
 {

@@ -19,7 +19,7 @@ IsMove-one l m n p q = one_line_move l m n p q
 Steps-one : (m : Move) (s a b : State) → Steps s m a → Steps s m b → a ≡ b
 Steps-one m s a b p q = one_next m s a b p q
 
--- ---- lines, from one place to another
+-- ---- lines, from one state to another
 
 abbrev Walk : Option State → List (List ℕ) → Option State → Type 0
 Walk p [] q = q ≡ p
@@ -88,15 +88,15 @@ lawful None next l u f = absurd u
 lawful (Some s) None l u f = absurd f
 lawful (Some s) (Some next) l u f = u.2 next (subst (λ (m : Move). Steps s m next) (IsMove-one l f.0 u.0 f.1 u.1) f.2)
 
--- ---- a fault has no right line at its place, nor has the end
+-- ---- a fault has no right line where it stands, nor has the end
 
-bad_ahead : (came : List ℕ) (e : Type 0) (n : ℕ) (b : IsBadMove came e n) → Ahead b.place b.rest → ⊥
-bad_ahead came e n b x = b.bad x.0 x.1 x.3 x.4 (well_formed b.place x.2 x.0 x.5)
+bad_ahead : (came : List ℕ) (e : Type 0) (n : ℕ) (b : IsBadMove came e n) → Ahead b.reached b.rest → ⊥
+bad_ahead came e n b x = b.bad x.0 x.1 x.3 x.4 (well_formed b.reached x.2 x.0 x.5)
 
-broken_ahead : (came : List ℕ) (n : ℕ) (b : IsBroken came n) → Ahead b.place (b.line ++ (10 ∷ b.after)) → ⊥
+broken_ahead : (came : List ℕ) (n : ℕ) (b : IsBroken came n) → Ahead b.reached (b.line ++ (10 ∷ b.after)) → ⊥
 broken_ahead came n b x =
     let same = same_line b.line x.0 b.after x.1 b.fits.0 x.3.0 x.4 in
-    lawful b.place x.2 x.0 (subst (IsUnlawfulLine b.place) same.0 b.unlawful) x.5
+    lawful b.reached x.2 x.0 (subst (IsUnlawfulLine b.reached) same.0 b.unlawful) x.5
 
 open_ahead : (q : Option State) (rest : List ℕ) → NoFeed rest → Ahead q rest → ⊥
 open_ahead q rest clean x = no_feed_no_line rest x.0 x.1 clean x.4
@@ -110,18 +110,18 @@ either (inr (inr r)) f g h = absurd (h r)
 
 pub bad_bad : (came : List ℕ) (m n : ℕ) → IsBadMove came (Unit {0}) m → IsBadMove came (Unit {0}) n → m ≡ n
 bad_bad came m n a b =
-    either (compared came a.whole b.whole a.place b.place a.rest b.rest a.right b.right a.parts b.parts)
+    either (compared came a.whole b.whole a.reached b.reached a.rest b.rest a.right b.right a.parts b.parts)
     (λ s. a.number ∙ ap (λ (k : ℕ). k + 1) s.0 ∙ sym b.number) (bad_ahead came (Unit {0}) m a) (bad_ahead came (Unit {0}) n b)
 
 pub broken_broken : (came : List ℕ) (m n : ℕ) → IsBroken came m → IsBroken came n → m ≡ n
 broken_broken came m n a b =
-    either (compared came a.whole b.whole a.place b.place (a.line ++ (10 ∷ a.after)) (b.line ++ (10 ∷ b.after)) a.right b.right a.parts b.parts)
+    either (compared came a.whole b.whole a.reached b.reached (a.line ++ (10 ∷ a.after)) (b.line ++ (10 ∷ b.after)) a.right b.right a.parts b.parts)
     (λ s. a.number ∙ ap (λ (k : ℕ). k + 1) s.0 ∙ sym b.number) (broken_ahead came m a) (broken_ahead came n b)
 
 pub bad_broken : (came : List ℕ) (m n : ℕ) → IsBadMove came (Unit {0}) m → IsBroken came n → ⊥
 bad_broken came m n a b =
-    either (compared came a.whole b.whole a.place b.place a.rest (b.line ++ (10 ∷ b.after)) a.right b.right a.parts b.parts)
-    (λ s. a.bad b.line b.after b.fits s.2 (unlawful_formed a.place b.line (subst (λ (q : Option State). IsUnlawfulLine q b.line) (sym s.1) b.unlawful)))
+    either (compared came a.whole b.whole a.reached b.reached a.rest (b.line ++ (10 ∷ b.after)) a.right b.right a.parts b.parts)
+    (λ s. a.bad b.line b.after b.fits s.2 (unlawful_formed a.reached b.line (subst (λ (q : Option State). IsUnlawfulLine q b.line) (sym s.1) b.unlawful)))
     (bad_ahead came (Unit {0}) m a) (broken_ahead came n b)
 
 run_leads : (came : List ℕ) (ms : List Move) (r : IsRunOf came ms) → LeadTo (r.first ∷ r.lines) (Some r.state)
@@ -132,7 +132,7 @@ no_feed_here = tt
 
 pub bad_run : (came : List ℕ) (n : ℕ) (ms : List Move) → IsBadMove came (Unit {0}) n → IsRunOf came ms → ⊥
 bad_run came n ms a r =
-    either (compared came a.whole (r.first ∷ r.lines) a.place (Some r.state) a.rest [] a.right (run_leads came ms r) a.parts (r.parts ∙ sym (append-nil (lines_text (r.first ∷ r.lines)))))
+    either (compared came a.whole (r.first ∷ r.lines) a.reached (Some r.state) a.rest [] a.right (run_leads came ms r) a.parts (r.parts ∙ sym (append-nil (lines_text (r.first ∷ r.lines)))))
     (λ s. none_there a.there s.0 s.2) (bad_ahead came (Unit {0}) n a) (open_ahead (Some r.state) [] no_feed_here)
   where
     none_there : (0 < length a.rest) ⊎ (a.whole ≡ []) → length a.whole ≡ length (r.first ∷ r.lines) → a.rest ≡ [] → ⊥
@@ -141,12 +141,12 @@ bad_run came n ms a r =
 
 pub broken_run : (came : List ℕ) (n : ℕ) (ms : List Move) → IsBroken came n → IsRunOf came ms → ⊥
 broken_run came n ms a r =
-    either (compared came a.whole (r.first ∷ r.lines) a.place (Some r.state) (a.line ++ (10 ∷ a.after)) [] a.right (run_leads came ms r) a.parts (r.parts ∙ sym (append-nil (lines_text (r.first ∷ r.lines)))))
+    either (compared came a.whole (r.first ∷ r.lines) a.reached (Some r.state) (a.line ++ (10 ∷ a.after)) [] a.right (run_leads came ms r) a.parts (r.parts ∙ sym (append-nil (lines_text (r.first ∷ r.lines)))))
     (λ s. no_feed_no_line [] a.line a.after no_feed_here (sym s.2)) (broken_ahead came n a) (open_ahead (Some r.state) [] no_feed_here)
 
 pub bad_open : (came : List ℕ) (n : ℕ) → IsBadMove came ⊥ n → IsOpen came → ⊥
 bad_open came n a o =
-    either (compared came a.whole o.3.whole a.place o.1 a.rest o.2 a.right o.3.right a.parts o.3.parts)
+    either (compared came a.whole o.3.whole a.reached o.1 a.rest o.2 a.right o.3.right a.parts o.3.parts)
     (λ s. not_enough a.enough s.2) (bad_ahead came ⊥ n a) (open_ahead o.1 o.2 o.3.short.0)
   where
     not_enough : (NoFeed a.rest → ⊥) ⊎ ((4096 ≤ length a.rest) ⊎ ⊥) → a.rest ≡ o.2 → ⊥
@@ -156,7 +156,7 @@ bad_open came n a o =
 
 pub broken_open : (came : List ℕ) (n : ℕ) → IsBroken came n → IsOpen came → ⊥
 broken_open came n a o =
-    either (compared came a.whole o.3.whole a.place o.1 (a.line ++ (10 ∷ a.after)) o.2 a.right o.3.right a.parts o.3.parts)
+    either (compared came a.whole o.3.whole a.reached o.1 (a.line ++ (10 ∷ a.after)) o.2 a.right o.3.right a.parts o.3.parts)
     (λ s. no_feed_no_line o.2 a.line a.after o.3.short.0 (sym s.2)) (broken_ahead came n a) (open_ahead o.1 o.2 o.3.short.0)
 
 -- a run has one list of moves
@@ -184,7 +184,7 @@ run_run came ms ns a b =
 pub broken_more : (came more : List ℕ) (n : ℕ) → IsBroken came n → IsBroken (came ++ more) n
 broken_more came more n b = record {
   whole = b.whole;
-  place = b.place;
+  reached = b.reached;
   line = b.line;
   after = b.after ++ more;
   number = b.number;
@@ -225,7 +225,7 @@ NoFeed-front (x ∷ xs) ys p = (p.0, NoFeed-front xs ys p.1)
 pub bad_more : (came more : List ℕ) (n : ℕ) → IsBadMove came ⊥ n → IsBadMove (came ++ more) ⊥ n
 bad_more came more n b = record {
   whole = b.whole;
-  place = b.place;
+  reached = b.reached;
   rest = b.rest ++ more;
   number = b.number;
   right = b.right;
@@ -249,7 +249,7 @@ bad_more came more n b = record {
     enough_more (inr (inl long)) = inr (inl (omega (arith, long, length-append b.rest more)))
     enough_more (inr (inr never)) = absurd never
 
-    bad_line : (line after : List ℕ) → IsLine line → IsWellFormed b.place line → ((t : List ℕ) × (b.rest ≡ line ++ (10 ∷ t))) ⊎ (NoFeed b.rest × (length b.rest ≤ length line))
+    bad_line : (line after : List ℕ) → IsLine line → IsWellFormed b.reached line → ((t : List ℕ) × (b.rest ≡ line ++ (10 ∷ t))) ⊎ (NoFeed b.rest × (length b.rest ≤ length line))
         → (NoFeed b.rest → ⊥) ⊎ ((4096 ≤ length b.rest) ⊎ ⊥) → ⊥
     bad_line line after fits is (inl p) enough = b.bad line p.0 fits p.1 is
     bad_line line after fits is (inr p) (inl feed) = feed p.0

@@ -20,7 +20,7 @@ Run-one : (ms : List Move) (s mid next : State) (m : Move) → Run s ms mid → 
 Run-one [] s mid next m r step = (next, subst (λ (x : State). Steps x m next) r step, refl)
 Run-one (n ∷ ms) s mid next m r step = (r.0, r.1, Run-one ms r.0 mid next m r.2 step)
 
-LeadTo-one : (ls : List (List ℕ)) (l : List ℕ) (place next : Option State) → LeadTo ls place → IsLine l → LineLeads place l next → LeadTo (ls ++ l ∷ []) next
+LeadTo-one : (ls : List (List ℕ)) (l : List ℕ) (reached next : Option State) → LeadTo ls reached → IsLine l → LineLeads reached l next → LeadTo (ls ++ l ∷ []) next
 LeadTo-one [] l None None p fits f = absurd f
 LeadTo-one [] l None (Some s) p fits f = (f.0, [], fits, f.1, tt, f.2)
 LeadTo-one [] l (Some s) next p fits f = absurd p
@@ -34,9 +34,9 @@ LeadTo-one (first ∷ ls) l (Some s) (Some next) p fits f =
 pub IsRightSoFar-none : IsRightSoFar [] 0 None []
 IsRightSoFar-none = record { whole = []; number = refl; right = tt; parts = refl; short = (tt, omega arith) }
 
-pub IsRightSoFar-more : (came : List ℕ) (count : ℕ) (place : Option State) (line piece : List ℕ) → IsRightSoFar came count place line
-    → NoFeed piece → length line + length piece < 4096 → IsRightSoFar (came ++ piece) count place (line ++ piece)
-IsRightSoFar-more came count place line piece s clean small = record {
+pub IsRightSoFar-more : (came : List ℕ) (count : ℕ) (reached : Option State) (line piece : List ℕ) → IsRightSoFar came count reached line
+    → NoFeed piece → length line + length piece < 4096 → IsRightSoFar (came ++ piece) count reached (line ++ piece)
+IsRightSoFar-more came count reached line piece s clean small = record {
   whole = s.whole;
   number = s.number;
   right = s.right;
@@ -45,34 +45,34 @@ IsRightSoFar-more came count place line piece s clean small = record {
 }
 
 -- a whole line that follows
-pub IsRightSoFar-line : (came : List ℕ) (count : ℕ) (place next : Option State) (line : List ℕ) → IsRightSoFar came count place line
-    → LineLeads place line next → IsRightSoFar (came ++ 10 ∷ []) (count + 1) next []
-IsRightSoFar-line came count place next line s f = record {
+pub IsRightSoFar-line : (came : List ℕ) (count : ℕ) (reached next : Option State) (line : List ℕ) → IsRightSoFar came count reached line
+    → LineLeads reached line next → IsRightSoFar (came ++ 10 ∷ []) (count + 1) next []
+IsRightSoFar-line came count reached next line s f = record {
   whole = s.whole ++ line ∷ [];
   number = ap (λ (n : ℕ). n + 1) s.number ∙ omega (arith, length-append s.whole (line ∷ []));
-  right = LeadTo-one s.whole line place next s.right s.short f;
+  right = LeadTo-one s.whole line reached next s.right s.short f;
   parts = ap (λ (l : List ℕ). l ++ 10 ∷ []) s.parts ∙ append_assoc (lines_text s.whole) line (10 ∷ []) ∙ lines_text-one s.whole line [];
   short = (tt, omega arith);
 }
 
 -- a line whose end came, and that is refused
-pub refused_line : (came : List ℕ) (count : ℕ) (place : Option State) (line after : List ℕ) (ended lost : Type 0) (e : FileFault) → IsRightSoFar came count place line
-    → Refuses place line (count + 1) e → IsFaultOf (came ++ (10 ∷ after)) ended lost e
-refused_line came count place line after ended lost (BadLine n) s r = absurd r
-refused_line came count place line after ended lost (BadMove n) s r = record {
+pub refused_line : (came : List ℕ) (count : ℕ) (reached : Option State) (line after : List ℕ) (ended lost : Type 0) (e : FileFault) → IsRightSoFar came count reached line
+    → Refuses reached line (count + 1) e → IsFaultOf (came ++ (10 ∷ after)) ended lost e
+refused_line came count reached line after ended lost (BadLine n) s r = absurd r
+refused_line came count reached line after ended lost (BadMove n) s r = record {
   whole = s.whole;
-  place = place;
+  reached = reached;
   rest = line ++ (10 ∷ after);
   number = r.0 ∙ ap (λ (k : ℕ). k + 1) s.number;
   right = s.right;
   parts = ap (λ (l : List ℕ). l ++ (10 ∷ after)) s.parts ∙ append_assoc (lines_text s.whole) line (10 ∷ after);
   there = inl (omega (arith, length-append line (10 ∷ after)));
   enough = inl (has_feed line after);
-  bad = λ other more fits same is. r.1 (subst (IsWellFormed place) (sym ((same_line line other after more s.short.0 fits.0 same).0)) is);
+  bad = λ other more fits same is. r.1 (subst (IsWellFormed reached) (sym ((same_line line other after more s.short.0 fits.0 same).0)) is);
 }
-refused_line came count place line after ended lost (Broken n) s r = record {
+refused_line came count reached line after ended lost (Broken n) s r = record {
   whole = s.whole;
-  place = place;
+  reached = reached;
   line = line;
   after = after;
   number = r.0 ∙ ap (λ (k : ℕ). k + 1) s.number;
@@ -81,16 +81,16 @@ refused_line came count place line after ended lost (Broken n) s r = record {
   fits = s.short;
   unlawful = r.1;
 }
-refused_line came count place line after ended lost Read s r = absurd r
-refused_line came count place line after ended lost Write s r = absurd r
-refused_line came count place line after ended lost Memory s r = tt
+refused_line came count reached line after ended lost Read s r = absurd r
+refused_line came count reached line after ended lost Write s r = absurd r
+refused_line came count reached line after ended lost Memory s r = tt
 
 -- a line of which 4,096 bytes came with no line feed
-pub too_long : (came : List ℕ) (count : ℕ) (place : Option State) (line piece after : List ℕ) (ended : Type 0) → IsRightSoFar came count place line
+pub too_long : (came : List ℕ) (count : ℕ) (reached : Option State) (line piece after : List ℕ) (ended : Type 0) → IsRightSoFar came count reached line
     → NoFeed piece → 4096 ≤ length line + length piece → IsBadMove (came ++ (piece ++ after)) ended (count + 1)
-too_long came count place line piece after ended s clean long = record {
+too_long came count reached line piece after ended s clean long = record {
   whole = s.whole;
-  place = place;
+  reached = reached;
   rest = line ++ (piece ++ after);
   number = ap (λ (k : ℕ). k + 1) s.number;
   right = s.right;
@@ -131,23 +131,23 @@ ends_whole came count state s = ends_at s.whole s.number s.right s.parts
     )
 
 -- the end, where a line has begun, or where there was none
-pub ends_bad : (came : List ℕ) (count : ℕ) (place : Option State) (line : List ℕ) (ended : Type 0) → IsRightSoFar came count place line
-    → (0 < length line) ⊎ (place ≡ None) → ended → IsBadMove came ended (count + 1)
-ends_bad came count place line ended s why end = record {
+pub ends_bad : (came : List ℕ) (count : ℕ) (reached : Option State) (line : List ℕ) (ended : Type 0) → IsRightSoFar came count reached line
+    → (0 < length line) ⊎ (reached ≡ None) → ended → IsBadMove came ended (count + 1)
+ends_bad came count reached line ended s why end = record {
   whole = s.whole;
-  place = place;
+  reached = reached;
   rest = line;
   number = ap (λ (k : ℕ). k + 1) s.number;
   right = s.right;
   parts = s.parts;
-  there = there_by s.whole place s.right why;
+  there = there_by s.whole reached s.right why;
   enough = inr (inr end);
   bad = λ other more fits same is. no_feed_no_line line other more s.short.0 same;
 }
   where
-    there_by : (whole : List (List ℕ)) (place : Option State) → LeadTo whole place → (0 < length line) ⊎ (place ≡ None) → (0 < length line) ⊎ (whole ≡ [])
-    there_by whole place right (inl some) = inl some
-    there_by [] place right (inr none) = inr refl
+    there_by : (whole : List (List ℕ)) (reached : Option State) → LeadTo whole reached → (0 < length line) ⊎ (reached ≡ None) → (0 < length line) ⊎ (whole ≡ [])
+    there_by whole reached right (inl some) = inl some
+    there_by [] reached right (inr none) = inr refl
     there_by (l ∷ ls) None right (inr none) = absurd right
     there_by (l ∷ ls) (Some s) right (inr none) = absurd (some_none s none)
       where
@@ -156,71 +156,71 @@ ends_bad came count place line ended s why end = record {
 
 -- ---- what was fed of some bytes: a front, and the rest is left
 
-pub record Fed (count : ℕ) (place : Option State) (line bytes : List ℕ) (count' : ℕ) (place' : Option State) (line' rest : List ℕ) : Type 0 where
+pub record Fed (count : ℕ) (reached : Option State) (line bytes : List ℕ) (count' : ℕ) (reached' : Option State) (line' rest : List ℕ) : Type 0 where
   pub seen : List ℕ
   pub parts : bytes ≡ seen ++ rest
-  pub stands : (came : List ℕ) → IsRightSoFar came count place line → IsRightSoFar (came ++ seen) count' place' line'
+  pub stands : (came : List ℕ) → IsRightSoFar came count reached line → IsRightSoFar (came ++ seen) count' reached' line'
 
-pub Fed-none : (count : ℕ) (place : Option State) (line bytes : List ℕ) → Fed count place line bytes count place line bytes
-Fed-none count place line bytes = record { seen = []; parts = refl; stands = λ came s. subst (λ (l : List ℕ). IsRightSoFar l count place line) (sym (append-nil came)) s }
+pub Fed-none : (count : ℕ) (reached : Option State) (line bytes : List ℕ) → Fed count reached line bytes count reached line bytes
+Fed-none count reached line bytes = record { seen = []; parts = refl; stands = λ came s. subst (λ (l : List ℕ). IsRightSoFar l count reached line) (sym (append-nil came)) s }
 
 -- a piece more, and the line feed behind it
-pub Fed-line : (count : ℕ) (place : Option State) (line bytes : List ℕ) (count' : ℕ) (place' : Option State) (line' rest piece after : List ℕ) (next : Option State)
-    → Fed count place line bytes count' place' line' rest → NoFeed piece → rest ≡ piece ++ (10 ∷ after) → length line' + length piece < 4096 → LineLeads place' (line' ++ piece) next
-    → Fed count place line bytes (count' + 1) next [] after
-Fed-line count place line bytes count' place' line' rest piece after next f clean cut small follows = record {
+pub Fed-line : (count : ℕ) (reached : Option State) (line bytes : List ℕ) (count' : ℕ) (reached' : Option State) (line' rest piece after : List ℕ) (next : Option State)
+    → Fed count reached line bytes count' reached' line' rest → NoFeed piece → rest ≡ piece ++ (10 ∷ after) → length line' + length piece < 4096 → LineLeads reached' (line' ++ piece) next
+    → Fed count reached line bytes (count' + 1) next [] after
+Fed-line count reached line bytes count' reached' line' rest piece after next f clean cut small follows = record {
   seen = (f.seen ++ piece) ++ 10 ∷ [];
   parts = f.parts ∙ ap (λ (l : List ℕ). f.seen ++ l) cut ∙ sym (append_assoc f.seen piece (10 ∷ after)) ∙ sym (append_assoc (f.seen ++ piece) (10 ∷ []) after);
   stands = λ came s.
-      let more = IsRightSoFar-line ((came ++ f.seen) ++ piece) count' place' next (line' ++ piece) (IsRightSoFar-more (came ++ f.seen) count' place' line' piece (f.stands came s) clean small) follows in
+      let more = IsRightSoFar-line ((came ++ f.seen) ++ piece) count' reached' next (line' ++ piece) (IsRightSoFar-more (came ++ f.seen) count' reached' line' piece (f.stands came s) clean small) follows in
       subst (λ (l : List ℕ). IsRightSoFar l (count' + 1) next []) (append_assoc (came ++ f.seen) piece (10 ∷ []) ∙ append_assoc came f.seen (piece ++ 10 ∷ []) ∙ ap (λ (l : List ℕ). came ++ l) (sym (append_assoc f.seen piece (10 ∷ [])))) more;
 }
 
 -- adding a piece of the rest to the line failed
-pub fed_long : (count : ℕ) (place : Option State) (line bytes : List ℕ) (count' : ℕ) (place' : Option State) (line' rest piece after : List ℕ) (e : FileFault)
-    → Fed count place line bytes count' place' line' rest → NoFeed piece → rest ≡ piece ++ after
+pub fed_long : (count : ℕ) (reached : Option State) (line bytes : List ℕ) (count' : ℕ) (reached' : Option State) (line' rest piece after : List ℕ) (e : FileFault)
+    → Fed count reached line bytes count' reached' line' rest → NoFeed piece → rest ≡ piece ++ after
     → (e ≡ Memory) ⊎ ((e ≡ BadMove (count' + 1)) × (4096 ≤ length line' + length piece))
-    → (came : List ℕ) → IsRightSoFar came count place line → IsFaultOf (came ++ bytes) ⊥ ⊥ e
-fed_long count place line bytes count' place' line' rest piece after e f clean cut (inl none) came s = subst (IsFaultOf (came ++ bytes) ⊥ ⊥) (sym none) tt
-fed_long count place line bytes count' place' line' rest piece after e f clean cut (inr long) came s =
+    → (came : List ℕ) → IsRightSoFar came count reached line → IsFaultOf (came ++ bytes) ⊥ ⊥ e
+fed_long count reached line bytes count' reached' line' rest piece after e f clean cut (inl none) came s = subst (IsFaultOf (came ++ bytes) ⊥ ⊥) (sym none) tt
+fed_long count reached line bytes count' reached' line' rest piece after e f clean cut (inr long) came s =
     subst (IsFaultOf (came ++ bytes) ⊥ ⊥) (sym long.0)
     (subst (λ (l : List ℕ). IsBadMove l ⊥ (count' + 1)) (append_assoc came f.seen (piece ++ after) ∙ ap (λ (l : List ℕ). came ++ l) (ap (λ (l : List ℕ). f.seen ++ l) (sym cut) ∙ sym f.parts))
-    (too_long (came ++ f.seen) count' place' line' piece after ⊥ (f.stands came s) clean long.1))
+    (too_long (came ++ f.seen) count' reached' line' piece after ⊥ (f.stands came s) clean long.1))
 
 -- the line was refused
-pub fed_refused : (count : ℕ) (place : Option State) (line bytes : List ℕ) (count' : ℕ) (place' : Option State) (line' rest piece after : List ℕ) (e : FileFault)
-    → Fed count place line bytes count' place' line' rest → NoFeed piece → rest ≡ piece ++ (10 ∷ after) → length line' + length piece < 4096
-    → Refuses place' (line' ++ piece) (count' + 1) e
-    → (came : List ℕ) → IsRightSoFar came count place line → IsFaultOf (came ++ bytes) ⊥ ⊥ e
-fed_refused count place line bytes count' place' line' rest piece after e f clean cut small r came s =
+pub fed_refused : (count : ℕ) (reached : Option State) (line bytes : List ℕ) (count' : ℕ) (reached' : Option State) (line' rest piece after : List ℕ) (e : FileFault)
+    → Fed count reached line bytes count' reached' line' rest → NoFeed piece → rest ≡ piece ++ (10 ∷ after) → length line' + length piece < 4096
+    → Refuses reached' (line' ++ piece) (count' + 1) e
+    → (came : List ℕ) → IsRightSoFar came count reached line → IsFaultOf (came ++ bytes) ⊥ ⊥ e
+fed_refused count reached line bytes count' reached' line' rest piece after e f clean cut small r came s =
     subst (λ (l : List ℕ). IsFaultOf l ⊥ ⊥ e)
     (append_assoc (came ++ f.seen) piece (10 ∷ after) ∙ append_assoc came f.seen (piece ++ (10 ∷ after)) ∙ ap (λ (l : List ℕ). came ++ l) (ap (λ (l : List ℕ). f.seen ++ l) (sym cut) ∙ sym f.parts))
-    (refused_line ((came ++ f.seen) ++ piece) count' place' (line' ++ piece) after ⊥ ⊥ e (IsRightSoFar-more (came ++ f.seen) count' place' line' piece (f.stands came s) clean small) r)
+    (refused_line ((came ++ f.seen) ++ piece) count' reached' (line' ++ piece) after ⊥ ⊥ e (IsRightSoFar-more (came ++ f.seen) count' reached' line' piece (f.stands came s) clean small) r)
 
 -- the rest was added to the line, or not
-pub fed_last : {T : Type 0} (r : Result T FileFault) (count : ℕ) (place : Option State) (line bytes : List ℕ) (count' : ℕ) (place' : Option State) (line' rest : List ℕ)
-    (count2 : ℕ) (place2 : Option State) (line2 : List ℕ)
-    → Fed count place line bytes count' place' line' rest → NoFeed rest
-    → OnOk r ((line2 ≡ line' ++ rest) × (count2 ≡ count') × (place2 ≡ place')) → OnOk r (length line' + length rest < 4096)
+pub fed_last : {T : Type 0} (r : Result T FileFault) (count : ℕ) (reached : Option State) (line bytes : List ℕ) (count' : ℕ) (reached' : Option State) (line' rest : List ℕ)
+    (count2 : ℕ) (reached2 : Option State) (line2 : List ℕ)
+    → Fed count reached line bytes count' reached' line' rest → NoFeed rest
+    → OnOk r ((line2 ≡ line' ++ rest) × (count2 ≡ count') × (reached2 ≡ reached')) → OnOk r (length line' + length rest < 4096)
     → IfErr r (λ e. (e ≡ Memory) ⊎ ((e ≡ BadMove (count' + 1)) × (4096 ≤ length line' + length rest)))
-    → (came : List ℕ) → IsRightSoFar came count place line
-    → MatchResult r (λ _. IsRightSoFar (came ++ bytes) count2 place2 line2) (λ e. IsFaultOf (came ++ bytes) ⊥ ⊥ e)
-fed_last (Err e) count place line bytes count' place' line' rest count2 place2 line2 f clean ok small fault came s =
-    fed_long count place line bytes count' place' line' rest rest [] e f clean (sym (append-nil rest)) fault came s
-fed_last (Ok x) count place line bytes count' place' line' rest count2 place2 line2 f clean ok small fault came s =
-    let more = IsRightSoFar-more (came ++ f.seen) count' place' line' rest (f.stands came s) clean small in
+    → (came : List ℕ) → IsRightSoFar came count reached line
+    → MatchResult r (λ _. IsRightSoFar (came ++ bytes) count2 reached2 line2) (λ e. IsFaultOf (came ++ bytes) ⊥ ⊥ e)
+fed_last (Err e) count reached line bytes count' reached' line' rest count2 reached2 line2 f clean ok small fault came s =
+    fed_long count reached line bytes count' reached' line' rest rest [] e f clean (sym (append-nil rest)) fault came s
+fed_last (Ok x) count reached line bytes count' reached' line' rest count2 reached2 line2 f clean ok small fault came s =
+    let more = IsRightSoFar-more (came ++ f.seen) count' reached' line' rest (f.stands came s) clean small in
     let all : (came ++ f.seen) ++ rest ≡ came ++ bytes = append_assoc came f.seen rest ∙ ap (λ (l : List ℕ). came ++ l) (sym f.parts) in
-    same_stands ((came ++ f.seen) ++ rest) (came ++ bytes) count' count2 place' place2 (line' ++ rest) line2 all (sym ok.1) (sym ok.2) (sym ok.0) more
+    same_stands ((came ++ f.seen) ++ rest) (came ++ bytes) count' count2 reached' reached2 (line' ++ rest) line2 all (sym ok.1) (sym ok.2) (sym ok.0) more
   where
     same_stands : (a b : List ℕ) (m n : ℕ) (p q : Option State) (k l : List ℕ) → a ≡ b → m ≡ n → p ≡ q → k ≡ l → IsRightSoFar a m p k → IsRightSoFar b n q l
     same_stands a b m n p q k l e f g h s = rw (← e, ← f, ← g, ← h) s
 
 -- ---- the end
 
-pub finish_begun : (came : List ℕ) (count : ℕ) (place : Option State) (line : List ℕ) → 0 < length line → IsRightSoFar came count place line → IsBadMove came (Unit {0}) (count + 1)
-finish_begun came count place line some s = ends_bad came count place line (Unit {0}) s (inl some) tt
+pub finish_begun : (came : List ℕ) (count : ℕ) (reached : Option State) (line : List ℕ) → 0 < length line → IsRightSoFar came count reached line → IsBadMove came (Unit {0}) (count + 1)
+finish_begun came count reached line some s = ends_bad came count reached line (Unit {0}) s (inl some) tt
 
-pub finish_ok : (came : List ℕ) (count : ℕ) (place : Option State) (line : List ℕ) → length line ≡ 0 → is_some place ≡ true → IsRightSoFar came count place line
+pub finish_ok : (came : List ℕ) (count : ℕ) (reached : Option State) (line : List ℕ) → length line ≡ 0 → is_some reached ≡ true → IsRightSoFar came count reached line
     → (ms : List Move) × IsRunOf came ms × (count - 1 ≡ length ms)
 finish_ok came count None line none there s = absurd (no_some there)
   where
@@ -229,7 +229,7 @@ finish_ok came count None line none there s = absurd (no_some there)
 finish_ok came count (Some state) (x ∷ line) none there s = absurd (omega arith)
 finish_ok came count (Some state) [] none there s = let p = ends_whole came count state s in (p.0, p.1, omega (arith, p.2))
 
-pub finish_none : (came : List ℕ) (count : ℕ) (place : Option State) (line : List ℕ) → is_some place ≡ false → IsRightSoFar came count place line → IsBadMove came (Unit {0}) (count + 1)
+pub finish_none : (came : List ℕ) (count : ℕ) (reached : Option State) (line : List ℕ) → is_some reached ≡ false → IsRightSoFar came count reached line → IsBadMove came (Unit {0}) (count + 1)
 finish_none came count None line none s = ends_bad came count None line (Unit {0}) s (inr refl) tt
 finish_none came count (Some state) line none s = absurd (no_none none)
   where
@@ -238,29 +238,29 @@ finish_none came count (Some state) line none s = absurd (no_none none)
 
 -- what adding a piece to the line gave
 abbrev pub Added : ℕ → Option State → List ℕ → List ℕ → ℕ → Option State → List ℕ → Type 0
-Added count place line piece count2 place2 line2 = (line2 ≡ line ++ piece) × (count2 ≡ count) × (place2 ≡ place)
+Added count reached line piece count2 reached2 line2 = (line2 ≡ line ++ piece) × (count2 ≡ count) × (reached2 ≡ reached)
 
-pub fed_refused_by : (count : ℕ) (place : Option State) (line bytes : List ℕ) (count' : ℕ) (place' : Option State) (line' rest piece after : List ℕ) (e : FileFault)
-    (count2 : ℕ) (place2 : Option State) (line2 : List ℕ)
-    → Fed count place line bytes count' place' line' rest → NoFeed piece × (rest ≡ piece ++ (10 ∷ after)) → Added count' place' line' piece count2 place2 line2 → length line' + length piece < 4096
-    → Refuses place2 line2 (count2 + 1) e
-    → (came : List ℕ) → IsRightSoFar came count place line → IsFaultOf (came ++ bytes) ⊥ ⊥ e
-fed_refused_by count place line bytes count' place' line' rest piece after e count2 place2 line2 f cut a small r =
-    fed_refused count place line bytes count' place' line' rest piece after e f cut.0 cut.1 small (same_refusal count' count2 place' place2 (line' ++ piece) line2 a.1 a.2 a.0 r)
+pub fed_refused_by : (count : ℕ) (reached : Option State) (line bytes : List ℕ) (count' : ℕ) (reached' : Option State) (line' rest piece after : List ℕ) (e : FileFault)
+    (count2 : ℕ) (reached2 : Option State) (line2 : List ℕ)
+    → Fed count reached line bytes count' reached' line' rest → NoFeed piece × (rest ≡ piece ++ (10 ∷ after)) → Added count' reached' line' piece count2 reached2 line2 → length line' + length piece < 4096
+    → Refuses reached2 line2 (count2 + 1) e
+    → (came : List ℕ) → IsRightSoFar came count reached line → IsFaultOf (came ++ bytes) ⊥ ⊥ e
+fed_refused_by count reached line bytes count' reached' line' rest piece after e count2 reached2 line2 f cut a small r =
+    fed_refused count reached line bytes count' reached' line' rest piece after e f cut.0 cut.1 small (same_refusal count' count2 reached' reached2 (line' ++ piece) line2 a.1 a.2 a.0 r)
   where
     same_refusal : (m n : ℕ) (p q : Option State) (k l : List ℕ) → n ≡ m → q ≡ p → l ≡ k → Refuses q l (n + 1) e → Refuses p k (m + 1) e
     same_refusal m n p q k l f g h r = subst (λ (x : ℕ). Refuses p k (x + 1) e) f (subst (λ (x : Option State). Refuses x k (n + 1) e) g (subst (λ (x : List ℕ). Refuses q x (n + 1) e) h r))
 
-pub Fed-line_by : (count : ℕ) (place : Option State) (line bytes : List ℕ) (count' : ℕ) (place' : Option State) (line' rest piece after : List ℕ)
-    (count2 : ℕ) (place2 : Option State) (line2 : List ℕ) (count3 : ℕ) (place3 : Option State) (line3 : List ℕ)
-    → Fed count place line bytes count' place' line' rest → NoFeed piece × (rest ≡ piece ++ (10 ∷ after)) → Added count' place' line' piece count2 place2 line2 → length line' + length piece < 4096
-    → LineLeads place2 line2 place3 × (count3 ≡ count2 + 1) × (line3 ≡ [])
-    → Fed count place line bytes count3 place3 line3 after
-Fed-line_by count place line bytes count' place' line' rest piece after count2 place2 line2 count3 place3 line3 f cut a small r =
+pub Fed-line_by : (count : ℕ) (reached : Option State) (line bytes : List ℕ) (count' : ℕ) (reached' : Option State) (line' rest piece after : List ℕ)
+    (count2 : ℕ) (reached2 : Option State) (line2 : List ℕ) (count3 : ℕ) (reached3 : Option State) (line3 : List ℕ)
+    → Fed count reached line bytes count' reached' line' rest → NoFeed piece × (rest ≡ piece ++ (10 ∷ after)) → Added count' reached' line' piece count2 reached2 line2 → length line' + length piece < 4096
+    → LineLeads reached2 line2 reached3 × (count3 ≡ count2 + 1) × (line3 ≡ [])
+    → Fed count reached line bytes count3 reached3 line3 after
+Fed-line_by count reached line bytes count' reached' line' rest piece after count2 reached2 line2 count3 reached3 line3 f cut a small r =
     same_fed (count' + 1) count3 [] line3 (r.1 ∙ ap (λ (n : ℕ). n + 1) a.1) r.2
-    (Fed-line count place line bytes count' place' line' rest piece after place3 f cut.0 cut.1 small (subst (λ (x : Option State). LineLeads x (line' ++ piece) place3) a.2 (subst (λ (x : List ℕ). LineLeads place2 x place3) a.0 r.0)))
+    (Fed-line count reached line bytes count' reached' line' rest piece after reached3 f cut.0 cut.1 small (subst (λ (x : Option State). LineLeads x (line' ++ piece) reached3) a.2 (subst (λ (x : List ℕ). LineLeads reached2 x reached3) a.0 r.0)))
   where
-    same_fed : (m n : ℕ) (k l : List ℕ) → n ≡ m → l ≡ k → Fed count place line bytes m place3 k after → Fed count place line bytes n place3 l after
+    same_fed : (m n : ℕ) (k l : List ℕ) → n ≡ m → l ≡ k → Fed count reached line bytes m reached3 k after → Fed count reached line bytes n reached3 l after
     same_fed m n k l e g h = rw (e, g) h
 
 pub counted_line : (count bytes count' rest piece after : ℕ) → count' + rest ≤ count + bytes → rest ≡ piece + (1 + after) → (count' + 1) + after ≤ count + bytes

@@ -66,7 +66,7 @@ no_feed_below bs i within le =
     NoFeed-each (take i bs) (λ k below. let small : k < i = omega (arith, below, length-take-le i bs within) in
     ap (λ (x : ℕ). x == 10) (get_or-take i bs k 0 small) ∙ fails_before_first (λ b. b == 10) bs k 0 (omega (arith, small, le)))
 
--- the place of the first line feed: the line before it, and what follows
+-- the position of the first line feed: the line before it, and what follows
 pub cut_at : (bs : List ℕ) (i : ℕ) → position (λ b. b == 10) bs ≡ Some i → (i < length bs) × NoFeed (take i bs) × (bs ≡ take i bs ++ (10 ∷ drop (i + 1) bs))
 cut_at bs i e =
     let found = cond_some (nat_lt (position_or_len (λ b. b == 10) bs) (length bs)) (position_or_len (λ b. b == 10) bs) i e in

@@ -70,51 +70,51 @@ pub record IsRunOf (bytes : List ℕ) (ms : List Move) : Type 0 where
   pub run : Run (opening objects) ms state
 
 -- Nothing is wrong as far as the bytes came: whole lines of a run, and the front of one more.
-pub record IsRightSoFar (came : List ℕ) (count : ℕ) (place : Option State) (line : List ℕ) : Type 0 where
+pub record IsRightSoFar (came : List ℕ) (count : ℕ) (reached : Option State) (line : List ℕ) : Type 0 where
   pub whole : List (List ℕ)
   pub number : count ≡ length whole
-  pub right : LeadTo whole place
+  pub right : LeadTo whole reached
   pub parts : came ≡ lines_text whole ++ line
   pub short : IsLine line
 
 abbrev pub IsOpen : List ℕ → Type 0
-IsOpen came = (count : ℕ) × (place : Option State) × (line : List ℕ) × IsRightSoFar came count place line
+IsOpen came = (count : ℕ) × (reached : Option State) × (line : List ℕ) × IsRightSoFar came count reached line
 
 -- Line n is no line of a history: right lines stand before it, and what is there begins with none. So much of it came
 -- that this is sure: a line feed, 4,096 bytes, or the end.
 pub record IsBadMove (came : List ℕ) (ended : Type 0) (n : ℕ) : Type 0 where
   pub whole : List (List ℕ)
-  pub place : Option State
+  pub reached : Option State
   pub rest : List ℕ
   pub number : n ≡ length whole + 1
-  pub right : LeadTo whole place
+  pub right : LeadTo whole reached
   pub parts : came ≡ lines_text whole ++ rest
   pub there : (0 < length rest) ⊎ (whole ≡ [])
   pub enough : (NoFeed rest → ⊥) ⊎ ((4096 ≤ length rest) ⊎ ended)
-  pub bad : (line after : List ℕ) → IsLine line → rest ≡ line ++ (10 ∷ after) → IsWellFormed place line → ⊥
+  pub bad : (line after : List ℕ) → IsLine line → rest ≡ line ++ (10 ∷ after) → IsWellFormed reached line → ⊥
 
 -- line n is a move that is not lawful behind those before it
 pub record IsBroken (came : List ℕ) (n : ℕ) : Type 0 where
   pub whole : List (List ℕ)
-  pub place : Option State
+  pub reached : Option State
   pub line : List ℕ
   pub after : List ℕ
   pub number : n ≡ length whole + 1
-  pub right : LeadTo whole place
+  pub right : LeadTo whole reached
   pub parts : came ≡ lines_text whole ++ (line ++ (10 ∷ after))
   pub fits : IsLine line
-  pub unlawful : IsUnlawfulLine place line
+  pub unlawful : IsUnlawfulLine reached line
 
 -- ---- answers
 
 -- why the line with this number was refused
 abbrev pub Refuses : Option State → List ℕ → ℕ → FileFault → Type 0
-Refuses place line number (BadLine n) = ⊥
-Refuses place line number (BadMove n) = (n ≡ number) × (IsWellFormed place line → ⊥)
-Refuses place line number (Broken n) = (n ≡ number) × IsUnlawfulLine place line
-Refuses place line number Read = ⊥
-Refuses place line number Write = ⊥
-Refuses place line number Memory = Unit {0}
+Refuses reached line number (BadLine n) = ⊥
+Refuses reached line number (BadMove n) = (n ≡ number) × (IsWellFormed reached line → ⊥)
+Refuses reached line number (Broken n) = (n ≡ number) × IsUnlawfulLine reached line
+Refuses reached line number Read = ⊥
+Refuses reached line number Write = ⊥
+Refuses reached line number Memory = Unit {0}
 
 -- the fault of what came, whether it ended there or the rest was lost
 abbrev pub IsFaultOf : List ℕ → Type 0 → Type 0 → FileFault → Type 0

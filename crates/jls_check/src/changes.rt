@@ -45,12 +45,12 @@ impl Machine {
         requires { MatchOption held.owner (Unit {0}) (λ t. MayOwn self.old.threads t) }
         ensures { self.new ≡ with_held self.old object held }
     {
-        let place = object.0 as usize;
-        if place >= self.objects.len() {
+        let position = object.0 as usize;
+        if position >= self.objects.len() {
             return;
         }
-        let before = self.objects[place].held.owner;
-        self.objects[place].held = held;
+        let before = self.objects[position].held.owner;
+        self.objects[position].held = held;
         self.threads.lose(before);
         self.threads.gain(held.owner);
     }

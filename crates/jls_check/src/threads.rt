@@ -165,11 +165,11 @@ fn after_notify_all(act: Doing, object: ObjectId) -> Doing
 {
     match act {
         Doing::Waits {
-            object: place,
+            object: awaited,
             holds,
             ..
-        } if place.0 == object.0 => Doing::Back {
-            object: place,
+        } if awaited.0 == object.0 => Doing::Back {
+            object: awaited,
             holds,
             why: Why::Notified,
         },

@@ -78,7 +78,7 @@ impl Machine {
             Live {
                 flag: other,
                 act: Doing::Waits {
-                    object: place,
+                    object: awaited,
                     holds,
                     ..
                 },
@@ -87,11 +87,11 @@ impl Machine {
         else {
             return Err(MoveFault::Broken);
         };
-        if place.0 != object.0 {
+        if awaited.0 != object.0 {
             return Err(MoveFault::Broken);
         }
         let back = Doing::Back {
-            object: place,
+            object: awaited,
             holds,
             why: Why::Notified,
         };

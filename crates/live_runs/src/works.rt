@@ -15,7 +15,7 @@ use std::alloc::Global;
 pub(crate) type Told = (Vec<Result<Reply, LiveFault>>, bool);
 
 #[tactic(auto, using(live_threads::proofs::Drives::moved_on))]
-/// A work for each pass, with the calls at its place.
+/// A work for each pass, with the calls at its position.
 pub(crate) fn works_of<L: Crew>(
     alloc: Global,
     mut passes: Vec<LivePass<L>>,

@@ -8,7 +8,7 @@ use Rattle.history_text.specs.declared.lines.StepLine.TheVariants.{Attach, Begin
 use Rattle.history_text.specs.Lines.{Continues, may_follow, is_object, is_object_named}
 use Rattle.live_scripts.specs.Rules.{IsLiveScript, Runs, attached, is_named, may_run, most_threads}
 use Rattle.live_scripts.specs.Plans.{objects_of}
-use Rattle.live_scripts.proofs.Places.{objects_of-append}
+use Rattle.live_scripts.proofs.Positions.{objects_of-append}
 use Rattle.live_scripts.proofs.Running.{attached-append}
 
 abbrev Few : List Line → Type 0

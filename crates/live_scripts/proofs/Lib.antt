@@ -1,5 +1,5 @@
 pub mod Names
 pub mod Running
 pub mod Reading
-pub mod Places
+pub mod Positions
 pub mod Few

@@ -14,16 +14,16 @@ use Rattle.history_text.specs.declared.lines.StepLine.TheVariants as step
 use Rattle.history_text.specs.declared.lines.Line.{Line}
 use Rattle.history_text.specs.declared.lines.Line.TheVariants.{World, Object, Step}
 
--- the place of a name: for one that is not there, how many names there are
-abbrev pub place_of : List (List ℕ) → List ℕ → ℕ
-place_of names name = position_or_len (λ n. bytes_eq n name) names
+-- the position of a name: for one that is not there, how many names there are
+abbrev pub position_of : List (List ℕ) → List ℕ → ℕ
+position_of names name = position_or_len (λ n. bytes_eq n name) names
 
 -- objects are numbered from 0, threads from 1
 abbrev pub object_of : List (List ℕ) → List ℕ → ObjectId
-object_of objects name = record { 0 = place_of objects name }
+object_of objects name = record { 0 = position_of objects name }
 
 abbrev pub thread_of : List (List ℕ) → List ℕ → ThreadId
-thread_of threads name = record { 0 = place_of threads name + 1 }
+thread_of threads name = record { 0 = position_of threads name + 1 }
 
 abbrev pub call_in : List (List ℕ) → List (List ℕ) → CallLine → Call
 call_in objects threads (line.Enter object) = Enter (object_of objects object)

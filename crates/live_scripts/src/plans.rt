@@ -4,7 +4,7 @@ ghost use Rattle.std.specs.Prelude.{◌≡◌, ◌≤◌, ◌<◌, ◌++◌, IfO
 ghost use Rattle.live_scripts.specs.Rules.{IsLiveScript, attached};
 ghost use Rattle.live_scripts.specs.Plans.{call_in, calls_in, calls_of, lows_in, lows_of};
 ghost use Rattle.live_scripts.specs.Plans.{monitors_in, object_of, objects_in, objects_of};
-ghost use Rattle.live_scripts.specs.Plans.{place_of, thread_of};
+ghost use Rattle.live_scripts.specs.Plans.{position_of, thread_of};
 ghost use Rattle.live_scripts.specs.Planned.{IsPlanOf};
 
 use crate::LiveScript;
@@ -30,33 +30,33 @@ pub struct LivePlan<'a> {
     pub calls: Vec<Vec<Call>>,
 }
 
-/// The place of a name: for one that is not there, how many names there are.
-fn place_of(names: &[&str], name: &str) -> usize
+/// The position of a name: for one that is not there, how many names there are.
+fn position_of(names: &[&str], name: &str) -> usize
     ensures within { result ≤ length names.now }
-    ensures place { result ≡ place_of (map (λ t. t.now) names.now) name.now }
+    ensures position { result ≡ position_of (map (λ t. t.now) names.now) name.now }
 {
-    let mut place = 0;
+    let mut position = 0;
     'names: for other in names {
         if *other == name {
-            return place;
+            return position;
         }
-        place += 1;
+        position += 1;
     }
-    place
+    position
 }
 
 fn object_of(objects: &[&str], name: &Name<'_>) -> ObjectId
     requires { length objects.now ≤ 65535 }
     ensures { result ≡ object_of (map (λ t. t.now) objects.now) name.now }
 {
-    ObjectId(place_of(objects, name.as_str()) as u32)
+    ObjectId(position_of(objects, name.as_str()) as u32)
 }
 
 fn thread_of(threads: &[&str], name: &Name<'_>) -> ThreadId
     requires { length threads.now ≤ 64 }
     ensures { result ≡ thread_of (map (λ t. t.now) threads.now) name.now }
 {
-    ThreadId(place_of(threads, name.as_str()) as u32 + 1)
+    ThreadId(position_of(threads, name.as_str()) as u32 + 1)
 }
 
 fn call_of(objects: &[&str], threads: &[&str], call: &history_text::Call<'_>) -> Call

@@ -81,11 +81,11 @@ impl<L: Crew> House<L> {
         ensures each { IfOk result (λ _. HasEach self.count (numbers_of passes.items)) }
         ensures refused { IfErr result (IsRefused self L.monitors passes.items) }
     {
-        let House { turns, places } = self;
+        let House { turns, hooks } = self;
         match turns.close(alloc, passes) {
             Ok(closed) => Ok(closed),
             Err(TurnsClose::WrongPass { turns, passes }) => {
-                let house = House { turns, places };
+                let house = House { turns, hooks };
                 let told = Closing::WrongPass;
                 Err(Refused::Back {
                     house,
@@ -94,7 +94,7 @@ impl<L: Crew> House<L> {
                 })
             }
             Err(TurnsClose::Memory { turns, passes }) => {
-                let house = House { turns, places };
+                let house = House { turns, hooks };
                 let told = Closing::Memory;
                 Err(Refused::Back {
                     house,

@@ -1,4 +1,4 @@
-//! A service, and a place for each of its passes that comes back.
+//! A service, and a hook for each of its passes that comes back.
 
 ghost use Rattle.std.specs.Prelude.{◌≡◌, ◌≤◌, ◌+◌, ◌++◌, All, IfOk, IfSome, List, length, vec_len, vec_capacity, false};
 ghost use Rattle.live_turns.specs.Ways.{PassState, Belongs};
@@ -20,15 +20,15 @@ impl<L: Crew> Fits for Back<L> {
     ghost fits = { λ z b. Belongs z false b.pass.holding };
 }
 
-/// The place of a pass that comes back: free until then, and free again once the pass was taken.
-/// What is in it belongs to the service that it was made for.
-pub(crate) type Place<L> = Counted<Option<Back<L>>>;
+/// The hook of a pass that comes back: free until then, and free again once the pass was taken.
+/// What hangs on it belongs to the service that it was made for.
+pub(crate) type Hook<L> = Counted<Option<Back<L>>>;
 
-/// A service, and a place for each of its passes.
+/// A service, and a hook for each of its passes.
 #[derive(Drop)]
 pub(crate) struct House<L: Crew> {
     pub(crate) turns: Turns<L>,
-    pub(crate) places: Vec<Place<L>>,
+    pub(crate) hooks: Vec<Hook<L>>,
 }
 
 impl<L: Crew> Model for House<L> {
@@ -39,31 +39,31 @@ impl<L: Crew> Model for House<L> {
 
     ghost view = { λ h. h.turns };
 
-    ghost invariant = { λ h. All (λ z. z ≡ h.turns) h.places.items
-        × (vec_len h.places ≤ 64) × (L.passes ≡ h.turns.count) };
+    ghost invariant = { λ h. All (λ z. z ≡ h.turns) h.hooks.items
+        × (vec_len h.hooks ≤ 64) × (L.passes ≡ h.turns.count) };
 }
 
-/// A free place for each of so many passes of a service.
-pub(crate) fn free_places<L: Crew>(
+/// A free hook for each of so many passes of a service.
+pub(crate) fn free_hooks<L: Crew>(
     alloc: Global,
     turns: &Turns<L>,
     count: u16,
-) -> Result<Vec<Place<L>>, AllocError>
+) -> Result<Vec<Hook<L>>, AllocError>
     ensures same { IfOk result (λ v. All (λ z. z ≡ turns.now) v.items) }
     ensures len { IfOk result (λ v. vec_len v ≡ count) }
 {
-    let mut places = Vec::with_capacity(alloc, usize::from(count))?;
+    let mut hooks = Vec::with_capacity(alloc, usize::from(count))?;
     for _ in 0..count {
-        places.push_reserved(Counted::new(None, turns));
+        hooks.push_reserved(Counted::new(None, turns));
     }
-    Ok(places)
+    Ok(hooks)
 }
 
-// Puts a pass into its place. There is no other pass of its number, so that the place is free.
-fn put<L: Crew>(place: &Place<L>, pass: TurnPass<L>)
-    requires { Belongs place.now false pass.holding }
+// Hangs a pass on its hook. There is no other pass of its number, so that the hook is free.
+fn put<L: Crew>(hook: &Hook<L>, pass: TurnPass<L>)
+    requires { Belongs hook.now false pass.holding }
 {
-    let (found, claim) = place.turn(FREE, TAKEN);
+    let (found, claim) = hook.turn(FREE, TAKEN);
     if found != FREE {
         claim.done();
         return;
@@ -71,11 +71,11 @@ fn put<L: Crew>(place: &Place<L>, pass: TurnPass<L>)
     let _ = claim.put(Some(Back { pass }), PRESENT);
 }
 
-// The pass in a place, if there is one.
-fn take<L: Crew>(place: &Place<L>) -> Option<TurnPass<L>>
-    ensures { IfSome result (λ p. Belongs place.now false p.holding) }
+// The pass on a hook, if there is one.
+fn take<L: Crew>(hook: &Hook<L>) -> Option<TurnPass<L>>
+    ensures { IfSome result (λ p. Belongs hook.now false p.holding) }
 {
-    let (found, claim) = place.turn(PRESENT, TAKEN);
+    let (found, claim) = hook.turn(PRESENT, TAKEN);
     if found != PRESENT {
         claim.done();
         return None;
@@ -86,41 +86,41 @@ fn take<L: Crew>(place: &Place<L>) -> Option<TurnPass<L>>
     }
 }
 
-// Puts a pass into the place of its number.
-fn put_into<L: Crew>(turns: &Turns<L>, places: &[Place<L>], pass: TurnPass<L>)
-    requires same { All (λ z. z ≡ turns.now) places.now }
+// Hangs a pass on the hook of its number.
+fn put_into<L: Crew>(turns: &Turns<L>, hooks: &[Hook<L>], pass: TurnPass<L>)
+    requires same { All (λ z. z ≡ turns.now) hooks.now }
     requires belongs { Belongs turns.now false pass.holding }
 {
     let _ = turns;
     let at = (pass.thread().0 as usize).wrapping_sub(1);
-    if at < places.len() {
-        put(&places[at], pass);
+    if at < hooks.len() {
+        put(&hooks[at], pass);
     }
 }
 
 #[tactic(auto, using(crate::proofs::Passes::more_after))]
-// The passes in these places, behind those that are there.
-fn take_from<L: Crew>(turns: &Turns<L>, places: &[Place<L>], passes: &mut Vec<TurnPass<L>>)
-    requires same { All (λ z. z ≡ turns.now) places.now }
-    requires room { vec_len passes.old + length places.now ≤ vec_capacity passes.old }
+// The passes on these hooks, behind those that are there.
+fn take_from<L: Crew>(turns: &Turns<L>, hooks: &[Hook<L>], passes: &mut Vec<TurnPass<L>>)
+    requires same { All (λ z. z ≡ turns.now) hooks.now }
+    requires room { vec_len passes.old + length hooks.now ≤ vec_capacity passes.old }
     ensures more { (more : List PassState) × (passes.new.items ≡ passes.old.items ++ more)
         × All (λ p. Belongs turns.now false p.holding) more }
-    ensures len { vec_len passes.new ≤ vec_len passes.old + length places.now }
+    ensures len { vec_len passes.new ≤ vec_len passes.old + length hooks.now }
     ensures room { vec_capacity passes.new ≡ vec_capacity passes.old }
 {
-    for place in places {
-        if let Some(pass) = take(place) {
+    for hook in hooks {
+        if let Some(pass) = take(hook) {
             passes.push_reserved(pass);
         }
     }
 }
 
 impl<L: Crew> House<L> {
-    /// Puts a pass into its place.
+    /// Hangs a pass on its hook.
     pub(crate) fn put(&self, pass: TurnPass<L>)
         requires { Belongs self.now false pass.holding }
     {
-        put_into(&self.turns, self.places.as_slice(), pass);
+        put_into(&self.turns, self.hooks.as_slice(), pass);
     }
 
     /// The passes that came back, behind those that are there.
@@ -131,6 +131,6 @@ impl<L: Crew> House<L> {
         ensures len { vec_len passes.new ≤ vec_len passes.old + 64 }
         ensures room { vec_capacity passes.new ≡ vec_capacity passes.old }
     {
-        take_from(&self.turns, self.places.as_slice(), passes);
+        take_from(&self.turns, self.hooks.as_slice(), passes);
     }
 }

@@ -7,7 +7,7 @@ ghost use Rattle.live_turns.specs.Ways.{Belongs, new_state};
 ghost use Rattle.live_seats.specs.Seats.{SeatState, IsOpened};
 ghost use Rattle.live_seats.specs.Kept.{HasOpenedKept};
 
-use crate::house::{House, free_places};
+use crate::house::{House, free_hooks};
 use crate::member::Member;
 use crate::seat::Seat;
 use c_slots::{MaybeParts, Parts};
@@ -49,8 +49,8 @@ fn housed<L: Crew>(
     requires crew { L.passes ≡ turns.count }
     ensures { IfOk result (λ a. arc_value a ≡ Some turns) }
 {
-    let places = free_places(alloc, &turns, count)?;
-    let Ok(home) = Arc::new(alloc, Some(House { turns, places })) else {
+    let hooks = free_hooks(alloc, &turns, count)?;
+    let Ok(home) = Arc::new(alloc, Some(House { turns, hooks })) else {
         return Err(Memory);
     };
     Ok(home)

@@ -1,4 +1,4 @@
--- A line for each name, with what stands at its place: one name more.
+-- A line for each name, with what stands at its position: one name more.
 use Rattle.std.proofs.Common.{◌≡◌, ℕ, zero, suc, ◌+◌, ◌<◌, List, [], ◌∷◌, ◌++◌, length, take, get_or, map, sym, ap, ◌∙◌, arith, append-nil, append_assoc}
 use Rattle.live_text.specs.Texts.{each_text}
 

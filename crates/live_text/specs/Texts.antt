@@ -49,7 +49,7 @@ object_text name word = codes "object " ++ name ++ 32 ∷ word_text word ++ 10 �
 abbrev pub deeds_text : ℕ → List ℕ
 deeds_text deeds = codes "actions " ++ decimal deeds ++ 10 ∷ []
 
--- a line for each name, with what stands at its place
+-- a line for each name, with what stands at its position
 abbrev pub each_text : {X : Type 0} → (List ℕ → X → List ℕ) → List (List ℕ) → List X → List ℕ
 each_text line [] xs = []
 each_text line (name ∷ names) [] = []

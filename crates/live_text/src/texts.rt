@@ -50,8 +50,8 @@ fn put_threads(
         ++ each_text thread_text (map (λ t. t.now) names.now)
         (map (λ w. (vec_items w.0, w.1)) workers.now)) }
 {
-    'threads: for (place, name) in names.iter().enumerate() {
-        put_thread(text, name, &workers[place])?;
+    'threads: for (position, name) in names.iter().enumerate() {
+        put_thread(text, name, &workers[position])?;
     }
     Ok(())
 }
@@ -108,8 +108,8 @@ fn put_objects(text: &mut String, names: &[&str], words: &[Word]) -> Result<(), 
     ensures { OnOk result (string_bytes text.new ≡ string_bytes text.old
         ++ each_text object_text (map (λ t. t.now) names.now) (map (λ w. w.0) words.now)) }
 {
-    'objects: for (place, name) in names.iter().enumerate() {
-        put_object(text, name, words[place])?;
+    'objects: for (position, name) in names.iter().enumerate() {
+        put_object(text, name, words[position])?;
     }
     Ok(())
 }

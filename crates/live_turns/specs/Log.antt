@@ -47,7 +47,7 @@ after_deed f t (Bound o n m) = bound_with f o t n
 after_deed f t (Acted a r) = (acted f t a).after
 after_deed f t (Ticked now) = with_moment f now
 
--- the log, each deed legal in its place and of one of the threads, leads from one state to another
+-- the log, each deed legal where it stands and of one of the threads, leads from one state to another
 abbrev pub Replays : ℕ → FatState → List Logged → FatState → Type 0
 Replays passes f [] g = f ≡ g
 Replays passes f (e ∷ es) g = IsThreadOf passes e.thread × IsLegal f e.thread e.deed × Replays passes (after_deed f e.thread e.deed) es g

@@ -2,10 +2,10 @@
 
 ghost use Rattle.std.specs.Prelude.{◌<◌};
 
-/// A number for each place of a sequence.
+/// A number for each position of a sequence.
 #[derive(Drop)]
 pub struct Seed {
-    place: u64,
+    position: u64,
 }
 
 impl Seed {
@@ -13,7 +13,7 @@ impl Seed {
     pub fn new(round: u32, worker: u16) -> Seed {
         let start = (u64::from(round) << 16) | u64::from(worker);
         Seed {
-            place: start.wrapping_mul(0xd134_2543_de82_ef95),
+            position: start.wrapping_mul(0xd134_2543_de82_ef95),
         }
     }
 
@@ -22,8 +22,8 @@ impl Seed {
         requires { 0 < bound }
         ensures { result < bound }
     {
-        self.place = self.place.wrapping_add(0x9e37_79b9_7f4a_7c15);
-        let mut bits = self.place;
+        self.position = self.position.wrapping_add(0x9e37_79b9_7f4a_7c15);
+        let mut bits = self.position;
         bits = (bits ^ (bits >> 30)).wrapping_mul(0xbf58_476d_1ce4_e5b9);
         bits = (bits ^ (bits >> 27)).wrapping_mul(0x94d0_49bb_1331_11eb);
         (bits >> 32) as u32 % bound

@@ -89,7 +89,7 @@ pub extern "C" fn nadkhoy_live_open(
 }
 
 // Puts a new seat into an empty slot, if there is one.
-fn place(alloc: Global, slot: &mut LiveSlot, told: Told, seat: RawSeat)
+fn put_seat(alloc: Global, slot: &mut LiveSlot, told: Told, seat: RawSeat)
     requires empty { slot.old.raw.value ≡ None }
     requires shares { (v : SeatState) × (q : Option SeatState) × Shares v told q seat.value }
     ensures { slot.new.raw.value ≡ seat.value }
@@ -128,7 +128,7 @@ pub extern "C" fn nadkhoy_live_share(
         told,
     } = seat.serve(alloc, Order::Share);
     *slot = LiveSlot::of(alloc, seat);
-    place(alloc, other, told, next);
+    put_seat(alloc, other, told, next);
     told_status(told)
 }
 
@@ -253,7 +253,7 @@ fn put_back(alloc: Global, slot: &mut LiveSlot, told: Closing, seat: RawSeat)
 }
 
 // Puts the end of a service into an empty slot, if it was closed.
-fn place_end(slot: &mut EndSlot, told: Closing, end: RawEnd)
+fn put_end(slot: &mut EndSlot, told: Closing, end: RawEnd)
     requires empty { slot.old.raw.value ≡ None }
     requires closes { (v : SeatState) × (q : Option SeatState) × Closes v told q end.value }
     ensures { slot.new.raw.value ≡ end.value }
@@ -289,6 +289,6 @@ pub extern "C" fn nadkhoy_live_close(alloc: Global, slot: &mut LiveSlot, end: &m
         told,
     } = seat.close(alloc);
     put_back(alloc, slot, told, seat);
-    place_end(end, told, made);
+    put_end(end, told, made);
     closing_status(told)
 }

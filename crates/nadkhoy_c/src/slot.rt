@@ -1,4 +1,4 @@
-//! The place of a world in C's memory.
+//! The slot of a world in C's memory.
 
 ghost use Rattle.std.specs.Prelude.{◌≡◌, Some, None, IsSome, IfSome, IsNone, true, false};
 

@@ -8,38 +8,38 @@ use Rattle.std.proofs.lemmas.Nat.Bits.{bit_at_ones, bit_at-trailing_ones}
 use Rattle.thread_index.specs.BitRows.{bit_of, full_bit, AreTwoRows}
 
 -- the bit that was written
-pub bit_of-here : (row : List ℕ) (old : List ℕ) (place bit : ℕ) → ((k : ℕ) → bit_of row k ≡ (if k == place then bit else bit_of old k)) → bit_of row place ≡ bit
-bit_of-here row old place bit bits = bits place ∙ rw (eq-eqb place place refl) refl
+pub bit_of-here : (row : List ℕ) (old : List ℕ) (position bit : ℕ) → ((k : ℕ) → bit_of row k ≡ (if k == position then bit else bit_of old k)) → bit_of row position ≡ bit
+bit_of-here row old position bit bits = bits position ∙ rw (eq-eqb position position refl) refl
 
--- the bit at a place of a word
-pub bit_of-place : (row : List ℕ) (j i : ℕ) → i < 64 → bit_of row (64 * j + i) ≡ bit_at (slice_index row j) i
-bit_of-place row j i lt =
+-- the bit at a position of a word
+pub bit_of-position : (row : List ℕ) (j i : ℕ) → i < 64 → bit_of row (64 * j + i) ≡ bit_at (slice_index row j) i
+bit_of-position row j i lt =
     let word : (64 * j + i) / 64 ≡ j = omega arith in
     let bit : (64 * j + i) % 64 ≡ i = omega arith in
     rw (word, bit) refl
 
 -- a word that is written: one bit is new, and its others stay
-pub bit_of-write : (row : List ℕ) (place old word bit : ℕ) → place < 64 * length row → old ≡ slice_index row (place / 64) → bit_at word (place % 64) ≡ bit
-    → ((i : ℕ) → i < 64 → i ≢ place % 64 → bit_at word i ≡ bit_at old i)
-    → (k : ℕ) → bit_of (slice_set row (place / 64) word) k ≡ (if k == place then bit else bit_of row k)
-bit_of-write row place old word bit within is same others k = at (cases_eq k place)
+pub bit_of-write : (row : List ℕ) (position old word bit : ℕ) → position < 64 * length row → old ≡ slice_index row (position / 64) → bit_at word (position % 64) ≡ bit
+    → ((i : ℕ) → i < 64 → i ≢ position % 64 → bit_at word i ≡ bit_at old i)
+    → (k : ℕ) → bit_of (slice_set row (position / 64) word) k ≡ (if k == position then bit else bit_of row k)
+bit_of-write row position old word bit within is same others k = at (cases_eq k position)
   where
-    there : place / 64 < length row
+    there : position / 64 < length row
     there = omega arith
 
-    here : bit_of (slice_set row (place / 64) word) place ≡ bit
-    here = rw (get_or-set_same row (place / 64) word 0 there) same
+    here : bit_of (slice_set row (position / 64) word) position ≡ bit
+    here = rw (get_or-set_same row (position / 64) word 0 there) same
 
-    beside : k ≢ place → (k / 64 ≡ place / 64) ⊎ (k / 64 ≢ place / 64) → bit_of (slice_set row (place / 64) word) k ≡ bit_of row k
+    beside : k ≢ position → (k / 64 ≡ position / 64) ⊎ (k / 64 ≢ position / 64) → bit_of (slice_set row (position / 64) word) k ≡ bit_of row k
     beside ne (inl one) =
-        let apart : k % 64 ≢ place % 64 = (λ e. ne (omega arith)) in
+        let apart : k % 64 ≢ position % 64 = (λ e. ne (omega arith)) in
         let low : k % 64 < 64 = omega arith in
-        rw (one, get_or-set_same row (place / 64) word 0 there) (others (k % 64) low apart ∙ ap (λ (n : ℕ). bit_at n (k % 64)) is)
-    beside ne (inr other) = rw (get_or-set_other row (place / 64) (k / 64) word 0 other) refl
+        rw (one, get_or-set_same row (position / 64) word 0 there) (others (k % 64) low apart ∙ ap (λ (n : ℕ). bit_at n (k % 64)) is)
+    beside ne (inr other) = rw (get_or-set_other row (position / 64) (k / 64) word 0 other) refl
 
-    at : (k ≡ place) ⊎ (k ≢ place) → bit_of (slice_set row (place / 64) word) k ≡ (if k == place then bit else bit_of row k)
-    at (inl e) = rw (eq-eqb k place e, e) here
-    at (inr ne) = rw (ne_eqb k place ne) (beside ne (cases_eq (k / 64) (place / 64)))
+    at : (k ≡ position) ⊎ (k ≢ position) → bit_of (slice_set row (position / 64) word) k ≡ (if k == position then bit else bit_of row k)
+    at (inl e) = rw (eq-eqb k position e, e) here
+    at (inr ne) = rw (ne_eqb k position ne) (beside ne (cases_eq (k / 64) (position / 64)))
 
 -- past the last word each is 0, so one more of 0 changes none
 pub same_word : (row : List ℕ) (j : ℕ) → slice_index (row ++ 0 ∷ []) j ≡ slice_index row j
@@ -83,7 +83,7 @@ is_full word set = at (cases_eq word (2 ^ 64 - 1))
 pub bit_of-lowest : (row : List ℕ) (j word ones : ℕ) → slice_index row j ≡ word → word < 2 ^ 64 → word ≢ 2 ^ 64 - 1 → ones ≡ trailing_ones w64 word → bit_of row (64 * j + ones) ≡ 0
 bit_of-lowest row j word ones here fits room is =
     let lowest = bit_at-trailing_ones w64 word (omega arith) in
-    rw (is, bit_of-place row j (trailing_ones w64 word) lowest.0, here) lowest.1
+    rw (is, bit_of-position row j (trailing_ones w64 word) lowest.0, here) lowest.1
 
 -- full words have no 0
 pub bit_of-full : (row : List ℕ) (j : ℕ) → ((i : ℕ) → i < j → slice_index row i ≡ 2 ^ 64 - 1) → (k : ℕ) → k < 64 * j → bit_of row k ≡ 1
@@ -104,10 +104,10 @@ bit_of-below row j word ones here fits room is full k below = at (cases_lt k (64
     at : (k < 64 * j) ⊎ (64 * j ≤ k) → bit_of row k ≡ 1
     at (inl before) = bit_of-full row j full k before
     at (inr after) =
-        let place : k ≡ 64 * j + (k - 64 * j) = omega arith in
+        let position : k ≡ 64 * j + (k - 64 * j) = omega arith in
         let low : k - 64 * j < trailing_ones w64 word = omega arith in
         let within : k - 64 * j < 64 = omega (arith, few) in
-        rw place (rw (bit_of-place row j (k - 64 * j) within, here) (lowest (k - 64 * j) low))
+        rw position (rw (bit_of-position row j (k - 64 * j) within, here) (lowest (k - 64 * j) low))
 
 -- the two rows after a bit of the first was written, where the second has the bit of that word
 pub AreTwoRows-write : (words full new above : List ℕ) (word bit : ℕ) → AreTwoRows words full → length new ≡ length words → length above ≡ length full

@@ -124,10 +124,10 @@ padded-slice_set holders seats limit k x shown written =
 pub padded_push : (holders new seats : List (Option ThreadId)) (limit k : ℕ) (x : Option ThreadId) → new ≡ holders ++ x ∷ [] → padded holders limit ≡ seats
     → IsKept holders limit → length holders ≤ k → free_seat seats ≡ Some k → padded new limit ≡ slice_set seats k x
 padded_push holders new seats limit k x longer shown was beyond free =
-    let place = free_seat-written holders limit k was.within (ap (λ (xs : List (Option ThreadId)). free_seat xs) shown ∙ free) in
-    let last : length holders ≡ k = omega (arith, place.0) in
+    let position = free_seat-written holders limit k was.within (ap (λ (xs : List (Option ThreadId)). free_seat xs) shown ∙ free) in
+    let last : length holders ≡ k = omega (arith, position.0) in
     let one_more : length (holders ++ x ∷ []) ≡ length holders + 1 = length-append holders (x ∷ []) in
-    let room : limit - length holders ≡ suc (limit - (length holders + 1)) = omega (arith, place.1) in
+    let room : limit - length holders ≡ suc (limit - (length holders + 1)) = omega (arith, position.1) in
     rw (longer, one_more, ← last)
     (at_next holders (limit - length holders) (limit - (length holders + 1)) x room ∙ ap (λ (xs : List (Option ThreadId)). slice_set xs (length holders) x) shown)
 
@@ -167,8 +167,8 @@ IsKept-taken holders seats limit k t shown was written unknown free =
 pub IsKept_push : (holders new seats : List (Option ThreadId)) (limit k : ℕ) (t : ThreadId) → new ≡ holders ++ Some t ∷ [] → padded holders limit ≡ seats → IsKept holders limit
     → length holders ≤ k → seat_of seats t ≡ None → free_seat seats ≡ Some k → IsKept new limit
 IsKept_push holders new seats limit k t longer shown was beyond unknown free =
-    let place = free_seat-written holders limit k was.within (ap (λ (xs : List (Option ThreadId)). free_seat xs) shown ∙ free) in
-    let fits : length holders + 1 ≤ limit = omega (arith, place.0, place.1) in
+    let position = free_seat-written holders limit k was.within (ap (λ (xs : List (Option ThreadId)). free_seat xs) shown ∙ free) in
+    let fits : length holders + 1 ≤ limit = omega (arith, position.0, position.1) in
     still_kept holders new limit (slice_set seats k (Some t)) was (rw (longer, length-append holders (Some t ∷ [])) fits)
     (padded_push holders new seats limit k (Some t) longer shown was beyond free)
     (IsOneToOne-taken seats t k (subst (λ (xs : List (Option ThreadId)). IsOneToOne xs) shown was.one_to_one) unknown free)

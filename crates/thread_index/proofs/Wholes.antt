@@ -30,7 +30,7 @@ IsWhole-more {S} holders more seats limit k words new table after was shown free
   where
     fits : length more ≤ limit
     fits =
-        let place = free_seat-next holders seats limit k words table was shown free in omega (arith, place.1, was.kept.within)
+        let position = free_seat-next holders seats limit k words table was shown free in omega (arith, position.1, was.kept.within)
 
     shown_same : padded more limit ≡ padded holders limit
     shown_same = padded-same holders more limit was.kept.within fits same

@@ -3,7 +3,7 @@ use Rattle.std.specs.Prelude.{◌≡◌, ◌≢◌, ◌<◌, ℕ, ◌-◌, ◌*�
 use Rattle.std.specs.Prelude.{if◌then◌else◌}
 use Rattle.std.specs.Int.{bit_at}
 
--- the bit at a place: past the last word it is 0
+-- the bit at a position: past the last word it is 0
 abbrev pub bit_of : List ℕ → ℕ → ℕ
 bit_of row k = bit_at (slice_index row (k / 64)) (k % 64)
 
@@ -11,17 +11,17 @@ bit_of row k = bit_at (slice_index row (k / 64)) (k % 64)
 abbrev pub SameBits : List ℕ → List ℕ → Type 0
 SameBits old new = (k : ℕ) → bit_of new k ≡ bit_of old k
 
--- the bit at a place is this one, and the others stay
+-- the bit at a position is this one, and the others stay
 abbrev pub SetsBit : List ℕ → List ℕ → ℕ → ℕ → Type 0
-SetsBit old new place bit = (k : ℕ) → bit_of new k ≡ (if k == place then bit else bit_of old k)
+SetsBit old new position bit = (k : ℕ) → bit_of new k ≡ (if k == position then bit else bit_of old k)
 
 -- each word but one stays
 abbrev pub SameOtherWords : List ℕ → List ℕ → ℕ → Type 0
 SameOtherWords old new j = (i : ℕ) → i ≢ j → slice_index new i ≡ slice_index old i
 
--- each bit below a place is 1
+-- each bit below a position is 1
 abbrev pub AreSetBelow : List ℕ → ℕ → Type 0
-AreSetBelow row place = (k : ℕ) → k < place → bit_of row k ≡ 1
+AreSetBelow row position = (k : ℕ) → k < position → bit_of row k ≡ 1
 
 -- 1 for a word whose bits are all 1
 abbrev pub full_bit : ℕ → ℕ

@@ -6,7 +6,7 @@ ghost use Rattle.thread_index.specs.BitRows.{bit_of, AreSetBelow, SameOtherWords
 
 use std::alloc::{AllocError, Global};
 
-/// Bits in words of 64: place 0 is the lowest bit of the first word. Past the last word each is 0.
+/// Bits in words of 64: position 0 is the lowest bit of the first word. Past the last word each is 0.
 #[derive(Debug, Drop)]
 pub(crate) struct BitRow {
     words: Vec<u64>,
@@ -29,7 +29,7 @@ impl BitRow {
         self.words.get(j).copied().unwrap_or(0)
     }
 
-    /// The lowest place whose bit is 0.
+    /// The lowest position whose bit is 0.
     pub(crate) fn lowest_clear(&self) -> usize
         requires few { length self.now.words.items ≤ 512 }
         ensures clear { bit_of self.now.words.items result ≡ 0 }
@@ -60,22 +60,22 @@ impl BitRow {
     }
 
     /// Makes a bit 1.
-    pub(crate) fn set(&mut self, place: usize)
-        requires { place < 64 * length self.old.words.items }
-        ensures bits { SetsBit self.old.words.items self.new.words.items place 1 }
-        ensures words { SameOtherWords self.old.words.items self.new.words.items (place / 64) }
+    pub(crate) fn set(&mut self, position: usize)
+        requires { position < 64 * length self.old.words.items }
+        ensures bits { SetsBit self.old.words.items self.new.words.items position 1 }
+        ensures words { SameOtherWords self.old.words.items self.new.words.items (position / 64) }
         ensures length { length self.new.words.items ≡ length self.old.words.items }
     {
-        self.words[place / 64] |= 1 << (place % 64);
+        self.words[position / 64] |= 1 << (position % 64);
     }
 
     /// Makes a bit 0.
-    pub(crate) fn clear(&mut self, place: usize)
-        requires { place < 64 * length self.old.words.items }
-        ensures bits { SetsBit self.old.words.items self.new.words.items place 0 }
-        ensures words { SameOtherWords self.old.words.items self.new.words.items (place / 64) }
+    pub(crate) fn clear(&mut self, position: usize)
+        requires { position < 64 * length self.old.words.items }
+        ensures bits { SetsBit self.old.words.items self.new.words.items position 0 }
+        ensures words { SameOtherWords self.old.words.items self.new.words.items (position / 64) }
         ensures length { length self.new.words.items ≡ length self.old.words.items }
     {
-        self.words[place / 64] &= !(1 << (place % 64));
+        self.words[position / 64] &= !(1 << (position % 64));
     }
 }

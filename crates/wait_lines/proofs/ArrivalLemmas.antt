@@ -12,14 +12,14 @@ use Rattle.wait_lines.specs.Arrivals.{Arrival, is_in, threads_in, lines_of, stan
 use Rattle.wait_lines.proofs.LineLemmas.{same_role, key-same, cases_key, line-key, line-empty, line-with_line_same, line-with_line_other, IsFilled-empty, IsFilled-with_line, same_lines, total_count-empty, total_count-with_line, IsOrderly-left}
 use Rattle.wait_lines.proofs.ThreadLemmas.{same_thread, is_same, Contains-cons_cases, Contains-cons_first, Contains-cons_later, Contains-without_itself, without-absent}
 
-pub is_in-key : (m : ℕ) (r : Role) (a : Arrival) → is_in m r a ≡ true → key m r ≡ key a.place a.role
+pub is_in-key : (m : ℕ) (r : Role) (a : Arrival) → is_in m r a ≡ true → key m r ≡ key a.monitor a.role
 is_in-key m r a e =
-    let both = and_parts (a.place == m) (role_number a.role == role_number r) e in
-    key-same m a.place r a.role (sym (eqb-true a.place m both.0)) (sym (same_role a.role r (eqb-true (role_number a.role) (role_number r) both.1)))
+    let both = and_parts (a.monitor == m) (role_number a.role == role_number r) e in
+    key-same m a.monitor r a.role (sym (eqb-true a.monitor m both.0)) (sym (same_role a.role r (eqb-true (role_number a.role) (role_number r) both.1)))
 
-pub is_in-itself : (m : ℕ) (r : Role) (a : Arrival) → key m r ≡ key a.place a.role → is_in m r a ≡ true
+pub is_in-itself : (m : ℕ) (r : Role) (a : Arrival) → key m r ≡ key a.monitor a.role → is_in m r a ≡ true
 is_in-itself m r a e =
-    and_from (a.place == m) (role_number a.role == role_number r) (eq-eqb a.place m (ap (λ (k : Key). k.0) (sym e))) (eq-eqb (role_number a.role) (role_number r) (ap (λ (k : Key). role_number k.1) (sym e)))
+    and_from (a.monitor == m) (role_number a.role == role_number r) (eq-eqb a.monitor m (ap (λ (k : Key). k.0) (sym e))) (eq-eqb (role_number a.role) (role_number r) (ap (λ (k : Key). role_number k.1) (sym e)))
 
 -- the lines that arrivals show
 pub line-lines_of : (arrivals : List Arrival) (m : ℕ) (r : Role) → line (lines_of arrivals) m r ≡ threads_in arrivals m r
@@ -30,22 +30,22 @@ line-lines_of (a ∷ rest) m r = at (is_in m r a) refl (line-lines_of rest m r)
         → line (lines_of (a ∷ rest)) m r ≡ list_map (λ (x : Arrival). x.thread) (cond b (a ∷ filter (is_in m r) rest) (filter (is_in m r) rest))
     at true e again =
         let same = is_in-key m r a e in
-        line-key (lines_of (a ∷ rest)) a.place m a.role r same
-        ∙ line-with_line_same (lines_of rest) a.place a.role (a.thread ∷ line (lines_of rest) a.place a.role)
-        ∙ ap (λ l. a.thread ∷ l) (sym (line-key (lines_of rest) a.place m a.role r same) ∙ again)
+        line-key (lines_of (a ∷ rest)) a.monitor m a.role r same
+        ∙ line-with_line_same (lines_of rest) a.monitor a.role (a.thread ∷ line (lines_of rest) a.monitor a.role)
+        ∙ ap (λ l. a.thread ∷ l) (sym (line-key (lines_of rest) a.monitor m a.role r same) ∙ again)
     at false e again =
-        line-with_line_other (lines_of rest) a.place m a.role r (a.thread ∷ line (lines_of rest) a.place a.role) (λ same. let yes = is_in-itself m r a same in cc)
+        line-with_line_other (lines_of rest) a.monitor m a.role r (a.thread ∷ line (lines_of rest) a.monitor a.role) (λ same. let yes = is_in-itself m r a same in cc)
         ∙ again
 
 pub IsFilled-lines_of : (arrivals : List Arrival) → IsFilled (lines_of arrivals)
 IsFilled-lines_of [] = IsFilled-empty
-IsFilled-lines_of (a ∷ rest) = IsFilled-with_line (lines_of rest) a.place a.role (a.thread ∷ line (lines_of rest) a.place a.role) (IsFilled-lines_of rest)
+IsFilled-lines_of (a ∷ rest) = IsFilled-with_line (lines_of rest) a.monitor a.role (a.thread ∷ line (lines_of rest) a.monitor a.role) (IsFilled-lines_of rest)
 
 pub total_count-lines_of : (arrivals : List Arrival) → total_count (lines_of arrivals) ≡ length arrivals
 total_count-lines_of [] = total_count-empty
 total_count-lines_of (a ∷ rest) =
     let again = total_count-lines_of rest in
-    let e = total_count-with_line (lines_of rest) a.place a.role (a.thread ∷ line (lines_of rest) a.place a.role) in
+    let e = total_count-with_line (lines_of rest) a.monitor a.role (a.thread ∷ line (lines_of rest) a.monitor a.role) in
     omega arith
 
 -- ---- one more
@@ -56,22 +56,22 @@ threads_in-push arrivals a m r =
     ∙ map-append (λ (x : Arrival). x.thread) (filter (is_in m r) arrivals) (filter (is_in m r) (a ∷ []))
 
 -- one more arrival is a join
-pub lines_of-push : (arrivals : List Arrival) (a : Arrival) → lines_of (arrivals ++ a ∷ []) ≡ joined (lines_of arrivals) a.thread a.place a.role
+pub lines_of-push : (arrivals : List Arrival) (a : Arrival) → lines_of (arrivals ++ a ∷ []) ≡ joined (lines_of arrivals) a.thread a.monitor a.role
 lines_of-push arrivals a =
-    same_lines _ _ (IsFilled-lines_of (arrivals ++ a ∷ [])) (IsFilled-with_line (lines_of arrivals) a.place a.role _ (IsFilled-lines_of arrivals)) (λ m r.
+    same_lines _ _ (IsFilled-lines_of (arrivals ++ a ∷ [])) (IsFilled-with_line (lines_of arrivals) a.monitor a.role _ (IsFilled-lines_of arrivals)) (λ m r.
     line-lines_of (arrivals ++ a ∷ []) m r ∙ threads_in-push arrivals a m r ∙ ap (λ l. l ++ threads_in (a ∷ []) m r) (sym (line-lines_of arrivals m r))
     ∙ at m r (is_in m r a) refl)
   where
     at : (m : ℕ) (r : Role) (b : Bool) → is_in m r a ≡ b
-        → line (lines_of arrivals) m r ++ list_map (λ (x : Arrival). x.thread) (cond b (a ∷ []) []) ≡ line (joined (lines_of arrivals) a.thread a.place a.role) m r
+        → line (lines_of arrivals) m r ++ list_map (λ (x : Arrival). x.thread) (cond b (a ∷ []) []) ≡ line (joined (lines_of arrivals) a.thread a.monitor a.role) m r
     at m r true e =
         let same = is_in-key m r a e in
-        ap (λ l. l ++ a.thread ∷ []) (line-key (lines_of arrivals) a.place m a.role r same)
-        ∙ sym (line-key (joined (lines_of arrivals) a.thread a.place a.role) a.place m a.role r same
-        ∙ line-with_line_same (lines_of arrivals) a.place a.role (line (lines_of arrivals) a.place a.role ++ a.thread ∷ []))
+        ap (λ l. l ++ a.thread ∷ []) (line-key (lines_of arrivals) a.monitor m a.role r same)
+        ∙ sym (line-key (joined (lines_of arrivals) a.thread a.monitor a.role) a.monitor m a.role r same
+        ∙ line-with_line_same (lines_of arrivals) a.monitor a.role (line (lines_of arrivals) a.monitor a.role ++ a.thread ∷ []))
     at m r false e =
         append-nil (line (lines_of arrivals) m r)
-        ∙ sym (line-with_line_other (lines_of arrivals) a.place m a.role r (line (lines_of arrivals) a.place a.role ++ a.thread ∷ []) (λ same. let yes = is_in-itself m r a same in cc))
+        ∙ sym (line-with_line_other (lines_of arrivals) a.monitor m a.role r (line (lines_of arrivals) a.monitor a.role ++ a.thread ∷ []) (λ same. let yes = is_in-itself m r a same in cc))
 
 -- ---- without those of a thread
 
@@ -138,11 +138,11 @@ found t (a ∷ rest) h = at (is_thread t a.thread) refl (found t rest) h
     at : (gone : Bool) → is_thread t a.thread ≡ gone → (length (others t rest) < length rest → (m : ℕ) × (r : Role) × Contains (threads_in rest m r) t)
         → length (cond (not gone) (a ∷ others t rest) (others t rest)) < length (a ∷ rest) → (m : ℕ) × (r : Role) × Contains (threads_in (a ∷ rest) m r) t
     at true e again h =
-        let here = is_in-itself a.place a.role a refl in (
-          a.place,
+        let here = is_in-itself a.monitor a.role a refl in (
+          a.monitor,
           a.role,
-          subst (λ b. Contains (list_map (λ (x : Arrival). x.thread) (cond b (a ∷ filter (is_in a.place a.role) rest) (filter (is_in a.place a.role) rest))) t) (sym here)
-              (Contains-cons_first a.thread (threads_in rest a.place a.role) t (same_thread t a.thread (eqb-true a.thread.0 t.0 e))),
+          subst (λ b. Contains (list_map (λ (x : Arrival). x.thread) (cond b (a ∷ filter (is_in a.monitor a.role) rest) (filter (is_in a.monitor a.role) rest))) t) (sym here)
+              (Contains-cons_first a.thread (threads_in rest a.monitor a.role) t (same_thread t a.thread (eqb-true a.thread.0 t.0 e))),
         )
     at false e again h = let there = again (omega arith) in (there.0, there.1, stands there.0 there.1 (is_in there.0 there.1 a) there.2)
 
@@ -189,20 +189,20 @@ threads_in-append xs ys m r =
     ap (list_map (λ (x : Arrival). x.thread)) (filter-append (is_in m r) xs ys)
     ∙ map-append (λ (x : Arrival). x.thread) (filter (is_in m r) xs) (filter (is_in m r) ys)
 
-pub lines_of-insert : (xs ys : List Arrival) (a : Arrival) → threads_in ys a.place a.role ≡ [] → lines_of (xs ++ a ∷ ys) ≡ joined (lines_of (xs ++ ys)) a.thread a.place a.role
+pub lines_of-insert : (xs ys : List Arrival) (a : Arrival) → threads_in ys a.monitor a.role ≡ [] → lines_of (xs ++ a ∷ ys) ≡ joined (lines_of (xs ++ ys)) a.thread a.monitor a.role
 lines_of-insert xs ys a none =
-    same_lines _ _ (IsFilled-lines_of (xs ++ a ∷ ys)) (IsFilled-with_line (lines_of (xs ++ ys)) a.place a.role _ (IsFilled-lines_of (xs ++ ys))) (λ m r.
+    same_lines _ _ (IsFilled-lines_of (xs ++ a ∷ ys)) (IsFilled-with_line (lines_of (xs ++ ys)) a.monitor a.role _ (IsFilled-lines_of (xs ++ ys))) (λ m r.
     line-lines_of (xs ++ a ∷ ys) m r ∙ threads_in-append xs (a ∷ ys) m r ∙ at m r (is_in m r a) refl)
   where
     at : (m : ℕ) (r : Role) (b : Bool) → is_in m r a ≡ b
-        → threads_in xs m r ++ list_map (λ (x : Arrival). x.thread) (cond b (a ∷ filter (is_in m r) ys) (filter (is_in m r) ys)) ≡ line (joined (lines_of (xs ++ ys)) a.thread a.place a.role) m r
+        → threads_in xs m r ++ list_map (λ (x : Arrival). x.thread) (cond b (a ∷ filter (is_in m r) ys) (filter (is_in m r) ys)) ≡ line (joined (lines_of (xs ++ ys)) a.thread a.monitor a.role) m r
     at m r true e =
         let same = is_in-key m r a e in
         let here : threads_in ys m r ≡ [] = ap (λ (k : Key). threads_in ys k.0 k.1) same ∙ none in
         ap (λ l. threads_in xs m r ++ a.thread ∷ l) here
-        ∙ ap (λ l. l ++ a.thread ∷ []) (sym (append-nil (threads_in xs m r)) ∙ ap (λ l. threads_in xs m r ++ l) (sym here) ∙ sym (threads_in-append xs ys m r) ∙ sym (line-lines_of (xs ++ ys) m r) ∙ line-key (lines_of (xs ++ ys)) a.place m a.role r same)
-        ∙ sym (line-key (joined (lines_of (xs ++ ys)) a.thread a.place a.role) a.place m a.role r same
-        ∙ line-with_line_same (lines_of (xs ++ ys)) a.place a.role (line (lines_of (xs ++ ys)) a.place a.role ++ a.thread ∷ []))
+        ∙ ap (λ l. l ++ a.thread ∷ []) (sym (append-nil (threads_in xs m r)) ∙ ap (λ l. threads_in xs m r ++ l) (sym here) ∙ sym (threads_in-append xs ys m r) ∙ sym (line-lines_of (xs ++ ys) m r) ∙ line-key (lines_of (xs ++ ys)) a.monitor m a.role r same)
+        ∙ sym (line-key (joined (lines_of (xs ++ ys)) a.thread a.monitor a.role) a.monitor m a.role r same
+        ∙ line-with_line_same (lines_of (xs ++ ys)) a.monitor a.role (line (lines_of (xs ++ ys)) a.monitor a.role ++ a.thread ∷ []))
     at m r false e =
         sym (threads_in-append xs ys m r) ∙ sym (line-lines_of (xs ++ ys) m r)
-        ∙ sym (line-with_line_other (lines_of (xs ++ ys)) a.place m a.role r (line (lines_of (xs ++ ys)) a.place a.role ++ a.thread ∷ []) (λ same. let yes = is_in-itself m r a same in cc))
+        ∙ sym (line-with_line_other (lines_of (xs ++ ys)) a.monitor m a.role r (line (lines_of (xs ++ ys)) a.monitor a.role ++ a.thread ∷ []) (λ same. let yes = is_in-itself m r a same in cc))

@@ -32,7 +32,7 @@ row-seat ts k n t (m ∷ ms) out = at (m == n) refl (row-seat ts k n t ms)
         let f = times-cons n m ms ∙ ap (λ b. cond {A = ℕ} b 1 0 + times_number n ms) e in
         let rest = again (omega arith) in
         let same : slice_index_or (slice_set ts n t) m (record { 0 = 0 }) ≡ slice_index_or ts m (record { 0 = 0 }) = get_or-set_other ts n m t (record { 0 = 0 }) (λ x. let yes = eq-eqb m n x in cc) in
-        ap (λ (u : ThreadId). let x : Arrival = record { thread = u; place = k.0; role = k.1; node = m } in x ∷ list_map (arrival (slice_set ts n t) k) ms) same
+        ap (λ (u : ThreadId). let x : Arrival = record { thread = u; monitor = k.0; role = k.1; node = m } in x ∷ list_map (arrival (slice_set ts n t) k) ms) same
         ∙ ap (λ l. arrival ts k m ∷ l) rest
 
 arrivals-seat : (ts : List ThreadId) (ks : List Key) (n : ℕ) (t : ThreadId) (rs : List (List ℕ)) → times_in_rows n rs ≡ 0 → arrivals_in (slice_set ts n t) ks rs ≡ arrivals_in ts ks rs
@@ -69,7 +69,7 @@ arrivals-none ts (k ∷ ks) q (r ∷ rs) none =
 -- the arrivals with one more between
 abbrev pub Between : List Arrival → List Arrival → Arrival → Type 0
 Between before after a =
-    (xs : List Arrival) × (ys : List Arrival) × (before ≡ xs ++ ys) × (after ≡ xs ++ a ∷ ys) × (threads_in ys a.place a.role ≡ [])
+    (xs : List Arrival) × (ys : List Arrival) × (before ≡ xs ++ ys) × (after ≡ xs ++ a ∷ ys) × (threads_in ys a.monitor a.role ≡ [])
 
 append-assoc : (xs ys zs : List Arrival) → (xs ++ ys) ++ zs ≡ xs ++ (ys ++ zs)
 append-assoc [] ys zs = refl
@@ -77,7 +77,7 @@ append-assoc (x ∷ xs) ys zs = ap (λ l. x ∷ l) (append-assoc xs ys zs)
 
 pub arrivals-joined : (ts : List ThreadId) (ks : List Key) (rs : List (List ℕ)) (n : ℕ) (t : ThreadId) (k : ℕ) (q : Key) → times_in_rows n rs ≡ 0 → n < length ts → k < length ks → length ks ≡ length rs
     → (row_at rs k ≡ []) ⊎ (slice_index_or ks k (key 0 Entry) ≡ q) → NoneBut ks rs q k
-    → Between (arrivals_in ts ks rs) (arrivals_in (slice_set ts n t) (slice_set ks k q) (slice_set rs k (row_at rs k ++ n ∷ []))) (record { thread = t; place = q.0; role = q.1; node = n })
+    → Between (arrivals_in ts ks rs) (arrivals_in (slice_set ts n t) (slice_set ks k q) (slice_set rs k (row_at rs k ++ n ∷ []))) (record { thread = t; monitor = q.0; role = q.1; node = n })
 arrivals-joined ts [] rs n t k q out here l even fits none = absurd (omega arith)
 arrivals-joined ts (j ∷ ks) [] n t k q out here l even fits none = absurd (omega arith)
 arrivals-joined ts (j ∷ ks) (r ∷ rs) n t zero q out here l even fits none = (
@@ -87,8 +87,8 @@ arrivals-joined ts (j ∷ ks) (r ∷ rs) n t zero q out here l even fits none = 
   ap (λ x. x ++ arrivals_in (slice_set ts n t) ks rs) (map-append (arrival (slice_set ts n t) q) r (n ∷ []))
       ∙ append-assoc (list_map (arrival (slice_set ts n t) q) r) (arrival (slice_set ts n t) q n ∷ []) (arrivals_in (slice_set ts n t) ks rs)
       ∙ ap (λ l. l ++ arrival (slice_set ts n t) q n ∷ arrivals_in (slice_set ts n t) ks rs) (row-seat ts q n t r (let e = sum_by-cons (times_number n) r rs in omega arith) ∙ keyed fits)
-      ∙ ap (λ (u : ThreadId). let x : Arrival = record { thread = u; place = q.0; role = q.1; node = n } in list_map (arrival ts j) r ++ x ∷ arrivals_in (slice_set ts n t) ks rs) (get_or-set_same ts n t (record { 0 = 0 }) here)
-      ∙ ap (λ l. let x : Arrival = record { thread = t; place = q.0; role = q.1; node = n } in list_map (arrival ts j) r ++ x ∷ l) (arrivals-seat ts ks n t rs (let e = sum_by-cons (times_number n) r rs in omega arith)),
+      ∙ ap (λ (u : ThreadId). let x : Arrival = record { thread = u; monitor = q.0; role = q.1; node = n } in list_map (arrival ts j) r ++ x ∷ arrivals_in (slice_set ts n t) ks rs) (get_or-set_same ts n t (record { 0 = 0 }) here)
+      ∙ ap (λ l. let x : Arrival = record { thread = t; monitor = q.0; role = q.1; node = n } in list_map (arrival ts j) r ++ x ∷ l) (arrivals-seat ts ks n t rs (let e = sum_by-cons (times_number n) r rs in omega arith)),
   arrivals-none ts ks q rs (λ i l e. none (suc i) (omega arith) (λ x. absurd (omega arith)) e),
 )
   where
@@ -99,10 +99,10 @@ arrivals-joined ts (j ∷ ks) (r ∷ rs) n t (suc k) q out here l even fits none
     after (arrivals-joined ts ks rs n t k q (let e = sum_by-cons (times_number n) r rs in omega arith) here (omega arith) (omega arith) fits (λ i l x e. none (suc i) (omega arith) (λ y. x (omega arith)) e))
   where
     a : Arrival
-    a = record { thread = t; place = q.0; role = q.1; node = n }
+    a = record { thread = t; monitor = q.0; role = q.1; node = n }
 
-    after : Between (arrivals_in ts ks rs) (arrivals_in (slice_set ts n t) (slice_set ks k q) (slice_set rs k (row_at rs k ++ n ∷ []))) (record { thread = t; place = q.0; role = q.1; node = n })
-        → Between (arrivals_in ts (j ∷ ks) (r ∷ rs)) (arrivals_in (slice_set ts n t) (j ∷ slice_set ks k q) (r ∷ slice_set rs k (row_at rs k ++ n ∷ []))) (record { thread = t; place = q.0; role = q.1; node = n })
+    after : Between (arrivals_in ts ks rs) (arrivals_in (slice_set ts n t) (slice_set ks k q) (slice_set rs k (row_at rs k ++ n ∷ []))) (record { thread = t; monitor = q.0; role = q.1; node = n })
+        → Between (arrivals_in ts (j ∷ ks) (r ∷ rs)) (arrivals_in (slice_set ts n t) (j ∷ slice_set ks k q) (r ∷ slice_set rs k (row_at rs k ++ n ∷ []))) (record { thread = t; monitor = q.0; role = q.1; node = n })
     after b = (
       list_map (arrival ts j) r ++ b.0,
       b.1,
@@ -221,7 +221,7 @@ row-more ts u k (m ∷ ms) out = at (m == length ts) refl (row-more ts u k ms) (
     at false e again side =
         let f = times-cons (length ts) m ms ∙ ap (λ b. cond {A = ℕ} b 1 0 + times_number (length ts) ms) e in
         let rest = again (omega arith) in
-        ap (λ (u : ThreadId). let x : Arrival = record { thread = u; place = k.0; role = k.1; node = m } in x ∷ list_map (arrival (ts ++ w ∷ []) k) ms) (same side)
+        ap (λ (u : ThreadId). let x : Arrival = record { thread = u; monitor = k.0; role = k.1; node = m } in x ∷ list_map (arrival (ts ++ w ∷ []) k) ms) (same side)
         ∙ ap (λ l. arrival ts k m ∷ l) rest
       where
         same : (m < length ts) ⊎ (length ts ≤ m) → slice_index_or (ts ++ u ∷ []) m (record { 0 = 0 }) ≡ slice_index_or ts m (record { 0 = 0 })

@@ -31,19 +31,19 @@ use Rattle.wait_lines.proofs.JoiningLemmas.{taken}
 
 -- ---- the record that was found
 
-pub key-shown : (c : Chart) (k : ℕ) → k < length c.ends → slice_index_or (keys_of c) k (key 0 Entry) ≡ key (ends_at c k).place (ends_at c k).role
-key-shown c k there = get_or-map (λ (e : Ends). key e.place e.role) c.ends k (unused (End k)) (key 0 Entry) there
+pub key-shown : (c : Chart) (k : ℕ) → k < length c.ends → slice_index_or (keys_of c) k (key 0 Entry) ≡ key (ends_at c k).monitor (ends_at c k).role
+key-shown c k there = get_or-map (λ (e : Ends). key e.monitor e.role) c.ends k (unused (End k)) (key 0 Entry) there
 
-pub is_of-parts : (m : ℕ) (r : Role) (e : Ends) → is_of m r e ≡ true → (key e.place e.role ≡ key m r) × (is_node e.first ≡ true)
+pub is_of-parts : (m : ℕ) (r : Role) (e : Ends) → is_of m r e ≡ true → (key e.monitor e.role ≡ key m r) × (is_node e.first ≡ true)
 is_of-parts m r e whole =
-    let both = and_parts ((e.place == m) && (role_number e.role == role_number r)) (is_node e.first) whole in
-    let keys = and_parts (e.place == m) (role_number e.role == role_number r) both.0 in
-    (key-same e.place m e.role r (eqb-true e.place m keys.0) (same_role e.role r (eqb-true (role_number e.role) (role_number r) keys.1)), both.1)
+    let both = and_parts ((e.monitor == m) && (role_number e.role == role_number r)) (is_node e.first) whole in
+    let keys = and_parts (e.monitor == m) (role_number e.role == role_number r) both.0 in
+    (key-same e.monitor m e.role r (eqb-true e.monitor m keys.0) (same_role e.role r (eqb-true (role_number e.role) (role_number r) keys.1)), both.1)
 
-pub is_of-from : (m : ℕ) (r : Role) (e : Ends) → key e.place e.role ≡ key m r → is_node e.first ≡ true → is_of m r e ≡ true
+pub is_of-from : (m : ℕ) (r : Role) (e : Ends) → key e.monitor e.role ≡ key m r → is_node e.first ≡ true → is_of m r e ≡ true
 is_of-from m r e same full =
-    and_from ((e.place == m) && (role_number e.role == role_number r)) (is_node e.first)
-    (and_from (e.place == m) (role_number e.role == role_number r) (eq-eqb e.place m (ap (λ (k : Key). k.0) same)) (eq-eqb (role_number e.role) (role_number r) (ap (λ (k : Key). role_number k.1) same))) full
+    and_from ((e.monitor == m) && (role_number e.role == role_number r)) (is_node e.first)
+    (and_from (e.monitor == m) (role_number e.role == role_number r) (eq-eqb e.monitor m (ap (λ (k : Key). k.0) same)) (eq-eqb (role_number e.role) (role_number r) (ap (λ (k : Key). role_number k.1) same))) full
 
 -- what a look-up says of a record
 abbrev pub IsLineFor : Chart → ℕ → Role → ℕ → Type 0
@@ -62,18 +62,18 @@ module _ (c : Chart) (m : ℕ) (r : Role) (k : ℕ) (h : IsKept c) (there : k < 
   line_for-none (inl of) i i_in other same = at (is_node (ends_at c i).first) refl
     where
       i_there : i < length c.ends
-      i_there = let l = length-map c.ends (λ (e : Ends). key e.place e.role) in omega arith
+      i_there = let l = length-map c.ends (λ (e : Ends). key e.monitor e.role) in omega arith
 
       at : (b : Bool) → is_node (ends_at c i).first ≡ b → row_at (tail_of (rows_of c)) i ≡ []
       at true e =
           let parts = is_of-parts m r (ends_at c k) of in
-          absurd (other (h.one i k i_in (let l = length-map c.ends (λ (e : Ends). key e.place e.role) in omega arith) (same ∙ sym parts.0 ∙ sym (key-shown c k there))
+          absurd (other (h.one i k i_in (let l = length-map c.ends (λ (e : Ends). key e.monitor e.role) in omega arith) (same ∙ sym parts.0 ∙ sym (key-shown c k there))
           (some (row_at (tail_of (rows_of c)) i) (row-full c h i i_there e)) (some (row_at (tail_of (rows_of c)) k) (row-full c h k there parts.1))))
       at false e = row-empty c h i i_there e
   line_for-none (inr vacant) i i_in other same = at (is_node (ends_at c i).first) refl
     where
       i_there : i < length c.ends
-      i_there = let l = length-map c.ends (λ (e : Ends). key e.place e.role) in omega arith
+      i_there = let l = length-map c.ends (λ (e : Ends). key e.monitor e.role) in omega arith
 
       at : (b : Bool) → is_node (ends_at c i).first ≡ b → row_at (tail_of (rows_of c)) i ≡ []
       at true e = absurd (let yes = is_of-from m r (ends_at c i) (sym (key-shown c i i_there) ∙ same) e in let no = vacant.1 i i_there in cc)
@@ -112,7 +112,7 @@ line-walk c m r s h (inl found) =
     let k = found.0 in
     let there = found.1 in
     let many = h.linked.many in
-    let even : length (keys_of c) ≡ length c.ends = length-map c.ends (λ (e : Ends). key e.place e.role) in
+    let even : length (keys_of c) ≡ length c.ends = length-map c.ends (λ (e : Ends). key e.monitor e.role) in
     let rows : row_at (rows_of c) (suc k) ≡ row_at (tail_of (rows_of c)) k = refl in
     let short : length (row_at (tail_of (rows_of c)) k) ≤ sum_by length (rows_of c) = length-row (suc k) (rows_of c) (omega arith) in
     let total = h.linked.total in
@@ -124,7 +124,7 @@ line-walk c m r s h (inl found) =
 line-walk c m r s h (inr absent) =
     ap (threads_from (length c.spots) c.spots) absent.0
     ∙ none (length c.spots)
-    ∙ sym (threads-nowhere (threads_of c) (keys_of c) (tail_of (rows_of c)) (key m r) (λ i i_in same. empty i (let l = length-map c.ends (λ (e : Ends). key e.place e.role) in omega arith) same))
+    ∙ sym (threads-nowhere (threads_of c) (keys_of c) (tail_of (rows_of c)) (key m r) (λ i i_in same. empty i (let l = length-map c.ends (λ (e : Ends). key e.monitor e.role) in omega arith) same))
     ∙ sym (line-lines_of (arrivals_of c) m r)
   where
     none : (l : ℕ) → threads_from l c.spots Free ≡ []
@@ -174,7 +174,7 @@ found-walk c t (suc l) p (n ∷ ns) z rings there end w short =
 
 module _ (c : Chart) (t : ThreadId) (h : IsKept c) where
   sizes_here : (length (keys_of c) ≡ length c.ends) × (length (tail_of (rows_of c)) ≡ length c.ends)
-  sizes_here = (length-map c.ends (λ (e : Ends). key e.place e.role), let many = h.linked.many in omega arith)
+  sizes_here = (length-map c.ends (λ (e : Ends). key e.monitor e.role), let many = h.linked.many in omega arith)
 
   found-row : (k : ℕ) → k < length c.ends → FoundIn c t (row_at (tail_of (rows_of c)) k) (node_from (length c.spots) c.spots t (ends_at c k).first)
   found-row k there =

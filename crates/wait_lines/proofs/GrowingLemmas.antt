@@ -44,11 +44,11 @@ module _ (c : Chart) (h : IsKept c) (few : length c.spots < 32767) where
   more_threads = threads-linked (grown c) (node (length c.spots)) Free ∙ map-append (λ (s : Spot). s.thread) c.spots (alone (node (length c.spots)) ∷ [])
 
   pub more_keys : keys_of (reserved c) ≡ keys_of c ++ key 0 Entry ∷ []
-  more_keys = keys-linked (grown c) (node (length c.spots)) Free ∙ map-append (λ (e : Ends). key e.place e.role) c.ends (unused (End (length c.spots)) ∷ [])
+  more_keys = keys-linked (grown c) (node (length c.spots)) Free ∙ map-append (λ (e : Ends). key e.monitor e.role) c.ends (unused (End (length c.spots)) ∷ [])
 
   pub key_sizes : (length (keys_of c) ≡ length c.ends) × (length (tail_of (rows_of c)) ≡ length c.ends) × (length (threads_of c) ≡ length c.spots)
   key_sizes = (
-    length-map c.ends (λ (e : Ends). key e.place e.role),
+    length-map c.ends (λ (e : Ends). key e.monitor e.role),
     let many = h.linked.many in omega arith,
     length-map c.spots (λ (s : Spot). s.thread),
   )

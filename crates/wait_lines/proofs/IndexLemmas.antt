@@ -194,7 +194,7 @@ module _ (c : Chart) (t : TableState) (n : ℕ) (u : ThreadId) (k m : ℕ) (r : 
       }
     where
       sizes : (length (keys_of c) ≡ length c.ends) × (length (tail_of (rows_of c)) ≡ length c.ends)
-      sizes = (length-map c.ends (λ (e : Ends). key e.place e.role), let many = h.kept.linked.many in omega arith)
+      sizes = (length-map c.ends (λ (e : Ends). key e.monitor e.role), let many = h.kept.linked.many in omega arith)
 
       key_at : (i : ℕ) → slice_index_or (keys_of (after c n u k m r h.kept head there)) i (key 0 Entry) ≡ slice_index_or (slice_set (keys_of c) k (key m r)) i (key 0 Entry)
       key_at i = ap (λ ks. slice_index_or ks i (key 0 Entry)) (keys_joined c n u k m r h.kept head there)
@@ -225,7 +225,7 @@ module _ (c : Chart) (t : TableState) (h : IsWhole c t) (few : length c.spots < 
       }
     where
       sizes : (length (keys_of c) ≡ length c.ends) × (length (tail_of (rows_of c)) ≡ length c.ends)
-      sizes = (length-map c.ends (λ (e : Ends). key e.place e.role), let many = h.kept.linked.many in omega arith)
+      sizes = (length-map c.ends (λ (e : Ends). key e.monitor e.role), let many = h.kept.linked.many in omega arith)
 
       key_at : (i : ℕ) → slice_index_or (keys_of (reserved c)) i (key 0 Entry) ≡ slice_index_or (keys_of c ++ key 0 Entry ∷ []) i (key 0 Entry)
       key_at i = ap (λ ks. slice_index_or ks i (key 0 Entry)) (more_keys c h.kept few)
@@ -284,23 +284,23 @@ pub record AreHalfFiled (c : Chart) (t : TableState) (old line : ℕ) : Type 0 w
   pub rest : (k : ℕ) → line ≤ k → k < length c.ends → IsInRow t.rows k (home_of old c k)
 
 pub AreHalfFiled-put : (c : Chart) (t : TableState) (old line : ℕ) → IsKept c → line < length c.ends → is_node (ends_at c line).first ≡ true → AreHalfFiled c t old line
-    → IsInRow (moved t.rows line (suc (bucket_of t.buckets (ends_at c line).place (ends_at c line).role))) line (suc (bucket_of t.buckets (ends_at c line).place (ends_at c line).role))
-    → AreHalfFiled c (with_move t line (suc (bucket_of t.buckets (ends_at c line).place (ends_at c line).role))) old (line + 1)
+    → IsInRow (moved t.rows line (suc (bucket_of t.buckets (ends_at c line).monitor (ends_at c line).role))) line (suc (bucket_of t.buckets (ends_at c line).monitor (ends_at c line).role))
+    → AreHalfFiled c (with_move t line (suc (bucket_of t.buckets (ends_at c line).monitor (ends_at c line).role))) old (line + 1)
 AreHalfFiled-put c t old line kept there some was here =
     record {
       sized = was.sized;
       done = λ k below. at k below (cases_eq k line);
-      rest = λ k above within. IsInRow-moved_other t.rows line (suc (bucket_of t.buckets (ends_at c line).place (ends_at c line).role)) k (home_of old c k) (λ e. omega arith) (was.rest k (omega arith) within);
+      rest = λ k above within. IsInRow-moved_other t.rows line (suc (bucket_of t.buckets (ends_at c line).monitor (ends_at c line).role)) k (home_of old c k) (λ e. omega arith) (was.rest k (omega arith) within);
     }
   where
-    home : home_of t.buckets c line ≡ suc (bucket_of t.buckets (ends_at c line).place (ends_at c line).role)
+    home : home_of t.buckets c line ≡ suc (bucket_of t.buckets (ends_at c line).monitor (ends_at c line).role)
     home =
         row_for-some t.buckets _ _ (row-full c kept line there some)
         ∙ ap (λ (q : Key). suc (bucket_of t.buckets q.0 q.1)) (key-shown c line there)
 
-    at : (k : ℕ) → k < line + 1 → (k ≡ line) ⊎ (k ≢ line) → IsInRow (moved t.rows line (suc (bucket_of t.buckets (ends_at c line).place (ends_at c line).role))) k (home_of t.buckets c k)
-    at k below (inl e) = subst (λ x. IsInRow (moved t.rows line (suc (bucket_of t.buckets (ends_at c line).place (ends_at c line).role))) x (home_of t.buckets c x)) (sym e) (subst (IsInRow (moved t.rows line (suc (bucket_of t.buckets (ends_at c line).place (ends_at c line).role))) line) (sym home) here)
-    at k below (inr other) = IsInRow-moved_other t.rows line (suc (bucket_of t.buckets (ends_at c line).place (ends_at c line).role)) k (home_of t.buckets c k) other (was.done k (omega arith))
+    at : (k : ℕ) → k < line + 1 → (k ≡ line) ⊎ (k ≢ line) → IsInRow (moved t.rows line (suc (bucket_of t.buckets (ends_at c line).monitor (ends_at c line).role))) k (home_of t.buckets c k)
+    at k below (inl e) = subst (λ x. IsInRow (moved t.rows line (suc (bucket_of t.buckets (ends_at c line).monitor (ends_at c line).role))) x (home_of t.buckets c x)) (sym e) (subst (IsInRow (moved t.rows line (suc (bucket_of t.buckets (ends_at c line).monitor (ends_at c line).role))) line) (sym home) here)
+    at k below (inr other) = IsInRow-moved_other t.rows line (suc (bucket_of t.buckets (ends_at c line).monitor (ends_at c line).role)) k (home_of t.buckets c k) other (was.done k (omega arith))
 
 pub AreHalfFiled-vacant : (c : Chart) (t : TableState) (old line : ℕ) → IsKept c → line < length c.ends → is_node (ends_at c line).first ≡ false → AreHalfFiled c t old line → AreHalfFiled c t old (line + 1)
 AreHalfFiled-vacant c t old line kept there none was =

@@ -35,7 +35,7 @@ module _ (c : Chart) (h : IsKept c) where
   lines_total =
       total_count-lines_of (arrivals_of c)
       ∙ length-arrivals (threads_of c) (keys_of c) (tail_of (rows_of c))
-      (let m = h.linked.many in let e = length-map c.ends (λ (e : Ends). key e.place e.role) in omega arith)
+      (let m = h.linked.many in let e = length-map c.ends (λ (e : Ends). key e.monitor e.role) in omega arith)
 
   pub free-total : length (row_at (rows_of c) 0) + total_count (lines_of (arrivals_of c)) ≡ length c.spots
   free-total =
@@ -100,9 +100,9 @@ module _ (c : Chart) (n : ℕ) (t : ThreadId) (k m : ℕ) (r : Role) (h : IsKept
 
     pub sizes_joined : (length after.spots ≡ length c.spots) × (length after.ends ≡ length c.ends)
     sizes_joined =
-        let e = sizes-linked (taken c n t k m r) (node n) (End k) but-taken.rings but-taken.here (let l = length-set (unlinked c (node n)).ends k (record (ends_at (unlinked c (node n)) k) { place = m; role = r }) in let s = unlinked-sizes.1 in omega arith) in
+        let e = sizes-linked (taken c n t k m r) (node n) (End k) but-taken.rings but-taken.here (let l = length-set (unlinked c (node n)).ends k (record (ends_at (unlinked c (node n)) k) { monitor = m; role = r }) in let s = unlinked-sizes.1 in omega arith) in
         let f = length-set (unlinked c (node n)).spots n (record (spot_at (unlinked c (node n)) n) { thread = t }) in
-        let g = length-set (unlinked c (node n)).ends k (record (ends_at (unlinked c (node n)) k) { place = m; role = r }) in
+        let g = length-set (unlinked c (node n)).ends k (record (ends_at (unlinked c (node n)) k) { monitor = m; role = r }) in
         (e.0 ∙ f ∙ unlinked-sizes.0, e.1 ∙ g ∙ unlinked-sizes.1)
 
     linked_joined : AreLinked after (rows_with (rows_without n (rows_of c)) n (suc k))
@@ -127,24 +127,24 @@ module _ (c : Chart) (n : ℕ) (t : ThreadId) (k m : ℕ) (r : Role) (h : IsKept
     pub keys_joined : keys_of after ≡ slice_set (keys_of c) k (key m r)
     keys_joined =
         keys-linked (taken c n t k m r) (node n) (End k)
-        ∙ map-set (λ (e : Ends). key e.place e.role) (unlinked c (node n)).ends k (record (ends_at (unlinked c (node n)) k) { place = m; role = r })
+        ∙ map-set (λ (e : Ends). key e.monitor e.role) (unlinked c (node n)).ends k (record (ends_at (unlinked c (node n)) k) { monitor = m; role = r })
         ∙ ap (λ ks. slice_set ks k (key m r)) (keys-unlinked c (node n))
 
     module _ (nowhere : StandsNowhere (lines_of (arrivals_of c)) t) (room : total_count (lines_of (arrivals_of c)) < length c.spots)
         (fits : (row_at (tail_of (rows_of c)) k ≡ []) ⊎ (slice_index_or (keys_of c) k (key 0 Entry) ≡ key m r)) (none : NoneBut (keys_of c) (tail_of (rows_of c)) (key m r) k) where
       a : Arrival
-      a = record { thread = t; place = m; role = r; node = n }
+      a = record { thread = t; monitor = m; role = r; node = n }
 
       lengths : (length (keys_of c) ≡ length c.ends) × (length (tail_of (rows_of c)) ≡ length c.ends) × (length (threads_of c) ≡ length c.spots)
       lengths = (
-        length-map c.ends (λ (e : Ends). key e.place e.role),
+        length-map c.ends (λ (e : Ends). key e.monitor e.role),
         let many = h.linked.many in omega arith,
         length-map c.spots (λ (s : Spot). s.thread),
       )
 
-      between : Between (arrivals_of c) (arrivals_of after) (record { thread = t; place = m; role = r; node = n })
+      between : Between (arrivals_of c) (arrivals_of after) (record { thread = t; monitor = m; role = r; node = n })
       between =
-          subst (λ xs. Between (arrivals_of c) xs (record { thread = t; place = m; role = r; node = n }))
+          subst (λ xs. Between (arrivals_of c) xs (record { thread = t; monitor = m; role = r; node = n }))
           (sym (ap (λ ts. arrivals_in ts (keys_of after) (tail_of (rows_of after))) threads_joined
           ∙ ap (λ ks. arrivals_in (slice_set (threads_of c) n t) ks (tail_of (rows_of after))) keys_joined
           ∙ ap (arrivals_in (slice_set (threads_of c) n t) (slice_set (keys_of c) k (key m r))) tail_joined))
@@ -153,7 +153,7 @@ module _ (c : Chart) (n : ℕ) (t : ThreadId) (k m : ℕ) (r : Role) (h : IsKept
 
       pub lines_joined : lines_of (arrivals_of after) ≡ joined (lines_of (arrivals_of c)) t m r
       lines_joined =
-          ap lines_of between.3 ∙ lines_of-insert between.0 between.1 (record { thread = t; place = m; role = r; node = n }) between.4
+          ap lines_of between.3 ∙ lines_of-insert between.0 between.1 (record { thread = t; monitor = m; role = r; node = n }) between.4
           ∙ ap (λ xs. joined (lines_of xs) t m r) (sym between.2)
 
       fresh : count_by (λ (x : Arrival). is_thread t x.thread) (between.0 ++ between.1) ≡ 0
@@ -161,7 +161,7 @@ module _ (c : Chart) (n : ℕ) (t : ThreadId) (k m : ℕ) (r : Role) (h : IsKept
 
       pub nodes_joined : nodes_of (arrivals_of after) ≡ map.insert (nodes_of (arrivals_of c)) t.0 n
       nodes_joined =
-          ap nodes_of between.3 ∙ nodes_of-insert between.0 between.1 (record { thread = t; place = m; role = r; node = n }) fresh
+          ap nodes_of between.3 ∙ nodes_of-insert between.0 between.1 (record { thread = t; monitor = m; role = r; node = n }) fresh
           ∙ ap (λ xs. map.insert (nodes_of xs) t.0 n) (sym between.2)
 
       pub IsKept-joined : IsKept after
@@ -188,7 +188,7 @@ module _ (c : Chart) (n : ℕ) (t : ThreadId) (k m : ℕ) (r : Role) (h : IsKept
             where
               counted : count_by (λ (x : Arrival). is_thread u x.thread) (arrivals_of after) ≡ count_by (λ (x : Arrival). is_thread u x.thread) (arrivals_of c) + cond {A = ℕ} (is_thread u t) 1 0
               counted =
-                  ap (λ xs. count_by (λ (x : Arrival). is_thread u x.thread) xs) between.3 ∙ count-between u between.0 between.1 (record { thread = t; place = m; role = r; node = n })
+                  ap (λ xs. count_by (λ (x : Arrival). is_thread u x.thread) xs) between.3 ∙ count-between u between.0 between.1 (record { thread = t; monitor = m; role = r; node = n })
                   ∙ ap (λ xs. count_by (λ (x : Arrival). is_thread u x.thread) xs + cond {A = ℕ} (is_thread u t) 1 0) (sym between.2)
 
               at : (b : Bool) → is_thread u t ≡ b → count_by (λ (x : Arrival). is_thread u x.thread) (arrivals_of after) ≤ 1

@@ -19,7 +19,7 @@ use Rattle.wait_lines.specs.declared.Role.TheVariants.{Entry, Waiting}
 use Rattle.wait_lines.specs.Lines.{Key, key, role_number, key_cmp, LineMap, line, with_line, StandsIn, StandsNowhere, is_thread, without, times_in, joined, left, total_count, IsFilled, Standing, nobody, IsOrderly}
 use Rattle.wait_lines.proofs.ThreadLemmas.{same_thread, Contains-cons_first, contains_none, times_in-one, times_in-absent, times_in-present, Contains-without, Contains-without_itself, Contains-without_other, times_in-without, length-without}
 
--- ---- places
+-- ---- keys
 
 pub key_cmp_total : IsTotalOrder key_cmp
 key_cmp_total = then_total (on_total (λ (k : Key). k.0) nat_cmp_total) (on_total (λ (k : Key). role_number k.1) nat_cmp_total)
@@ -38,7 +38,7 @@ both_tie Greater b e = absurd (cc)
 pub key-same : (m n : ℕ) (r q : Role) → m ≡ n → r ≡ q → key m r ≡ key n q
 key-same m n r q same_m same_r = λ i. (same_m i, same_r i)
 
--- only equal places tie
+-- only equal keys tie
 pub key_cmp-IsAntisymmetric : IsAntisymmetric key_cmp
 key_cmp-IsAntisymmetric x y e =
     let both = both_tie (nat_cmp x.0 y.0) (nat_cmp (role_number x.1) (role_number y.1)) e in
@@ -60,7 +60,7 @@ other_not_tied : (k j : Key) (b : Bool) → eq_by_cmp key_cmp k j ≡ b → k �
 other_not_tied k j true e other = absurd (other (same_if_tied k j e))
 other_not_tied k j false e other = refl
 
--- a place is another's or not
+-- a key is another's or not
 pub cases_key : (m n : ℕ) (r q : Role) → (key n q ≡ key m r) ⊎ (key n q ≢ key m r)
 cases_key m n r q = by_test (eq_by_cmp key_cmp (key n q) (key m r)) refl
   where
@@ -233,7 +233,7 @@ total_count-with_line lines m r (t ∷ ts) = total_count-insert lines (key m r) 
 
 -- ---- joining and leaving
 
--- a line goes by its place
+-- a line goes by its key
 pub line-key : (lines : LineMap) (m n : ℕ) (r q : Role) → key n q ≡ key m r → line lines n q ≡ line lines m r
 line-key lines m n r q same = ap (λ (k : Key). line lines k.0 k.1) same
 

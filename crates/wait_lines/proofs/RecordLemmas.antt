@@ -26,12 +26,12 @@ threads-with_before c Free x = refl
 
 keys-with_behind : (c : Chart) (s x : Stop) → keys_of (with_behind c s x) ≡ keys_of c
 keys-with_behind c (At n) x = refl
-keys-with_behind c (End k) x = map-set_same (λ (e : Ends). key e.place e.role) c.ends k (record (ends_at c k) { first = x }) (unused (End k)) refl
+keys-with_behind c (End k) x = map-set_same (λ (e : Ends). key e.monitor e.role) c.ends k (record (ends_at c k) { first = x }) (unused (End k)) refl
 keys-with_behind c Free x = refl
 
 keys-with_before : (c : Chart) (s x : Stop) → keys_of (with_before c s x) ≡ keys_of c
 keys-with_before c (At n) x = refl
-keys-with_before c (End k) x = map-set_same (λ (e : Ends). key e.place e.role) c.ends k (record (ends_at c k) { last = x }) (unused (End k)) refl
+keys-with_before c (End k) x = map-set_same (λ (e : Ends). key e.monitor e.role) c.ends k (record (ends_at c k) { last = x }) (unused (End k)) refl
 keys-with_before c Free x = refl
 
 module _ (c : Chart) (p a q b s x t y : Stop) where

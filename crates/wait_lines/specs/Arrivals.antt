@@ -16,13 +16,13 @@ use Rattle.wait_lines.specs.Rows.{rows_of, row_at, AreLinked}
 -- a thread that stands at a node, in a line
 pub record Arrival : Type 0 where
   pub thread : ThreadId
-  pub place : ℕ
+  pub monitor : ℕ
   pub role : Role
   pub node : ℕ
 
 -- whether the thread that arrived stands in this line, and at this node
 abbrev pub is_in : ℕ → Role → Arrival → Bool
-is_in m r a = (a.place == m) && (role_number a.role == role_number r)
+is_in m r a = (a.monitor == m) && (role_number a.role == role_number r)
 
 abbrev pub is_at : ℕ → Arrival → Bool
 is_at n a = a.node == n
@@ -34,7 +34,7 @@ threads_in arrivals m r = list_map (λ a. a.thread) (filter (is_in m r) arrivals
 abbrev pub lines_of : List Arrival → LineMap
 lines_of [] = map.empty
 lines_of (a ∷ arrivals) =
-    with_line (lines_of arrivals) a.place a.role (a.thread ∷ line (lines_of arrivals) a.place a.role)
+    with_line (lines_of arrivals) a.monitor a.role (a.thread ∷ line (lines_of arrivals) a.monitor a.role)
 
 abbrev pub nodes_of : List Arrival → map.FinMap nat_cmp ℕ
 nodes_of [] = map.empty
@@ -48,10 +48,10 @@ abbrev pub threads_of : Chart → List ThreadId
 threads_of c = list_map (λ (s : Spot). s.thread) c.spots
 
 abbrev pub keys_of : Chart → List Key
-keys_of c = list_map (λ (e : Ends). key e.place e.role) c.ends
+keys_of c = list_map (λ (e : Ends). key e.monitor e.role) c.ends
 
 abbrev pub arrival : List ThreadId → Key → ℕ → Arrival
-arrival ts k n = record { thread = slice_index_or ts n (record { 0 = 0 }); place = k.0; role = k.1; node = n }
+arrival ts k n = record { thread = slice_index_or ts n (record { 0 = 0 }); monitor = k.0; role = k.1; node = n }
 
 -- those who stand in the lines with these keys and rows
 abbrev pub arrivals_in : List ThreadId → List Key → List (List ℕ) → List Arrival

@@ -9,7 +9,7 @@ use Rattle.lock_word.specs.declared.ThreadId.{ThreadId}
 use Rattle.wait_lines.specs.declared.Role.{Role}
 use Rattle.wait_lines.specs.declared.Role.TheVariants.{Entry, Waiting}
 
--- a line's place: the number of its monitor, and its role
+-- a line's key: the number of its monitor, and its role
 abbrev pub Key : Type 0
 Key = ℕ × Role
 
@@ -32,7 +32,7 @@ LineMap = map.FinMap key_cmp (List ThreadId)
 abbrev pub line : LineMap → ℕ → Role → List ThreadId
 line lines m r = unwrap_or (map.get lines (key m r)) []
 
--- the lines with this list at this place
+-- the lines with this list at this key
 abbrev pub with_line : LineMap → ℕ → Role → List ThreadId → LineMap
 with_line lines m r [] = map.remove lines (key m r)
 with_line lines m r (t ∷ ts) = map.insert lines (key m r) (t ∷ ts)

@@ -1,4 +1,4 @@
--- Records of lines in rows of buckets, by the places and the roles of their lines.
+-- Records of lines in rows of buckets, by the monitors and the roles of their lines.
 use Rattle.std.specs.Prelude.{◌≡◌, ⊤, false, if◌then◌else◌, ℕ, suc, ◌+◌, ◌*◌, ◌%◌, ◌<◌, ◌≤◌, List, [], ◌∷◌, ◌++◌}
 use Rattle.std.specs.Prelude.{length, max, slice_index_or}
 use Rattle.wait_lines.specs.declared.Role.{Role}

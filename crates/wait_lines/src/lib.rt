@@ -139,29 +139,29 @@ impl Lines {
     }
 
     /// The thread that joined a line first, of those that stand in it.
-    pub fn first(&self, place: u32, role: Role) -> Option<ThreadId>
-        ensures first { result ≡ slice_get (line self.now.lines place role) 0 }
+    pub fn first(&self, monitor: u32, role: Role) -> Option<ThreadId>
+        ensures first { result ≡ slice_get (line self.now.lines monitor role) 0 }
         ensures orderly { IsOrderly (standing self.now) }
     {
-        self.all(place, role).next()
+        self.all(monitor, role).next()
     }
 
     /// The threads of a line, in order of joining.
-    pub fn all(&self, place: u32, role: Role) -> All<'_>
-        ensures threads { result ≡ line self.now.lines place role }
+    pub fn all(&self, monitor: u32, role: Role) -> All<'_>
+        ensures threads { result ≡ line self.now.lines monitor role }
         ensures few { length result ≤ 32767 }
         ensures orderly { IsOrderly (standing self.now) }
     {
-        let first = self.table.first_of(&self.links, place, role);
+        let first = self.table.first_of(&self.links, monitor, role);
         All::new(&self.links.spots, first)
     }
 
     /// Puts a thread at the end of a line, and answers its node, which stays its node until it
     /// leaves. No other thread moves.
-    pub fn join(&mut self, thread: ThreadId, place: u32, role: Role) -> Node
+    pub fn join(&mut self, thread: ThreadId, monitor: u32, role: Role) -> Node
         requires nowhere { StandsNowhere self.old.lines thread }
         requires room { total_count self.old.lines < self.old.reservations }
-        ensures joined { self.new.lines ≡ joined self.old.lines thread place role }
+        ensures joined { self.new.lines ≡ joined self.old.lines thread monitor role }
         ensures node { self.new.nodes ≡ map.insert self.old.nodes thread.0 result.0 }
         ensures reservations { self.new.reservations ≡ self.old.reservations }
         ensures orderly { IsOrderly (standing self.new) }
@@ -169,14 +169,14 @@ impl Lines {
         let Stop::At(node) = self.links.first_free else {
             unreachable!();
         };
-        let Some(line) = self.table.line_for(&self.links, place, role) else {
+        let Some(line) = self.table.line_for(&self.links, monitor, role) else {
             unreachable!();
         };
         self.links.unlink(node);
         self.links.seat(node, thread);
-        self.links.name(line, place, role);
+        self.links.name(line, monitor, role);
         self.links.link(node, Stop::End(line));
-        self.table.put(line, place, role);
+        self.table.put(line, monitor, role);
         node
     }
 

@@ -12,7 +12,7 @@ use crate::links::{Links, Node, Stop};
 use std::alloc::{AllocError, Global};
 use std::marker::Model;
 
-/// The records of lines by the places and the roles of their lines.
+/// The records of lines by the monitors and the roles of their lines.
 ///
 /// The numbers of the records are linked into rows: those of lines with no thread into the row of
 /// free ones, and each other into the row of its line's bucket. There are as many buckets as
@@ -49,33 +49,33 @@ impl Table {
     }
 
     /// The bucket of a line.
-    fn bucket(&self, place: u32, role: Role) -> u32
-        ensures value { result ≡ bucket_of self.now.buckets place role }
+    fn bucket(&self, monitor: u32, role: Role) -> u32
+        ensures value { result ≡ bucket_of self.now.buckets monitor role }
         ensures low { result < self.now.buckets }
     {
-        let key = 2 * u64::from(place) + role as u64;
+        let key = 2 * u64::from(monitor) + role as u64;
         (key % u64::from(self.buckets)) as u32
     }
 
     /// The record of a line in which some thread stands.
-    fn find(&self, links: &Links, place: u32, role: Role) -> Option<u32>
+    fn find(&self, links: &Links, monitor: u32, role: Role) -> Option<u32>
         requires sized { self.now.size ≡ length links.now.ends.items }
         ensures found { IfSome result (λ k. k < length links.now.ends.items) }
-        ensures of { IfSome result (λ k. is_of place role (ends_at (chart links.now) k) ≡ true) }
+        ensures of { IfSome result (λ k. is_of monitor role (ends_at (chart links.now) k) ≡ true) }
         ensures none { IfNone result ((k : ℕ)
-            → IsInRow self.now.rows k (suc (bucket_of self.now.buckets place role))
-            → is_of place role (ends_at (chart links.now) k) ≡ false) }
+            → IsInRow self.now.rows k (suc (bucket_of self.now.buckets monitor role))
+            → is_of monitor role (ends_at (chart links.now) k) ≡ false) }
     {
         if self.rows.ends.is_empty() {
             return None;
         }
-        let mut next = self.rows.behind(Stop::End(self.bucket(place, role)));
+        let mut next = self.rows.behind(Stop::End(self.bucket(monitor, role)));
         let mut left = self.rows.spots.len();
         while left > 0 {
             let Stop::At(line) = next else {
                 return None;
             };
-            if links.ends[line.0 as usize].is_of(place, role) {
+            if links.ends[line.0 as usize].is_of(monitor, role) {
                 return Some(line.0);
             }
             next = self.rows.behind(next);
@@ -85,28 +85,28 @@ impl Table {
     }
 
     /// The record of a line, or one of no line where nobody stands in that line.
-    pub(crate) fn line_for(&self, links: &Links, place: u32, role: Role) -> Option<u32>
+    pub(crate) fn line_for(&self, links: &Links, monitor: u32, role: Role) -> Option<u32>
         requires { IsWhole (chart links.now) self.now }
         ensures found { IfSome result (λ k. k < length links.now.ends.items) }
-        ensures fits { IfSome result (λ k. (is_of place role (ends_at (chart links.now) k) ≡ true)
+        ensures fits { IfSome result (λ k. (is_of monitor role (ends_at (chart links.now) k) ≡ true)
             ⊎ ((is_node (ends_at (chart links.now) k).first ≡ false)
             × ((i : ℕ) → i < length links.now.ends.items
-            → is_of place role (ends_at (chart links.now) i) ≡ false))) }
+            → is_of monitor role (ends_at (chart links.now) i) ≡ false))) }
         ensures none { IfNone result ((k : ℕ) → k < length links.now.ends.items
             → is_node (ends_at (chart links.now) k).first ≡ true) }
     {
-        match self.find(links, place, role) {
+        match self.find(links, monitor, role) {
             Some(line) => Some(line),
             None => self.vacant(),
         }
     }
 
     /// Where a line begins; an end where nobody stands in it.
-    pub(crate) fn first_of(&self, links: &Links, place: u32, role: Role) -> Stop
+    pub(crate) fn first_of(&self, links: &Links, monitor: u32, role: Role) -> Stop
         requires { IsWhole (chart links.now) self.now }
-        ensures { BeginsAt (chart links.now) place role result }
+        ensures { BeginsAt (chart links.now) monitor role result }
     {
-        match self.find(links, place, role) {
+        match self.find(links, monitor, role) {
             Some(line) => links.ends[line as usize].first,
             None => Stop::Free,
         }
@@ -125,13 +125,13 @@ impl Table {
     }
 
     /// Moves a record to the end of the row of its line's bucket.
-    pub(crate) fn put(&mut self, line: u32, place: u32, role: Role)
+    pub(crate) fn put(&mut self, line: u32, monitor: u32, role: Role)
         requires { line < self.old.size }
         ensures moved { self.new
-            ≡ with_move self.old line (suc (bucket_of self.old.buckets place role)) }
-        ensures here { IsInRow self.new.rows line (suc (bucket_of self.old.buckets place role)) }
+            ≡ with_move self.old line (suc (bucket_of self.old.buckets monitor role)) }
+        ensures here { IsInRow self.new.rows line (suc (bucket_of self.old.buckets monitor role)) }
     {
-        let bucket = self.bucket(place, role);
+        let bucket = self.bucket(monitor, role);
         self.rows.unlink(Node(line));
         self.rows.link(Node(line), Stop::End(bucket));
     }
@@ -184,7 +184,7 @@ impl Table {
         self.buckets *= 2;
         for (line, ends) in links.ends.iter().enumerate() {
             if ends.first.is_node() {
-                self.put(line as u32, ends.place, ends.role);
+                self.put(line as u32, ends.monitor, ends.role);
             }
         }
     }

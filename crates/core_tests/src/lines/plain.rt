@@ -7,7 +7,7 @@ use wait_lines::Role;
 #[derive(Clone, Copy)]
 struct Arrival {
     thread: ThreadId,
-    place: u32,
+    monitor: u32,
     role: Role,
 }
 
@@ -26,12 +26,12 @@ impl PlainLines {
     pub(super) fn join(
         &mut self,
         thread: ThreadId,
-        place: u32,
+        monitor: u32,
         role: Role,
     ) -> Result<(), AllocError> {
         self.arrivals.push(Arrival {
             thread,
-            place,
+            monitor,
             role,
         })?;
         Ok(())
@@ -44,12 +44,12 @@ impl PlainLines {
     pub(super) fn all(
         &self,
         alloc: Global,
-        place: u32,
+        monitor: u32,
         role: Role,
     ) -> Result<Vec<ThreadId>, AllocError> {
         self.arrivals
             .iter()
-            .filter(|arrival| arrival.place == place && arrival.role == role)
+            .filter(|arrival| arrival.monitor == monitor && arrival.role == role)
             .map(|arrival| arrival.thread)
             .collect(alloc)
     }

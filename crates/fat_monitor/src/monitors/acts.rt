@@ -9,7 +9,7 @@ ghost use Rattle.fat_monitor.specs.declared.actions.Answer.{Answer};
 ghost use Rattle.fat_monitor.specs.declared.actions.Post.{Post};
 ghost use Rattle.wait_lines.specs.Lines.{key};
 ghost use Rattle.fat_monitor.specs.FatState.{post_at, post_of, IsAttached, owns_one, monitor_at};
-ghost use Rattle.fat_monitor.specs.FatState.{is_owned_by, first_of, place_of, ComesBack};
+ghost use Rattle.fat_monitor.specs.FatState.{is_owned_by, first_of, line_key_of, ComesBack};
 ghost use Rattle.fat_monitor.specs.Acting.{acted, told, handed_on, granted, removed, served};
 
 use super::Fats;
@@ -246,9 +246,9 @@ impl Fats {
     /// or the one that it is to have, comes back to.
     fn grant(&mut self, monitor: u32, thread: ThreadId, post: Post)
         requires bound { monitor < length self.old.monitors }
-        requires stands { (r : Role) × (place_of (post_at self.old thread) ≡ Some (key monitor r)) }
+        requires stands { (r : Role) × (line_key_of (post_at self.old thread) ≡ Some (key monitor r)) }
         requires comes { ComesBack post }
-        ensures { (r : Role) → place_of (post_at self.old thread) ≡ Some (key monitor r)
+        ensures { (r : Role) → line_key_of (post_at self.old thread) ≡ Some (key monitor r)
             → self.new ≡ granted self.old monitor thread post r }
     {
         let owner = self.owner(monitor);

@@ -34,8 +34,8 @@ impl<'a> Read for PiecesReader<'a> {
         }
         let count = self.at_once.min(buf.len()).min(self.bytes.len());
         let (front, rest) = self.bytes.split_at(count);
-        let (places, _) = buf.split_at_mut(count);
-        places.copy_from_slice(front);
+        let (room, _) = buf.split_at_mut(count);
+        room.copy_from_slice(front);
         self.bytes = rest;
         self.given = self.given.saturating_add(count as u64);
         Ok(count)

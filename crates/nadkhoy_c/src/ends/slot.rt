@@ -1,4 +1,4 @@
-//! The place of the end of a live service in C's memory.
+//! The slot of the end of a live service in C's memory.
 
 ghost use Rattle.std.specs.Prelude.{◌≡◌, Some, None, IsSome, IfSome, IsNone, true, false};
 

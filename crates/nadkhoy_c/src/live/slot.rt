@@ -1,4 +1,4 @@
-//! The place of a seat in C's memory.
+//! The slot of a seat in C's memory.
 
 ghost use Rattle.std.specs.Prelude.{◌≡◌, Some, None, IsSome, IfSome, IsNone, true, false};
 

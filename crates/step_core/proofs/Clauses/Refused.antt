@@ -3,7 +3,7 @@ use Rattle.std.specs.Option.{unwrap_or}
 use Rattle.wait_lines.specs.Lines.{Key, key}
 use Rattle.fat_monitor.specs.declared.actions.Post.{Post}
 use Rattle.fat_monitor.specs.declared.actions.Post.TheVariants.{Out, Entering, Waiting, Back, Granted}
-use Rattle.fat_monitor.specs.FatState.{FatState, monitor_at, post_of, post_at, flag_at, with_moment, place_of, owns_one}
+use Rattle.fat_monitor.specs.FatState.{FatState, monitor_at, post_of, post_at, flag_at, with_moment, line_key_of, owns_one}
 use Rattle.fat_monitor.specs.Acting.{Outcome as FatOutcome, told, removed, served, not_due, expired as fat_expired, woken}
 use Rattle.fat_monitor.specs.declared.actions.Why.TheVariants.{Elapsed}
 use Rattle.fat_monitor.specs.declared.actions.Answer.TheVariants.{Quiet}
@@ -127,11 +127,11 @@ module _ (w : WorldState) (sound : IsSound w) (t : ThreadId) where
   idle k e h = (record { flag = flag_at w.fats t; act = does k }, rw e refl, does_out k e Idle h (λ i. cc))
 
   -- a thread whose post is in no line stands nowhere
-  pub nowhere : (p : Post) → post_of w.fats t ≡ Some p → place_of p ≡ None → IsParked w t → ⊥
+  pub nowhere : (p : Post) → post_of w.fats t ≡ Some p → line_key_of p ≡ None → IsParked w t → ⊥
   nowhere p e none parked =
       let stood = sound.fats.standing t parked.0 parked.1 parked.2 in
       let same : p ≡ stood.0 = same_Some p stood.0 (sym e ∙ stood.1) in
-      let never : None ≡ Some (key parked.0 parked.1) = sym none ∙ ap place_of same ∙ stood.2 in never_none (key parked.0 parked.1) never
+      let never : None ≡ Some (key parked.0 parked.1) = sym none ∙ ap line_key_of same ∙ stood.2 in never_none (key parked.0 parked.1) never
     where
       never_none : (x : Key) → None ≡ Some x → ⊥
       never_none x h = cc

@@ -243,8 +243,8 @@ at_most_all objects AtPost h = omega arith
 
 module _ (w : WorldState) (sound : IsSound w) (t : ThreadId) (flag : Bool) (act : Doing) (is : Is (shown w) t flag act) where
   -- the seat of a thread that is doing this
-  placed : (k : ℕ) × (seat_of w.seats t ≡ Some k) × (does w sound t k ≡ act)
-  placed = by_seat (seat_of w.seats t) refl
+  seated : (k : ℕ) × (seat_of w.seats t ≡ Some k) × (does w sound t k ≡ act)
+  seated = by_seat (seat_of w.seats t) refl
     where
       by_seat : (o : Option ℕ) → seat_of w.seats t ≡ o → (k : ℕ) × (seat_of w.seats t ≡ Some k) × (does w sound t k ≡ act)
       by_seat None e = let never : ◌≡◌ {A = Option Thread} None (Some (record { flag = flag; act = act })) = rw e at is in absurd (cc)
@@ -255,19 +255,19 @@ module _ (w : WorldState) (sound : IsSound w) (t : ThreadId) (flag : Bool) (act 
   place_does k e h p at free = sym (does_out w sound t k e p at free) ∙ h
 
   has_left : (act ≡ doing.Idle → ⊥) → 1 ≤ left_of w t
-  has_left busy = let p = placed in
+  has_left busy = let p = seated in
       rw p.1 (left_bounds w p.0 (place_at w p.0) (sound.places p.0 (within w sound p.0 t p.1)) (λ e. busy (sym (place_does p.0 p.1 p.2 Idle e (λ i. cc)))))
 
   -- A call but End replies, parks or meets another thread within four Go steps.
   pub within_four : (act ≡ doing.Idle → ⊥) → (act ≡ doing.Wants call.End → ⊥) → (ss : List (Request × Bool)) → AllLinger w t ss → goes_of t ss < 4
   within_four busy not_end ss all =
-      let p = placed in
+      let p = seated in
       let most : left_of w t ≤ 4 = rw p.1 (at_most_four (length w.words) (place_at w p.0) (λ n e. not_end (sym (place_does p.0 p.1 p.2 (Ending n) e (λ i. cc))))) in
       let fewer : goes_of t ss < left_of w t = lingers w sound t ss (has_left busy) all in omega arith
 
 -- An end replies within a Go for each object and one more.
 pub within_all : (w : WorldState) → IsSound w → (t : ThreadId) (flag : Bool) → Is (shown w) t flag (doing.Wants call.End) → (ss : List (Request × Bool)) → AllLinger w t ss → goes_of t ss < length w.words + 1
 within_all w sound t flag is ss all =
-    let p = placed w sound t flag (doing.Wants call.End) is in
+    let p = seated w sound t flag (doing.Wants call.End) is in
     let most : left_of w t ≤ length w.words + 1 = rw p.1 (at_most_all (length w.words) (place_at w p.0) (λ free. place_does w sound t flag (doing.Wants call.End) is p.0 p.1 p.2 (place_at w p.0) refl free)) in
     let fewer : goes_of t ss < left_of w t = lingers w sound t ss (has_left w sound t flag (doing.Wants call.End) is (λ e. cc)) all in omega arith

@@ -192,6 +192,6 @@ inflates w s p i n t xs g thin low held deep words fats =
     let holder : holder_at w.seats (i - 1) ≡ Some t = sym (holder_same w.seats i low) ∙ held in
     rw (words, fats, thin, deep, holder) refl
 
--- what a row of words has at a place that is there
+-- what a row of words has at a position that is there
 pub found_word : (xs : List Word) (p : ℕ) (x : Word) → p < length xs → x ≡ get_or xs p x → slice_index_or xs p (low_word 0) ≡ x
 found_word xs p x h e = get_or_default xs p (low_word 0) x h ∙ sym e

@@ -266,8 +266,8 @@ fn inflate(
     ensures { (places : List Place) → world_of old words.new.items indices.now places fats.new
         ≡ inflated_at new (world_of old words.old.items indices.now places fats.old) object.0 }
 {
-    let place = object.0 as usize;
-    let Lock::Thin { index, count } = lock_of(old, words[place]) else {
+    let position = object.0 as usize;
+    let Lock::Thin { index, count } = lock_of(old, words[position]) else {
         return;
     };
     if count <= new.greatest_count() {
@@ -280,7 +280,7 @@ fn inflate(
         unreachable!();
     };
     let monitor = receipt.monitor();
-    words[place] = with_lock(old, words[place], Lock::Fat { monitor });
+    words[position] = with_lock(old, words[position], Lock::Fat { monitor });
 }
 
 /// Writes each word in the split `new`, which its lock fits.

@@ -15,10 +15,10 @@ struct FailingReader<'a> {
 
 impl<'a> Read for FailingReader<'a> {
     fn read(&mut self, buf: &mut [u8]) -> io::Result<usize> {
-        let (Some((first, rest)), Some(place)) = (self.bytes.split_first(), buf.first_mut()) else {
+        let (Some((first, rest)), Some(target)) = (self.bytes.split_first(), buf.first_mut()) else {
             return Err(io::Error::from(ErrorKind::UnexpectedEof));
         };
-        *place = *first;
+        *target = *first;
         self.bytes = rest;
         Ok(1)
     }

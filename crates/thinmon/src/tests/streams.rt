@@ -32,8 +32,8 @@ impl<'a> Read for PiecesReader<'a> {
         }
         let count = self.at_once.min(buf.len()).min(self.bytes.len());
         let (front, rest) = self.bytes.split_at(count);
-        let (places, _) = buf.split_at_mut(count);
-        places.copy_from_slice(front);
+        let (room, _) = buf.split_at_mut(count);
+        room.copy_from_slice(front);
         self.bytes = rest;
         Ok(count)
     }

@@ -1,6 +1,6 @@
 use Rattle.std.proofs.Common.{◌≡◌, map, take}
-use Rattle.dump.specs.Threads.{thread_of_place}
+use Rattle.dump.specs.Threads.{thread_at_position}
 use Rattle.dump.proofs.owners.threads_of.Given as goal
 
-abbrev pub invariant-places : goal.invariant-places
-invariant-places l = l.found.items ≡ map (thread_of_place l.threads) (take l.place-index l.places)
+abbrev pub invariant-positions : goal.invariant-positions
+invariant-positions l = l.found.items ≡ map (thread_at_position l.threads) (take l.position-index l.positions)

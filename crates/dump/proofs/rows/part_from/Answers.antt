@@ -1,5 +1,5 @@
 use Rattle.dump.proofs.Parts.{not_yet}
 use Rattle.dump.proofs.rows.part_from.Goals as goal
 
-pub places-preserved : goal.places-preserved
-places-preserved c = not_yet c.args.path.now c.places.place c.args.number 0 c.places-test.true c.places.invariant c.if-path-place.false
+pub positions-preserved : goal.positions-preserved
+positions-preserved c = not_yet c.args.path.now c.positions.position c.args.number 0 c.positions-test.true c.positions.invariant c.if-path-position.false

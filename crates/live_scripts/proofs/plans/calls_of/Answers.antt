@@ -1,5 +1,5 @@
 use Rattle.std.proofs.Common.{map}
-use Rattle.live_scripts.proofs.Places.{calls_more}
+use Rattle.live_scripts.proofs.Positions.{calls_more}
 use Rattle.live_scripts.proofs.plans.calls_of.Goals as goal
 
 pub lines-preserved : goal.lines-preserved

@@ -1,4 +1,4 @@
-use Rattle.live_scripts.proofs.Places.{lows_more}
+use Rattle.live_scripts.proofs.Positions.{lows_more}
 use Rattle.live_scripts.proofs.plans.lows_of.Goals as goal
 
 pub lines-preserved : goal.lines-preserved

@@ -1,5 +1,5 @@
 use Rattle.std.proofs.Common.{map}
-use Rattle.live_scripts.proofs.Places.{objects_more}
+use Rattle.live_scripts.proofs.Positions.{objects_more}
 use Rattle.live_scripts.proofs.plans.objects_of.Goals as goal
 
 pub lines-preserved : goal.lines-preserved

@@ -2,7 +2,7 @@ use Rattle.std.proofs.Common.{◌∙◌, ap, map, length, List, ℕ, Bor, arith}
 use Rattle.live_scripts.specs.Rules.{attached}
 use Rattle.live_scripts.specs.Plans.{lows_of, monitors_in, objects_of}
 use Rattle.live_scripts.proofs.Few.{few_objects, few_threads}
-use Rattle.live_scripts.proofs.Places.{length_map, rows_all}
+use Rattle.live_scripts.proofs.Positions.{length_map, rows_all}
 use Rattle.live_scripts.proofs.plans.plan_of.Goals as goal
 
 pub rows_of-requires-clause-objects : goal.rows_of-requires-clause-objects

@@ -3,4 +3,4 @@ use Rattle.live_text.specs.Texts.{each_text, object_text}
 use Rattle.live_text.proofs.texts.put_objects.Given as goal
 
 abbrev pub invariant-objects : goal.invariant-objects
-invariant-objects l = string_bytes l.text ≡ string_bytes l.fn.text ++ each_text object_text (map (λ t. t.now) (take l.place l.names)) (map (λ w. w.0) (take l.place l.words))
+invariant-objects l = string_bytes l.text ≡ string_bytes l.fn.text ++ each_text object_text (map (λ t. t.now) (take l.position l.names)) (map (λ w. w.0) (take l.position l.words))

@@ -6,13 +6,13 @@ use Rattle.thread_index.proofs.Indices.put.Goals as goal
 
 pub make_room-requires-clause-next : goal.make_room-requires-clause-next
 make_room-requires-clause-next c =
-    let place = free_seat-next _ _ _ _ _ _ c.self.invariant c.self.view_is c.requires.free in
-    omega (arith, place.0, c.self.invariant.room)
+    let position = free_seat-next _ _ _ _ _ _ c.self.invariant c.self.view_is c.requires.free in
+    omega (arith, position.0, c.self.invariant.room)
 
 pub make_room-requires-clause-few : goal.make_room-requires-clause-few
 make_room-requires-clause-few c =
-    let place = free_seat-next _ _ _ _ _ _ c.self.invariant c.self.view_is c.requires.free in
-    omega (arith, place.1, c.self.invariant.kept.few)
+    let position = free_seat-next _ _ _ _ _ _ c.self.invariant c.self.view_is c.requires.free in
+    omega (arith, position.1, c.self.invariant.kept.few)
 
 pub write_down-requires : goal.write_down-requires
 write_down-requires c = (free_seat-next _ _ _ _ _ _ c.self.invariant c.self.view_is c.requires.free).0

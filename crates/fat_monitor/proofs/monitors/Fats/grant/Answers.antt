@@ -9,15 +9,15 @@ use Rattle.fat_monitor.specs.declared.actions.Reply.{Reply}
 use Rattle.fat_monitor.specs.FatState.{FatState, IsSound, post_of}
 use Rattle.fat_monitor.specs.Acting.{reply_granted}
 use Rattle.fat_monitor.specs.Fats.{fat_state_in}
-use Rattle.fat_monitor.proofs.SoundSteps.{place_bound}
+use Rattle.fat_monitor.proofs.SoundSteps.{line_key_bound}
 use Rattle.fat_monitor.proofs.SoundGrants.{granted_flags, IsSound-granted}
-use Rattle.fat_monitor.proofs.Steps.{placed, flags_cleared, flags_kept, granted_as}
+use Rattle.fat_monitor.proofs.Steps.{has_line_key, flags_cleared, flags_kept, granted_as}
 use Rattle.fat_monitor.specs.Slots.{Posted, handed_over}
 use Rattle.fat_monitor.specs.Fats.{AreSeated}
 use Rattle.std.specs.FinMap as map
 use Rattle.fat_monitor.specs.declared.actions.Post.TheVariants.{Granted}
 use Rattle.wait_lines.specs.Lines.{NodeMap}
-use Rattle.fat_monitor.proofs.Seats.{AreSeated-left, stands_at, place_stands}
+use Rattle.fat_monitor.proofs.Seats.{AreSeated-left, stands_at, line_key_stands}
 use Rattle.fat_monitor.proofs.OwnedCounts.{counted_as, one_owned, few_owned}
 use Rattle.fat_monitor.proofs.monitors.Fats.grant.Goals.{in-Interrupted, in_default}
 use Rattle.fat_monitor.proofs.monitors.Fats.grant.Goals as goal
@@ -50,15 +50,15 @@ settled c =
     ]
 
 pub returns : goal.returns
-returns c r place =
+returns c r in_line =
     let f = fat_state_in c.self.inside in
     let m = c.args.monitor in
-    let here = rw (← c.self.view_is) at place in
-    let post = placed f c.args.thread _ here in
-    let bound = place_bound f post.0 m r (c.self.invariant.sound.proper c.args.thread post.0 post.1) post.2 in
+    let here = rw (← c.self.view_is) at in_line in
+    let post = has_line_key f c.args.thread _ here in
+    let bound = line_key_bound f post.0 m r (c.self.invariant.sound.proper c.args.thread post.0 post.1) post.2 in
     let stands = c.self.invariant.sound.posted c.args.thread post.0 m r post.1 post.2 in
     let set = rw (settled c) at c.set.ensures in
-    let at_node = stands_at _ _ _ c.self.invariant.seated c.args.thread post.0 c.node.result.0 post.1 (place_stands post.0 m r post.2) c.node.ensures in
+    let at_node = stands_at _ _ _ c.self.invariant.seated c.args.thread post.0 c.node.result.0 post.1 (line_key_stands post.0 m r post.2) c.node.ensures in
     let lines = c.leave_at.ensures.left in
     let kept = c.leave_at.ensures.reservations in
     rw (← c.self.view_is, settled c) (
@@ -71,18 +71,18 @@ invariant_of-self c =
     record {
       sound =
           let f = c.args.self.now in
-          let post = placed f c.args.thread _ c.requires.stands.1 in
+          let post = has_line_key f c.args.thread _ c.requires.stands.1 in
           let kept = IsSound-granted f c.args.monitor c.args.thread c.args.post post.0 c.requires.stands.0 (subst (λ (f : FatState). IsSound f) c.self.view_is c.self.invariant.sound) post.1 post.2 c.requires.comes in
           rw (returns c c.requires.stands.0 c.requires.stands.1) kept;
       seated =
-          let post = placed (fat_state_in c.self.inside) c.args.thread _ (rw (← c.self.view_is) at c.requires.stands.1) in
-          let at_node = stands_at _ _ _ c.self.invariant.seated c.args.thread post.0 c.node.result.0 post.1 (place_stands post.0 c.args.monitor c.requires.stands.0 post.2) c.node.ensures in
+          let post = has_line_key (fat_state_in c.self.inside) c.args.thread _ (rw (← c.self.view_is) at c.requires.stands.1) in
+          let at_node = stands_at _ _ _ c.self.invariant.seated c.args.thread post.0 c.node.result.0 post.1 (line_key_stands post.0 c.args.monitor c.requires.stands.0 post.2) c.node.ensures in
           let set = rw (settled c) at c.set.ensures in
           rw (settled c) (subst (λ (m : NodeMap). AreSeated c.set.new.self.posts c.set.new.self.nodes m) (sym (c.leave_at.ensures.nodes c.args.thread at_node))
           (subst (λ (p : Posted). AreSeated p.posts p.nodes (map.remove c.self.inside.lines.nodes c.args.thread.0)) (sym set)
           (AreSeated-left _ _ _ c.self.invariant.seated c.args.thread (Granted c.granted_to-holds.result.1) refl)));
       counted =
-          let post = placed (fat_state_in c.self.inside) c.args.thread _ (rw (← c.self.view_is) at c.requires.stands.1) in
+          let post = has_line_key (fat_state_in c.self.inside) c.args.thread _ (rw (← c.self.view_is) at c.requires.stands.1) in
           let set = rw (settled c) at c.set.ensures in
           rw (settled c) (counted_as c.self.inside.monitors.items c.self.inside.posts.owned c.set.new.self.owned c.args.monitor c.give.new.self c.owner-owner.result (Some c.args.thread) c.self.invariant.counted
           (rw (← c.self.view_is) at c.requires.bound) (sym (rw (← c.self.view_is) at c.owner-owner.ensures)) (ap (λ (b : Monitor). b.owner) c.give.ensures) (ap (λ (p : Posted). p.owned) set));
@@ -95,7 +95,7 @@ hand_over-requires-clause-owned c t e =
 
 pub hand_over-requires-clause-attached : goal.hand_over-requires-clause-attached
 hand_over-requires-clause-attached c t e =
-    let post = placed (fat_state_in c.self.inside) c.args.thread _ (rw (← c.self.view_is) at c.requires.stands.1) in
+    let post = has_line_key (fat_state_in c.self.inside) c.args.thread _ (rw (← c.self.view_is) at c.requires.stands.1) in
     subst (λ (u : ThreadId). IsSome (post_of (fat_state_in c.self.inside) u)) (same_Some c.args.thread t e) (rw (post.1) refl)
 
 pub hand_over-requires-clause-few : goal.hand_over-requires-clause-few
@@ -103,7 +103,7 @@ hand_over-requires-clause-few c t e = few_owned (fat_state_in c.self.inside) c.s
 
 pub leave_at-requires : goal.leave_at-requires
 leave_at-requires c =
-    let post = placed (fat_state_in c.self.inside) c.args.thread _ (rw (← c.self.view_is) at c.requires.stands.1) in
+    let post = has_line_key (fat_state_in c.self.inside) c.args.thread _ (rw (← c.self.view_is) at c.requires.stands.1) in
     record {
-      stands = (c.args.thread, stands_at _ _ _ c.self.invariant.seated c.args.thread post.0 c.node.result.0 post.1 (place_stands post.0 c.args.monitor c.requires.stands.0 post.2) c.node.ensures);
+      stands = (c.args.thread, stands_at _ _ _ c.self.invariant.seated c.args.thread post.0 c.node.result.0 post.1 (line_key_stands post.0 c.args.monitor c.requires.stands.0 post.2) c.node.ensures);
     }

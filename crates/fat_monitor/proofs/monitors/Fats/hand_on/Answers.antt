@@ -2,7 +2,7 @@ use Rattle.std.proofs.Common.{◌≡◌, ◌∙◌, sym, ap, refl, Some, None, s
 use Rattle.wait_lines.specs.declared.Role.TheVariants.{Entry}
 use Rattle.wait_lines.proofs.LineLemmas.{StandsIn-first}
 use Rattle.fat_monitor.specs.declared.actions.Post.{Post}
-use Rattle.fat_monitor.specs.FatState.{FatState, IsSound, first_of, post_at, place_of}
+use Rattle.fat_monitor.specs.FatState.{FatState, IsSound, first_of, post_at, line_key_of}
 use Rattle.fat_monitor.specs.Acting.{granted}
 use Rattle.fat_monitor.specs.Fats.{fat_state_in}
 use Rattle.fat_monitor.proofs.Soundness.{IsSound-handed_on, post_at-is, comes_back}
@@ -36,7 +36,7 @@ pub grant-requires-clause-stands : goal.grant-requires-clause-stands
 grant-requires-clause-stands c =
     let f = fat_state_in c.self.inside in
     let stood = c.self.invariant.sound.standing c.in-Some.next c.args.monitor Entry (StandsIn-first f.standing.lines c.in-Some.next c.args.monitor Entry (sym c.in-Some.ensures.first)) in
-    rw (← c.self.view_is) (Entry, ap place_of (post_at-is f c.in-Some.next stood.0 stood.1) ∙ stood.2)
+    rw (← c.self.view_is) (Entry, ap line_key_of (post_at-is f c.in-Some.next stood.0 stood.1) ∙ stood.2)
 
 pub grant-requires-clause-comes : goal.grant-requires-clause-comes
 grant-requires-clause-comes c =
@@ -52,5 +52,5 @@ returns-clause-after c =
     let stood = sound.standing c.in-Some.next c.args.monitor Entry (StandsIn-first f.standing.lines c.in-Some.next c.args.monitor Entry first) in
     let post : c.unwrap_or-post.result ≡ post_at f c.in-Some.next = rw (c.unwrap_or-post.ensures, c.get.ensures, ← c.self.view_is) refl in
     rw (first) (
-    c.grant.ensures Entry (ap place_of (post_at-is f c.in-Some.next stood.0 stood.1) ∙ stood.2)
+    c.grant.ensures Entry (ap line_key_of (post_at-is f c.in-Some.next stood.0 stood.1) ∙ stood.2)
     ∙ ap (λ (p : Post). granted f c.args.monitor c.in-Some.next p Entry) post)

@@ -16,7 +16,7 @@ join_seat-requires g c =
     let plain : c.into_parts-other.result.seat.me.0.has_gate ≡ false =
     ap (λ z. z.has_gate) c.into_parts-other.ensures.view ∙ all_mid (λ (p : PassValue). p.has_gate ≡ false) left (j.first ∷ j.taken) c.in-Some-pop.pass (subst (λ (l : List PassValue). All (λ p. p.has_gate ≡ false) l) at c.requires.without) in
     let home = sym (ap (λ z. z.table) c.self.view_is) in (
-      c.loop-pass.invariant.place ∙ home,
+      c.loop-pass.invariant.same_table ∙ home,
       ap (λ z. z.opening.table) c.into_parts-other.ensures.view ∙ (ap (λ z. z.table) is ∙ home),
       c.into_parts-other.ensures.inside.carries ∙ ap (carried {B = g.row.B.Denot}) (sym c.into_parts-other.ensures.inside.gate ∙ plain),
       (let w = c.self.invariant.words in omega arith),
@@ -25,7 +25,7 @@ join_seat-requires g c =
 
 pub loop-pass-preserved : goal.loop-pass-preserved
 loop-pass-preserved g c = record {
-  place = c.join_seat.ensures.0 ∙ c.loop-pass.invariant.place;
+  same_table = c.join_seat.ensures.0 ∙ c.loop-pass.invariant.same_table;
   joining = joining_next c.args.passes.items c.loop-pass.passes.items c.pop-in-loop-pass.new.self.items c.in-Some-pop.pass c.loop-pass.seat.me.0 c.into_parts-other.result.seat.me.0 c.join_seat.new.seat.me.0
       c.in-Some-pop.ensures.items c.loop-pass.invariant.joining
       (c.into_parts-other.ensures.inside.lone ∙ λ k. part (c.into_parts-other.ensures.view k).index (c.into_parts-other.ensures.view k).mine ∷ [])

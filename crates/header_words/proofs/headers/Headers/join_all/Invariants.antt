@@ -4,7 +4,7 @@ use Rattle.header_words.proofs.headers.Headers.join_all.Given as goal
 
 abbrev pub invariant-loop-pass : goal.invariant-loop-pass
 invariant-loop-pass g l = record {
-  place : l.seat.table_id ≡ l.self.table;
+  same_table : l.seat.table_id ≡ l.self.table;
   joining : Joining l.fn.passes.items l.passes.items l.seat.me.0;
 }
 

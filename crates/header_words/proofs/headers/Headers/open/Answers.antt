@@ -9,7 +9,7 @@ new_table-requires-clause-bytes g c = subst (λ (xs : List ℕ). (o : ℕ) → s
 
 pub split_seat-given-requires : goal.split_seat-given-requires
 split_seat-given-requires g c = (
-  c.loop-done.invariant.place,
+  c.loop-done.invariant.same_table,
   (let e : c.in_ok-table.table.shared.table_id.words ≡ length c.as_slice.result.now = c.in_ok-table.ensures.size.0 in let f : length c.as_slice.result.now ≡ suc (length c.args.lows.now) = ap length (c.as_slice.ensures.value ∙ c.in-Ok.ensures.words) in omega arith),
   cuts g.B.Kept.bound c.in_ok-table.table.shared.key.lows.items c.in_ok-table.table.shared.key.count c.in-Ok.room.layout.lows.items c.args.count c.loop-done.seat.id c.loop-done.seat.me.0 c.loop-done.done (ap (λ z. z.0) c.loop-done.invariant.view) c.loop-done-test.true,
 )
@@ -22,11 +22,11 @@ invariant_of-push_reserved g c =
 
 pub loop-done-preserved : goal.loop-done-preserved
 loop-done-preserved g c = record {
-  place = c.split_seat-given.ensures.0 ∙ c.loop-done.invariant.place;
+  same_table = c.split_seat-given.ensures.0 ∙ c.loop-done.invariant.same_table;
   view = left_after c.in-Ok.room.layout.lows.items c.args.count c.loop-done.done c.loop-done.seat.me.0 c.split_seat-given.new.seat c.loop-done.seat.me.1 c.loop-done-test.true (ap (λ z. z.0) c.loop-done.invariant.view) (ap (λ z. z.1) c.loop-done.invariant.view) c.split_seat-given.ensures.2;
   passes = passes_after (opening_of c.in_ok-table.table.shared.table_id c.in-Ok.room.layout) c.loop-done.done c.loop-done.passes.items c.push_reserved.new.self.items (pass_value c.split_seat-given.result) c.loop-done.invariant.passes
       (cut_value c.in-Ok.room.layout.lows.items c.args.count c.loop-done.done c.loop-done-test.true c.loop-done.seat.me.0 (ap (λ z. z.0) c.loop-done.invariant.view) c.split_seat-given.result c.split_seat-given.ensures.4
-      (opening_of c.in_ok-table.table.shared.table_id c.in-Ok.room.layout) (c.split_seat-given.ensures.3 ∙ c.loop-done.invariant.place) refl c.in-Ok.ensures.layout.1)
+      (opening_of c.in_ok-table.table.shared.table_id c.in-Ok.room.layout) (c.split_seat-given.ensures.3 ∙ c.loop-done.invariant.same_table) refl c.in-Ok.ensures.layout.1)
       c.push_reserved.ensures.items;
   rows = all_front (IsNewRow c.in-Ok.room.layout.lows.items) c.pop.new.self.items _ (subst (λ l. All (IsNewRow c.in-Ok.room.layout.lows.items) l) c.in-Some.ensures.items c.loop-done.invariant.rows);
   left = search rules;

@@ -5,7 +5,7 @@ use Rattle.header_words.proofs.headers.Headers.open.Given as goal
 
 abbrev pub invariant-loop-done : goal.invariant-loop-done
 invariant-loop-done g l = record {
-  place : l.seat.table_id ≡ l.table.shared.table_id;
+  same_table : l.seat.table_id ≡ l.table.shared.table_id;
   view : l.seat.me ≡ (left_view l.layout.lows.items l.count l.done, []);
   passes : l.passes.items ≡ new_passes (opening_of l.table.shared.table_id l.layout) 1 l.done;
   rows : All (IsNewRow l.layout.lows.items) l.rows.items;

@@ -7,7 +7,7 @@ use Rattle.thread_index.proofs.bit_row.BitRow.clear.Goals as goal
 
 pub returns-clause-bits : goal.returns-clause-bits
 returns-clause-bits c =
-    bit_of-write c.args.self.now.words.items c.args.place c.index_mut.result.now _ 0 c.requires
+    bit_of-write c.args.self.now.words.items c.args.position c.index_mut.result.now _ 0 c.requires
     (get_or_read c.args.self.now.words.items _ _ (omega arith) c.index_mut.ensures.value 0)
     (bit_at_clear_same w64 _ _ (omega arith))
     (λ i lt ne. bit_at_clear_other w64 _ _ (omega arith) i lt ne)

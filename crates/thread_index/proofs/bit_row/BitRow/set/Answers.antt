@@ -7,7 +7,7 @@ use Rattle.thread_index.proofs.bit_row.BitRow.set.Goals as goal
 
 pub returns-clause-bits : goal.returns-clause-bits
 returns-clause-bits c =
-    bit_of-write c.args.self.now.words.items c.args.place c.index_mut.result.now _ 1 c.requires
+    bit_of-write c.args.self.now.words.items c.args.position c.index_mut.result.now _ 1 c.requires
     (get_or_read c.args.self.now.words.items _ _ (omega arith) c.index_mut.ensures.value 0)
     (bit_at_set_same w64 _ _ (omega arith))
     (λ i _ ne. bit_at_set_other w64 _ _ (omega arith) i ne)

@@ -1,9 +1,0 @@
-use Rattle.std.proofs.Common.{◌≡◌, ◌≤◌, All, vec_len, vec_capacity}
-use Rattle.live_seats.proofs.house.free_places.Given as goal
-
-abbrev pub invariant-loop : goal.invariant-loop
-invariant-loop g l = record {
-  same : All (λ z. z ≡ l.turns) l.places.items;
-  len : vec_len l.places ≡ l.counter;
-  room : l.count ≤ vec_capacity l.places;
-}
