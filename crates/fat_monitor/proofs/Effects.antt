@@ -21,12 +21,12 @@ use Rattle.fat_monitor.specs.declared.actions.Why.TheVariants as why
 use Rattle.fat_monitor.specs.declared.actions.Action.{Action}
 use Rattle.fat_monitor.specs.declared.actions.Action.TheVariants as action
 use Rattle.fat_monitor.specs.FatState.{FatState, IsSound, IsAttached, monitor_at, post_of, post_at, thread_count, line_of, first_of, flag_at, flag_of, with_post, with_flag, with_thread, without_thread, line_key_of, is_owned_by, owns_one}
-use Rattle.fat_monitor.specs.Acting.{Outcome, acted, entered, exited, waited, notified, interrupted, asked, expired, woken, collected, are_good, handed_on, sent_back, all_removed, parked, removed, reply_back, reply_granted, MayAct}
+use Rattle.fat_monitor.specs.Acting.{Outcome, outcome_of, enter_outcome, exit_outcome, wait_outcome, notify_outcome, interrupt_outcome, flag_outcome, expire_outcome, spurious_outcome, collect_outcome, are_good, after_hand_on, after_sending_back, after_removals, after_parking, after_removal, reply_back, reply_granted, MayAct}
 use Rattle.fat_monitor.proofs.PostMaps.{get-insert_by, get-remove_by}
-use Rattle.fat_monitor.proofs.SoundGrants.{granted-is}
+use Rattle.fat_monitor.proofs.SoundGrants.{after_grant-is}
 use Rattle.fat_monitor.proofs.MonitorEffects.{either}
-pub use Rattle.fat_monitor.proofs.MonitorEffects.{named, monitors-all_removed, moment-all_removed, length-acted, object-acted, other-acted, moment-acted}
-pub use Rattle.fat_monitor.proofs.LineEffects.{post-with_post_same, post-with_post_other, first_entering, first_waiting, nobody_waiting, called_back, post-all_removed}
+pub use Rattle.fat_monitor.proofs.MonitorEffects.{named, monitors-after_removals, moment-after_removals, length-outcome_of, object-outcome_of, other-outcome_of, moment-outcome_of}
+pub use Rattle.fat_monitor.proofs.LineEffects.{post-with_post_same, post-with_post_other, first_entering, first_waiting, nobody_waiting, called_back, post-after_removals}
 
 -- ---- posts
 
@@ -66,28 +66,28 @@ KeepsPosts-insert t p k v here why =
     out u other (inr apart) w = rw (get-insert_by p k v u, ne_eqb u k apart) ((λ h. h), (λ h. h))
 
 -- a waiter that gets a reply, or another line key, stays attached, and is not out
-KeepsPosts-sent_back : (t : ℕ) (f : FatState) (u : ThreadId) (m n : ℕ) (d : Option ℕ) (w : Why) (o : Option ThreadId) → post_of f u ≡ Some (Waiting m n d)
-    → KeepsPosts t f.threads (sent_back f u m (Back m n w) o).threads
-KeepsPosts-sent_back t f u m n d w None e =
-    subst (λ (g : FatState). KeepsPosts t f.threads g.threads) (sym (granted-is f m u (Back m n w) WaitSet))
+KeepsPosts-after_sending_back : (t : ℕ) (f : FatState) (u : ThreadId) (m n : ℕ) (d : Option ℕ) (w : Why) (o : Option ThreadId) → post_of f u ≡ Some (Waiting m n d)
+    → KeepsPosts t f.threads (after_sending_back f u m (Back m n w) o).threads
+KeepsPosts-after_sending_back t f u m n d w None e =
+    subst (λ (g : FatState). KeepsPosts t f.threads g.threads) (sym (after_grant-is f m u (Back m n w) WaitSet))
     (KeepsPosts-insert t f.threads u.0 (Granted (reply_back w)) (rw e refl) (inr ((λ h. let x : Some (Waiting m n d) ≡ Some Out = sym e ∙ h in cc), (λ h. cc))))
-KeepsPosts-sent_back t f u m n d w (Some v) e =
+KeepsPosts-after_sending_back t f u m n d w (Some v) e =
     KeepsPosts-insert t f.threads u.0 (Back m n w) (rw e refl) (inr ((λ h. let x : Some (Waiting m n d) ≡ Some Out = sym e ∙ h in cc), (λ h. cc)))
 
 -- u, which has the post o, leaves its wait set
-KeepsPosts-removed : (t : ℕ) (f : FatState) (u : ThreadId) (w : Why) (o : Option Post) → post_of f u ≡ o → KeepsPosts t f.threads (removed f u w (unwrap_or o Out)).threads
-KeepsPosts-removed t f u w None e = KeepsPosts-same t f.threads
-KeepsPosts-removed t f u w (Some Out) e = KeepsPosts-same t f.threads
-KeepsPosts-removed t f u w (Some (Entering m)) e = KeepsPosts-same t f.threads
-KeepsPosts-removed t f u w (Some (Waiting m n d)) e = KeepsPosts-sent_back t f u m n d w (monitor_at f m).owner e
-KeepsPosts-removed t f u w (Some (Back m n x)) e = KeepsPosts-same t f.threads
-KeepsPosts-removed t f u w (Some (Granted r)) e = KeepsPosts-same t f.threads
+KeepsPosts-after_removal : (t : ℕ) (f : FatState) (u : ThreadId) (w : Why) (o : Option Post) → post_of f u ≡ o → KeepsPosts t f.threads (after_removal f u w (unwrap_or o Out)).threads
+KeepsPosts-after_removal t f u w None e = KeepsPosts-same t f.threads
+KeepsPosts-after_removal t f u w (Some Out) e = KeepsPosts-same t f.threads
+KeepsPosts-after_removal t f u w (Some (Entering m)) e = KeepsPosts-same t f.threads
+KeepsPosts-after_removal t f u w (Some (Waiting m n d)) e = KeepsPosts-after_sending_back t f u m n d w (monitor_at f m).owner e
+KeepsPosts-after_removal t f u w (Some (Back m n x)) e = KeepsPosts-same t f.threads
+KeepsPosts-after_removal t f u w (Some (Granted r)) e = KeepsPosts-same t f.threads
 
-KeepsPosts-all_removed : (t : ℕ) (f : FatState) (us : List ThreadId) → KeepsPosts t f.threads (all_removed f us).threads
-KeepsPosts-all_removed t f [] = KeepsPosts-same t f.threads
-KeepsPosts-all_removed t f (u ∷ us) =
-    KeepsPosts-then t f.threads (removed f u why.Notified (post_at f u)).threads (all_removed f (u ∷ us)).threads
-    (KeepsPosts-removed t f u why.Notified (post_of f u) refl) (KeepsPosts-all_removed t (removed f u why.Notified (post_at f u)) us)
+KeepsPosts-after_removals : (t : ℕ) (f : FatState) (us : List ThreadId) → KeepsPosts t f.threads (after_removals f us).threads
+KeepsPosts-after_removals t f [] = KeepsPosts-same t f.threads
+KeepsPosts-after_removals t f (u ∷ us) =
+    KeepsPosts-then t f.threads (after_removal f u why.Notified (post_at f u)).threads (after_removals f (u ∷ us)).threads
+    (KeepsPosts-after_removal t f u why.Notified (post_of f u) refl) (KeepsPosts-after_removals t (after_removal f u why.Notified (post_at f u)) us)
 
 -- whoever has a line key is not out
 not_out : (o : Option Post) (p : Post) (k : Key) → o ≡ Some p → line_key_of p ≡ Some k → o ≢ Some Out
@@ -95,11 +95,11 @@ not_out o p k e in_line h =
     let same : p ≡ Out = same_Some p Out (sym e ∙ h) in let none : line_key_of Out ≡ Some k = ap line_key_of (sym same) ∙ in_line in cc
 
 -- the first of an entry line was not out, and has a grant after it
-KeepsPosts-handed_on : (t : ℕ) (f : FatState) (m : ℕ) (o : Option ThreadId) → IsSound f → first_of f m Entry ≡ o → KeepsPosts t f.threads (handed_on f m o).threads
-KeepsPosts-handed_on t f m None sound e = KeepsPosts-same t f.threads
-KeepsPosts-handed_on t f m (Some u) sound e =
+KeepsPosts-after_hand_on : (t : ℕ) (f : FatState) (m : ℕ) (o : Option ThreadId) → IsSound f → first_of f m Entry ≡ o → KeepsPosts t f.threads (after_hand_on f m o).threads
+KeepsPosts-after_hand_on t f m None sound e = KeepsPosts-same t f.threads
+KeepsPosts-after_hand_on t f m (Some u) sound e =
     let stood = sound.standing u m Entry (StandsIn-first f.standing.lines u m Entry e) in
-    subst (λ (g : FatState). KeepsPosts t f.threads g.threads) (sym (granted-is f m u (post_at f u) Entry))
+    subst (λ (g : FatState). KeepsPosts t f.threads g.threads) (sym (after_grant-is f m u (post_at f u) Entry))
     (KeepsPosts-insert t f.threads u.0 (Granted (reply_granted (post_at f u))) (rw stood.1 refl) (inr (not_out (post_of f u) stood.0 (key m Entry) stood.1 stood.2, (λ h. cc))))
 
 -- t has another post
@@ -110,57 +110,57 @@ KeepsPosts-own f t p here = KeepsPosts-insert t.0 f.threads t.0 p here (inl refl
 abbrev KeepsThreads : FatState → ThreadId → FatState → Type 0
 KeepsThreads f t g = KeepsPosts t.0 f.threads g.threads
 
-KeepsThreads-entered : (f : FatState) (t : ThreadId) (m : ℕ) (o : Option ThreadId) → IsAttached f t → KeepsThreads f t (entered f t m o).after
-KeepsThreads-entered f t m None here = KeepsPosts-same t.0 f.threads
-KeepsThreads-entered f t m (Some u) here =
+KeepsThreads-enter_outcome : (f : FatState) (t : ThreadId) (m : ℕ) (o : Option ThreadId) → IsAttached f t → KeepsThreads f t (enter_outcome f t m o).after
+KeepsThreads-enter_outcome f t m None here = KeepsPosts-same t.0 f.threads
+KeepsThreads-enter_outcome f t m (Some u) here =
     either (KeepsThreads f t) (u.0 == t.0) _ _
     (either (KeepsThreads f t) (nat_lt (monitor_at f m).holds 65535) _ _ (KeepsPosts-same t.0 f.threads) (KeepsPosts-same t.0 f.threads))
     (KeepsPosts-own f t (Entering m) here)
 
-KeepsThreads-exited : (f : FatState) (t : ThreadId) (m : ℕ) → IsSound f → KeepsThreads f t (exited f t m).after
-KeepsThreads-exited f t m sound =
-    either (KeepsThreads f t) (nat_lt 1 (monitor_at f m).holds) _ _ (KeepsPosts-same t.0 f.threads) (KeepsPosts-handed_on t.0 f m (first_of f m Entry) sound refl)
+KeepsThreads-exit_outcome : (f : FatState) (t : ThreadId) (m : ℕ) → IsSound f → KeepsThreads f t (exit_outcome f t m).after
+KeepsThreads-exit_outcome f t m sound =
+    either (KeepsThreads f t) (nat_lt 1 (monitor_at f m).holds) _ _ (KeepsPosts-same t.0 f.threads) (KeepsPosts-after_hand_on t.0 f m (first_of f m Entry) sound refl)
 
 -- t is parked after another was handed the monitor
-KeepsThreads-parked : (f g : FatState) (t : ThreadId) (p : Post) (m : ℕ) (r : Role) → IsAttached f t → KeepsThreads f t g → KeepsThreads f t (parked g t p m r)
-KeepsThreads-parked f g t p m r here kept = KeepsPosts-then t.0 f.threads g.threads (with_post g t p).threads kept (KeepsPosts-own g t p ((kept.1 t.0).1 here))
+KeepsThreads-after_parking : (f g : FatState) (t : ThreadId) (p : Post) (m : ℕ) (r : Role) → IsAttached f t → KeepsThreads f t g → KeepsThreads f t (after_parking g t p m r)
+KeepsThreads-after_parking f g t p m r here kept = KeepsPosts-then t.0 f.threads g.threads (with_post g t p).threads kept (KeepsPosts-own g t p ((kept.1 t.0).1 here))
 
-KeepsThreads-notified : (f : FatState) (t : ThreadId) (o : Option ThreadId) → KeepsThreads f t (notified f o).after
-KeepsThreads-notified f t None = KeepsPosts-same t.0 f.threads
-KeepsThreads-notified f t (Some u) = KeepsPosts-removed t.0 f u why.Notified (post_of f u) refl
+KeepsThreads-notify_outcome : (f : FatState) (t : ThreadId) (o : Option ThreadId) → KeepsThreads f t (notify_outcome f o).after
+KeepsThreads-notify_outcome f t None = KeepsPosts-same t.0 f.threads
+KeepsThreads-notify_outcome f t (Some u) = KeepsPosts-after_removal t.0 f u why.Notified (post_of f u) refl
 
-KeepsThreads-interrupted : (f : FatState) (t u : ThreadId) (o : Option Post) → post_of f u ≡ o → KeepsThreads f t (interrupted f u o).after
-KeepsThreads-interrupted f t u None e = KeepsPosts-same t.0 f.threads
-KeepsThreads-interrupted f t u (Some p) e = KeepsPosts-removed t.0 (with_flag f u true) u why.Interrupted (Some p) e
+KeepsThreads-interrupt_outcome : (f : FatState) (t u : ThreadId) (o : Option Post) → post_of f u ≡ o → KeepsThreads f t (interrupt_outcome f u o).after
+KeepsThreads-interrupt_outcome f t u None e = KeepsPosts-same t.0 f.threads
+KeepsThreads-interrupt_outcome f t u (Some p) e = KeepsPosts-after_removal t.0 (with_flag f u true) u why.Interrupted (Some p) e
 
-KeepsThreads-asked : (f : FatState) (t : ThreadId) (o : Option Bool) → KeepsThreads f t (asked f o).after
-KeepsThreads-asked f t None = KeepsPosts-same t.0 f.threads
-KeepsThreads-asked f t (Some flag) = KeepsPosts-same t.0 f.threads
+KeepsThreads-flag_outcome : (f : FatState) (t : ThreadId) (o : Option Bool) → KeepsThreads f t (flag_outcome f o).after
+KeepsThreads-flag_outcome f t None = KeepsPosts-same t.0 f.threads
+KeepsThreads-flag_outcome f t (Some flag) = KeepsPosts-same t.0 f.threads
 
-KeepsThreads-expired : (f : FatState) (t : ThreadId) (o : Option Post) → post_of f t ≡ o → KeepsThreads f t (expired f t (unwrap_or o Out)).after
-KeepsThreads-expired f t None e = KeepsPosts-same t.0 f.threads
-KeepsThreads-expired f t (Some Out) e = KeepsPosts-same t.0 f.threads
-KeepsThreads-expired f t (Some (Entering m)) e = KeepsPosts-same t.0 f.threads
-KeepsThreads-expired f t (Some (Waiting m n None)) e = KeepsPosts-same t.0 f.threads
-KeepsThreads-expired f t (Some (Waiting m n (Some d))) e =
-    either (KeepsThreads f t) (nat_lt f.moment d) _ _ (KeepsPosts-same t.0 f.threads) (KeepsPosts-removed t.0 f t why.Elapsed (Some (Waiting m n (Some d))) e)
-KeepsThreads-expired f t (Some (Back m n w)) e = KeepsPosts-same t.0 f.threads
-KeepsThreads-expired f t (Some (Granted r)) e = KeepsPosts-same t.0 f.threads
+KeepsThreads-expire_outcome : (f : FatState) (t : ThreadId) (o : Option Post) → post_of f t ≡ o → KeepsThreads f t (expire_outcome f t (unwrap_or o Out)).after
+KeepsThreads-expire_outcome f t None e = KeepsPosts-same t.0 f.threads
+KeepsThreads-expire_outcome f t (Some Out) e = KeepsPosts-same t.0 f.threads
+KeepsThreads-expire_outcome f t (Some (Entering m)) e = KeepsPosts-same t.0 f.threads
+KeepsThreads-expire_outcome f t (Some (Waiting m n None)) e = KeepsPosts-same t.0 f.threads
+KeepsThreads-expire_outcome f t (Some (Waiting m n (Some d))) e =
+    either (KeepsThreads f t) (nat_lt f.moment d) _ _ (KeepsPosts-same t.0 f.threads) (KeepsPosts-after_removal t.0 f t why.Elapsed (Some (Waiting m n (Some d))) e)
+KeepsThreads-expire_outcome f t (Some (Back m n w)) e = KeepsPosts-same t.0 f.threads
+KeepsThreads-expire_outcome f t (Some (Granted r)) e = KeepsPosts-same t.0 f.threads
 
-KeepsThreads-woken : (f : FatState) (t : ThreadId) (o : Option Post) → post_of f t ≡ o → KeepsThreads f t (woken f t (unwrap_or o Out)).after
-KeepsThreads-woken f t None e = KeepsPosts-same t.0 f.threads
-KeepsThreads-woken f t (Some Out) e = KeepsPosts-same t.0 f.threads
-KeepsThreads-woken f t (Some (Entering m)) e = KeepsPosts-same t.0 f.threads
-KeepsThreads-woken f t (Some (Waiting m n d)) e = KeepsPosts-removed t.0 f t why.Spurious (Some (Waiting m n d)) e
-KeepsThreads-woken f t (Some (Back m n w)) e = KeepsPosts-same t.0 f.threads
-KeepsThreads-woken f t (Some (Granted r)) e = KeepsPosts-same t.0 f.threads
+KeepsThreads-spurious_outcome : (f : FatState) (t : ThreadId) (o : Option Post) → post_of f t ≡ o → KeepsThreads f t (spurious_outcome f t (unwrap_or o Out)).after
+KeepsThreads-spurious_outcome f t None e = KeepsPosts-same t.0 f.threads
+KeepsThreads-spurious_outcome f t (Some Out) e = KeepsPosts-same t.0 f.threads
+KeepsThreads-spurious_outcome f t (Some (Entering m)) e = KeepsPosts-same t.0 f.threads
+KeepsThreads-spurious_outcome f t (Some (Waiting m n d)) e = KeepsPosts-after_removal t.0 f t why.Spurious (Some (Waiting m n d)) e
+KeepsThreads-spurious_outcome f t (Some (Back m n w)) e = KeepsPosts-same t.0 f.threads
+KeepsThreads-spurious_outcome f t (Some (Granted r)) e = KeepsPosts-same t.0 f.threads
 
-KeepsThreads-collected : (f : FatState) (t : ThreadId) (p : Post) → IsAttached f t → KeepsThreads f t (collected f t p).after
-KeepsThreads-collected f t Out here = KeepsPosts-same t.0 f.threads
-KeepsThreads-collected f t (Entering m) here = KeepsPosts-same t.0 f.threads
-KeepsThreads-collected f t (Waiting m n d) here = KeepsPosts-same t.0 f.threads
-KeepsThreads-collected f t (Back m n w) here = KeepsPosts-same t.0 f.threads
-KeepsThreads-collected f t (Granted r) here = KeepsPosts-own f t Out here
+KeepsThreads-collect_outcome : (f : FatState) (t : ThreadId) (p : Post) → IsAttached f t → KeepsThreads f t (collect_outcome f t p).after
+KeepsThreads-collect_outcome f t Out here = KeepsPosts-same t.0 f.threads
+KeepsThreads-collect_outcome f t (Entering m) here = KeepsPosts-same t.0 f.threads
+KeepsThreads-collect_outcome f t (Waiting m n d) here = KeepsPosts-same t.0 f.threads
+KeepsThreads-collect_outcome f t (Back m n w) here = KeepsPosts-same t.0 f.threads
+KeepsThreads-collect_outcome f t (Granted r) here = KeepsPosts-own f t Out here
 
 KeepsThreads-by_owner : (f : FatState) (t : ThreadId) (m : ℕ) (x y : Outcome) → KeepsThreads f t x.after → y.after ≡ f → KeepsThreads f t (if is_owned_by (monitor_at f m).owner t then x else y).after
 KeepsThreads-by_owner f t m x y h e = either (KeepsThreads f t) (is_owned_by (monitor_at f m).owner t) x y h (rw e (KeepsPosts-same t.0 f.threads))
@@ -168,55 +168,55 @@ KeepsThreads-by_owner f t m x y h e = either (KeepsThreads f t) (is_owned_by (mo
 attached_out : (f : FatState) (t : ThreadId) → post_of f t ≡ Some Out → IsAttached f t
 attached_out f t e = rw e refl
 
-KeepsThreads-acted : (f : FatState) (t : ThreadId) (a : Action) → IsSound f → MayAct f t a → a ≢ action.End → KeepsThreads f t (acted f t a).after
-KeepsThreads-acted f t (action.Enter m) sound may other = KeepsThreads-entered f t m (monitor_at f m).owner (attached_out f t may)
-KeepsThreads-acted f t (action.Exit m) sound may other = KeepsThreads-by_owner f t m (exited f t m) _ (KeepsThreads-exited f t m sound) refl
-KeepsThreads-acted f t (action.Wait m millis nanos) sound may other =
-    KeepsThreads-by_owner f t m (waited f t m millis nanos) _
+KeepsThreads-outcome_of : (f : FatState) (t : ThreadId) (a : Action) → IsSound f → MayAct f t a → a ≢ action.End → KeepsThreads f t (outcome_of f t a).after
+KeepsThreads-outcome_of f t (action.Enter m) sound may other = KeepsThreads-enter_outcome f t m (monitor_at f m).owner (attached_out f t may)
+KeepsThreads-outcome_of f t (action.Exit m) sound may other = KeepsThreads-by_owner f t m (exit_outcome f t m) _ (KeepsThreads-exit_outcome f t m sound) refl
+KeepsThreads-outcome_of f t (action.Wait m millis nanos) sound may other =
+    KeepsThreads-by_owner f t m (wait_outcome f t m millis nanos) _
     (either (KeepsThreads f t) (are_good millis nanos) _ _
     (either (KeepsThreads f t) (flag_at f t) _ _ (KeepsPosts-same t.0 f.threads)
-    (KeepsThreads-parked f (handed_on f m (first_of f m Entry)) t _ m WaitSet (attached_out f t may) (KeepsPosts-handed_on t.0 f m (first_of f m Entry) sound refl)))
+    (KeepsThreads-after_parking f (after_hand_on f m (first_of f m Entry)) t _ m WaitSet (attached_out f t may) (KeepsPosts-after_hand_on t.0 f m (first_of f m Entry) sound refl)))
     (KeepsPosts-same t.0 f.threads)) refl
-KeepsThreads-acted f t (action.Notify m) sound may other = KeepsThreads-by_owner f t m (notified f (first_of f m WaitSet)) _ (KeepsThreads-notified f t (first_of f m WaitSet)) refl
-KeepsThreads-acted f t (action.NotifyAll m) sound may other = KeepsThreads-by_owner f t m _ _ (KeepsPosts-all_removed t.0 f (line_of f m WaitSet)) refl
-KeepsThreads-acted f t (action.Holds m) sound may other = KeepsPosts-same t.0 f.threads
-KeepsThreads-acted f t (action.Interrupt u) sound may other = KeepsThreads-interrupted f t u (post_of f u) refl
-KeepsThreads-acted f t action.Interrupted sound may other = KeepsPosts-same t.0 f.threads
-KeepsThreads-acted f t (action.IsInterrupted u) sound may other = KeepsThreads-asked f t (flag_of f u)
-KeepsThreads-acted f t action.Expire sound may other = KeepsThreads-expired f t (post_of f t) refl
-KeepsThreads-acted f t action.Spurious sound may other = KeepsThreads-woken f t (post_of f t) refl
-KeepsThreads-acted f t action.Collect sound may other = KeepsThreads-collected f t (post_at f t) may
-KeepsThreads-acted f t action.End sound may other = absurd (other refl)
+KeepsThreads-outcome_of f t (action.Notify m) sound may other = KeepsThreads-by_owner f t m (notify_outcome f (first_of f m WaitSet)) _ (KeepsThreads-notify_outcome f t (first_of f m WaitSet)) refl
+KeepsThreads-outcome_of f t (action.NotifyAll m) sound may other = KeepsThreads-by_owner f t m _ _ (KeepsPosts-after_removals t.0 f (line_of f m WaitSet)) refl
+KeepsThreads-outcome_of f t (action.Holds m) sound may other = KeepsPosts-same t.0 f.threads
+KeepsThreads-outcome_of f t (action.Interrupt u) sound may other = KeepsThreads-interrupt_outcome f t u (post_of f u) refl
+KeepsThreads-outcome_of f t action.Interrupted sound may other = KeepsPosts-same t.0 f.threads
+KeepsThreads-outcome_of f t (action.IsInterrupted u) sound may other = KeepsThreads-flag_outcome f t (flag_of f u)
+KeepsThreads-outcome_of f t action.Expire sound may other = KeepsThreads-expire_outcome f t (post_of f t) refl
+KeepsThreads-outcome_of f t action.Spurious sound may other = KeepsThreads-spurious_outcome f t (post_of f t) refl
+KeepsThreads-outcome_of f t action.Collect sound may other = KeepsThreads-collect_outcome f t (post_at f t) may
+KeepsThreads-outcome_of f t action.End sound may other = absurd (other refl)
 
 -- only an End takes a thread away, and no action attaches one
-pub count-acted : (f : FatState) (t : ThreadId) (a : Action) → IsSound f → MayAct f t a → a ≢ action.End → thread_count (acted f t a).after ≡ thread_count f
-count-acted f t a sound may other = (KeepsThreads-acted f t a sound may other).0
+pub count-outcome_of : (f : FatState) (t : ThreadId) (a : Action) → IsSound f → MayAct f t a → a ≢ action.End → thread_count (outcome_of f t a).after ≡ thread_count f
+count-outcome_of f t a sound may other = (KeepsThreads-outcome_of f t a sound may other).0
 
-pub attached-acted : (f : FatState) (t u : ThreadId) (a : Action) → IsSound f → MayAct f t a → a ≢ action.End → IsAttached (acted f t a).after u ↔ IsAttached f u
-attached-acted f t u a sound may other = (KeepsThreads-acted f t a sound may other).1 u.0
+pub attached-outcome_of : (f : FatState) (t u : ThreadId) (a : Action) → IsSound f → MayAct f t a → a ≢ action.End → IsAttached (outcome_of f t a).after u ↔ IsAttached f u
+attached-outcome_of f t u a sound may other = (KeepsThreads-outcome_of f t a sound may other).1 u.0
 
 -- the third part, for any action but an End
-out_kept : (f : FatState) (t u : ThreadId) (a : Action) → IsSound f → MayAct f t a → u ≢ t → a ≢ action.End → (post_of (acted f t a).after u ≡ Some Out) ↔ (post_of f u ≡ Some Out)
-out_kept f t u a sound may apart other = (KeepsThreads-acted f t a sound may other).2 u.0 (λ e. apart (same_thread t u e))
+out_kept : (f : FatState) (t u : ThreadId) (a : Action) → IsSound f → MayAct f t a → u ≢ t → a ≢ action.End → (post_of (outcome_of f t a).after u ≡ Some Out) ↔ (post_of f u ≡ Some Out)
+out_kept f t u a sound may apart other = (KeepsThreads-outcome_of f t a sound may other).2 u.0 (λ e. apart (same_thread t u e))
 
 post-without_thread_other : (f : FatState) (t u : ThreadId) → u ≢ t → post_of (without_thread f t) u ≡ post_of f u
 post-without_thread_other f t u other = get-remove_by f.threads t.0 u.0 ∙ cond-false (u.0 == t.0) _ _ (ne_eqb u.0 t.0 (λ e. other (same_thread t u e)))
 
 -- another thread that is out stays out, and one that is not does not become so
-pub out-acted : (f : FatState) (t u : ThreadId) (a : Action) → IsSound f → MayAct f t a → u ≢ t → (post_of (acted f t a).after u ≡ Some Out) ↔ (post_of f u ≡ Some Out)
-out-acted f t u (action.Enter m) sound may apart = out_kept f t u (action.Enter m) sound may apart (λ e. cc)
-out-acted f t u (action.Exit m) sound may apart = out_kept f t u (action.Exit m) sound may apart (λ e. cc)
-out-acted f t u (action.Wait m millis nanos) sound may apart = out_kept f t u (action.Wait m millis nanos) sound may apart (λ e. cc)
-out-acted f t u (action.Notify m) sound may apart = out_kept f t u (action.Notify m) sound may apart (λ e. cc)
-out-acted f t u (action.NotifyAll m) sound may apart = out_kept f t u (action.NotifyAll m) sound may apart (λ e. cc)
-out-acted f t u (action.Holds m) sound may apart = out_kept f t u (action.Holds m) sound may apart (λ e. cc)
-out-acted f t u (action.Interrupt v) sound may apart = out_kept f t u (action.Interrupt v) sound may apart (λ e. cc)
-out-acted f t u action.Interrupted sound may apart = out_kept f t u action.Interrupted sound may apart (λ e. cc)
-out-acted f t u (action.IsInterrupted v) sound may apart = out_kept f t u (action.IsInterrupted v) sound may apart (λ e. cc)
-out-acted f t u action.Expire sound may apart = out_kept f t u action.Expire sound may apart (λ e. cc)
-out-acted f t u action.Spurious sound may apart = out_kept f t u action.Spurious sound may apart (λ e. cc)
-out-acted f t u action.Collect sound may apart = out_kept f t u action.Collect sound may apart (λ e. cc)
-out-acted f t u action.End sound may apart =
+pub out-outcome_of : (f : FatState) (t u : ThreadId) (a : Action) → IsSound f → MayAct f t a → u ≢ t → (post_of (outcome_of f t a).after u ≡ Some Out) ↔ (post_of f u ≡ Some Out)
+out-outcome_of f t u (action.Enter m) sound may apart = out_kept f t u (action.Enter m) sound may apart (λ e. cc)
+out-outcome_of f t u (action.Exit m) sound may apart = out_kept f t u (action.Exit m) sound may apart (λ e. cc)
+out-outcome_of f t u (action.Wait m millis nanos) sound may apart = out_kept f t u (action.Wait m millis nanos) sound may apart (λ e. cc)
+out-outcome_of f t u (action.Notify m) sound may apart = out_kept f t u (action.Notify m) sound may apart (λ e. cc)
+out-outcome_of f t u (action.NotifyAll m) sound may apart = out_kept f t u (action.NotifyAll m) sound may apart (λ e. cc)
+out-outcome_of f t u (action.Holds m) sound may apart = out_kept f t u (action.Holds m) sound may apart (λ e. cc)
+out-outcome_of f t u (action.Interrupt v) sound may apart = out_kept f t u (action.Interrupt v) sound may apart (λ e. cc)
+out-outcome_of f t u action.Interrupted sound may apart = out_kept f t u action.Interrupted sound may apart (λ e. cc)
+out-outcome_of f t u (action.IsInterrupted v) sound may apart = out_kept f t u (action.IsInterrupted v) sound may apart (λ e. cc)
+out-outcome_of f t u action.Expire sound may apart = out_kept f t u action.Expire sound may apart (λ e. cc)
+out-outcome_of f t u action.Spurious sound may apart = out_kept f t u action.Spurious sound may apart (λ e. cc)
+out-outcome_of f t u action.Collect sound may apart = out_kept f t u action.Collect sound may apart (λ e. cc)
+out-outcome_of f t u action.End sound may apart =
     either (λ (g : FatState). (post_of g u ≡ Some Out) ↔ (post_of f u ≡ Some Out)) (owns_one f.monitors t) _ _ ((λ h. h), (λ h. h))
     ((λ h. sym (post-without_thread_other f t u apart) ∙ h), (λ h. post-without_thread_other f t u apart ∙ h))
 

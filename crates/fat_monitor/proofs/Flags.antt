@@ -12,8 +12,8 @@ use Rattle.fat_monitor.specs.declared.actions.Why.TheVariants.{Notified, Interru
 use Rattle.wait_lines.specs.declared.Role.TheVariants.{Waiting as WaitSet}
 use Rattle.fat_monitor.specs.declared.actions.Why.{Why}
 use Rattle.fat_monitor.specs.FatState.{FatState, IsSound, monitor_at, post_at, line_of, flag_at, with_flag}
-use Rattle.fat_monitor.specs.Acting.{settled, all_removed}
-use Rattle.fat_monitor.proofs.SoundGrants.{settled-is}
+use Rattle.fat_monitor.specs.Acting.{after_settling, after_removals}
+use Rattle.fat_monitor.proofs.SoundGrants.{after_settling-is}
 use Rattle.fat_monitor.proofs.WaitSets.{queued, all_queued, wait_set-queued}
 use Rattle.fat_monitor.proofs.PostMaps.{get-insert_by}
 
@@ -37,31 +37,31 @@ settled_flag (Entering m) flag = flag
 settled_flag (Waiting m n d) flag = flag
 settled_flag (Granted r) flag = flag
 
-pub flag-settled_same : (f : FatState) (u : ThreadId) (p : Post) → flag_at (settled f u p) u ≡ settled_flag p (flag_at f u)
-flag-settled_same f u Out = refl
-flag-settled_same f u (Entering m) = refl
-flag-settled_same f u (Waiting m n d) = refl
-flag-settled_same f u (Back m n Notified) = refl
-flag-settled_same f u (Back m n Interrupted) = flag-with_flag_same f u false
-flag-settled_same f u (Back m n Elapsed) = refl
-flag-settled_same f u (Back m n Spurious) = refl
-flag-settled_same f u (Granted r) = refl
+pub flag-after_settling_same : (f : FatState) (u : ThreadId) (p : Post) → flag_at (after_settling f u p) u ≡ settled_flag p (flag_at f u)
+flag-after_settling_same f u Out = refl
+flag-after_settling_same f u (Entering m) = refl
+flag-after_settling_same f u (Waiting m n d) = refl
+flag-after_settling_same f u (Back m n Notified) = refl
+flag-after_settling_same f u (Back m n Interrupted) = flag-with_flag_same f u false
+flag-after_settling_same f u (Back m n Elapsed) = refl
+flag-after_settling_same f u (Back m n Spurious) = refl
+flag-after_settling_same f u (Granted r) = refl
 
-pub flag-settled_other : (f : FatState) (u v : ThreadId) (p : Post) → v ≢ u → flag_at (settled f u p) v ≡ flag_at f v
-flag-settled_other f u v Out other = refl
-flag-settled_other f u v (Entering m) other = refl
-flag-settled_other f u v (Waiting m n d) other = refl
-flag-settled_other f u v (Back m n Notified) other = refl
-flag-settled_other f u v (Back m n Interrupted) other = flag-with_flag_other f u v false other
-flag-settled_other f u v (Back m n Elapsed) other = refl
-flag-settled_other f u v (Back m n Spurious) other = refl
-flag-settled_other f u v (Granted r) other = refl
+pub flag-after_settling_other : (f : FatState) (u v : ThreadId) (p : Post) → v ≢ u → flag_at (after_settling f u p) v ≡ flag_at f v
+flag-after_settling_other f u v Out other = refl
+flag-after_settling_other f u v (Entering m) other = refl
+flag-after_settling_other f u v (Waiting m n d) other = refl
+flag-after_settling_other f u v (Back m n Notified) other = refl
+flag-after_settling_other f u v (Back m n Interrupted) other = flag-with_flag_other f u v false other
+flag-after_settling_other f u v (Back m n Elapsed) other = refl
+flag-after_settling_other f u v (Back m n Spurious) other = refl
+flag-after_settling_other f u v (Granted r) other = refl
 
-pub threads-settled : (f : FatState) (u : ThreadId) (p : Post) → (settled f u p).threads ≡ f.threads
-threads-settled f u p = ap (λ (g : FatState). g.threads) (settled-is f u p)
+pub threads-after_settling : (f : FatState) (u : ThreadId) (p : Post) → (after_settling f u p).threads ≡ f.threads
+threads-after_settling f u p = ap (λ (g : FatState). g.threads) (after_settling-is f u p)
 
-pub standing-settled : (f : FatState) (u : ThreadId) (p : Post) → (settled f u p).standing ≡ f.standing
-standing-settled f u p = ap (λ (g : FatState). g.standing) (settled-is f u p)
+pub standing-after_settling : (f : FatState) (u : ThreadId) (p : Post) → (after_settling f u p).standing ≡ f.standing
+standing-after_settling f u p = ap (λ (g : FatState). g.standing) (after_settling-is f u p)
 
 -- a notifyAll of a monitor with an owner changes no flag
 flags-queued : (f : FatState) (u : ThreadId) (w : Why) (p : Post) → (queued f u w p).flags ≡ f.flags
@@ -75,5 +75,5 @@ flags-all_queued : (f : FatState) (us : List ThreadId) → (all_queued f us).fla
 flags-all_queued f [] = refl
 flags-all_queued f (u ∷ us) = flags-all_queued (queued f u Notified (post_at f u)) us ∙ flags-queued f u Notified (post_at f u)
 
-pub flags-all_removed : (f : FatState) (m : ℕ) → IsSound f → IsSome (monitor_at f m).owner → (all_removed f (line_of f m WaitSet)).flags ≡ f.flags
-flags-all_removed f m sound owned = ap (λ (g : FatState). g.flags) (wait_set-queued f m sound owned) ∙ flags-all_queued f (line_of f m WaitSet)
+pub flags-after_removals : (f : FatState) (m : ℕ) → IsSound f → IsSome (monitor_at f m).owner → (after_removals f (line_of f m WaitSet)).flags ≡ f.flags
+flags-after_removals f m sound owned = ap (λ (g : FatState). g.flags) (wait_set-queued f m sound owned) ∙ flags-all_queued f (line_of f m WaitSet)

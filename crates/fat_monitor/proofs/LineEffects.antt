@@ -14,7 +14,7 @@ use Rattle.fat_monitor.specs.declared.actions.Post.TheVariants.{Out, Entering, W
 use Rattle.fat_monitor.specs.declared.actions.Why.{Why}
 use Rattle.fat_monitor.specs.declared.actions.Why.TheVariants as why
 use Rattle.fat_monitor.specs.FatState.{FatState, IsSound, IsProper, IsHeld, monitor_at, post_of, post_at, line_of, first_of, with_post, line_key_of}
-use Rattle.fat_monitor.specs.Acting.{all_removed}
+use Rattle.fat_monitor.specs.Acting.{after_removals}
 use Rattle.fat_monitor.proofs.PostMaps.{get-insert_by}
 use Rattle.fat_monitor.proofs.WaitSets.{queued, all_queued, wait_set-queued}
 
@@ -132,8 +132,8 @@ post-listed f (u ∷ us) v h = at (λ k. post-listed (queued f u why.Notified (p
         ∙ ap (λ (o : Option Post). option_map called o) (post-queued_other f u v (post_at f u) (λ e. other (ap (λ (x : ThreadId). x.0) e)))
 
 -- a notifyAll of a monitor that has an owner calls back exactly those whose post is in its wait set
-pub post-all_removed : (f : FatState) (m : ℕ) (u : ThreadId) → IsSound f → IsSome (monitor_at f m).owner → post_of (all_removed f (line_of f m WaitSet)) u ≡ option_map (called_back m) (post_of f u)
-post-all_removed f m u sound owned = ap (λ (g : FatState). post_of g u) (wait_set-queued f m sound owned) ∙ at (cases_contains (line_of f m WaitSet) u)
+pub post-after_removals : (f : FatState) (m : ℕ) (u : ThreadId) → IsSound f → IsSome (monitor_at f m).owner → post_of (after_removals f (line_of f m WaitSet)) u ≡ option_map (called_back m) (post_of f u)
+post-after_removals f m u sound owned = ap (λ (g : FatState). post_of g u) (wait_set-queued f m sound owned) ∙ at (cases_contains (line_of f m WaitSet) u)
   where
     here : (p : Post) → line_key_of p ≡ Some (key m WaitSet) → called p ≡ called_back m p
     here Out in_line = refl

@@ -20,11 +20,11 @@ use Rattle.fat_monitor.specs.declared.actions.Post.TheVariants.{Out, Entering, W
 use Rattle.fat_monitor.specs.declared.actions.Reply.{Reply}
 use Rattle.fat_monitor.specs.declared.monitors.Monitor.{Monitor}
 use Rattle.fat_monitor.specs.FatState.{FatState, IsSound, IsFair, IsHeld, unbound, opened, monitor_at, post_of, post_at, thread_count, line_of, first_of, with_owner, with_post, with_thread, without_thread, bound_with, line_key_of, stands, stand_count, StandBehindOwners}
-use Rattle.fat_monitor.specs.Acting.{parked}
+use Rattle.fat_monitor.specs.Acting.{after_parking}
 use Rattle.fat_monitor.proofs.PostMaps.{get-remove_by}
 use Rattle.fat_monitor.proofs.Counts.{count-empty, count-insert, count-remove}
 use Rattle.fat_monitor.proofs.SoundCounts.{len-insert_new, len-remove_le}
-use Rattle.fat_monitor.proofs.SoundSteps.{get-written_other, written_cases, no_line_key, IsProper-kept, standing_bound, nowhere, room_for_one, proper_after, IsSound-with_post, IsSound-parked, IsSound-with_owner}
+use Rattle.fat_monitor.proofs.SoundSteps.{get-written_other, written_cases, no_line_key, IsProper-kept, standing_bound, nowhere, room_for_one, proper_after, IsSound-with_post, IsSound-after_parking, IsSound-with_owner}
 
 -- ---- facts of a sound state
 
@@ -228,17 +228,17 @@ IsSound-freed f m sound bound none =
 -- ---- lines
 
 -- a thread that is out joins the entry line behind another owner
-pub IsSound-entering : (f : FatState) (t u : ThreadId) (m : ℕ) → IsSound f → post_of f t ≡ Some Out → (monitor_at f m).owner ≡ Some u → u ≢ t → IsSound (parked f t (Entering m) m Entry)
+pub IsSound-entering : (f : FatState) (t u : ThreadId) (m : ℕ) → IsSound f → post_of f t ≡ Some Out → (monitor_at f m).owner ≡ Some u → u ≢ t → IsSound (after_parking f t (Entering m) m Entry)
 IsSound-entering f t u m sound out owned other =
-    IsSound-parked f t Out (Entering m) m Entry sound out refl (owned_bound f m u owned) refl (λ e. is_some_owner (monitor_at f m).owner u owned)
+    IsSound-after_parking f t Out (Entering m) m Entry sound out refl (owned_bound f m u owned) refl (λ e. is_some_owner (monitor_at f m).owner u owned)
     (λ owns. other (same_Some u t (sym owned ∙ owns)))
 
 -- a thread that is out and does not own the monitor joins its wait set
 pub IsSound-waiting : (f : FatState) (t : ThreadId) (m n : ℕ) (d : Option ℕ) → IsSound f → m < length f.monitors → post_of f t ≡ Some Out → (monitor_at f m).owner ≢ Some t → IsHeld n
-    → IsSound (parked f t (Waiting m n d) m WaitSet)
+    → IsSound (after_parking f t (Waiting m n d) m WaitSet)
 IsSound-waiting f t m n d sound bound out other held =
-    IsSound-parked f t Out (Waiting m n d) m WaitSet sound out refl (bound, held) refl (λ e. absurd (cc)) other
+    IsSound-after_parking f t Out (Waiting m n d) m WaitSet sound out refl (bound, held) refl (λ e. absurd (cc)) other
 
 -- a thread takes the reply that it was granted
-pub IsSound-collected : (f : FatState) (t : ThreadId) (r : Reply) → IsSound f → post_of f t ≡ Some (Granted r) → IsSound (with_post f t Out)
-IsSound-collected f t r sound here = IsSound-with_post f t (Granted r) Out sound here refl tt refl
+pub IsSound-collect_outcome : (f : FatState) (t : ThreadId) (r : Reply) → IsSound f → post_of f t ≡ Some (Granted r) → IsSound (with_post f t Out)
+IsSound-collect_outcome f t r sound here = IsSound-with_post f t (Granted r) Out sound here refl tt refl

@@ -8,14 +8,14 @@ use Rattle.std.proofs.lemmas.Option.{same_Some}
 use Rattle.lock_word.specs.declared.ThreadId.{ThreadId}
 use Rattle.wait_lines.specs.declared.Role.{Role}
 use Rattle.wait_lines.specs.declared.Role.TheVariants.{Entry, Waiting as WaitSet}
-use Rattle.wait_lines.specs.Lines.{Key, key, StandsIn, StandsNowhere, joined, left, total_count}
+use Rattle.wait_lines.specs.Lines.{Key, key, StandsIn, StandsNowhere, after_join, after_leave, total_count}
 use Rattle.wait_lines.proofs.ThreadLemmas.{same_thread}
-use Rattle.wait_lines.proofs.LineLemmas.{StandsIn-joined, StandsIn-joined_cases, StandsIn-joined_before, StandsIn-left_before, StandsIn-left, StandsNowhere-left, total_count-joined, total_count-left, IsOrderly-joined, IsOrderly-left}
+use Rattle.wait_lines.proofs.LineLemmas.{StandsIn-after_join, StandsIn-after_join_cases, StandsIn-after_join_before, StandsIn-after_leave_before, StandsIn-after_leave, StandsNowhere-after_leave, total_count-after_join, total_count-after_leave, IsOrderly-after_join, IsOrderly-after_leave}
 use Rattle.fat_monitor.specs.declared.actions.Post.{Post}
 use Rattle.fat_monitor.specs.declared.actions.Post.TheVariants.{Out, Entering, Waiting, Back, Granted}
 use Rattle.fat_monitor.specs.declared.monitors.Monitor.{Monitor}
 use Rattle.fat_monitor.specs.FatState.{FatState, IsSound, IsProper, IsFair, unbound, monitor_at, post_of, with_owner, with_post, with_lines, line_key_of, stands, stand_count}
-use Rattle.fat_monitor.specs.Acting.{parked}
+use Rattle.fat_monitor.specs.Acting.{after_parking}
 use Rattle.fat_monitor.proofs.PostMaps.{get-insert_by}
 use Rattle.fat_monitor.proofs.Counts.{count-insert}
 use Rattle.fat_monitor.proofs.SoundCounts.{stand_count-less, len-insert_same}
@@ -178,13 +178,13 @@ IsSound-with_post f t p q sound here none proper none_after = record {
     posted u x m r in_line (inr old) = sound.posted u x m r old.1 in_line
 
 -- a thread leaves its line
-pub IsSound-left : (f : FatState) (t : ThreadId) (p q : Post) (m : ℕ) (r : Role) → IsSound f → post_of f t ≡ Some p → line_key_of p ≡ Some (key m r) → IsProper f q → line_key_of q ≡ None
-    → IsSound (with_lines (with_post f t q) (left f.standing.lines t m r))
-IsSound-left f t p q m r sound here in_line proper none_after = record {
+pub IsSound-after_leave : (f : FatState) (t : ThreadId) (p q : Post) (m : ℕ) (r : Role) → IsSound f → post_of f t ≡ Some p → line_key_of p ≡ Some (key m r) → IsProper f q → line_key_of q ≡ None
+    → IsSound (with_lines (with_post f t q) (after_leave f.standing.lines t m r))
+IsSound-after_leave f t p q m r sound here in_line proper none_after = record {
   few = sound.few;
   limit = sound.limit;
   fair = sound.fair;
-  proper = proper_after f (with_lines (with_post f t q) (left f.standing.lines t m r)) t q sound (omega arith) refl proper;
+  proper = proper_after f (with_lines (with_post f t q) (after_leave f.standing.lines t m r)) t q sound (omega arith) refl proper;
   posted = λ u x n s e at. posted u x n s at (written_cases f.threads t u q x e);
   standing = λ u n s stands_in.
       let post = sound.standing u n s (before u n s stands_in) in
@@ -194,35 +194,35 @@ IsSound-left f t p q m r sound here in_line proper none_after = record {
   room = let same = len-insert_same f.threads t.0 p q here in let room = sound.room in omega arith;
   counted =
       let seats = seats_after f t p q true false here (stands-line_key p (key m r) in_line) (stands-no_line_key q none_after) in
-      let lines = total_count-left f.standing t m r sound.orderly stood in
+      let lines = total_count-after_leave f.standing t m r sound.orderly stood in
       let counted = sound.counted in
       omega arith;
-  orderly = IsOrderly-left f.standing t m r sound.orderly;
+  orderly = IsOrderly-after_leave f.standing t m r sound.orderly;
 }
   where
     stood : StandsIn f.standing.lines t m r
     stood = sound.posted t p m r here in_line
 
-    before : (u : ThreadId) (n : ℕ) (s : Role) → StandsIn (left f.standing.lines t m r) u n s → StandsIn f.standing.lines u n s
-    before u n s stands_in = StandsIn-left_before f.standing.lines t u m n r s stands_in
+    before : (u : ThreadId) (n : ℕ) (s : Role) → StandsIn (after_leave f.standing.lines t m r) u n s → StandsIn f.standing.lines u n s
+    before u n s stands_in = StandsIn-after_leave_before f.standing.lines t u m n r s stands_in
 
-    another : (u : ThreadId) (n : ℕ) (s : Role) → StandsIn (left f.standing.lines t m r) u n s → u ≢ t
+    another : (u : ThreadId) (n : ℕ) (s : Role) → StandsIn (after_leave f.standing.lines t m r) u n s → u ≢ t
     another u n s stands_in same =
-        StandsNowhere-left f.standing t m r sound.orderly stood n s (subst (λ x. StandsIn (left f.standing.lines t m r) x n s) same stands_in)
+        StandsNowhere-after_leave f.standing t m r sound.orderly stood n s (subst (λ x. StandsIn (after_leave f.standing.lines t m r) x n s) same stands_in)
 
     posted : (u : ThreadId) (x : Post) (n : ℕ) (s : Role) → line_key_of x ≡ Some (key n s) → ((u ≡ t) × (q ≡ x)) ⊎ ((u ≢ t) × (post_of f u ≡ Some x))
-        → StandsIn (left f.standing.lines t m r) u n s
+        → StandsIn (after_leave f.standing.lines t m r) u n s
     posted u x n s at (inl new) = absurd (no_line_key q x (key n s) new.1 none_after at)
-    posted u x n s at (inr old) = StandsIn-left f.standing.lines t u m n r s old.0 (sound.posted u x n s old.1 at)
+    posted u x n s at (inr old) = StandsIn-after_leave f.standing.lines t u m n r s old.0 (sound.posted u x n s old.1 at)
 
 -- a thread outside of lines joins one: an entry line only behind an owner, and none of its own monitor
-pub IsSound-parked : (f : FatState) (t : ThreadId) (p q : Post) (m : ℕ) (r : Role) → IsSound f → post_of f t ≡ Some p → line_key_of p ≡ None → IsProper f q → line_key_of q ≡ Some (key m r)
-    → (r ≡ Entry → IsSome (monitor_at f m).owner) → (monitor_at f m).owner ≢ Some t → IsSound (parked f t q m r)
-IsSound-parked f t p q m r sound here none proper in_line owned other = record {
+pub IsSound-after_parking : (f : FatState) (t : ThreadId) (p q : Post) (m : ℕ) (r : Role) → IsSound f → post_of f t ≡ Some p → line_key_of p ≡ None → IsProper f q → line_key_of q ≡ Some (key m r)
+    → (r ≡ Entry → IsSome (monitor_at f m).owner) → (monitor_at f m).owner ≢ Some t → IsSound (after_parking f t q m r)
+IsSound-after_parking f t p q m r sound here none proper in_line owned other = record {
   few = sound.few;
   limit = sound.limit;
   fair = sound.fair;
-  proper = proper_after f (parked f t q m r) t q sound (omega arith) refl proper;
+  proper = proper_after f (after_parking f t q m r) t q sound (omega arith) refl proper;
   posted = λ u x n s e at. posted u x n s at (written_cases f.threads t u q x e);
   standing = λ u n s stands_in. standing u n s (cases u n s stands_in);
   behind = λ u n stands_in. behind u n (cases u n Entry stands_in);
@@ -230,25 +230,25 @@ IsSound-parked f t p q m r sound here none proper in_line owned other = record {
   room = let same = len-insert_same f.threads t.0 p q here in let room = sound.room in omega arith;
   counted =
       let seats = seats_after f t p q false true here (stands-no_line_key p none) (stands-line_key q (key m r) in_line) in
-      let lines = total_count-joined f.standing.lines t m r in
+      let lines = total_count-after_join f.standing.lines t m r in
       let counted = sound.counted in
       omega arith;
-  orderly = IsOrderly-joined f.standing t m r sound.orderly (nowhere f t p sound here none) (room_for_one f t p sound here none);
+  orderly = IsOrderly-after_join f.standing t m r sound.orderly (nowhere f t p sound here none) (room_for_one f t p sound here none);
 }
   where
-    cases : (u : ThreadId) (n : ℕ) (s : Role) → StandsIn (joined f.standing.lines t m r) u n s → StandsIn f.standing.lines u n s ⊎ ((t ≡ u) × (key n s ≡ key m r))
-    cases u n s stands_in = StandsIn-joined_cases f.standing.lines t u m n r s stands_in
+    cases : (u : ThreadId) (n : ℕ) (s : Role) → StandsIn (after_join f.standing.lines t m r) u n s → StandsIn f.standing.lines u n s ⊎ ((t ≡ u) × (key n s ≡ key m r))
+    cases u n s stands_in = StandsIn-after_join_cases f.standing.lines t u m n r s stands_in
 
     another : (u : ThreadId) (n : ℕ) (s : Role) → StandsIn f.standing.lines u n s → u ≢ t
     another u n s stands_in same = nowhere f t p sound here none n s (subst (λ x. StandsIn f.standing.lines x n s) same stands_in)
 
     posted : (u : ThreadId) (x : Post) (n : ℕ) (s : Role) → line_key_of x ≡ Some (key n s) → ((u ≡ t) × (q ≡ x)) ⊎ ((u ≢ t) × (post_of f u ≡ Some x))
-        → StandsIn (joined f.standing.lines t m r) u n s
+        → StandsIn (after_join f.standing.lines t m r) u n s
     posted u x n s at (inl new) =
         let here_too : key m r ≡ key n s = one_line_key q x (key m r) (key n s) new.1 in_line at in
-        let joins : StandsIn (joined f.standing.lines t m r) t n s = subst (λ (k : Key). StandsIn (joined f.standing.lines t m r) t k.0 k.1) here_too (StandsIn-joined f.standing.lines t m r) in
-        subst (λ v. StandsIn (joined f.standing.lines t m r) v n s) (sym new.0) joins
-    posted u x n s at (inr old) = StandsIn-joined_before f.standing.lines t u m n r s (sound.posted u x n s old.1 at)
+        let joins : StandsIn (after_join f.standing.lines t m r) t n s = subst (λ (k : Key). StandsIn (after_join f.standing.lines t m r) t k.0 k.1) here_too (StandsIn-after_join f.standing.lines t m r) in
+        subst (λ v. StandsIn (after_join f.standing.lines t m r) v n s) (sym new.0) joins
+    posted u x n s at (inr old) = StandsIn-after_join_before f.standing.lines t u m n r s (sound.posted u x n s old.1 at)
 
     standing : (u : ThreadId) (n : ℕ) (s : Role) → StandsIn f.standing.lines u n s ⊎ ((t ≡ u) × (key n s ≡ key m r))
         → (x : Post) × (map.get (map.insert f.threads t.0 q) u.0 ≡ Some x) × (line_key_of x ≡ Some (key n s))

@@ -8,7 +8,7 @@ use Rattle.std.proofs.lemmas.Bool.{ltb-true, eqb-true, eqb-false}
 use Rattle.std.proofs.lemmas.Option.{same_Some}
 use Rattle.lock_word.specs.declared.ThreadId.{ThreadId}
 use Rattle.wait_lines.specs.declared.Role.TheVariants.{Entry, Waiting as WaitSet}
-use Rattle.wait_lines.specs.Lines.{Key, key, line, times_in, without, StandsIn, left}
+use Rattle.wait_lines.specs.Lines.{Key, key, line, times_in, without, StandsIn, after_leave}
 use Rattle.wait_lines.proofs.ThreadLemmas.{same_thread, is_same, Contains-cons_first, times_in-cons, times_in-present, without-absent}
 use Rattle.wait_lines.proofs.LineLemmas.{key-other_role, line-with_line_same, line-with_line_other, StandsIn-first}
 use Rattle.fat_monitor.specs.declared.actions.Post.{Post}
@@ -18,43 +18,43 @@ use Rattle.fat_monitor.specs.declared.actions.Action.TheVariants as action
 use Rattle.fat_monitor.specs.declared.actions.Why.{Why}
 use Rattle.fat_monitor.specs.declared.actions.Why.TheVariants as why
 use Rattle.fat_monitor.specs.FatState.{FatState, IsSound, IsHeld, monitor_at, post_of, post_at, line_of, first_of, flag_at, flag_of, with_post, with_flag, with_lines, is_owned_by, owns_one, line_key_of}
-use Rattle.fat_monitor.specs.Acting.{acted, sent_back, removed, all_removed, entered, exited, waited, notified, interrupted, asked, expired, woken, collected, by_owner, are_good, deadline, Outcome, NamesBound, MayAct}
+use Rattle.fat_monitor.specs.Acting.{outcome_of, after_sending_back, after_removal, after_removals, enter_outcome, exit_outcome, wait_outcome, notify_outcome, interrupt_outcome, flag_outcome, expire_outcome, spurious_outcome, collect_outcome, by_owner, are_good, deadline, Outcome, NamesBound, MayAct}
 use Rattle.fat_monitor.proofs.SoundCounts.{insert_twice}
-use Rattle.fat_monitor.proofs.SoundSteps.{get-written, IsSound-flags, IsSound-left, IsSound-parked}
-pub use Rattle.fat_monitor.proofs.SoundOwners.{stands_nowhere, room_to_join, some_owner, is_some_owner, stand_behind, nobody_first, post_at-is, IsSound-opened, IsSound-with_thread, IsSound-without_thread, IsSound-bound_with, owned_bound, holds_owned, IsSound-taken, IsSound-held, IsSound-freed, IsSound-entering, IsSound-waiting, IsSound-collected}
-pub use Rattle.fat_monitor.proofs.SoundGrants.{comes_back, granted_with, granted_flags, granted-is, IsSound-granted, IsSound-handed_on, length-handed_on, owner-handed_on, first_other, out-handed_on, IsSound-waited}
-use Rattle.fat_monitor.proofs.WaitSets.{queued, removed-queued, monitors-queued, waits_there}
+use Rattle.fat_monitor.proofs.SoundSteps.{get-written, IsSound-flags, IsSound-after_leave, IsSound-after_parking}
+pub use Rattle.fat_monitor.proofs.SoundOwners.{stands_nowhere, room_to_join, some_owner, is_some_owner, stand_behind, nobody_first, post_at-is, IsSound-opened, IsSound-with_thread, IsSound-without_thread, IsSound-bound_with, owned_bound, holds_owned, IsSound-taken, IsSound-held, IsSound-freed, IsSound-entering, IsSound-waiting, IsSound-collect_outcome}
+pub use Rattle.fat_monitor.proofs.SoundGrants.{comes_back, after_grant_with, flags_after_grant, after_grant-is, IsSound-after_grant, IsSound-after_hand_on, length-after_hand_on, owner-after_hand_on, first_other, out-after_hand_on, IsSound-wait_outcome}
+use Rattle.fat_monitor.proofs.WaitSets.{queued, after_removal-queued, monitors-queued, waits_there}
 
 -- ---- wait sets
 
 -- a thread of a wait set joins the entry line behind an owner, and owns a monitor that nobody owns
-sent_back_sound : (f : FatState) (u : ThreadId) (m n : ℕ) (d : Option ℕ) (w : Why) (o : Option ThreadId) → IsSound f → post_of f u ≡ Some (Waiting m n d) → (monitor_at f m).owner ≡ o
-    → IsSound (sent_back f u m (Back m n w) o)
-sent_back_sound f u m n d w None sound here free =
-    IsSound-granted f m u (Back m n w) (Waiting m n d) WaitSet sound here refl (sound.proper u (Waiting m n d) here).1
-sent_back_sound f u m n d w (Some v) sound here owned =
+after_sending_back_sound : (f : FatState) (u : ThreadId) (m n : ℕ) (d : Option ℕ) (w : Why) (o : Option ThreadId) → IsSound f → post_of f u ≡ Some (Waiting m n d) → (monitor_at f m).owner ≡ o
+    → IsSound (after_sending_back f u m (Back m n w) o)
+after_sending_back_sound f u m n d w None sound here free =
+    IsSound-after_grant f m u (Back m n w) (Waiting m n d) WaitSet sound here refl (sound.proper u (Waiting m n d) here).1
+after_sending_back_sound f u m n d w (Some v) sound here owned =
     subst (λ (threads : map.FinMap nat_cmp Post). IsSound (record (queued f u w (Waiting m n d)) { threads = threads })) (insert_twice f.threads u.0 Out (Back m n w))
-    (IsSound-parked (with_lines (with_post f u Out) (left f.standing.lines u m WaitSet)) u Out (Back m n w) m Entry
-    (IsSound-left f u (Waiting m n d) Out m WaitSet sound here refl tt refl) (get-written f.threads u Out) refl (sound.proper u (Waiting m n d) here) refl
+    (IsSound-after_parking (with_lines (with_post f u Out) (after_leave f.standing.lines u m WaitSet)) u Out (Back m n w) m Entry
+    (IsSound-after_leave f u (Waiting m n d) Out m WaitSet sound here refl tt refl) (get-written f.threads u Out) refl (sound.proper u (Waiting m n d) here) refl
     (λ e. is_some_owner (monitor_at f m).owner v owned)
     (sound.apart u m WaitSet (sound.posted u (Waiting m n d) m WaitSet here refl)))
 
 -- whatever its post is, a thread is called back only from a wait set
-pub removed_post : (f : FatState) (u : ThreadId) (w : Why) (o : Option Post) → IsSound f → post_of f u ≡ o → IsSound (removed f u w (unwrap_or o Out))
-removed_post f u w None sound here = sound
-removed_post f u w (Some Out) sound here = sound
-removed_post f u w (Some (Entering m)) sound here = sound
-removed_post f u w (Some (Waiting m n d)) sound here = sent_back_sound f u m n d w (monitor_at f m).owner sound here refl
-removed_post f u w (Some (Back m n x)) sound here = sound
-removed_post f u w (Some (Granted r)) sound here = sound
+pub after_removal_post : (f : FatState) (u : ThreadId) (w : Why) (o : Option Post) → IsSound f → post_of f u ≡ o → IsSound (after_removal f u w (unwrap_or o Out))
+after_removal_post f u w None sound here = sound
+after_removal_post f u w (Some Out) sound here = sound
+after_removal_post f u w (Some (Entering m)) sound here = sound
+after_removal_post f u w (Some (Waiting m n d)) sound here = after_sending_back_sound f u m n d w (monitor_at f m).owner sound here refl
+after_removal_post f u w (Some (Back m n x)) sound here = sound
+after_removal_post f u w (Some (Granted r)) sound here = sound
 
-pub IsSound-removed : (f : FatState) (u : ThreadId) (w : Why) → IsSound f → IsSound (removed f u w (post_at f u))
-IsSound-removed f u w sound = removed_post f u w (post_of f u) sound refl
+pub IsSound-after_removal : (f : FatState) (u : ThreadId) (w : Why) → IsSound f → IsSound (after_removal f u w (post_at f u))
+IsSound-after_removal f u w sound = after_removal_post f u w (post_of f u) sound refl
 
 -- a list of threads is called back, one after another
-pub IsSound-all_removed : (f : FatState) (us : List ThreadId) → IsSound f → IsSound (all_removed f us)
-IsSound-all_removed f [] sound = sound
-IsSound-all_removed f (u ∷ us) sound = IsSound-all_removed (removed f u why.Notified (post_at f u)) us (IsSound-removed f u why.Notified sound)
+pub IsSound-after_removals : (f : FatState) (us : List ThreadId) → IsSound f → IsSound (after_removals f us)
+IsSound-after_removals f [] sound = sound
+IsSound-after_removals f (u ∷ us) sound = IsSound-after_removals (after_removal f u why.Notified (post_at f u)) us (IsSound-after_removal f u why.Notified sound)
 
 -- who stands in a wait set waits with its holds
 pub post_waiting : (f : FatState) (u : ThreadId) (m : ℕ) → IsSound f → StandsIn f.standing.lines u m WaitSet → (n : ℕ) × (d : Option ℕ) × (post_of f u ≡ Some (Waiting m n d)) × IsHeld n
@@ -89,53 +89,53 @@ wait_set-queued_first f u us m sound first = at (post_waiting f u m sound stands
     at : ((n : ℕ) × (d : Option ℕ) × (post_of f u ≡ Some (Waiting m n d)) × IsHeld n) → line_of (queued f u why.Notified (post_at f u)) m WaitSet ≡ us
     at (n, d, here, held) =
         ap (λ p. line_of (queued f u why.Notified p) m WaitSet) (post_at-is f u (Waiting m n d) here)
-        ∙ line-with_line_other (left f.standing.lines u m WaitSet) m m Entry WaitSet (line (left f.standing.lines u m WaitSet) m Entry ++ u ∷ []) (key-other_role m m Entry WaitSet (λ e. cc))
+        ∙ line-with_line_other (after_leave f.standing.lines u m WaitSet) m m Entry WaitSet (line (after_leave f.standing.lines u m WaitSet) m Entry ++ u ∷ []) (key-other_role m m Entry WaitSet (λ e. cc))
         ∙ line-with_line_same f.standing.lines m WaitSet (without u (line f.standing.lines m WaitSet))
         ∙ ap (without u) first ∙ without-first u us once
 
-pub wait_set-removed : (f : FatState) (u : ThreadId) (us : List ThreadId) (m : ℕ) → IsSound f → IsSome (monitor_at f m).owner → line_of f m WaitSet ≡ u ∷ us
-    → line_of (removed f u why.Notified (post_at f u)) m WaitSet ≡ us
-wait_set-removed f u us m sound owned first =
+pub wait_set-after_removal : (f : FatState) (u : ThreadId) (us : List ThreadId) (m : ℕ) → IsSound f → IsSome (monitor_at f m).owner → line_of f m WaitSet ≡ u ∷ us
+    → line_of (after_removal f u why.Notified (post_at f u)) m WaitSet ≡ us
+wait_set-after_removal f u us m sound owned first =
     let stands_in : StandsIn f.standing.lines u m WaitSet = subst (λ l. Contains l u) (sym first) (Contains-cons_first u us u refl) in
-    ap (λ (g : FatState). line_of g m WaitSet) (removed-queued f u why.Notified (waits_there f u m sound stands_in owned)) ∙ wait_set-queued_first f u us m sound first
+    ap (λ (g : FatState). line_of g m WaitSet) (after_removal-queued f u why.Notified (waits_there f u m sound stands_in owned)) ∙ wait_set-queued_first f u us m sound first
 
 -- to call the first of a wait set back, whose monitor has an owner, changes no monitor
-pub monitors-removed_first : (f : FatState) (u : ThreadId) (m : ℕ) → IsSound f → IsSome (monitor_at f m).owner → first_of f m WaitSet ≡ Some u
-    → (removed f u why.Notified (post_at f u)).monitors ≡ f.monitors
-monitors-removed_first f u m sound owned first =
-    ap (λ (g : FatState). g.monitors) (removed-queued f u why.Notified (waits_there f u m sound (StandsIn-first f.standing.lines u m WaitSet first) owned))
+pub monitors-after_removal_first : (f : FatState) (u : ThreadId) (m : ℕ) → IsSound f → IsSome (monitor_at f m).owner → first_of f m WaitSet ≡ Some u
+    → (after_removal f u why.Notified (post_at f u)).monitors ≡ f.monitors
+monitors-after_removal_first f u m sound owned first =
+    ap (λ (g : FatState). g.monitors) (after_removal-queued f u why.Notified (waits_there f u m sound (StandsIn-first f.standing.lines u m WaitSet first) owned))
     ∙ monitors-queued f u why.Notified (post_at f u)
 
 -- to call all threads of a wait set back is to call back its first one, and then all that are left
-pub all_removed-first : (f : FatState) (u : ThreadId) (m : ℕ) → IsSound f → IsSome (monitor_at f m).owner → first_of f m WaitSet ≡ Some u
-    → all_removed f (line_of f m WaitSet) ≡ all_removed (removed f u why.Notified (post_at f u)) (line_of (removed f u why.Notified (post_at f u)) m WaitSet)
-all_removed-first f u m sound owned first = at (line_of f m WaitSet) refl first
+pub after_removals-first : (f : FatState) (u : ThreadId) (m : ℕ) → IsSound f → IsSome (monitor_at f m).owner → first_of f m WaitSet ≡ Some u
+    → after_removals f (line_of f m WaitSet) ≡ after_removals (after_removal f u why.Notified (post_at f u)) (line_of (after_removal f u why.Notified (post_at f u)) m WaitSet)
+after_removals-first f u m sound owned first = at (line_of f m WaitSet) refl first
   where
     at : (ts : List ThreadId) → line_of f m WaitSet ≡ ts → slice_get ts 0 ≡ Some u
-        → all_removed f (line_of f m WaitSet) ≡ all_removed (removed f u why.Notified (post_at f u)) (line_of (removed f u why.Notified (post_at f u)) m WaitSet)
+        → after_removals f (line_of f m WaitSet) ≡ after_removals (after_removal f u why.Notified (post_at f u)) (line_of (after_removal f u why.Notified (post_at f u)) m WaitSet)
     at [] e none = absurd (cc)
     at (x ∷ xs) e some =
         let begins : line_of f m WaitSet ≡ u ∷ xs = e ∙ ap (λ t. t ∷ xs) (same_Some x u some) in
-        ap (all_removed f) begins ∙ ap (all_removed (removed f u why.Notified (post_at f u))) (sym (wait_set-removed f u xs m sound owned begins))
+        ap (after_removals f) begins ∙ ap (after_removals (after_removal f u why.Notified (post_at f u))) (sym (wait_set-after_removal f u xs m sound owned begins))
 
 -- an empty wait set is called back already
-pub all_removed-none : (f : FatState) (m : ℕ) → first_of f m WaitSet ≡ None → all_removed f (line_of f m WaitSet) ≡ f
-all_removed-none f m none = at (line_of f m WaitSet) none
+pub after_removals-none : (f : FatState) (m : ℕ) → first_of f m WaitSet ≡ None → after_removals f (line_of f m WaitSet) ≡ f
+after_removals-none f m none = at (line_of f m WaitSet) none
   where
-    at : (ts : List ThreadId) → slice_get ts 0 ≡ None → all_removed f ts ≡ f
+    at : (ts : List ThreadId) → slice_get ts 0 ≡ None → after_removals f ts ≡ f
     at [] e = refl
     at (x ∷ xs) e = absurd (cc)
 
 -- and each thread that is called back leaves one less
 pub length-wait_set : (f : FatState) (u : ThreadId) (m : ℕ) → IsSound f → IsSome (monitor_at f m).owner → first_of f m WaitSet ≡ Some u
-    → length (line_of (removed f u why.Notified (post_at f u)) m WaitSet) + 1 ≡ length (line_of f m WaitSet)
+    → length (line_of (after_removal f u why.Notified (post_at f u)) m WaitSet) + 1 ≡ length (line_of f m WaitSet)
 length-wait_set f u m sound owned first = at (line_of f m WaitSet) refl first
   where
-    at : (ts : List ThreadId) → line_of f m WaitSet ≡ ts → slice_get ts 0 ≡ Some u → length (line_of (removed f u why.Notified (post_at f u)) m WaitSet) + 1 ≡ length (line_of f m WaitSet)
+    at : (ts : List ThreadId) → line_of f m WaitSet ≡ ts → slice_get ts 0 ≡ Some u → length (line_of (after_removal f u why.Notified (post_at f u)) m WaitSet) + 1 ≡ length (line_of f m WaitSet)
     at [] e none = absurd (cc)
     at (x ∷ xs) e some =
         let begins : line_of f m WaitSet ≡ u ∷ xs = e ∙ ap (λ t. t ∷ xs) (same_Some x u some) in
-        let left_over = ap length (wait_set-removed f u xs m sound owned begins) in
+        let left_over = ap length (wait_set-after_removal f u xs m sound owned begins) in
         let long = ap length begins in
         omega arith
 
@@ -152,10 +152,10 @@ owner_is None t e = absurd (cc)
 owner_is (Some u) t e = ap (λ x. Some x) (same_thread t u (eqb-true u.0 t.0 e))
 
 -- an enter
-entered_sound : (f : FatState) (t : ThreadId) (m : ℕ) (o : Option ThreadId) → IsSound f → m < length f.monitors → post_of f t ≡ Some Out → (monitor_at f m).owner ≡ o
-    → IsSound (entered f t m o).after
-entered_sound f t m None sound bound out owned = IsSound-taken f m t sound bound owned out
-entered_sound f t m (Some u) sound bound out owned =
+enter_outcome_sound : (f : FatState) (t : ThreadId) (m : ℕ) (o : Option ThreadId) → IsSound f → m < length f.monitors → post_of f t ≡ Some Out → (monitor_at f m).owner ≡ o
+    → IsSound (enter_outcome f t m o).after
+enter_outcome_sound f t m None sound bound out owned = IsSound-taken f m t sound bound owned out
+enter_outcome_sound f t m (Some u) sound bound out owned =
     either_sound (u.0 == t.0) _ _
     (λ same. either_sound (nat_lt (monitor_at f m).holds 65535) _ _
     (λ few. let low = ltb-true (monitor_at f m).holds 65535 few in IsSound-held f m u ((monitor_at f m).holds + 1) sound owned (omega arith) (omega arith))
@@ -163,79 +163,79 @@ entered_sound f t m (Some u) sound bound out owned =
     (λ other. IsSound-entering f t u m sound out owned (λ same. eqb-false u.0 t.0 other (ap (λ (x : ThreadId). x.0) same)))
 
 -- an exit of the owner
-exited_sound : (f : FatState) (t : ThreadId) (m : ℕ) → IsSound f → m < length f.monitors → (monitor_at f m).owner ≡ Some t → IsSound (exited f t m).after
-exited_sound f t m sound bound owned =
+exit_outcome_sound : (f : FatState) (t : ThreadId) (m : ℕ) → IsSound f → m < length f.monitors → (monitor_at f m).owner ≡ Some t → IsSound (exit_outcome f t m).after
+exit_outcome_sound f t m sound bound owned =
     let held = holds_owned f m t sound owned in let high = held.1 in
     either_sound (nat_lt 1 (monitor_at f m).holds) _ _
     (λ more. let low = ltb-true 1 (monitor_at f m).holds more in IsSound-held f m t ((monitor_at f m).holds - 1) sound owned (omega arith) (omega arith))
-    (λ last. IsSound-handed_on f m sound bound)
+    (λ last. IsSound-after_hand_on f m sound bound)
 
 -- a wait of the owner
-waited_sound : (f : FatState) (t : ThreadId) (m : ℕ) (millis nanos : ℤ) → IsSound f → post_of f t ≡ Some Out → (monitor_at f m).owner ≡ Some t → IsSound (waited f t m millis nanos).after
-waited_sound f t m millis nanos sound out owned =
+wait_outcome_sound : (f : FatState) (t : ThreadId) (m : ℕ) (millis nanos : ℤ) → IsSound f → post_of f t ≡ Some Out → (monitor_at f m).owner ≡ Some t → IsSound (wait_outcome f t m millis nanos).after
+wait_outcome_sound f t m millis nanos sound out owned =
     either_sound (are_good millis nanos) _ _
-    (λ good. either_sound (flag_at f t) _ _ (λ flagged. IsSound-flags f (map.insert f.flags t.0 false) sound) (λ clear. IsSound-waited f t m (deadline f.moment millis nanos) sound out owned))
+    (λ good. either_sound (flag_at f t) _ _ (λ flagged. IsSound-flags f (map.insert f.flags t.0 false) sound) (λ clear. IsSound-wait_outcome f t m (deadline f.moment millis nanos) sound out owned))
     (λ bad. sound)
 
 -- a notify of the owner
-notified_sound : (f : FatState) (o : Option ThreadId) → IsSound f → IsSound (notified f o).after
-notified_sound f None sound = sound
-notified_sound f (Some u) sound = IsSound-removed f u why.Notified sound
+notify_outcome_sound : (f : FatState) (o : Option ThreadId) → IsSound f → IsSound (notify_outcome f o).after
+notify_outcome_sound f None sound = sound
+notify_outcome_sound f (Some u) sound = IsSound-after_removal f u why.Notified sound
 
 -- an interrupt, and the question whether a thread is interrupted
-interrupted_sound : (f : FatState) (u : ThreadId) (o : Option Post) → IsSound f → post_of f u ≡ o → IsSound (interrupted f u o).after
-interrupted_sound f u None sound here = sound
-interrupted_sound f u (Some p) sound here = removed_post (with_flag f u true) u why.Interrupted (Some p) (IsSound-flags f (map.insert f.flags u.0 true) sound) here
+interrupt_outcome_sound : (f : FatState) (u : ThreadId) (o : Option Post) → IsSound f → post_of f u ≡ o → IsSound (interrupt_outcome f u o).after
+interrupt_outcome_sound f u None sound here = sound
+interrupt_outcome_sound f u (Some p) sound here = after_removal_post (with_flag f u true) u why.Interrupted (Some p) (IsSound-flags f (map.insert f.flags u.0 true) sound) here
 
-asked_sound : (f : FatState) (o : Option Bool) → IsSound f → IsSound (asked f o).after
-asked_sound f None sound = sound
-asked_sound f (Some flag) sound = sound
+flag_outcome_sound : (f : FatState) (o : Option Bool) → IsSound f → IsSound (flag_outcome f o).after
+flag_outcome_sound f None sound = sound
+flag_outcome_sound f (Some flag) sound = sound
 
 -- the end of the time of a wait
-expired_sound : (f : FatState) (t : ThreadId) (o : Option Post) → IsSound f → post_of f t ≡ o → IsSound (expired f t (unwrap_or o Out)).after
-expired_sound f t None sound here = sound
-expired_sound f t (Some Out) sound here = sound
-expired_sound f t (Some (Entering m)) sound here = sound
-expired_sound f t (Some (Waiting m n None)) sound here = sound
-expired_sound f t (Some (Waiting m n (Some d))) sound here =
-    either_sound (nat_lt f.moment d) _ _ (λ early. sound) (λ due. removed_post f t why.Elapsed (Some (Waiting m n (Some d))) sound here)
-expired_sound f t (Some (Back m n w)) sound here = sound
-expired_sound f t (Some (Granted r)) sound here = sound
+expire_outcome_sound : (f : FatState) (t : ThreadId) (o : Option Post) → IsSound f → post_of f t ≡ o → IsSound (expire_outcome f t (unwrap_or o Out)).after
+expire_outcome_sound f t None sound here = sound
+expire_outcome_sound f t (Some Out) sound here = sound
+expire_outcome_sound f t (Some (Entering m)) sound here = sound
+expire_outcome_sound f t (Some (Waiting m n None)) sound here = sound
+expire_outcome_sound f t (Some (Waiting m n (Some d))) sound here =
+    either_sound (nat_lt f.moment d) _ _ (λ early. sound) (λ due. after_removal_post f t why.Elapsed (Some (Waiting m n (Some d))) sound here)
+expire_outcome_sound f t (Some (Back m n w)) sound here = sound
+expire_outcome_sound f t (Some (Granted r)) sound here = sound
 
 -- a spurious wake-up
-woken_sound : (f : FatState) (t : ThreadId) (o : Option Post) → IsSound f → post_of f t ≡ o → IsSound (woken f t (unwrap_or o Out)).after
-woken_sound f t None sound here = sound
-woken_sound f t (Some Out) sound here = sound
-woken_sound f t (Some (Entering m)) sound here = sound
-woken_sound f t (Some (Waiting m n d)) sound here = removed_post f t why.Spurious (Some (Waiting m n d)) sound here
-woken_sound f t (Some (Back m n w)) sound here = sound
-woken_sound f t (Some (Granted r)) sound here = sound
+spurious_outcome_sound : (f : FatState) (t : ThreadId) (o : Option Post) → IsSound f → post_of f t ≡ o → IsSound (spurious_outcome f t (unwrap_or o Out)).after
+spurious_outcome_sound f t None sound here = sound
+spurious_outcome_sound f t (Some Out) sound here = sound
+spurious_outcome_sound f t (Some (Entering m)) sound here = sound
+spurious_outcome_sound f t (Some (Waiting m n d)) sound here = after_removal_post f t why.Spurious (Some (Waiting m n d)) sound here
+spurious_outcome_sound f t (Some (Back m n w)) sound here = sound
+spurious_outcome_sound f t (Some (Granted r)) sound here = sound
 
 -- a collect
-collected_sound : (f : FatState) (t : ThreadId) (o : Option Post) → IsSound f → post_of f t ≡ o → IsSound (collected f t (unwrap_or o Out)).after
-collected_sound f t None sound here = sound
-collected_sound f t (Some Out) sound here = sound
-collected_sound f t (Some (Entering m)) sound here = sound
-collected_sound f t (Some (Waiting m n d)) sound here = sound
-collected_sound f t (Some (Back m n w)) sound here = sound
-collected_sound f t (Some (Granted r)) sound here = IsSound-collected f t r sound here
+collect_outcome_sound : (f : FatState) (t : ThreadId) (o : Option Post) → IsSound f → post_of f t ≡ o → IsSound (collect_outcome f t (unwrap_or o Out)).after
+collect_outcome_sound f t None sound here = sound
+collect_outcome_sound f t (Some Out) sound here = sound
+collect_outcome_sound f t (Some (Entering m)) sound here = sound
+collect_outcome_sound f t (Some (Waiting m n d)) sound here = sound
+collect_outcome_sound f t (Some (Back m n w)) sound here = sound
+collect_outcome_sound f t (Some (Granted r)) sound here = IsSound-collect_outcome f t r sound here
 
 -- what the owner alone may do is sound where the owner does it
 owner_sound : (f : FatState) (m : ℕ) (t : ThreadId) (x : Outcome) → IsSound f → ((monitor_at f m).owner ≡ Some t → IsSound x.after) → IsSound (by_owner f m t x).after
 owner_sound f m t x sound by_it = either_sound (is_owned_by (monitor_at f m).owner t) _ _ (λ e. by_it (owner_is (monitor_at f m).owner t e)) (λ e. sound)
 
 -- every action keeps a fat state sound
-pub IsSound-acted : (f : FatState) (t : ThreadId) (a : Action) → IsSound f → MayAct f t a → NamesBound f a → IsSound (acted f t a).after
-IsSound-acted f t (action.Enter m) sound may bound = entered_sound f t m (monitor_at f m).owner sound bound may refl
-IsSound-acted f t (action.Exit m) sound may bound = owner_sound f m t _ sound (λ owned. exited_sound f t m sound bound owned)
-IsSound-acted f t (action.Wait m millis nanos) sound may bound = owner_sound f m t _ sound (λ owned. waited_sound f t m millis nanos sound may owned)
-IsSound-acted f t (action.Notify m) sound may bound = owner_sound f m t _ sound (λ owned. notified_sound f (first_of f m WaitSet) sound)
-IsSound-acted f t (action.NotifyAll m) sound may bound = owner_sound f m t _ sound (λ owned. IsSound-all_removed f (line_of f m WaitSet) sound)
-IsSound-acted f t (action.Holds m) sound may bound = sound
-IsSound-acted f t (action.Interrupt u) sound may bound = interrupted_sound f u (post_of f u) sound refl
-IsSound-acted f t action.Interrupted sound may bound = IsSound-flags f (map.insert f.flags t.0 false) sound
-IsSound-acted f t (action.IsInterrupted u) sound may bound = asked_sound f (flag_of f u) sound
-IsSound-acted f t action.Expire sound may bound = expired_sound f t (post_of f t) sound refl
-IsSound-acted f t action.Spurious sound may bound = woken_sound f t (post_of f t) sound refl
-IsSound-acted f t action.Collect sound may bound = collected_sound f t (post_of f t) sound refl
-IsSound-acted f t action.End sound may bound = either_sound (owns_one f.monitors t) _ _ (λ owns. sound) (λ none. IsSound-without_thread f t sound may)
+pub IsSound-outcome_of : (f : FatState) (t : ThreadId) (a : Action) → IsSound f → MayAct f t a → NamesBound f a → IsSound (outcome_of f t a).after
+IsSound-outcome_of f t (action.Enter m) sound may bound = enter_outcome_sound f t m (monitor_at f m).owner sound bound may refl
+IsSound-outcome_of f t (action.Exit m) sound may bound = owner_sound f m t _ sound (λ owned. exit_outcome_sound f t m sound bound owned)
+IsSound-outcome_of f t (action.Wait m millis nanos) sound may bound = owner_sound f m t _ sound (λ owned. wait_outcome_sound f t m millis nanos sound may owned)
+IsSound-outcome_of f t (action.Notify m) sound may bound = owner_sound f m t _ sound (λ owned. notify_outcome_sound f (first_of f m WaitSet) sound)
+IsSound-outcome_of f t (action.NotifyAll m) sound may bound = owner_sound f m t _ sound (λ owned. IsSound-after_removals f (line_of f m WaitSet) sound)
+IsSound-outcome_of f t (action.Holds m) sound may bound = sound
+IsSound-outcome_of f t (action.Interrupt u) sound may bound = interrupt_outcome_sound f u (post_of f u) sound refl
+IsSound-outcome_of f t action.Interrupted sound may bound = IsSound-flags f (map.insert f.flags t.0 false) sound
+IsSound-outcome_of f t (action.IsInterrupted u) sound may bound = flag_outcome_sound f (flag_of f u) sound
+IsSound-outcome_of f t action.Expire sound may bound = expire_outcome_sound f t (post_of f t) sound refl
+IsSound-outcome_of f t action.Spurious sound may bound = spurious_outcome_sound f t (post_of f t) sound refl
+IsSound-outcome_of f t action.Collect sound may bound = collect_outcome_sound f t (post_of f t) sound refl
+IsSound-outcome_of f t action.End sound may bound = either_sound (owns_one f.monitors t) _ _ (λ owns. sound) (λ none. IsSound-without_thread f t sound may)

@@ -4,7 +4,7 @@ use Rattle.std.specs.Option.{unwrap_or}
 use Rattle.std.proofs.Common.{refl, sym, ap, ◌∙◌, subst, inl, inr}
 use Rattle.lock_word.specs.declared.ThreadId.{ThreadId}
 use Rattle.wait_lines.specs.declared.Role.TheVariants.{Entry, Waiting as WaitSet}
-use Rattle.wait_lines.specs.Lines.{StandsIn, joined, left}
+use Rattle.wait_lines.specs.Lines.{StandsIn, after_join, after_leave}
 use Rattle.wait_lines.proofs.ThreadLemmas.{Contains-cons_first, Contains-cons_later}
 use Rattle.fat_monitor.specs.declared.actions.Post.{Post}
 use Rattle.fat_monitor.specs.declared.actions.Post.TheVariants.{Out, Entering, Waiting, Back, Granted}
@@ -12,12 +12,12 @@ use Rattle.fat_monitor.specs.declared.actions.Why.{Why}
 use Rattle.fat_monitor.specs.declared.actions.Why.TheVariants as why
 use Rattle.fat_monitor.specs.declared.monitors.Monitor.{Monitor}
 use Rattle.fat_monitor.specs.FatState.{FatState, IsSound, monitor_at, unbound, post_of, post_at, line_of, with_post, with_lines}
-use Rattle.fat_monitor.specs.Acting.{removed, sent_back, all_removed}
+use Rattle.fat_monitor.specs.Acting.{after_removal, after_sending_back, after_removals}
 use Rattle.fat_monitor.proofs.SoundSteps.{written_cases}
 
 -- u, which has this post, leaves its wait set for this reason, and joins the end of the entry line
 abbrev pub queued : FatState → ThreadId → Why → Post → FatState
-queued f u w (Waiting m n d) = with_lines (with_post f u (Back m n w)) (joined (left f.standing.lines u m WaitSet) u m Entry)
+queued f u w (Waiting m n d) = with_lines (with_post f u (Back m n w)) (after_join (after_leave f.standing.lines u m WaitSet) u m Entry)
 queued f u w Out = f
 queued f u w (Entering m) = f
 queued f u w (Back m n x) = f
@@ -32,22 +32,22 @@ all_queued f (u ∷ us) = all_queued (queued f u why.Notified (post_at f u)) us
 abbrev pub IsOwnedOver : FatState → ThreadId → Type 0
 IsOwnedOver f u = (m n : ℕ) (d : Option ℕ) → post_of f u ≡ Some (Waiting m n d) → IsSome (monitor_at f m).owner
 
-sent_back-owned : (f : FatState) (u : ThreadId) (m : ℕ) (p : Post) (o : Option ThreadId) → IsSome o
-    → sent_back f u m p o ≡ with_lines (with_post f u p) (joined (left f.standing.lines u m WaitSet) u m Entry)
-sent_back-owned f u m p None h = absurd (cc)
-sent_back-owned f u m p (Some v) h = refl
+after_sending_back-owned : (f : FatState) (u : ThreadId) (m : ℕ) (p : Post) (o : Option ThreadId) → IsSome o
+    → after_sending_back f u m p o ≡ with_lines (with_post f u p) (after_join (after_leave f.standing.lines u m WaitSet) u m Entry)
+after_sending_back-owned f u m p None h = absurd (cc)
+after_sending_back-owned f u m p (Some v) h = refl
 
 -- behind an owner a thread that is removed joins the entry line
-removed-queued_by : (f : FatState) (u : ThreadId) (w : Why) (o : Option Post) → post_of f u ≡ o → IsOwnedOver f u → removed f u w (unwrap_or o Out) ≡ queued f u w (unwrap_or o Out)
-removed-queued_by f u w None here owned = refl
-removed-queued_by f u w (Some Out) here owned = refl
-removed-queued_by f u w (Some (Entering m)) here owned = refl
-removed-queued_by f u w (Some (Waiting m n d)) here owned = sent_back-owned f u m (Back m n w) (monitor_at f m).owner (owned m n d here)
-removed-queued_by f u w (Some (Back m n x)) here owned = refl
-removed-queued_by f u w (Some (Granted r)) here owned = refl
+after_removal-queued_by : (f : FatState) (u : ThreadId) (w : Why) (o : Option Post) → post_of f u ≡ o → IsOwnedOver f u → after_removal f u w (unwrap_or o Out) ≡ queued f u w (unwrap_or o Out)
+after_removal-queued_by f u w None here owned = refl
+after_removal-queued_by f u w (Some Out) here owned = refl
+after_removal-queued_by f u w (Some (Entering m)) here owned = refl
+after_removal-queued_by f u w (Some (Waiting m n d)) here owned = after_sending_back-owned f u m (Back m n w) (monitor_at f m).owner (owned m n d here)
+after_removal-queued_by f u w (Some (Back m n x)) here owned = refl
+after_removal-queued_by f u w (Some (Granted r)) here owned = refl
 
-pub removed-queued : (f : FatState) (u : ThreadId) (w : Why) → IsOwnedOver f u → removed f u w (post_at f u) ≡ queued f u w (post_at f u)
-removed-queued f u w owned = removed-queued_by f u w (post_of f u) refl owned
+pub after_removal-queued : (f : FatState) (u : ThreadId) (w : Why) → IsOwnedOver f u → after_removal f u w (post_at f u) ≡ queued f u w (post_at f u)
+after_removal-queued f u w owned = after_removal-queued_by f u w (post_of f u) refl owned
 
 -- that changes no monitor
 pub monitors-queued : (f : FatState) (u : ThreadId) (w : Why) (p : Post) → (queued f u w p).monitors ≡ f.monitors
@@ -79,11 +79,11 @@ IsOwnedOver-queued f u v w p owned m n d here =
     subst (λ (monitors : List Monitor). IsSome (slice_index_or monitors m unbound).owner) (sym (monitors-queued f u w p)) (owned m n d (waited_before f u v w p m n d here))
 
 -- behind owners all threads that are removed join entry lines
-pub all_removed-queued : (f : FatState) (us : List ThreadId) → ((u : ThreadId) → Contains us u → IsOwnedOver f u) → all_removed f us ≡ all_queued f us
-all_removed-queued f [] owned = refl
-all_removed-queued f (u ∷ us) owned =
-    ap (λ (g : FatState). all_removed g us) (removed-queued f u why.Notified (owned u (Contains-cons_first u us u refl)))
-    ∙ all_removed-queued (queued f u why.Notified (post_at f u)) us (λ v has. IsOwnedOver-queued f u v why.Notified (post_at f u) (owned v (Contains-cons_later u us v has)))
+pub after_removals-queued : (f : FatState) (us : List ThreadId) → ((u : ThreadId) → Contains us u → IsOwnedOver f u) → after_removals f us ≡ all_queued f us
+after_removals-queued f [] owned = refl
+after_removals-queued f (u ∷ us) owned =
+    ap (λ (g : FatState). after_removals g us) (after_removal-queued f u why.Notified (owned u (Contains-cons_first u us u refl)))
+    ∙ after_removals-queued (queued f u why.Notified (post_at f u)) us (λ v has. IsOwnedOver-queued f u v why.Notified (post_at f u) (owned v (Contains-cons_later u us v has)))
 
 -- a thread that stands in a wait set waits for its monitor
 pub waits_there : (f : FatState) (u : ThreadId) (m : ℕ) → IsSound f → StandsIn f.standing.lines u m WaitSet → IsSome (monitor_at f m).owner → IsOwnedOver f u
@@ -92,11 +92,11 @@ waits_there f u m sound stands_in owned k n d here =
     subst (λ j. IsSome (monitor_at f j).owner) (sound.orderly.one_line u m k WaitSet WaitSet stands_in there).0 owned
 
 -- so the wait set of a monitor with an owner joins its entry line
-pub wait_set-queued : (f : FatState) (m : ℕ) → IsSound f → IsSome (monitor_at f m).owner → all_removed f (line_of f m WaitSet) ≡ all_queued f (line_of f m WaitSet)
-wait_set-queued f m sound owned = all_removed-queued f (line_of f m WaitSet) (λ u has. waits_there f u m sound has owned)
+pub wait_set-queued : (f : FatState) (m : ℕ) → IsSound f → IsSome (monitor_at f m).owner → after_removals f (line_of f m WaitSet) ≡ all_queued f (line_of f m WaitSet)
+wait_set-queued f m sound owned = after_removals-queued f (line_of f m WaitSet) (λ u has. waits_there f u m sound has owned)
 
 -- a waiter behind an owner that is removed joins the entry line
-pub removed-behind : (f : FatState) (u : ThreadId) (w : Why) (m n : ℕ) (d : Option ℕ) → post_of f u ≡ Some (Waiting m n d) → IsSome (monitor_at f m).owner
-    → removed f u w (post_at f u) ≡ queued f u w (Waiting m n d)
-removed-behind f u w m n d here owned =
-    ap (λ (o : Option Post). removed f u w (unwrap_or o Out)) here ∙ sent_back-owned f u m (Back m n w) (monitor_at f m).owner owned
+pub after_removal-behind : (f : FatState) (u : ThreadId) (w : Why) (m n : ℕ) (d : Option ℕ) → post_of f u ≡ Some (Waiting m n d) → IsSome (monitor_at f m).owner
+    → after_removal f u w (post_at f u) ≡ queued f u w (Waiting m n d)
+after_removal-behind f u w m n d here owned =
+    ap (λ (o : Option Post). after_removal f u w (unwrap_or o Out)) here ∙ after_sending_back-owned f u m (Back m n w) (monitor_at f m).owner owned

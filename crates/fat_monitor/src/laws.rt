@@ -6,7 +6,7 @@ ghost use Rattle.fat_monitor.specs.declared.actions.Post.TheVariants.{Waiting, B
 ghost use Rattle.fat_monitor.specs.declared.actions.Why.{Why};
 ghost use Rattle.fat_monitor.specs.declared.actions.Why.TheVariants.{Interrupted};
 ghost use Rattle.fat_monitor.specs.FatState.{FatState, IsSound, post_of, monitor_at, with_flag};
-ghost use Rattle.fat_monitor.specs.Acting.{removed, served, rejoined, handed_if_free, next_if_free};
+ghost use Rattle.fat_monitor.specs.Acting.{after_removal, granted_by_removal, after_rejoining, after_hand_on_if_free, next_if_free};
 
 /// The law of removal: a thread that leaves its wait set joins the end of the entry line, and where
 /// nobody owns the monitor, it is handed on then. The table of actions gives a monitor that nobody
@@ -15,15 +15,15 @@ ghost use Rattle.fat_monitor.specs.Acting.{removed, served, rejoined, handed_if_
 pub fn a_removed_thread_joins_the_entry_line()
     ensures removed { (f : FatState) (u : ThreadId) (m n : ℕ) (d : Option ℕ) (w : Why)
         → IsSound f → post_of f u ≡ Some (Waiting m n d)
-        → removed f u w (Waiting m n d)
-        ≡ handed_if_free (rejoined f u m (Back m n w)) m (monitor_at f m).owner }
+        → after_removal f u w (Waiting m n d)
+        ≡ after_hand_on_if_free (after_rejoining f u m (Back m n w)) m (monitor_at f m).owner }
     ensures interrupted { (f : FatState) (u : ThreadId) (m n : ℕ) (d : Option ℕ)
         → IsSound f → post_of f u ≡ Some (Waiting m n d)
-        → removed (with_flag f u true) u Interrupted (Waiting m n d)
-        ≡ handed_if_free (rejoined (with_flag f u true) u m (Back m n Interrupted)) m
+        → after_removal (with_flag f u true) u Interrupted (Waiting m n d)
+        ≡ after_hand_on_if_free (after_rejoining (with_flag f u true) u m (Back m n Interrupted)) m
         (monitor_at f m).owner }
     ensures served { (f : FatState) (u : ThreadId) (m n : ℕ) (d : Option ℕ) (w : Why)
         → IsSound f → post_of f u ≡ Some (Waiting m n d)
-        → served f u (Waiting m n d)
-        ≡ next_if_free (rejoined f u m (Back m n w)) m (monitor_at f m).owner }
+        → granted_by_removal f u (Waiting m n d)
+        ≡ next_if_free (after_rejoining f u m (Back m n w)) m (monitor_at f m).owner }
 {}

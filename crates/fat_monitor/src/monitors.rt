@@ -11,7 +11,7 @@ ghost use Rattle.fat_monitor.specs.FatState.{FatState, IsSound, opened, post_of,
 ghost use Rattle.fat_monitor.specs.FatState.{thread_count, with_thread, without_thread};
 ghost use Rattle.fat_monitor.specs.FatState.{with_moment, with_spare, bound_with, objects_of};
 ghost use Rattle.fat_monitor.specs.FatState.{refusal, owns_one, StandBehindOwners};
-ghost use Rattle.fat_monitor.specs.Acting.{acted, NamesBound, MayAct};
+ghost use Rattle.fat_monitor.specs.Acting.{outcome_of, NamesBound, MayAct};
 
 mod acts;
 mod readers;
@@ -257,7 +257,7 @@ impl Fats {
         requires ready { MayAct self.old thread action }
         requires bound { NamesBound self.old action }
         ensures table { record { answer = result; after = self.new }
-            ≡ acted self.old thread action }
+            ≡ outcome_of self.old thread action }
         ensures objects { objects_of self.new ≡ objects_of self.old }
         ensures behind { StandBehindOwners self.new }
         ensures sound { IsSound self.new }
@@ -270,7 +270,7 @@ impl Fats {
         requires bound { NamesBound self.old action }
         ensures was { IsSound self.old }
         ensures table { record { answer = result; after = self.new }
-            ≡ acted self.old thread action }
+            ≡ outcome_of self.old thread action }
     {
         // What follows rests on what always holds of these fields.
         let _ = &self.monitors;

@@ -2,7 +2,7 @@
 
 ghost use Rattle.std.specs.Prelude.{◌≡◌, Ok};
 ghost use Rattle.fat_monitor.specs.FatState.{FatState, is_owned_by};
-ghost use Rattle.fat_monitor.specs.Acting.{holds_granted, reply_granted, reply_back, replied};
+ghost use Rattle.fat_monitor.specs.Acting.{holds_granted, reply_granted, reply_back, replies};
 ghost use Rattle.fat_monitor.specs.Acting.{yes_or_no};
 
 use crate::{Answer, Done, Post, Reply, Why};
@@ -48,7 +48,7 @@ pub(crate) fn yes_or_no(answer: bool) -> Reply
 
 /// The call that made the action has this reply, and no other thread is named.
 pub(crate) fn reply_with(reply: Reply) -> Done
-    ensures { (f : FatState) → record { answer = Ok result; after = f } ≡ replied f reply }
+    ensures { (f : FatState) → record { answer = Ok result; after = f } ≡ replies f reply }
 {
     tell(Answer::Reply(reply), None, None)
 }

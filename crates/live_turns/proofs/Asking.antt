@@ -15,7 +15,7 @@ use Rattle.fat_monitor.specs.declared.actions.Post.{Post}
 use Rattle.fat_monitor.specs.declared.actions.Post.TheVariants.{Out, Entering, Waiting, Back, Granted}
 use Rattle.fat_monitor.specs.declared.monitors.Monitor.{Monitor}
 use Rattle.fat_monitor.specs.FatState.{FatState, post_of, post_at, objects_of, IsAttached}
-use Rattle.fat_monitor.specs.Acting.{Outcome, acted, collected, expired, not_due, told, MayAct, NamesBound}
+use Rattle.fat_monitor.specs.Acting.{Outcome, outcome_of, collect_outcome, expire_outcome, not_due, answers, MayAct, NamesBound}
 use Rattle.fast_path.specs.declared.calls.Operation.{Operation}
 use Rattle.fast_path.specs.declared.calls.Operation.TheVariants as op
 use Rattle.fast_path.specs.declared.calls.InterruptCall.{InterruptCall}
@@ -73,13 +73,13 @@ about_names_bound f about.Interrupted = tt
 about_names_bound f (about.IsInterrupted u) = tt
 
 -- what was done by an action of a call's own replied or parked
-told_by : (f : FatState) (t : ThreadId) (a : Action) (d : Done) → IsOwnAction a → (acted f t a).answer ≡ Ok d → IsTold d.answer
+told_by : (f : FatState) (t : ThreadId) (a : Action) (d : Done) → IsOwnAction a → (outcome_of f t a).answer ≡ Ok d → IsTold d.answer
 told_by f t a d own e = subst (λ (r : Result Done ActFault). MatchResult r (λ d. IsTold d.answer) (λ e. ⊥)) e (done f t a own)
 
-pub told_on : (f : FatState) (t : ThreadId) (p : Operation) (m : ℕ) (d : Done) → (acted f t (action_on p m)).answer ≡ Ok d → IsTold d.answer
+pub told_on : (f : FatState) (t : ThreadId) (p : Operation) (m : ℕ) (d : Done) → (outcome_of f t (action_on p m)).answer ≡ Ok d → IsTold d.answer
 told_on f t p m d e = told_by f t (action_on p m) d (own_on p m) e
 
-pub told_about : (f : FatState) (t : ThreadId) (c : InterruptCall) (d : Done) → (acted f t (action_about c)).answer ≡ Ok d → IsTold d.answer
+pub told_about : (f : FatState) (t : ThreadId) (c : InterruptCall) (d : Done) → (outcome_of f t (action_about c)).answer ≡ Ok d → IsTold d.answer
 told_about f t c d e = told_by f t (action_about c) d (own_about c) e
 
 pub attached : (f : FatState) (t : ThreadId) (p : Post) → post_of f t ≡ Some p → IsAttached f t
@@ -91,14 +91,14 @@ answer_in (Ok d) = d.answer
 answer_in (Err e) = answer.Parked
 
 -- a collect that is made has a reply
-collect_of : (f : FatState) (t : ThreadId) (p : Post) (d : Done) → (collected f t p).answer ≡ Ok d → (r : Reply) × (d.answer ≡ answer.Reply r)
+collect_of : (f : FatState) (t : ThreadId) (p : Post) (d : Done) → (collect_outcome f t p).answer ≡ Ok d → (r : Reply) × (d.answer ≡ answer.Reply r)
 collect_of f t (Granted r) d e = (r, sym (ap answer_in e))
 collect_of f t Out d e = absurd (cc)
 collect_of f t (Entering m) d e = absurd (cc)
 collect_of f t (Waiting m n x) d e = absurd (cc)
 collect_of f t (Back m n w) d e = absurd (cc)
 
-pub collect_replies : (f : FatState) (t : ThreadId) (d : Done) → (acted f t action.Collect).answer ≡ Ok d → (r : Reply) × (d.answer ≡ answer.Reply r)
+pub collect_replies : (f : FatState) (t : ThreadId) (d : Done) → (outcome_of f t action.Collect).answer ≡ Ok d → (r : Reply) × (d.answer ≡ answer.Reply r)
 collect_replies f t d e = collect_of f t (post_at f t) d e
 
 -- an expire that is made is quiet
@@ -109,24 +109,24 @@ not_due_quiet : (f : FatState) → Quietly (not_due f)
 unfolding Quietly
 not_due_quiet f d e = absurd (cc)
 
-quiet_told : (f : FatState) (g c : Option ThreadId) → Quietly (told f answer.Quiet g c)
+quiet_answers : (f : FatState) (g c : Option ThreadId) → Quietly (answers f answer.Quiet g c)
 unfolding Quietly
-quiet_told f g c d e = sym (ap answer_in e)
+quiet_answers f g c d e = sym (ap answer_in e)
 
 -- an outcome by cases
 either : (b : Bool) (x y : Outcome) → Quietly x → Quietly y → Quietly (if b then x else y)
 either true x y h k = h
 either false x y h k = k
 
-expire_of : (f : FatState) (t : ThreadId) (p : Post) → Quietly (expired f t p)
-expire_of f t (Waiting m n (Some x)) = either _ _ _ (not_due_quiet f) (quiet_told _ _ _)
+expire_of : (f : FatState) (t : ThreadId) (p : Post) → Quietly (expire_outcome f t p)
+expire_of f t (Waiting m n (Some x)) = either _ _ _ (not_due_quiet f) (quiet_answers _ _ _)
 expire_of f t (Waiting m n None) = not_due_quiet f
 expire_of f t Out = not_due_quiet f
 expire_of f t (Entering m) = not_due_quiet f
 expire_of f t (Back m n w) = not_due_quiet f
 expire_of f t (Granted r) = not_due_quiet f
 
-pub expire_quiet : (f : FatState) (t : ThreadId) (d : Done) → (acted f t action.Expire).answer ≡ Ok d → d.answer ≡ answer.Quiet
+pub expire_quiet : (f : FatState) (t : ThreadId) (d : Done) → (outcome_of f t action.Expire).answer ≡ Ok d → d.answer ≡ answer.Quiet
 unfolding Quietly
 expire_quiet f t d e = expire_of f t (post_at f t) d e
 

@@ -9,10 +9,10 @@ use Rattle.fat_monitor.specs.declared.actions.Action.TheVariants as action
 use Rattle.fat_monitor.specs.declared.actions.Done.{Done}
 use Rattle.fat_monitor.specs.declared.actions.Post.TheVariants.{Out}
 use Rattle.fat_monitor.specs.FatState.{FatState, IsSound, opened, with_moment, bound_with, wait_count}
-use Rattle.fat_monitor.specs.Acting.{acted, MayAct, NamesBound}
+use Rattle.fat_monitor.specs.Acting.{outcome_of, MayAct, NamesBound}
 use Rattle.fat_monitor.proofs.Counts.{sum-insert, sum-empty}
-use Rattle.fat_monitor.proofs.Effects.{attached-acted}
-use Rattle.fat_monitor.proofs.MonitorEffects.{length-acted, limit-acted, spare-acted}
+use Rattle.fat_monitor.proofs.Effects.{attached-outcome_of}
+use Rattle.fat_monitor.proofs.MonitorEffects.{length-outcome_of, limit-outcome_of, spare-outcome_of}
 use Rattle.live_turns.specs.declared.deeds.Deed.TheVariants.{Bound, Acted, Ticked}
 use Rattle.live_turns.specs.Log.{IsForBook, IsThreadOf, Replays, with_threads, nothing_bound}
 use Rattle.live_turns.specs.Places.{kept_by, kept_by_threads, kept_of, need, gained, freed}
@@ -58,20 +58,20 @@ IsBook-bind b t o n is of low high more room sound = record {
   sound = sound;
 }
 
-pub IsBook-act : (b : BookState) (t : ThreadId) (a : Action) (d : Done) → IsBook b → IsThreadOf b.passes t → IsForBook a → MayAct b.fats t a → NamesBound b.fats a → (acted b.fats t a).answer ≡ Ok d
-    → need b.fats t a ≤ free_of b → IsSound (acted b.fats t a).after → IsBook (after_act b t a d.answer)
+pub IsBook-act : (b : BookState) (t : ThreadId) (a : Action) (d : Done) → IsBook b → IsThreadOf b.passes t → IsForBook a → MayAct b.fats t a → NamesBound b.fats a → (outcome_of b.fats t a).answer ≡ Ok d
+    → need b.fats t a ≤ free_of b → IsSound (outcome_of b.fats t a).after → IsBook (after_act b t a d.answer)
 IsBook-act b t a d is of for may bound told room sound =
     let keeps = keeps_with b.fats t a d is.sound for may bound told in record {
       replays =
-          subst (λ (n : ℕ). Replays b.passes (nothing_bound b.passes n) (after_act b t a d.answer).log (acted b.fats t a).after) (sym (limit-acted b.fats t a))
+          subst (λ (n : ℕ). Replays b.passes (nothing_bound b.passes n) (after_act b t a d.answer).log (outcome_of b.fats t a).after) (sym (limit-outcome_of b.fats t a))
           (replays_more b.passes (nothing_bound b.passes b.fats.limit) b.log b.fats (record { thread = t; deed = Acted a d.answer }) is.replays of (for, may, bound, d, told, refl));
       fits =
           let len = length-append b.log ((record { thread = t; deed = Acted a d.answer }) ∷ []) in let kept = keeps.kept in let needs = keeps.needs in let was = is.fits in omega arith;
       attached = λ u.
-          let still = attached-acted b.fats t u a is.sound may (no_end a for) in
+          let still = attached-outcome_of b.fats t u a is.sound may (no_end a for) in
           let was = is.attached u in
           ((λ h. was.0 (still.0 h)), (λ h. still.1 (was.1 h)));
-      spare = let len = length-acted b.fats t a in let limit = limit-acted b.fats t a in let room = spare-acted b.fats t a in let was = is.spare in omega arith;
+      spare = let len = length-outcome_of b.fats t a in let limit = limit-outcome_of b.fats t a in let room = spare-outcome_of b.fats t a in let was = is.spare in omega arith;
       sound = sound;
     }
   where
@@ -97,14 +97,14 @@ pub record ActsOn (b : BookState) (t : ThreadId) (a : Action) (d : Done) (g : Fa
 
 pub acts_on : (b now : BookState) (t : ThreadId) (a : Action) (d : Done) (g : FatState) (kept free needs more less waited waiting : ℕ) → b ≡ now → IsBook b → kept ≡ kept_of b.fats
     → IsThreadOf now.passes t → IsForBook a → MayAct now.fats t a → NamesBound now.fats a → free ≡ free_of now → needs ≡ need now.fats t a → needs ≤ free
-    → record { answer = Ok d; after = g } ≡ acted b.fats t a → IsSound g → waited ≡ wait_count b.fats.threads → waiting ≡ wait_count g.threads
+    → record { answer = Ok d; after = g } ≡ outcome_of b.fats t a → IsSound g → waited ≡ wait_count b.fats.threads → waiting ≡ wait_count g.threads
     → more ≡ gained a d.answer → less ≡ freed a d.answer waited waiting → ActsOn b t a d g kept more less
 acts_on b now t a d g kept free needs more less waited waiting same is kept_as of for may bound free_as needs_as enough table sound waited_as waiting_as more_as less_as =
     let may_b : MayAct b.fats t a = subst (λ (k : BookState). MayAct k.fats t a) (sym same) may in
     let bound_b : NamesBound b.fats a = subst (λ (k : BookState). NamesBound k.fats a) (sym same) bound in
     let of_b : IsThreadOf b.passes t = subst (λ (k : BookState). IsThreadOf k.passes t) (sym same) of in
-    let told : (acted b.fats t a).answer ≡ Ok d = done_answer b.fats g t a (Ok d) table in
-    let after : g ≡ (acted b.fats t a).after = done_after b.fats g t a (Ok d) table in
+    let told : (outcome_of b.fats t a).answer ≡ Ok d = done_answer b.fats g t a (Ok d) table in
+    let after : g ≡ (outcome_of b.fats t a).after = done_after b.fats g t a (Ok d) table in
     let keeps : KeepsWith b.fats t a g d.answer = subst (λ (x : FatState). KeepsWith b.fats t a x d.answer) (sym after) (keeps_with b.fats t a d is.sound for may_b bound_b told) in
     let free_b : free ≡ free_of b = free_as ∙ ap free_of (sym same) in
     let needs_b : needs ≡ need b.fats t a = needs_as ∙ ap (λ (k : BookState). need k.fats t a) (sym same) in

@@ -13,10 +13,10 @@ use Rattle.fat_monitor.specs.declared.actions.Post.{Post}
 use Rattle.fat_monitor.specs.declared.actions.Post.TheVariants.{Out, Entering, Back, Granted}
 use Rattle.fat_monitor.specs.declared.monitors.Monitor.{Monitor}
 use Rattle.fat_monitor.specs.FatState.{FatState, IsSound, IsHeld, monitor_at, post_of, first_of, with_owner, with_post, bound_with, unbound}
-use Rattle.fat_monitor.specs.Acting.{granted, handed_on, settled, holds_granted, reply_granted}
+use Rattle.fat_monitor.specs.Acting.{after_grant, after_hand_on, after_settling, holds_granted, reply_granted}
 use Rattle.fat_monitor.proofs.Counts.{sum-insert, weight_in}
 use Rattle.fat_monitor.proofs.LineEffects.{first_entering}
-use Rattle.fat_monitor.proofs.SoundGrants.{settled-is}
+use Rattle.fat_monitor.proofs.SoundGrants.{after_settling-is}
 use Rattle.live_turns.specs.Places.{kept_by, kept_of}
 
 -- another post of an attached thread
@@ -37,29 +37,29 @@ pub kept-bound_with : (f : FatState) (o : ObjectId) (t : ThreadId) (n : ℕ) →
 kept-bound_with f o t n = let more = sum_by-append (λ (b : Monitor). b.holds) f.monitors ((record { object = o; owner = Some t; holds = n }) ∷ []) in omega arith
 
 -- u, which had the post q, is granted m as one with the post p
-pub kept-granted : (f : FatState) (m : ℕ) (u : ThreadId) (p q : Post) (r : Role) → m < length f.monitors → post_of f u ≡ Some q
-    → kept_of (granted f m u p r) + kept_by q + (monitor_at f m).holds ≡ kept_of f + holds_granted p + 1
-kept-granted f m u p q r lt is =
-    let g : FatState = settled f u p in
-    let monitors : g.monitors ≡ f.monitors = ap (λ (h : FatState). h.monitors) (settled-is f u p) in
-    let threads : g.threads ≡ f.threads = ap (λ (h : FatState). h.threads) (settled-is f u p) in
+pub kept-after_grant : (f : FatState) (m : ℕ) (u : ThreadId) (p q : Post) (r : Role) → m < length f.monitors → post_of f u ≡ Some q
+    → kept_of (after_grant f m u p r) + kept_by q + (monitor_at f m).holds ≡ kept_of f + holds_granted p + 1
+kept-after_grant f m u p q r lt is =
+    let g : FatState = after_settling f u p in
+    let monitors : g.monitors ≡ f.monitors = ap (λ (h : FatState). h.monitors) (after_settling-is f u p) in
+    let threads : g.threads ≡ f.threads = ap (λ (h : FatState). h.threads) (after_settling-is f u p) in
     let held : (monitor_at g m).holds ≡ (monitor_at f m).holds = ap (λ (ms : List Monitor). (slice_index_or ms m unbound).holds) monitors in
     let own = kept-with_owner g m (Some u) (holds_granted p) (subst (λ (ms : List Monitor). m < length ms) (sym monitors) lt) in
     let post = kept-with_post (with_owner g m (Some u) (holds_granted p)) u (Granted (reply_granted p)) q (ap (λ (ts : map.FinMap nat_cmp Post). map.get ts u.0) threads ∙ is) in
-    let kept : kept_of g ≡ kept_of f = ap kept_of (settled-is f u p) in
+    let kept : kept_of g ≡ kept_of f = ap kept_of (after_settling-is f u p) in
     omega arith
 
 -- the owner gives m up: its holds are no longer kept, and whoever is granted m keeps as many places as before
-pub kept-handed_on : (f : FatState) (m : ℕ) → IsSound f → m < length f.monitors → kept_of (handed_on f m (first_of f m Entry)) + (monitor_at f m).holds ≡ kept_of f
-kept-handed_on f m sound lt = by_first (first_of f m Entry) refl
+pub kept-after_hand_on : (f : FatState) (m : ℕ) → IsSound f → m < length f.monitors → kept_of (after_hand_on f m (first_of f m Entry)) + (monitor_at f m).holds ≡ kept_of f
+kept-after_hand_on f m sound lt = by_first (first_of f m Entry) refl
   where
-    by_first : (o : Option ThreadId) → first_of f m Entry ≡ o → kept_of (handed_on f m o) + (monitor_at f m).holds ≡ kept_of f
+    by_first : (o : Option ThreadId) → first_of f m Entry ≡ o → kept_of (after_hand_on f m o) + (monitor_at f m).holds ≡ kept_of f
     by_first None e = let none = kept-with_owner f m None 0 lt in omega arith
     by_first (Some u) e = by_post (first_entering f m u sound e)
       where
-        by_post : (post_of f u ≡ Some (Entering m)) ⊎ ((n : ℕ) × (w : Why) × (post_of f u ≡ Some (Back m n w)) × IsHeld n) → kept_of (handed_on f m (Some u)) + (monitor_at f m).holds ≡ kept_of f
-        by_post (inl is) = rw is (let k = kept-granted f m u (Entering m) (Entering m) Entry lt is in omega arith)
-        by_post (inr x) = rw x.2 (let k = kept-granted f m u (Back m x.0 x.1) (Back m x.0 x.1) Entry lt x.2 in omega arith)
+        by_post : (post_of f u ≡ Some (Entering m)) ⊎ ((n : ℕ) × (w : Why) × (post_of f u ≡ Some (Back m n w)) × IsHeld n) → kept_of (after_hand_on f m (Some u)) + (monitor_at f m).holds ≡ kept_of f
+        by_post (inl is) = rw is (let k = kept-after_grant f m u (Entering m) (Entering m) Entry lt is in omega arith)
+        by_post (inr x) = rw x.2 (let k = kept-after_grant f m u (Back m x.0 x.1) (Back m x.0 x.1) Entry lt x.2 in omega arith)
 
 -- a thread keeps its places out of all that is kept, and so does an owner its holds
 pub kept-of_post : (f : FatState) (t : ThreadId) (p : Post) → post_of f t ≡ Some p → kept_by p ≤ kept_of f

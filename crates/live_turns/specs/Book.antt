@@ -11,7 +11,7 @@ use Rattle.fat_monitor.specs.declared.actions.Post.{Post}
 use Rattle.fat_monitor.specs.declared.actions.Post.TheVariants.{Out, Entering, Waiting, Back, Granted}
 use Rattle.fat_monitor.specs.Binding.{Binding}
 use Rattle.fat_monitor.specs.FatState.{FatState, IsSound, IsAttached, post_of, objects_of, with_moment, bound_with}
-use Rattle.fat_monitor.specs.Acting.{acted}
+use Rattle.fat_monitor.specs.Acting.{outcome_of}
 use Rattle.live_turns.specs.declared.deeds.Deed.{Deed}
 use Rattle.live_turns.specs.declared.deeds.Deed.TheVariants.{Bound, Acted, Ticked}
 use Rattle.live_turns.specs.declared.deeds.Logged.{Logged}
@@ -48,7 +48,7 @@ abbrev pub after_bind : BookState → ThreadId → ObjectId → ℕ → BookStat
 after_bind b t o n = with_deed b t (Bound o n (length b.fats.monitors)) (bound_with b.fats o t n)
 
 abbrev pub after_act : BookState → ThreadId → Action → Answer → BookState
-after_act b t a r = with_deed b t (Acted a r) (acted b.fats t a).after
+after_act b t a r = with_deed b t (Acted a r) (outcome_of b.fats t a).after
 
 abbrev pub after_tick : BookState → ThreadId → ℕ → BookState
 after_tick b t now = with_deed b t (Ticked now) (with_moment b.fats now)
@@ -71,7 +71,7 @@ told (Err act_fault.Parked) = Err fault.Parked
 told (Err act_fault.NotWaiting) = Err fault.Parked
 
 abbrev pub act_answer : BookState → ThreadId → Action → Result Done BookFault
-act_answer b t a = if nat_lt (free_of b) (need b.fats t a) then Err fault.RecordFull else told (acted b.fats t a).answer
+act_answer b t a = if nat_lt (free_of b) (need b.fats t a) then Err fault.RecordFull else told (outcome_of b.fats t a).answer
 
 abbrev pub tick_answer : BookState → ℕ → Result (Unit {0}) BookFault
 tick_answer b now =

@@ -5,7 +5,7 @@ use Rattle.fat_monitor.specs.declared.actions.Action.{Action}
 use Rattle.fat_monitor.specs.declared.actions.Action.TheVariants as action
 use Rattle.fat_monitor.specs.declared.actions.Done.{Done}
 use Rattle.fat_monitor.specs.FatState.{FatState, opened, with_thread, with_moment, with_spare, bound_with}
-use Rattle.fat_monitor.specs.Acting.{acted, MayAct, NamesBound}
+use Rattle.fat_monitor.specs.Acting.{outcome_of, MayAct, NamesBound}
 use Rattle.std.specs.Prelude.{length}
 use Rattle.live_turns.specs.declared.deeds.Deed.{Deed}
 use Rattle.live_turns.specs.declared.deeds.Deed.TheVariants.{Bound, Acted, Ticked}
@@ -38,13 +38,13 @@ IsForBook action.End = ⊥
 -- actions says, and the moment does not fall.
 abbrev pub IsLegal : FatState → ThreadId → Deed → Type 0
 IsLegal f t (Bound o n m) = (m ≡ length f.monitors) × (m < f.limit) × (1 ≤ n) × (n ≤ 256)
-IsLegal f t (Acted a r) = IsForBook a × MayAct f t a × NamesBound f a × (d : Done) × ((acted f t a).answer ≡ Ok d) × (r ≡ d.answer)
+IsLegal f t (Acted a r) = IsForBook a × MayAct f t a × NamesBound f a × (d : Done) × ((outcome_of f t a).answer ≡ Ok d) × (r ≡ d.answer)
 IsLegal f t (Ticked now) = f.moment ≤ now
 
 -- the state after the deed
 abbrev pub after_deed : FatState → ThreadId → Deed → FatState
 after_deed f t (Bound o n m) = bound_with f o t n
-after_deed f t (Acted a r) = (acted f t a).after
+after_deed f t (Acted a r) = (outcome_of f t a).after
 after_deed f t (Ticked now) = with_moment f now
 
 -- the log, each deed legal where it stands and of one of the threads, leads from one state to another

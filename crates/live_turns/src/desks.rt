@@ -2,7 +2,7 @@
 
 ghost use Rattle.std.specs.Prelude.{◌≡◌, ◌<◌, ◌≤◌, ◌+◌, IfOk, IfErr, OnErr, OnOk, IfSome, MatchOption, ℕ, length, [], ◌∷◌, ◌++◌, vec_len, vec_capacity, Some, false, Ok};
 ghost use Rattle.fat_monitor.specs.FatState.{post_of};
-ghost use Rattle.fat_monitor.specs.Acting.{acted, MayAct, NamesBound};
+ghost use Rattle.fat_monitor.specs.Acting.{outcome_of, MayAct, NamesBound};
 ghost use Rattle.fat_monitor.specs.declared.actions.Post.TheVariants.{Out};
 ghost use Rattle.header_words.specs.Bindings.{Binds};
 ghost use Rattle.step_core.specs.Path.{IsTold};
@@ -158,7 +158,7 @@ impl<L: Crew> Desk<L> {
             vec_len own.old.list < vec_capacity own.old.list }
         ensures own { IfOk result (λ d. own.new.list.items ≡ own.old.list.items
             ++ by thread (Acted action d.answer) ∷ []) }
-        ensures told { IfOk result (λ d. (acted self.old.book.fats thread action).answer ≡ Ok d) }
+        ensures told { IfOk result (λ d. (outcome_of self.old.book.fats thread action).answer ≡ Ok d) }
         ensures bindings { bindings self.new.book ≡ bindings self.old.book }
         ensures none { OnErr result (own.new.list.items ≡ own.old.list.items) }
         ensures fault { IfErr result IsDeskFault }

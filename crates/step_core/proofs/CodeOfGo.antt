@@ -11,7 +11,7 @@ use Rattle.thread_index.proofs.Seats.{seat_taken_same, taken_given, free_found}
 use Rattle.fat_monitor.specs.declared.actions.Action.TheVariants as action
 use Rattle.fat_monitor.specs.declared.actions.Post.TheVariants.{Out}
 use Rattle.fat_monitor.specs.FatState.{IsAttached, post_of}
-use Rattle.fat_monitor.specs.Acting.{acted}
+use Rattle.fat_monitor.specs.Acting.{outcome_of}
 use Rattle.step_core.specs.declared.steps.Step.TheVariants as step
 use Rattle.step_core.specs.declared.places.Place.{Place}
 use Rattle.step_core.specs.declared.places.Place.TheVariants.{InCall, Ending, AtPost}
@@ -83,7 +83,7 @@ pub look_at : (room : Bool) (w : WorldState) (k : ℕ) (t : ThreadId) (n : ℕ) 
 look_at room w k t n more a e = ap (λ (x : AfterGo). accept (with_go w k x) x.did) e ∙ sym (rw (lt-ltb n (length w.words) more) refl)
 
 pub end_at : (room : Bool) (w : WorldState) (k : ℕ) (t : ThreadId) (n : ℕ) → length w.words ≤ n
-    → after_end w k t (acted w.fats t action.End).answer (acted w.fats t action.End).after ≡ after_go_at room w k t (Ending n)
+    → after_end w k t (outcome_of w.fats t action.End).answer (outcome_of w.fats t action.End).after ≡ after_go_at room w k t (Ending n)
 end_at room w k t n all = sym (rw (le-ltb n (length w.words) all) refl)
 
 -- where a seat is free, fewer threads are live than there are seats

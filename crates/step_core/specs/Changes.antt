@@ -11,7 +11,7 @@ use Rattle.fat_monitor.specs.declared.actions.Action.TheVariants as action
 use Rattle.fat_monitor.specs.declared.actions.Answer.TheVariants as answer
 use Rattle.fat_monitor.specs.declared.actions.Done.{Done}
 use Rattle.fat_monitor.specs.FatState.{bound_with, with_thread, with_moment}
-use Rattle.fat_monitor.specs.Acting.{acted, MayAct, NamesBound}
+use Rattle.fat_monitor.specs.Acting.{outcome_of, MayAct, NamesBound}
 use Rattle.step_core.specs.declared.steps.Atomic.{Atomic}
 use Rattle.step_core.specs.declared.steps.Atomic.TheVariants.{Label, Load, Won, Lost, Stored, Bound, NotBound, Acted}
 use Rattle.step_core.specs.declared.steps.Step.{Step}
@@ -51,8 +51,8 @@ GoChanges w t (Bound o m) w' =
 GoChanges w t (NotBound o cause) w' = (o.0 < length w.words) × Same w w'
 GoChanges w t (Acted a x) w' =
     MayAct w.fats t a × NamesBound w.fats a
-    × ((d : Done) × ((acted w.fats t a).answer ≡ Ok d) × (d.answer ≡ x))
-    × (w'.fats ≡ (acted w.fats t a).after) × (w'.words ≡ w.words)
+    × ((d : Done) × ((outcome_of w.fats t a).answer ≡ Ok d) × (d.answer ≡ x))
+    × (w'.fats ≡ (outcome_of w.fats t a).after) × (w'.words ≡ w.words)
 GoChanges w t Label w' = ⊥
 
 -- What a step changed. An attach, a begin and the moment are told by a label.
@@ -61,8 +61,8 @@ Changes w (step.Attach t) Label w' = (w'.words ≡ w.words) × (w'.fats ≡ with
 Changes w (step.Begin t c) Label w' = Same w w'
 Changes w (step.Go t) a w' = GoChanges w t a w'
 Changes w (step.Expire t) (Acted action.Expire answer.Quiet) w' =
-    (w'.words ≡ w.words) × (w'.fats ≡ (acted w.fats t action.Expire).after)
+    (w'.words ≡ w.words) × (w'.fats ≡ (outcome_of w.fats t action.Expire).after)
 Changes w (step.Spurious t) (Acted action.Spurious answer.Quiet) w' =
-    (w'.words ≡ w.words) × (w'.fats ≡ (acted w.fats t action.Spurious).after)
+    (w'.words ≡ w.words) × (w'.fats ≡ (outcome_of w.fats t action.Spurious).after)
 Changes w (step.Tick now) Label w' = (w'.words ≡ w.words) × (w'.fats ≡ with_moment w.fats now)
 Changes w s a w' = ⊥

@@ -18,7 +18,7 @@ use Rattle.fat_monitor.specs.declared.actions.Answer.TheVariants as answer
 use Rattle.fat_monitor.specs.declared.actions.Done.{Done}
 use Rattle.fat_monitor.specs.declared.actions.ActFault.{ActFault}
 use Rattle.fat_monitor.specs.FatState.{FatState, bound_with}
-use Rattle.fat_monitor.specs.Acting.{acted}
+use Rattle.fat_monitor.specs.Acting.{outcome_of}
 use Rattle.fast_path.specs.declared.calls.Call.{Call}
 use Rattle.fast_path.specs.declared.calls.Operation.{Operation}
 use Rattle.fast_path.specs.declared.calls.Operation.TheVariants as op
@@ -167,7 +167,7 @@ after_told w t c a (Ok d) f = fats_changed w f (place_after d.answer) (did_actio
 after_told w t c a (Err e) f = place_only w Idle (no_move atomic.Label)
 
 abbrev pub after_act : WorldState → ThreadId → Call → Action → AfterGo
-after_act w t c a = after_told w t c a (acted w.fats t a).answer (acted w.fats t a).after
+after_act w t c a = after_told w t c a (outcome_of w.fats t a).answer (outcome_of w.fats t a).after
 
 -- why a bind is refused, if it is; room says whether the memory is granted
 abbrev pub bind_cause : Bool → FatState → Option Cause

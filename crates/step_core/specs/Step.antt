@@ -8,7 +8,7 @@ use Rattle.fat_monitor.specs.declared.actions.Action.{Action}
 use Rattle.fat_monitor.specs.declared.actions.Action.TheVariants as action
 use Rattle.fat_monitor.specs.declared.actions.ActFault.{ActFault}
 use Rattle.fat_monitor.specs.declared.actions.Done.{Done}
-use Rattle.fat_monitor.specs.Acting.{acted}
+use Rattle.fat_monitor.specs.Acting.{outcome_of}
 use Rattle.fat_monitor.specs.declared.actions.Answer.{Answer}
 use Rattle.fat_monitor.specs.declared.actions.Answer.TheVariants as answer
 use Rattle.fat_monitor.specs.declared.actions.Reply.{Reply}
@@ -121,9 +121,9 @@ after_go_at room w k t (InCall s) = accept (with_go w k (after_stage room w k t 
 after_go_at room w k t (Ending n) =
     if nat_lt n (length w.words)
     then accept (with_go w k (after_look w k t n)) (after_look w k t n).did
-    else after_end w k t (acted w.fats t action.End).answer (acted w.fats t action.End).after
+    else after_end w k t (outcome_of w.fats t action.End).answer (outcome_of w.fats t action.End).after
 after_go_at room w k t AtPost =
-    after_collect w k t (acted w.fats t action.Collect).answer (acted w.fats t action.Collect).after
+    after_collect w k t (outcome_of w.fats t action.Collect).answer (outcome_of w.fats t action.Collect).after
 
 abbrev pub after_go : Bool → WorldState → ThreadId → Option ℕ → AfterStep
 after_go room w t None = refuse w fault.NoThread
@@ -157,7 +157,7 @@ after_wait_end_as x w t (Err e) f = refuse w x.fault
 
 abbrev pub after_wait_end : WaitEnd → WorldState → ThreadId → Option ℕ → AfterStep
 after_wait_end x w t None = refuse w fault.NoThread
-after_wait_end x w t (Some k) = after_wait_end_as x w t (acted w.fats t x.action).answer (acted w.fats t x.action).after
+after_wait_end x w t (Some k) = after_wait_end_as x w t (outcome_of w.fats t x.action).answer (outcome_of w.fats t x.action).after
 
 -- the moment is told; it never falls
 abbrev pub after_tick : WorldState → ℕ → AfterStep

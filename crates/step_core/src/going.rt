@@ -8,7 +8,7 @@ ghost use Rattle.thread_index.specs.Indices.{seat_of};
 ghost use Rattle.fat_monitor.specs.declared.actions.Action.TheVariants as action;
 ghost use Rattle.fat_monitor.specs.declared.actions.Post.TheVariants.{Out};
 ghost use Rattle.fat_monitor.specs.FatState.{FatState, IsAttached, post_of};
-ghost use Rattle.fat_monitor.specs.Acting.{acted};
+ghost use Rattle.fat_monitor.specs.Acting.{outcome_of};
 ghost use Rattle.step_core.specs.Sound.{IsSound};
 ghost use Rattle.step_core.specs.Ready.{world_of};
 ghost use Rattle.step_core.specs.declared.steps.Step.TheVariants as step;
@@ -75,7 +75,7 @@ fn collect(
     ensures { (split : Split) (words : List Word) (seats : List (Option ThreadId))
         → record { answer = result; after = world_of split words seats places.new fats.new }
         ≡ after_collect (world_of split words seats places.old fats.old) seat thread
-        (acted fats.old thread action.Collect).answer (acted fats.old thread action.Collect).after }
+        (outcome_of fats.old thread action.Collect).answer (outcome_of fats.old thread action.Collect).after }
 {
     let action = Action::Collect;
     let Ok(Done { answer, .. }) = fats.act(thread, action) else {
@@ -105,7 +105,7 @@ fn end(
           answer = Ok result;
           after = world_of split words indices.new places.new fats.new;
         } ≡ after_end (world_of split words indices.old places.old fats.old) seat thread
-        (acted fats.old thread action.End).answer (acted fats.old thread action.End).after }
+        (outcome_of fats.old thread action.End).answer (outcome_of fats.old thread action.End).after }
 {
     places[seat] = Place::Idle;
     let action = Action::End;

@@ -7,9 +7,9 @@ use Rattle.std.proofs.lemmas.List.Elements.{filter-append}
 use Rattle.std.proofs.lemmas.List.Sums.{length-filter, count_by-le-length}
 use Rattle.lock_word.specs.declared.ThreadId.{ThreadId}
 use Rattle.wait_lines.specs.declared.Role.{Role}
-use Rattle.wait_lines.specs.Lines.{Key, key, role_number, line, StandsIn, Stands, StandsNowhere, is_thread, without, joined, left, total_count, IsFilled, IsOrderly}
+use Rattle.wait_lines.specs.Lines.{Key, key, role_number, line, StandsIn, Stands, StandsNowhere, is_thread, without, after_join, after_leave, total_count, IsFilled, IsOrderly}
 use Rattle.wait_lines.specs.Arrivals.{Arrival, is_in, threads_in, lines_of, standing_of}
-use Rattle.wait_lines.proofs.LineLemmas.{same_role, key-same, cases_key, line-key, line-empty, line-with_line_same, line-with_line_other, IsFilled-empty, IsFilled-with_line, same_lines, total_count-empty, total_count-with_line, IsOrderly-left}
+use Rattle.wait_lines.proofs.LineLemmas.{same_role, key-same, cases_key, line-key, line-empty, line-with_line_same, line-with_line_other, IsFilled-empty, IsFilled-with_line, same_lines, total_count-empty, total_count-with_line, IsOrderly-after_leave}
 use Rattle.wait_lines.proofs.ThreadLemmas.{same_thread, is_same, Contains-cons_cases, Contains-cons_first, Contains-cons_later, Contains-without_itself, without-absent}
 
 pub is_in-key : (m : ℕ) (r : Role) (a : Arrival) → is_in m r a ≡ true → key m r ≡ key a.monitor a.role
@@ -56,18 +56,18 @@ threads_in-push arrivals a m r =
     ∙ map-append (λ (x : Arrival). x.thread) (filter (is_in m r) arrivals) (filter (is_in m r) (a ∷ []))
 
 -- one more arrival is a join
-pub lines_of-push : (arrivals : List Arrival) (a : Arrival) → lines_of (arrivals ++ a ∷ []) ≡ joined (lines_of arrivals) a.thread a.monitor a.role
+pub lines_of-push : (arrivals : List Arrival) (a : Arrival) → lines_of (arrivals ++ a ∷ []) ≡ after_join (lines_of arrivals) a.thread a.monitor a.role
 lines_of-push arrivals a =
     same_lines _ _ (IsFilled-lines_of (arrivals ++ a ∷ [])) (IsFilled-with_line (lines_of arrivals) a.monitor a.role _ (IsFilled-lines_of arrivals)) (λ m r.
     line-lines_of (arrivals ++ a ∷ []) m r ∙ threads_in-push arrivals a m r ∙ ap (λ l. l ++ threads_in (a ∷ []) m r) (sym (line-lines_of arrivals m r))
     ∙ at m r (is_in m r a) refl)
   where
     at : (m : ℕ) (r : Role) (b : Bool) → is_in m r a ≡ b
-        → line (lines_of arrivals) m r ++ list_map (λ (x : Arrival). x.thread) (cond b (a ∷ []) []) ≡ line (joined (lines_of arrivals) a.thread a.monitor a.role) m r
+        → line (lines_of arrivals) m r ++ list_map (λ (x : Arrival). x.thread) (cond b (a ∷ []) []) ≡ line (after_join (lines_of arrivals) a.thread a.monitor a.role) m r
     at m r true e =
         let same = is_in-key m r a e in
         ap (λ l. l ++ a.thread ∷ []) (line-key (lines_of arrivals) a.monitor m a.role r same)
-        ∙ sym (line-key (joined (lines_of arrivals) a.thread a.monitor a.role) a.monitor m a.role r same
+        ∙ sym (line-key (after_join (lines_of arrivals) a.thread a.monitor a.role) a.monitor m a.role r same
         ∙ line-with_line_same (lines_of arrivals) a.monitor a.role (line (lines_of arrivals) a.monitor a.role ++ a.thread ∷ []))
     at m r false e =
         append-nil (line (lines_of arrivals) m r)
@@ -93,15 +93,15 @@ threads_in-others t (a ∷ rest) m r = at (is_thread t a.thread) (is_in m r a) r
 
 -- to drop a thread's arrivals is to leave the line that it stands in
 pub lines_of-others : (t : ThreadId) (arrivals : List Arrival) (reservations m : ℕ) (r : Role) → IsOrderly (standing_of arrivals reservations) → StandsIn (lines_of arrivals) t m r
-    → lines_of (others t arrivals) ≡ left (lines_of arrivals) t m r
+    → lines_of (others t arrivals) ≡ after_leave (lines_of arrivals) t m r
 lines_of-others t arrivals reservations m r orderly stands =
     same_lines _ _ (IsFilled-lines_of (others t arrivals)) (IsFilled-with_line (lines_of arrivals) m r _ (IsFilled-lines_of arrivals)) (λ n q.
     line-lines_of (others t arrivals) n q ∙ threads_in-others t arrivals n q ∙ ap (without t) (sym (line-lines_of arrivals n q)) ∙ at n q (cases_key m n r q))
   where
-    at : (n : ℕ) (q : Role) → (key n q ≡ key m r) ⊎ (key n q ≢ key m r) → without t (line (lines_of arrivals) n q) ≡ line (left (lines_of arrivals) t m r) n q
+    at : (n : ℕ) (q : Role) → (key n q ≡ key m r) ⊎ (key n q ≢ key m r) → without t (line (lines_of arrivals) n q) ≡ line (after_leave (lines_of arrivals) t m r) n q
     at n q (inl same) =
         ap (without t) (line-key (lines_of arrivals) m n r q same)
-        ∙ sym (line-key (left (lines_of arrivals) t m r) m n r q same ∙ line-with_line_same (lines_of arrivals) m r (without t (line (lines_of arrivals) m r)))
+        ∙ sym (line-key (after_leave (lines_of arrivals) t m r) m n r q same ∙ line-with_line_same (lines_of arrivals) m r (without t (line (lines_of arrivals) m r)))
     at n q (inr other) =
         without-absent t (line (lines_of arrivals) n q) (λ h. let there = orderly.one_line t n m q r h stands in other (key-same n m q r there.0 there.1))
         ∙ sym (line-with_line_other (lines_of arrivals) m n r q (without t (line (lines_of arrivals) m r)) other)
@@ -179,7 +179,7 @@ IsOrderly-others t arrivals reservations orderly = at (cases_lt (length (others 
     at (inl fewer) =
         let stands = Stands-found t arrivals fewer in
         subst (λ l. IsOrderly (record { lines = l; reservations = reservations })) (sym (lines_of-others t arrivals reservations stands.0 stands.1 orderly stands.2))
-        (IsOrderly-left (standing_of arrivals reservations) t stands.0 stands.1 orderly)
+        (IsOrderly-after_leave (standing_of arrivals reservations) t stands.0 stands.1 orderly)
     at (inr all) = subst (λ l. IsOrderly (standing_of l reservations)) (sym (others-all t arrivals all)) orderly
 
 -- ---- one more, before others of other lines
@@ -189,19 +189,19 @@ threads_in-append xs ys m r =
     ap (list_map (λ (x : Arrival). x.thread)) (filter-append (is_in m r) xs ys)
     ∙ map-append (λ (x : Arrival). x.thread) (filter (is_in m r) xs) (filter (is_in m r) ys)
 
-pub lines_of-insert : (xs ys : List Arrival) (a : Arrival) → threads_in ys a.monitor a.role ≡ [] → lines_of (xs ++ a ∷ ys) ≡ joined (lines_of (xs ++ ys)) a.thread a.monitor a.role
+pub lines_of-insert : (xs ys : List Arrival) (a : Arrival) → threads_in ys a.monitor a.role ≡ [] → lines_of (xs ++ a ∷ ys) ≡ after_join (lines_of (xs ++ ys)) a.thread a.monitor a.role
 lines_of-insert xs ys a none =
     same_lines _ _ (IsFilled-lines_of (xs ++ a ∷ ys)) (IsFilled-with_line (lines_of (xs ++ ys)) a.monitor a.role _ (IsFilled-lines_of (xs ++ ys))) (λ m r.
     line-lines_of (xs ++ a ∷ ys) m r ∙ threads_in-append xs (a ∷ ys) m r ∙ at m r (is_in m r a) refl)
   where
     at : (m : ℕ) (r : Role) (b : Bool) → is_in m r a ≡ b
-        → threads_in xs m r ++ list_map (λ (x : Arrival). x.thread) (cond b (a ∷ filter (is_in m r) ys) (filter (is_in m r) ys)) ≡ line (joined (lines_of (xs ++ ys)) a.thread a.monitor a.role) m r
+        → threads_in xs m r ++ list_map (λ (x : Arrival). x.thread) (cond b (a ∷ filter (is_in m r) ys) (filter (is_in m r) ys)) ≡ line (after_join (lines_of (xs ++ ys)) a.thread a.monitor a.role) m r
     at m r true e =
         let same = is_in-key m r a e in
         let here : threads_in ys m r ≡ [] = ap (λ (k : Key). threads_in ys k.0 k.1) same ∙ none in
         ap (λ l. threads_in xs m r ++ a.thread ∷ l) here
         ∙ ap (λ l. l ++ a.thread ∷ []) (sym (append-nil (threads_in xs m r)) ∙ ap (λ l. threads_in xs m r ++ l) (sym here) ∙ sym (threads_in-append xs ys m r) ∙ sym (line-lines_of (xs ++ ys) m r) ∙ line-key (lines_of (xs ++ ys)) a.monitor m a.role r same)
-        ∙ sym (line-key (joined (lines_of (xs ++ ys)) a.thread a.monitor a.role) a.monitor m a.role r same
+        ∙ sym (line-key (after_join (lines_of (xs ++ ys)) a.thread a.monitor a.role) a.monitor m a.role r same
         ∙ line-with_line_same (lines_of (xs ++ ys)) a.monitor a.role (line (lines_of (xs ++ ys)) a.monitor a.role ++ a.thread ∷ []))
     at m r false e =
         sym (threads_in-append xs ys m r) ∙ sym (line-lines_of (xs ++ ys) m r)

@@ -12,7 +12,7 @@ use Rattle.wait_lines.specs.declared.Role.TheVariants.{Entry}
 use Rattle.wait_lines.specs.declared.links.Stop.TheVariants.{End, Free}
 use Rattle.wait_lines.specs.declared.links.Spot.{Spot}
 use Rattle.wait_lines.specs.declared.links.Ends.{Ends}
-use Rattle.wait_lines.specs.Lines.{key, StandsNowhere, joined, total_count, is_thread, LineMap, standing, IsOrderly}
+use Rattle.wait_lines.specs.Lines.{key, StandsNowhere, after_join, total_count, is_thread, LineMap, standing, IsOrderly}
 use Rattle.wait_lines.specs.Links.{Chart, node, spot_at, ends_at, behind_of, unlinked, linked, with_thread, with_key, is_node}
 use Rattle.wait_lines.specs.Rings.{without_number, Walk}
 use Rattle.wait_lines.specs.Rows.{rows_of, row_at, times_number, times_in_rows, rows_without, rows_with, AreLinked, AreLinkedBut}
@@ -20,7 +20,7 @@ use Rattle.wait_lines.specs.Arrivals.{Arrival, lines_of, nodes_of, threads_of, k
 use Rattle.wait_lines.proofs.LinkLemmas.{sizes-unlinked, sizes-linked, behind-with_thread, before-with_thread, behind-with_key, before-with_key}
 use Rattle.wait_lines.proofs.RowLemmas.{rows-shown, AreLinked-unlinked, AreLinked-linked, AreLinkedBut-same, rows-without_out, rows-full, times-cons, times-row}
 use Rattle.wait_lines.proofs.ArrivalLemmas.{lines_of-insert, total_count-lines_of}
-use Rattle.wait_lines.proofs.LineLemmas.{IsOrderly-joined}
+use Rattle.wait_lines.proofs.LineLemmas.{IsOrderly-after_join}
 use Rattle.wait_lines.proofs.ThreadLemmas.{same_thread}
 use Rattle.wait_lines.proofs.ArrivingLemmas.{NoneBut, Between, arrivals-joined, nodes_of-insert, count-between, count-nowhere, length-arrivals}
 use Rattle.wait_lines.proofs.RecordLemmas.{threads-unlinked, keys-unlinked, threads-linked, keys-linked, row-full, number_of}
@@ -151,10 +151,10 @@ module _ (c : Chart) (n : ℕ) (t : ThreadId) (k m : ℕ) (r : Role) (h : IsKept
           (arrivals-joined (threads_of c) (keys_of c) (tail_of (rows_of c)) n t k (key m r) out
           (let l = lengths.2 in let f = free-here in omega arith) (let l = lengths.0 in omega arith) (let x = lengths.0 in let y = lengths.1 in omega arith) fits none)
 
-      pub lines_joined : lines_of (arrivals_of after) ≡ joined (lines_of (arrivals_of c)) t m r
+      pub lines_joined : lines_of (arrivals_of after) ≡ after_join (lines_of (arrivals_of c)) t m r
       lines_joined =
           ap lines_of between.3 ∙ lines_of-insert between.0 between.1 (record { thread = t; monitor = m; role = r; node = n }) between.4
-          ∙ ap (λ xs. joined (lines_of xs) t m r) (sym between.2)
+          ∙ ap (λ xs. after_join (lines_of xs) t m r) (sym between.2)
 
       fresh : count_by (λ (x : Arrival). is_thread t x.thread) (between.0 ++ between.1) ≡ 0
       fresh = ap (λ xs. count_by (λ (x : Arrival). is_thread t x.thread) xs) (sym between.2) ∙ count-nowhere t (arrivals_of c) nowhere
@@ -178,7 +178,7 @@ module _ (c : Chart) (n : ℕ) (t : ThreadId) (k m : ℕ) (r : Role) (h : IsKept
         where
           orderly : IsOrderly (standing (shown after))
           orderly =
-              let o = IsOrderly-joined (standing (shown c)) t m r h.orderly nowhere room in
+              let o = IsOrderly-after_join (standing (shown c)) t m r h.orderly nowhere room in
               let o2 : IsOrderly (record { lines = lines_of (arrivals_of after); reservations = length c.spots }) =
               subst (λ (l : LineMap). IsOrderly (record { lines = l; reservations = length c.spots })) (sym lines_joined) o in
               subst (λ (l : ℕ). IsOrderly (record { lines = lines_of (arrivals_of after); reservations = l })) (sym sizes_joined.0) o2

@@ -9,7 +9,7 @@ use Rattle.lock_word.specs.declared.ThreadId.{ThreadId}
 use Rattle.wait_lines.specs.declared.Role.{Role}
 use Rattle.wait_lines.specs.declared.Role.TheVariants.{Entry}
 use Rattle.wait_lines.specs.declared.links.Stop.TheVariants.{Free}
-use Rattle.wait_lines.specs.Lines.{key, StandsAt, StandsIn, left}
+use Rattle.wait_lines.specs.Lines.{key, StandsAt, StandsIn, after_leave}
 use Rattle.wait_lines.specs.Links.{Chart, node, unlinked, linked}
 use Rattle.wait_lines.specs.Rings.{without_number}
 use Rattle.wait_lines.specs.Rows.{rows_of, row_at, times_number, rows_without, moved, AreLinked}
@@ -78,7 +78,7 @@ module _ (c : Chart) (n : ℕ) (t : ThreadId) (h : IsKept c) (stands : StandsAt 
       there : IsMember (arrivals_of c) t n
       there = there-node (arrivals_of c) t n stands
 
-  pub lines_after : (m : ℕ) (r : Role) → StandsIn (lines_of (arrivals_of c)) t m r → lines_of (arrivals_of (freed c n)) ≡ left (lines_of (arrivals_of c)) t m r
+  pub lines_after : (m : ℕ) (r : Role) → StandsIn (lines_of (arrivals_of c)) t m r → lines_of (arrivals_of (freed c n)) ≡ after_leave (lines_of (arrivals_of c)) t m r
   lines_after m r in_line = ap lines_of arrivals_after ∙ lines_of-others t (arrivals_of c) (length c.spots) m r h.orderly in_line
 
   pub nodes_after : nodes_of (arrivals_of (freed c n)) ≡ map.remove (nodes_of (arrivals_of c)) t.0

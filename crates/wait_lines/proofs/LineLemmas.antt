@@ -16,7 +16,7 @@ use Rattle.std.proofs.lemmas.List.Elements.{Contains-push_cases, Contains-append
 use Rattle.lock_word.specs.declared.ThreadId.{ThreadId}
 use Rattle.wait_lines.specs.declared.Role.{Role}
 use Rattle.wait_lines.specs.declared.Role.TheVariants.{Entry, Waiting}
-use Rattle.wait_lines.specs.Lines.{Key, key, role_number, key_cmp, LineMap, line, with_line, StandsIn, StandsNowhere, is_thread, without, times_in, joined, left, total_count, IsFilled, Standing, nobody, IsOrderly}
+use Rattle.wait_lines.specs.Lines.{Key, key, role_number, key_cmp, LineMap, line, with_line, StandsIn, StandsNowhere, is_thread, without, times_in, after_join, after_leave, total_count, IsFilled, Standing, nobody, IsOrderly}
 use Rattle.wait_lines.proofs.ThreadLemmas.{same_thread, Contains-cons_first, contains_none, times_in-one, times_in-absent, times_in-present, Contains-without, Contains-without_itself, Contains-without_other, times_in-without, length-without}
 
 -- ---- keys
@@ -245,57 +245,57 @@ line_after lines m n r q ts = at (cases_key m n r q)
     at (inl same) = inr (same, line-key (with_line lines m r ts) m n r q same ∙ line-with_line_same lines m r ts)
     at (inr other) = inl (line-with_line_other lines m n r q ts other)
 
-pub StandsIn-joined : (lines : LineMap) (t : ThreadId) (m : ℕ) (r : Role) → StandsIn (joined lines t m r) t m r
-StandsIn-joined lines t m r = subst (λ l. Contains l t) (sym (line-with_line_same lines m r (line lines m r ++ t ∷ []))) (Contains-push (line lines m r) t)
+pub StandsIn-after_join : (lines : LineMap) (t : ThreadId) (m : ℕ) (r : Role) → StandsIn (after_join lines t m r) t m r
+StandsIn-after_join lines t m r = subst (λ l. Contains l t) (sym (line-with_line_same lines m r (line lines m r ++ t ∷ []))) (Contains-push (line lines m r) t)
 
 -- who stands in a line after a join stood there before, or is who joined
-pub StandsIn-joined_cases : (lines : LineMap) (t u : ThreadId) (m n : ℕ) (r q : Role) → StandsIn (joined lines t m r) u n q → StandsIn lines u n q ⊎ ((t ≡ u) × (key n q ≡ key m r))
-StandsIn-joined_cases lines t u m n r q h = at (line_after lines m n r q (line lines m r ++ t ∷ []))
+pub StandsIn-after_join_cases : (lines : LineMap) (t u : ThreadId) (m n : ℕ) (r q : Role) → StandsIn (after_join lines t m r) u n q → StandsIn lines u n q ⊎ ((t ≡ u) × (key n q ≡ key m r))
+StandsIn-after_join_cases lines t u m n r q h = at (line_after lines m n r q (line lines m r ++ t ∷ []))
   where
     pushed : key n q ≡ key m r → Contains (line lines m r) u ⊎ (t ≡ u) → StandsIn lines u n q ⊎ ((t ≡ u) × (key n q ≡ key m r))
     pushed same (inl before) = inl (subst (λ l. Contains l u) (sym (line-key lines m n r q same)) before)
     pushed same (inr itself) = inr (itself, same)
 
-    at : line (joined lines t m r) n q ≡ line lines n q ⊎ ((key n q ≡ key m r) × (line (joined lines t m r) n q ≡ line lines m r ++ t ∷ [])) → StandsIn lines u n q ⊎ ((t ≡ u) × (key n q ≡ key m r))
+    at : line (after_join lines t m r) n q ≡ line lines n q ⊎ ((key n q ≡ key m r) × (line (after_join lines t m r) n q ≡ line lines m r ++ t ∷ [])) → StandsIn lines u n q ⊎ ((t ≡ u) × (key n q ≡ key m r))
     at (inl kept) = inl (subst (λ l. Contains l u) kept h)
     at (inr here) = pushed here.0 (Contains-push_cases (line lines m r) t u (subst (λ l. Contains l u) here.1 h))
 
 -- who stood in a line before a join stands there after it
-pub StandsIn-joined_before : (lines : LineMap) (t u : ThreadId) (m n : ℕ) (r q : Role) → StandsIn lines u n q → StandsIn (joined lines t m r) u n q
-StandsIn-joined_before lines t u m n r q h = at (line_after lines m n r q (line lines m r ++ t ∷ []))
+pub StandsIn-after_join_before : (lines : LineMap) (t u : ThreadId) (m n : ℕ) (r q : Role) → StandsIn lines u n q → StandsIn (after_join lines t m r) u n q
+StandsIn-after_join_before lines t u m n r q h = at (line_after lines m n r q (line lines m r ++ t ∷ []))
   where
-    at : line (joined lines t m r) n q ≡ line lines n q ⊎ ((key n q ≡ key m r) × (line (joined lines t m r) n q ≡ line lines m r ++ t ∷ [])) → StandsIn (joined lines t m r) u n q
+    at : line (after_join lines t m r) n q ≡ line lines n q ⊎ ((key n q ≡ key m r) × (line (after_join lines t m r) n q ≡ line lines m r ++ t ∷ [])) → StandsIn (after_join lines t m r) u n q
     at (inl kept) = subst (λ l. Contains l u) (sym kept) h
     at (inr here) = subst (λ l. Contains l u) (sym here.1) (Contains-append_left (line lines m r) (t ∷ []) u (subst (λ l. Contains l u) (line-key lines m n r q here.0) h))
 
 -- who stands in a line after a thread left one stood there before
-pub StandsIn-left_before : (lines : LineMap) (t u : ThreadId) (m n : ℕ) (r q : Role) → StandsIn (left lines t m r) u n q → StandsIn lines u n q
-StandsIn-left_before lines t u m n r q h = at (line_after lines m n r q (without t (line lines m r)))
+pub StandsIn-after_leave_before : (lines : LineMap) (t u : ThreadId) (m n : ℕ) (r q : Role) → StandsIn (after_leave lines t m r) u n q → StandsIn lines u n q
+StandsIn-after_leave_before lines t u m n r q h = at (line_after lines m n r q (without t (line lines m r)))
   where
-    at : line (left lines t m r) n q ≡ line lines n q ⊎ ((key n q ≡ key m r) × (line (left lines t m r) n q ≡ without t (line lines m r))) → StandsIn lines u n q
+    at : line (after_leave lines t m r) n q ≡ line lines n q ⊎ ((key n q ≡ key m r) × (line (after_leave lines t m r) n q ≡ without t (line lines m r))) → StandsIn lines u n q
     at (inl kept) = subst (λ l. Contains l u) kept h
     at (inr here) = subst (λ l. Contains l u) (sym (line-key lines m n r q here.0)) (Contains-without t u (line lines m r) (subst (λ l. Contains l u) here.1 h))
 
 -- the others stay where they stood when a thread leaves
-pub StandsIn-left : (lines : LineMap) (t u : ThreadId) (m n : ℕ) (r q : Role) → u ≢ t → StandsIn lines u n q → StandsIn (left lines t m r) u n q
-StandsIn-left lines t u m n r q other h = at (line_after lines m n r q (without t (line lines m r)))
+pub StandsIn-after_leave : (lines : LineMap) (t u : ThreadId) (m n : ℕ) (r q : Role) → u ≢ t → StandsIn lines u n q → StandsIn (after_leave lines t m r) u n q
+StandsIn-after_leave lines t u m n r q other h = at (line_after lines m n r q (without t (line lines m r)))
   where
-    at : line (left lines t m r) n q ≡ line lines n q ⊎ ((key n q ≡ key m r) × (line (left lines t m r) n q ≡ without t (line lines m r))) → StandsIn (left lines t m r) u n q
+    at : line (after_leave lines t m r) n q ≡ line lines n q ⊎ ((key n q ≡ key m r) × (line (after_leave lines t m r) n q ≡ without t (line lines m r))) → StandsIn (after_leave lines t m r) u n q
     at (inl kept) = subst (λ l. Contains l u) (sym kept) h
     at (inr here) = subst (λ l. Contains l u) (sym here.1) (Contains-without_other t u (line lines m r) other (subst (λ l. Contains l u) (line-key lines m n r q here.0) h))
 
 -- a thread that left stands nowhere
-pub StandsNowhere-left : (s : Standing) (t : ThreadId) (m : ℕ) (r : Role) → IsOrderly s → StandsIn s.lines t m r → StandsNowhere (left s.lines t m r) t
-StandsNowhere-left s t m r orderly stands n q h = at (line_after s.lines m n r q (without t (line s.lines m r)))
+pub StandsNowhere-after_leave : (s : Standing) (t : ThreadId) (m : ℕ) (r : Role) → IsOrderly s → StandsIn s.lines t m r → StandsNowhere (after_leave s.lines t m r) t
+StandsNowhere-after_leave s t m r orderly stands n q h = at (line_after s.lines m n r q (without t (line s.lines m r)))
   where
-    gone : (key n q ≡ key m r) → line (left s.lines t m r) n q ≡ without t (line s.lines m r) → ⊥
+    gone : (key n q ≡ key m r) → line (after_leave s.lines t m r) n q ≡ without t (line s.lines m r) → ⊥
     gone same e = Contains-without_itself t (line s.lines m r) (subst (λ l. Contains l t) e h)
 
-    at : line (left s.lines t m r) n q ≡ line s.lines n q ⊎ ((key n q ≡ key m r) × (line (left s.lines t m r) n q ≡ without t (line s.lines m r))) → ⊥
+    at : line (after_leave s.lines t m r) n q ≡ line s.lines n q ⊎ ((key n q ≡ key m r) × (line (after_leave s.lines t m r) n q ≡ without t (line s.lines m r))) → ⊥
     at (inl kept) =
         let there = orderly.one_line t n m q r (subst (λ l. Contains l t) kept h) stands in
         let same = key-same n m q r there.0 there.1 in
-        gone same (line-key (left s.lines t m r) m n r q same ∙ line-with_line_same s.lines m r (without t (line s.lines m r)))
+        gone same (line-key (after_leave s.lines t m r) m n r q same ∙ line-with_line_same s.lines m r (without t (line s.lines m r)))
     at (inr here) = gone here.0 here.1
 
 -- the first thread of a line stands in it
@@ -311,13 +311,13 @@ pub length-line-le : (lines : LineMap) (m : ℕ) (r : Role) → length (line lin
 length-line-le lines m r = let e = total_count-with_line lines m r [] in omega arith
 
 -- one thread more stands in lines
-pub total_count-joined : (lines : LineMap) (t : ThreadId) (m : ℕ) (r : Role) → total_count (joined lines t m r) ≡ total_count lines + 1
-total_count-joined lines t m r =
+pub total_count-after_join : (lines : LineMap) (t : ThreadId) (m : ℕ) (r : Role) → total_count (after_join lines t m r) ≡ total_count lines + 1
+total_count-after_join lines t m r =
     let e = total_count-with_line lines m r (line lines m r ++ t ∷ []) in let l = length-append (line lines m r) (t ∷ []) in omega arith
 
 -- one thread less
-pub total_count-left : (s : Standing) (t : ThreadId) (m : ℕ) (r : Role) → IsOrderly s → StandsIn s.lines t m r → total_count (left s.lines t m r) + 1 ≡ total_count s.lines
-total_count-left s t m r orderly stands =
+pub total_count-after_leave : (s : Standing) (t : ThreadId) (m : ℕ) (r : Role) → IsOrderly s → StandsIn s.lines t m r → total_count (after_leave s.lines t m r) + 1 ≡ total_count s.lines
+total_count-after_leave s t m r orderly stands =
     let e = total_count-with_line s.lines m r (without t (line s.lines m r)) in
     let l = length-without t (line s.lines m r) in
     let low = times_in-present t (line s.lines m r) stands in
@@ -342,12 +342,12 @@ IsOrderly-reserved s orderly few = record {
   few = omega arith;
 }
 
-pub IsOrderly-joined : (s : Standing) (t : ThreadId) (m : ℕ) (r : Role) → IsOrderly s → StandsNowhere s.lines t → total_count s.lines < s.reservations → IsOrderly (record s { lines = joined s.lines t m r })
-IsOrderly-joined s t m r orderly nowhere room = record {
-  one_line = λ u n p q x h k. one u n p q x (StandsIn-joined_cases s.lines t u m n r q h) (StandsIn-joined_cases s.lines t u m p r x k);
+pub IsOrderly-after_join : (s : Standing) (t : ThreadId) (m : ℕ) (r : Role) → IsOrderly s → StandsNowhere s.lines t → total_count s.lines < s.reservations → IsOrderly (record s { lines = after_join s.lines t m r })
+IsOrderly-after_join s t m r orderly nowhere room = record {
+  one_line = λ u n p q x h k. one u n p q x (StandsIn-after_join_cases s.lines t u m n r q h) (StandsIn-after_join_cases s.lines t u m p r x k);
   once = λ u n q. at u n q (line_after s.lines m n r q (line s.lines m r ++ t ∷ []));
   filled = IsFilled-with_line s.lines m r (line s.lines m r ++ t ∷ []) orderly.filled;
-  within = let e = total_count-joined s.lines t m r in omega arith;
+  within = let e = total_count-after_join s.lines t m r in omega arith;
   few = orderly.few;
 }
   where
@@ -369,13 +369,13 @@ IsOrderly-joined s t m r orderly nowhere room = record {
         let none : times_in u (t ∷ []) ≡ 0 = times_in-one u t ∙ ap (λ c. cond c 1 0) e in
         omega arith
 
-    at : (u : ThreadId) (n : ℕ) (q : Role) → line (joined s.lines t m r) n q ≡ line s.lines n q ⊎ ((key n q ≡ key m r) × (line (joined s.lines t m r) n q ≡ line s.lines m r ++ t ∷ [])) → times_in u (line (joined s.lines t m r) n q) ≤ 1
+    at : (u : ThreadId) (n : ℕ) (q : Role) → line (after_join s.lines t m r) n q ≡ line s.lines n q ⊎ ((key n q ≡ key m r) × (line (after_join s.lines t m r) n q ≡ line s.lines m r ++ t ∷ [])) → times_in u (line (after_join s.lines t m r) n q) ≤ 1
     at u n q (inl kept) = subst (λ l. times_in u l ≤ 1) (sym kept) (orderly.once u n q)
     at u n q (inr here) = subst (λ l. times_in u l ≤ 1) (sym here.1) (pushed u (is_thread u t) refl)
 
-pub IsOrderly-left : (s : Standing) (t : ThreadId) (m : ℕ) (r : Role) → IsOrderly s → IsOrderly (record s { lines = left s.lines t m r })
-IsOrderly-left s t m r orderly = record {
-  one_line = λ u n p q x h k. orderly.one_line u n p q x (StandsIn-left_before s.lines t u m n r q h) (StandsIn-left_before s.lines t u m p r x k);
+pub IsOrderly-after_leave : (s : Standing) (t : ThreadId) (m : ℕ) (r : Role) → IsOrderly s → IsOrderly (record s { lines = after_leave s.lines t m r })
+IsOrderly-after_leave s t m r orderly = record {
+  one_line = λ u n p q x h k. orderly.one_line u n p q x (StandsIn-after_leave_before s.lines t u m n r q h) (StandsIn-after_leave_before s.lines t u m p r x k);
   once = λ u n q. at u n q (line_after s.lines m n r q (without t (line s.lines m r)));
   filled = IsFilled-with_line s.lines m r (without t (line s.lines m r)) orderly.filled;
   within =
@@ -386,7 +386,7 @@ IsOrderly-left s t m r orderly = record {
   few = orderly.few;
 }
   where
-    at : (u : ThreadId) (n : ℕ) (q : Role) → line (left s.lines t m r) n q ≡ line s.lines n q ⊎ ((key n q ≡ key m r) × (line (left s.lines t m r) n q ≡ without t (line s.lines m r))) → times_in u (line (left s.lines t m r) n q) ≤ 1
+    at : (u : ThreadId) (n : ℕ) (q : Role) → line (after_leave s.lines t m r) n q ≡ line s.lines n q ⊎ ((key n q ≡ key m r) × (line (after_leave s.lines t m r) n q ≡ without t (line s.lines m r))) → times_in u (line (after_leave s.lines t m r) n q) ≤ 1
     at u n q (inl kept) = subst (λ l. times_in u l ≤ 1) (sym kept) (orderly.once u n q)
     at u n q (inr here) =
         let less = times_in-without t u (line s.lines m r) in let before = orderly.once u m r in

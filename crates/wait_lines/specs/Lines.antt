@@ -60,11 +60,11 @@ abbrev pub times_in : ThreadId → List ThreadId → ℕ
 times_in t ts = count_by (is_thread t) ts
 
 -- the lines after a thread joined one at its end, and after it left the one that it stood in
-abbrev pub joined : LineMap → ThreadId → ℕ → Role → LineMap
-joined lines t m r = with_line lines m r (line lines m r ++ t ∷ [])
+abbrev pub after_join : LineMap → ThreadId → ℕ → Role → LineMap
+after_join lines t m r = with_line lines m r (line lines m r ++ t ∷ [])
 
-abbrev pub left : LineMap → ThreadId → ℕ → Role → LineMap
-left lines t m r = with_line lines m r (without t (line lines m r))
+abbrev pub after_leave : LineMap → ThreadId → ℕ → Role → LineMap
+after_leave lines t m r = with_line lines m r (without t (line lines m r))
 
 -- how many threads stand in lines
 abbrev pub total_count : LineMap → ℕ

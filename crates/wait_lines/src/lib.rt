@@ -9,7 +9,7 @@ ghost use Rattle.std.specs.Prelude.{◌≡◌, ◌↔◌, ◌+◌, ◌<◌, ◌�
 ghost use Rattle.std.specs.Prelude.{OnOk, OnErr, slice_get};
 ghost use Rattle.std.specs.Bool.{OnFalse};
 ghost use Rattle.wait_lines.specs.declared.Role.{Role};
-ghost use Rattle.wait_lines.specs.Lines.{line, joined, left, StandsIn, Stands, StandsNowhere};
+ghost use Rattle.wait_lines.specs.Lines.{line, after_join, after_leave, StandsIn, Stands, StandsNowhere};
 ghost use Rattle.wait_lines.specs.Lines.{total_count, nobody, standing, IsOrderly, StandsAt};
 ghost use Rattle.std.specs.FinMap as map;
 ghost use Rattle.lock_word.specs.declared.ThreadId.{ThreadId};
@@ -110,7 +110,7 @@ impl Lines {
     pub fn leave(&mut self, thread: ThreadId) -> bool
         ensures stood { IsTrue result ↔ Stands self.old.lines thread }
         ensures left { (m : ℕ) (r : Role) → StandsIn self.old.lines thread m r
-            → self.new.lines ≡ left self.old.lines thread m r }
+            → self.new.lines ≡ after_leave self.old.lines thread m r }
         ensures nodes { (n : ℕ) → StandsAt self.old.nodes thread n
             → self.new.nodes ≡ map.remove self.old.nodes thread.0 }
         ensures gone { StandsNowhere self.new.lines thread }
@@ -161,7 +161,7 @@ impl Lines {
     pub fn join(&mut self, thread: ThreadId, monitor: u32, role: Role) -> Node
         requires nowhere { StandsNowhere self.old.lines thread }
         requires room { total_count self.old.lines < self.old.reservations }
-        ensures joined { self.new.lines ≡ joined self.old.lines thread monitor role }
+        ensures joined { self.new.lines ≡ after_join self.old.lines thread monitor role }
         ensures node { self.new.nodes ≡ map.insert self.old.nodes thread.0 result.0 }
         ensures reservations { self.new.reservations ≡ self.old.reservations }
         ensures orderly { IsOrderly (standing self.new) }
@@ -185,7 +185,7 @@ impl Lines {
         requires stands { (t : ThreadId) × StandsAt self.old.nodes t node.0 }
         ensures left { (t : ThreadId) (m : ℕ) (r : Role)
             → StandsAt self.old.nodes t node.0 → StandsIn self.old.lines t m r
-            → self.new.lines ≡ left self.old.lines t m r }
+            → self.new.lines ≡ after_leave self.old.lines t m r }
         ensures nodes { (t : ThreadId) → StandsAt self.old.nodes t node.0
             → self.new.nodes ≡ map.remove self.old.nodes t.0 }
         ensures reservations { self.new.reservations ≡ self.old.reservations }

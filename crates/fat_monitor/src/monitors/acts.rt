@@ -10,7 +10,7 @@ ghost use Rattle.fat_monitor.specs.declared.actions.Post.{Post};
 ghost use Rattle.wait_lines.specs.Lines.{key};
 ghost use Rattle.fat_monitor.specs.FatState.{post_at, post_of, IsAttached, owns_one, monitor_at};
 ghost use Rattle.fat_monitor.specs.FatState.{is_owned_by, first_of, line_key_of, ComesBack};
-ghost use Rattle.fat_monitor.specs.Acting.{acted, told, handed_on, granted, removed, served};
+ghost use Rattle.fat_monitor.specs.Acting.{outcome_of, answers, after_hand_on, after_grant, after_removal, granted_by_removal};
 
 use super::Fats;
 use crate::replies::{granted_to, is_owner, reply_with, tell, yes_or_no};
@@ -24,7 +24,7 @@ impl Fats {
         requires out { post_of self.old thread ≡ Some Post.Out }
         requires bound { monitor < length self.old.monitors }
         ensures { record { answer = Ok result; after = self.new }
-            ≡ acted self.old thread (Action.Enter monitor) }
+            ≡ outcome_of self.old thread (Action.Enter monitor) }
     {
         let Some(owner) = self.owner(monitor) else {
             self.monitors[monitor as usize].give(Some(thread), 1);
@@ -48,7 +48,7 @@ impl Fats {
         requires out { post_of self.old thread ≡ Some Post.Out }
         requires bound { monitor < length self.old.monitors }
         ensures { record { answer = Ok result; after = self.new }
-            ≡ acted self.old thread (Action.Exit monitor) }
+            ≡ outcome_of self.old thread (Action.Exit monitor) }
     {
         if !self.is_owner(monitor, thread) {
             return reply_with(Reply::IllegalMonitorState);
@@ -66,7 +66,7 @@ impl Fats {
         requires out { post_of self.old thread ≡ Some Post.Out }
         requires bound { monitor < length self.old.monitors }
         ensures { record { answer = Ok result; after = self.new }
-            ≡ acted self.old thread (Action.Wait monitor millis nanos) }
+            ≡ outcome_of self.old thread (Action.Wait monitor millis nanos) }
     {
         if !self.is_owner(monitor, thread) {
             return reply_with(Reply::IllegalMonitorState);
@@ -91,7 +91,7 @@ impl Fats {
 
     pub(super) fn notify(&mut self, thread: ThreadId, monitor: u32) -> Done
         ensures { record { answer = Ok result; after = self.new }
-            ≡ acted self.old thread (Action.Notify monitor) }
+            ≡ outcome_of self.old thread (Action.Notify monitor) }
     {
         if !self.is_owner(monitor, thread) {
             return reply_with(Reply::IllegalMonitorState);
@@ -105,7 +105,7 @@ impl Fats {
 
     pub(super) fn notify_all(&mut self, thread: ThreadId, monitor: u32) -> Done
         ensures { record { answer = Ok result; after = self.new }
-            ≡ acted self.old thread (Action.NotifyAll monitor) }
+            ≡ outcome_of self.old thread (Action.NotifyAll monitor) }
     {
         if !self.is_owner(monitor, thread) {
             return reply_with(Reply::IllegalMonitorState);
@@ -119,7 +119,7 @@ impl Fats {
     /// Sets the flag of a thread, and takes it out of the wait set that it stands in.
     pub(super) fn interrupt(&mut self, target: ThreadId) -> Done
         ensures { (t : ThreadId) → record { answer = Ok result; after = self.new }
-            ≡ acted self.old t (Action.Interrupt target) }
+            ≡ outcome_of self.old t (Action.Interrupt target) }
     {
         let Some(post) = self.posts.get(target) else {
             return reply_with(Reply::Refused(Cause::NoThread));
@@ -136,7 +136,7 @@ impl Fats {
     pub(super) fn test_and_clear(&mut self, thread: ThreadId) -> Done
         requires { IsAttached self.old thread }
         ensures { record { answer = Ok result; after = self.new }
-            ≡ acted self.old thread Action.Interrupted }
+            ≡ outcome_of self.old thread Action.Interrupted }
     {
         let flag = self.posts.flag(thread);
         self.posts.set_flag(thread, false);
@@ -146,7 +146,7 @@ impl Fats {
     /// Answers whether that thread is interrupted.
     pub(super) fn is_interrupted(&self, target: ThreadId) -> Done
         ensures { (t : ThreadId) → record { answer = Ok result; after = self.now }
-            ≡ acted self.now t (Action.IsInterrupted target) }
+            ≡ outcome_of self.now t (Action.IsInterrupted target) }
     {
         match self.flag(target) {
             Some(flag) => reply_with(yes_or_no(flag)),
@@ -157,7 +157,7 @@ impl Fats {
     /// Takes the thread out of the wait set that it stands in, if its deadline has come.
     pub(super) fn expire(&mut self, thread: ThreadId) -> Result<Done, ActFault>
         ensures { record { answer = result; after = self.new }
-            ≡ acted self.old thread Action.Expire }
+            ≡ outcome_of self.old thread Action.Expire }
     {
         let Some(
             Post::Waiting {
@@ -178,7 +178,7 @@ impl Fats {
     /// see.
     pub(super) fn wake(&mut self, thread: ThreadId) -> Result<Done, ActFault>
         ensures { record { answer = result; after = self.new }
-            ≡ acted self.old thread Action.Spurious }
+            ≡ outcome_of self.old thread Action.Spurious }
     {
         let Some(Post::Waiting { .. }) = self.posts.get(thread) else {
             return Err(ActFault::NotWaiting);
@@ -191,8 +191,8 @@ impl Fats {
         requires waits { (m : ℕ) × (n : ℕ) × (d : Option ℕ)
             × (post_of self.old thread ≡ Some (Post.Waiting m n d)) }
         ensures { record { answer = Ok result; after = self.new }
-            ≡ told (removed self.old thread why (post_at self.old thread)) Answer.Quiet
-            (served self.old thread (post_at self.old thread)) None }
+            ≡ answers (after_removal self.old thread why (post_at self.old thread)) Answer.Quiet
+            (granted_by_removal self.old thread (post_at self.old thread)) None }
     {
         let granted = self.call_back(thread, why);
         tell(Answer::Quiet, granted, None)
@@ -202,7 +202,7 @@ impl Fats {
     pub(super) fn collect(&mut self, thread: ThreadId) -> Result<Done, ActFault>
         requires { IsAttached self.old thread }
         ensures { record { answer = result; after = self.new }
-            ≡ acted self.old thread Action.Collect }
+            ≡ outcome_of self.old thread Action.Collect }
     {
         let Some(Post::Granted(reply)) = self.posts.get(thread) else {
             return Err(ActFault::Parked);
@@ -215,7 +215,7 @@ impl Fats {
     pub(super) fn end(&mut self, thread: ThreadId) -> Done
         requires { post_of self.old thread ≡ Some Post.Out }
         ensures { record { answer = Ok result; after = self.new }
-            ≡ acted self.old thread Action.End }
+            ≡ outcome_of self.old thread Action.End }
     {
         if self.owns_one(thread) {
             return reply_with(Reply::Refused(Cause::StillOwner));
@@ -229,7 +229,7 @@ impl Fats {
         requires { monitor < length self.old.monitors }
         ensures granted { result ≡ first_of self.old monitor Role.Entry }
         ensures after { self.new
-            ≡ handed_on self.old monitor (first_of self.old monitor Role.Entry) }
+            ≡ after_hand_on self.old monitor (first_of self.old monitor Role.Entry) }
     {
         let Some(next) = self.lines.first(monitor, Role::Entry) else {
             let owner = self.owner(monitor);
@@ -249,7 +249,7 @@ impl Fats {
         requires stands { (r : Role) × (line_key_of (post_at self.old thread) ≡ Some (key monitor r)) }
         requires comes { ComesBack post }
         ensures { (r : Role) → line_key_of (post_at self.old thread) ≡ Some (key monitor r)
-            → self.new ≡ granted self.old monitor thread post r }
+            → self.new ≡ after_grant self.old monitor thread post r }
     {
         let owner = self.owner(monitor);
         self.lines.leave_at(self.posts.node(thread));
@@ -268,8 +268,8 @@ impl Fats {
     fn call_back(&mut self, thread: ThreadId, why: Why) -> Option<ThreadId>
         requires waits { (m : ℕ) × (n : ℕ) × (d : Option ℕ)
             × (post_of self.old thread ≡ Some (Post.Waiting m n d)) }
-        ensures after { self.new ≡ removed self.old thread why (post_at self.old thread) }
-        ensures granted { result ≡ served self.old thread (post_at self.old thread) }
+        ensures after { self.new ≡ after_removal self.old thread why (post_at self.old thread) }
+        ensures granted { result ≡ granted_by_removal self.old thread (post_at self.old thread) }
     {
         let Some(Post::Waiting { monitor, holds, .. }) = self.posts.get(thread) else {
             unreachable!();

@@ -21,7 +21,7 @@ use Rattle.fat_monitor.specs.declared.actions.ActFault.{ActFault}
 use Rattle.fat_monitor.specs.declared.actions.Post.{Post}
 use Rattle.fat_monitor.specs.declared.actions.Post.TheVariants.{Out, Entering, Waiting, Back, Granted}
 use Rattle.fat_monitor.specs.FatState.{with_moment, post_of, post_at, owns_one}
-use Rattle.fat_monitor.specs.Acting.{Outcome as FatOutcome, acted, MayAct, NamesBound, expired as fat_expired, woken}
+use Rattle.fat_monitor.specs.Acting.{Outcome as FatOutcome, outcome_of, MayAct, NamesBound, expire_outcome, spurious_outcome}
 use Rattle.fast_path.specs.declared.calls.Call.{Call}
 use Rattle.fast_path.specs.declared.calls.MonitorCall.{MonitorCall}
 use Rattle.fast_path.specs.declared.calls.InterruptCall.{InterruptCall}
@@ -99,22 +99,22 @@ module _ (w : WorldState) (sound : IsSound w) (k : ℕ) (t : ThreadId) (seat : s
       ((fit.0, refl), (fit.2.0, own _ fit.2.0 fit.2.1), (low c.object (Fat m) (number_fits w sound k t seat m fit.1), refl, refl))
 
   -- a fat action of a call, by what it told
-  tells : (c : Call) (a : Action) → MayAct w.fats t a → NamesBound w.fats a → (r : Result Done ActFault) → (acted w.fats t a).answer ≡ r
+  tells : (c : Call) (a : Action) → MayAct w.fats t a → NamesBound w.fats a → (r : Result Done ActFault) → (outcome_of w.fats t a).answer ≡ r
       → MatchResult r (λ d. IsTold d.answer) (λ e. ⊥)
-      → GoChanges w t (after_told w t c a r (acted w.fats t a).after).did.atomic (with_go w k (after_told w t c a r (acted w.fats t a).after))
+      → GoChanges w t (after_told w t c a r (outcome_of w.fats t a).after).did.atomic (with_go w k (after_told w t c a r (outcome_of w.fats t a).after))
   tells c a allowed bound (Err x) e h = absurd h
   tells c a allowed bound (Ok d) e h = by_answer d.answer d.granted refl
     where
-      made : (x : Answer) → d.answer ≡ x → (y : Done) × ((acted w.fats t a).answer ≡ Ok y) × (y.answer ≡ x)
+      made : (x : Answer) → d.answer ≡ x → (y : Done) × ((outcome_of w.fats t a).answer ≡ Ok y) × (y.answer ≡ x)
       made x same = (d, e, same)
 
       by_answer : (x : Answer) (g : Option ThreadId) → d.answer ≡ x
-          → GoChanges w t (after_told w t c a (Ok (record { answer = x; granted = g; chosen = d.chosen })) (acted w.fats t a).after).did.atomic
-          (with_go w k (after_told w t c a (Ok (record { answer = x; granted = g; chosen = d.chosen })) (acted w.fats t a).after))
+          → GoChanges w t (after_told w t c a (Ok (record { answer = x; granted = g; chosen = d.chosen })) (outcome_of w.fats t a).after).did.atomic
+          (with_go w k (after_told w t c a (Ok (record { answer = x; granted = g; chosen = d.chosen })) (outcome_of w.fats t a).after))
       by_answer (answer.Reply r) None same = (allowed, bound, made (answer.Reply r) same, refl, refl)
       by_answer (answer.Reply r) (Some u) same = (allowed, bound, made (answer.Reply r) same, refl, refl)
       by_answer answer.Parked g same =
-          cond_both (is_wait c) _ _ (λ (x : Did). GoChanges w t x.atomic (record w { places = (with_go w k (after_told w t c a (Ok (record { answer = answer.Parked; granted = g; chosen = d.chosen })) (acted w.fats t a).after)).places; fats = (acted w.fats t a).after }))
+          cond_both (is_wait c) _ _ (λ (x : Did). GoChanges w t x.atomic (record w { places = (with_go w k (after_told w t c a (Ok (record { answer = answer.Parked; granted = g; chosen = d.chosen })) (outcome_of w.fats t a).after)).places; fats = (outcome_of w.fats t a).after }))
           (λ _. (allowed, bound, made answer.Parked same, refl, refl)) (λ _. (allowed, bound, made answer.Parked same, refl, refl))
       by_answer answer.Quiet g same = (allowed, bound, made answer.Quiet same, refl, refl)
 
@@ -124,7 +124,7 @@ module _ (w : WorldState) (sound : IsSound w) (k : ℕ) (t : ThreadId) (seat : s
 
   acts : (c : Call) (a : Action) → MayAct w.fats t a → NamesBound w.fats a → IsOwnAction a
       → GoChanges w t (after_act w t c a).did.atomic (with_go w k (after_act w t c a))
-  acts c a allowed bound mine = tells c a allowed bound (acted w.fats t a).answer refl (done w.fats t a mine)
+  acts c a allowed bound mine = tells c a allowed bound (outcome_of w.fats t a).answer refl (done w.fats t a mine)
 
   acts_on : (c : MonitorCall) (m : ℕ) → lock_at w c.object.0 ≡ Fat m
       → GoChanges w t (after_act w t (call_of c) (action_on c.operation m)).did.atomic (with_go w k (after_act w t (call_of c) (action_on c.operation m)))
@@ -174,12 +174,12 @@ module _ (w : WorldState) (sound : IsSound w) (t : ThreadId) where
   attaches false None (Some k) = tt
 
   -- an expiry that is accept answers nothing
-  expires_at : (p : Post) → post_at w.fats t ≡ p → Named w (step.Expire t) (after_wait_end_as time_over w t (fat_expired w.fats t p).answer (fat_expired w.fats t p).after)
+  expires_at : (p : Post) → post_at w.fats t ≡ p → Named w (step.Expire t) (after_wait_end_as time_over w t (expire_outcome w.fats t p).answer (expire_outcome w.fats t p).after)
   expires_at Out e = tt
   expires_at (Entering m) e = tt
   expires_at (Waiting m n None) e = tt
   expires_at (Waiting m n (Some d)) e =
-      cond_both (nat_lt w.fats.moment d) _ _ (λ (x : FatOutcome). x ≡ acted w.fats t action.Expire → Named w (step.Expire t) (after_wait_end_as time_over w t x.answer x.after))
+      cond_both (nat_lt w.fats.moment d) _ _ (λ (x : FatOutcome). x ≡ outcome_of w.fats t action.Expire → Named w (step.Expire t) (after_wait_end_as time_over w t x.answer x.after))
       (λ _ _. tt) (λ _ same. (refl, ap (λ (x : FatOutcome). x.after) same)) (sym (rw e refl))
   expires_at (Back m n y) e = tt
   expires_at (Granted r) e = tt
@@ -189,7 +189,7 @@ module _ (w : WorldState) (sound : IsSound w) (t : ThreadId) where
   expires (Some k) = expires_at (post_at w.fats t) refl
 
   -- and so does a spurious wake-up
-  wakes_at : (p : Post) → post_at w.fats t ≡ p → Named w (step.Spurious t) (after_wait_end_as wake_up w t (woken w.fats t p).answer (woken w.fats t p).after)
+  wakes_at : (p : Post) → post_at w.fats t ≡ p → Named w (step.Spurious t) (after_wait_end_as wake_up w t (spurious_outcome w.fats t p).answer (spurious_outcome w.fats t p).after)
   wakes_at Out e = tt
   wakes_at (Entering m) e = tt
   wakes_at (Waiting m n d) e = (refl, rw e refl)

@@ -14,7 +14,7 @@ use Rattle.fat_monitor.specs.declared.actions.Action.{Action}
 use Rattle.fat_monitor.specs.declared.actions.Done.{Done}
 use Rattle.fat_monitor.specs.declared.actions.ActFault.{ActFault}
 use Rattle.fat_monitor.specs.FatState.{FatState, with_moment, owns_one}
-use Rattle.fat_monitor.specs.Acting.{acted}
+use Rattle.fat_monitor.specs.Acting.{outcome_of}
 use Rattle.fast_path.specs.declared.calls.Call.{Call}
 use Rattle.fast_path.specs.declared.Next.{Next}
 use Rattle.fast_path.specs.declared.Next.TheVariants as next
@@ -83,7 +83,7 @@ module _ (w : WorldState) (sound : IsSound w) (k : ℕ) (t : ThreadId) (seat : s
   tells c a (Err e) f = same w _ refl
 
   acts : (c : Call) (a : Action) → Keeps w (with_go w k (after_act w t c a))
-  acts c a = tells c a (acted w.fats t a).answer (acted w.fats t a).after
+  acts c a = tells c a (outcome_of w.fats t a).answer (outcome_of w.fats t a).after
 
   looks : (n : ℕ) (own : Bool) → Keeps w (with_go w k (after_look_as w t n own))
   looks n true = same w _ refl
@@ -130,7 +130,7 @@ wait_ends_as x w t (Err e) f = same w _ refl
 
 wait_ends : (x : WaitEnd) (w : WorldState) (t : ThreadId) (o : Option ℕ) → Keeps w (after_wait_end x w t o).after
 wait_ends x w t None = same w _ refl
-wait_ends x w t (Some k) = wait_ends_as x w t (acted w.fats t x.action).answer (acted w.fats t x.action).after
+wait_ends x w t (Some k) = wait_ends_as x w t (outcome_of w.fats t x.action).answer (outcome_of w.fats t x.action).after
 
 ticks : (w : WorldState) (now : ℕ) → Keeps w (after_tick w now).after
 ticks w now =

@@ -22,7 +22,7 @@ use Rattle.fat_monitor.specs.declared.actions.Post.{Post}
 use Rattle.fat_monitor.specs.declared.actions.Post.TheVariants.{Out, Entering, Waiting, Back, Granted}
 use Rattle.wait_lines.specs.declared.Role.TheVariants.{Waiting as WaitSet}
 use Rattle.fat_monitor.specs.FatState.{FatState, monitor_at, first_of, line_of, post_of, post_at, flag_at, flag_of, with_moment, owns_one, is_owned_by}
-use Rattle.fat_monitor.specs.Acting.{Outcome as FatOutcome, acted, by_owner, entered, exited, waited, notified, replied as fat_replied, all_removed, interrupted, asked, are_good, expired as fat_expired, woken, collected}
+use Rattle.fat_monitor.specs.Acting.{Outcome as FatOutcome, outcome_of, by_owner, enter_outcome, exit_outcome, wait_outcome, notify_outcome, replies, after_removals, interrupt_outcome, flag_outcome, are_good, expire_outcome, spurious_outcome, collect_outcome}
 use Rattle.fast_path.specs.declared.calls.Call.{Call}
 use Rattle.fast_path.specs.declared.calls.Call.TheVariants as call
 use Rattle.fast_path.specs.declared.Next.{Next}
@@ -148,38 +148,38 @@ abbrev AreAlone : FatOutcome → Type 0
 AreAlone o = IfOk o.answer (λ d. RefusesAlone d.answer d.granted)
 
 owner_alone : (f : FatState) (m : ℕ) (t : ThreadId) (o : FatOutcome) → AreAlone o → AreAlone (by_owner f m t o)
-owner_alone f m t o h = cond_both (is_owned_by (monitor_at f m).owner t) o (fat_replied f reply.IllegalMonitorState) AreAlone (λ _. h) (λ _ x e. refl)
+owner_alone f m t o h = cond_both (is_owned_by (monitor_at f m).owner t) o (replies f reply.IllegalMonitorState) AreAlone (λ _. h) (λ _ x e. refl)
 
-alone : (f : FatState) (t : ThreadId) (a : Action) → AreAlone (acted f t a)
+alone : (f : FatState) (t : ThreadId) (a : Action) → AreAlone (outcome_of f t a)
 alone f t (action.Enter m) = at (monitor_at f m).owner
   where
-    at : (owner : Option ThreadId) → AreAlone (entered f t m owner)
+    at : (owner : Option ThreadId) → AreAlone (enter_outcome f t m owner)
     at None = λ x e. refl
     at (Some u) = cond_both (u.0 == t.0) _ _ AreAlone (λ _. cond_both (nat_lt (monitor_at f m).holds 65535) _ _ AreAlone (λ _ x e. refl) (λ _ x e. refl)) (λ _ x e. refl)
-alone f t (action.Exit m) = owner_alone f m t (exited f t m) (cond_both (nat_lt 1 (monitor_at f m).holds) _ _ AreAlone (λ _ x e. refl) (λ _ x e. absurd (cc)))
-alone f t (action.Wait m millis nanos) = owner_alone f m t (waited f t m millis nanos) (cond_both (are_good millis nanos) _ _ AreAlone (λ _. cond_both (flag_at f t) _ _ AreAlone (λ _ x e. refl) (λ _ x e. absurd (cc))) (λ _ x e. refl))
-alone f t (action.Notify m) = owner_alone f m t (notified f (first_of f m WaitSet)) (at (first_of f m WaitSet))
+alone f t (action.Exit m) = owner_alone f m t (exit_outcome f t m) (cond_both (nat_lt 1 (monitor_at f m).holds) _ _ AreAlone (λ _ x e. refl) (λ _ x e. absurd (cc)))
+alone f t (action.Wait m millis nanos) = owner_alone f m t (wait_outcome f t m millis nanos) (cond_both (are_good millis nanos) _ _ AreAlone (λ _. cond_both (flag_at f t) _ _ AreAlone (λ _ x e. refl) (λ _ x e. absurd (cc))) (λ _ x e. refl))
+alone f t (action.Notify m) = owner_alone f m t (notify_outcome f (first_of f m WaitSet)) (at (first_of f m WaitSet))
   where
-    at : (first : Option ThreadId) → AreAlone (notified f first)
+    at : (first : Option ThreadId) → AreAlone (notify_outcome f first)
     at None = λ x e. refl
     at (Some u) = λ x e. refl
-alone f t (action.NotifyAll m) = owner_alone f m t (fat_replied (all_removed f (line_of f m WaitSet)) reply.Notified) (λ x e. refl)
+alone f t (action.NotifyAll m) = owner_alone f m t (replies (after_removals f (line_of f m WaitSet)) reply.Notified) (λ x e. refl)
 alone f t (action.Holds m) = λ x e. refl
 alone f t (action.Interrupt who) = at (post_of f who)
   where
-    at : (o : Option Post) → AreAlone (interrupted f who o)
+    at : (o : Option Post) → AreAlone (interrupt_outcome f who o)
     at None = λ x e. refl
     at (Some p) = λ x e. absurd (cc)
 alone f t action.Interrupted = λ x e. refl
 alone f t (action.IsInterrupted who) = at (flag_of f who)
   where
-    at : (o : Option Bool) → AreAlone (asked f o)
+    at : (o : Option Bool) → AreAlone (flag_outcome f o)
     at None = λ x e. refl
     at (Some flag) = λ x e. refl
 alone f t action.End = cond_both (owns_one f.monitors t) _ _ AreAlone (λ _ x e. refl) (λ _ x e. refl)
 alone f t action.Expire = at (post_at f t)
   where
-    at : (p : Post) → AreAlone (fat_expired f t p)
+    at : (p : Post) → AreAlone (expire_outcome f t p)
     at (Waiting m n (Some d)) = cond_both (nat_lt f.moment d) _ _ AreAlone (λ _. tt) (λ _ x e. absurd (cc))
     at (Waiting m n None) = tt
     at Out = tt
@@ -188,7 +188,7 @@ alone f t action.Expire = at (post_at f t)
     at (Granted r) = tt
 alone f t action.Spurious = at (post_at f t)
   where
-    at : (p : Post) → AreAlone (woken f t p)
+    at : (p : Post) → AreAlone (spurious_outcome f t p)
     at (Waiting m n d) = λ x e. absurd (cc)
     at Out = tt
     at (Entering m) = tt
@@ -196,7 +196,7 @@ alone f t action.Spurious = at (post_at f t)
     at (Granted r) = tt
 alone f t action.Collect = at (post_at f t)
   where
-    at : (p : Post) → AreAlone (collected f t p)
+    at : (p : Post) → AreAlone (collect_outcome f t p)
     at (Granted r) = λ x e. refl
     at Out = tt
     at (Entering m) = tt
@@ -224,7 +224,7 @@ tells w t c a (Ok d) f h = acts f t c a d.answer d.granted d.chosen h
 tells w t c a (Err e) f h = quiet atomic.Label t
 
 acts_at : (w : WorldState) (t : ThreadId) (c : Call) (a : Action) → Shapely t (after_act w t c a).did
-acts_at w t c a = tells w t c a (acted w.fats t a).answer (acted w.fats t a).after (alone w.fats t a)
+acts_at w t c a = tells w t c a (outcome_of w.fats t a).answer (outcome_of w.fats t a).after (alone w.fats t a)
 
 looks : (w : WorldState) (t : ThreadId) (n : ℕ) (own : Bool) → Shapely t (after_look_as w t n own).did
 looks w t n true = answers (load_of w (record { 0 = n })) call.End (reply.Refused cause.StillOwner) None t
@@ -294,7 +294,7 @@ wait_ends_as x w t (Ok d) f plain = (by_grant d.granted, refl)
 
 wait_ends : (x : WaitEnd) (w : WorldState) (t : ThreadId) (o : Option ℕ) → is_label (x.made t) ≡ false → Unlabeled t (after_wait_end x w t o)
 wait_ends x w t None plain = tt
-wait_ends x w t (Some k) plain = wait_ends_as x w t (acted w.fats t x.action).answer (acted w.fats t x.action).after plain
+wait_ends x w t (Some k) plain = wait_ends_as x w t (outcome_of w.fats t x.action).answer (outcome_of w.fats t x.action).after plain
 
 ticks : (w : WorldState) (now : ℕ) → Labeled (step.Tick now) (after_tick w now)
 ticks w now =

@@ -15,7 +15,7 @@ use Rattle.fat_monitor.specs.declared.actions.Done.{Done}
 use Rattle.fat_monitor.specs.declared.actions.ActFault.{ActFault}
 use Rattle.fat_monitor.specs.declared.actions.Post.TheVariants.{Out}
 use Rattle.fat_monitor.specs.FatState.{FatState, with_post, owns_one}
-use Rattle.fat_monitor.specs.Acting.{acted}
+use Rattle.fat_monitor.specs.Acting.{outcome_of}
 use Rattle.fast_path.specs.declared.calls.Call.{Call}
 use Rattle.fast_path.specs.declared.Next.{Next}
 use Rattle.fast_path.specs.declared.Next.TheVariants as next
@@ -110,7 +110,7 @@ module _ (w : WorldState) (k : ℕ) (t : ThreadId) where
   tells c a (Err e) f h = absurd h
 
   acts_at : (c : Call) (a : Action) → IsOwnAction a → Acts a (after_act w t c a)
-  acts_at c a own = tells c a (acted w.fats t a).answer (acted w.fats t a).after (done w.fats t a own)
+  acts_at c a own = tells c a (outcome_of w.fats t a).answer (outcome_of w.fats t a).after (done w.fats t a own)
 
   stages : (room : Bool) (s : Stage) → FittingStage w k s → Goes (At (InCall s)) (after_stage room w k t s)
   stages room (Begun c b) fits = loads c b (next_of w.split c.operation (lock_at w c.object.0) (k + 1)) refl

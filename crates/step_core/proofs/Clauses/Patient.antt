@@ -24,7 +24,7 @@ use Rattle.fat_monitor.specs.declared.actions.Post.{Post}
 use Rattle.fat_monitor.specs.declared.actions.Post.TheVariants.{Out}
 use Rattle.wait_lines.specs.declared.Role.TheVariants.{Waiting as WaitSet}
 use Rattle.fat_monitor.specs.FatState.{FatState, monitor_at, first_of, line_of, post_of, flag_at, flag_of, with_post, with_moment, owns_one, is_owned_by}
-use Rattle.fat_monitor.specs.Acting.{Outcome as FatOutcome, acted, by_owner, entered, exited, waited, notified, replied as fat_replied, all_removed, interrupted, asked, are_good}
+use Rattle.fat_monitor.specs.Acting.{Outcome as FatOutcome, outcome_of, by_owner, enter_outcome, exit_outcome, wait_outcome, notify_outcome, replies, after_removals, interrupt_outcome, flag_outcome, are_good}
 use Rattle.fast_path.specs.declared.calls.Call.{Call}
 use Rattle.fast_path.specs.declared.calls.Call.TheVariants as call
 use Rattle.fast_path.specs.declared.Next.{Next}
@@ -67,32 +67,32 @@ abbrev pub IsDone : FatOutcome → Type 0
 IsDone o = MatchResult o.answer (λ d. IsTold d.answer) (λ e. ⊥)
 
 owner_done : (f : FatState) (m : ℕ) (t : ThreadId) (o : FatOutcome) → IsDone o → IsDone (by_owner f m t o)
-owner_done f m t o h = cond_both (is_owned_by (monitor_at f m).owner t) o (fat_replied f reply.IllegalMonitorState) IsDone (λ _. h) (λ _. tt)
+owner_done f m t o h = cond_both (is_owned_by (monitor_at f m).owner t) o (replies f reply.IllegalMonitorState) IsDone (λ _. h) (λ _. tt)
 
-pub done : (f : FatState) (t : ThreadId) (a : Action) → IsOwnAction a → IsDone (acted f t a)
+pub done : (f : FatState) (t : ThreadId) (a : Action) → IsOwnAction a → IsDone (outcome_of f t a)
 done f t (action.Enter m) own = at (monitor_at f m).owner
   where
-    at : (owner : Option ThreadId) → IsDone (entered f t m owner)
+    at : (owner : Option ThreadId) → IsDone (enter_outcome f t m owner)
     at None = tt
     at (Some u) = cond_both (u.0 == t.0) _ _ IsDone (λ _. cond_both (nat_lt (monitor_at f m).holds 65535) _ _ IsDone (λ _. tt) (λ _. tt)) (λ _. tt)
-done f t (action.Exit m) own = owner_done f m t (exited f t m) (cond_both (nat_lt 1 (monitor_at f m).holds) _ _ IsDone (λ _. tt) (λ _. tt))
-done f t (action.Wait m millis nanos) own = owner_done f m t (waited f t m millis nanos) (cond_both (are_good millis nanos) _ _ IsDone (λ _. cond_both (flag_at f t) _ _ IsDone (λ _. tt) (λ _. tt)) (λ _. tt))
-done f t (action.Notify m) own = owner_done f m t (notified f (first_of f m WaitSet)) (at (first_of f m WaitSet))
+done f t (action.Exit m) own = owner_done f m t (exit_outcome f t m) (cond_both (nat_lt 1 (monitor_at f m).holds) _ _ IsDone (λ _. tt) (λ _. tt))
+done f t (action.Wait m millis nanos) own = owner_done f m t (wait_outcome f t m millis nanos) (cond_both (are_good millis nanos) _ _ IsDone (λ _. cond_both (flag_at f t) _ _ IsDone (λ _. tt) (λ _. tt)) (λ _. tt))
+done f t (action.Notify m) own = owner_done f m t (notify_outcome f (first_of f m WaitSet)) (at (first_of f m WaitSet))
   where
-    at : (first : Option ThreadId) → IsDone (notified f first)
+    at : (first : Option ThreadId) → IsDone (notify_outcome f first)
     at None = tt
     at (Some u) = tt
-done f t (action.NotifyAll m) own = owner_done f m t (fat_replied (all_removed f (line_of f m WaitSet)) reply.Notified) tt
+done f t (action.NotifyAll m) own = owner_done f m t (replies (after_removals f (line_of f m WaitSet)) reply.Notified) tt
 done f t (action.Holds m) own = tt
 done f t (action.Interrupt who) own = at (post_of f who)
   where
-    at : (o : Option Post) → IsDone (interrupted f who o)
+    at : (o : Option Post) → IsDone (interrupt_outcome f who o)
     at None = tt
     at (Some p) = tt
 done f t action.Interrupted own = tt
 done f t (action.IsInterrupted who) own = at (flag_of f who)
   where
-    at : (o : Option Bool) → IsDone (asked f o)
+    at : (o : Option Bool) → IsDone (flag_outcome f o)
     at None = tt
     at (Some flag) = tt
 done f t action.Expire own = absurd own
@@ -162,7 +162,7 @@ module _ (w : WorldState) (sound : IsSound w) (k : ℕ) (t : ThreadId) (seat : s
   tells c a n (Err e) f h = absurd h
 
   acts_at : (c : Call) (a : Action) (n : ℕ) → IsOwnAction a → Goes n (after_act w t c a)
-  acts_at c a n own = tells c a n (acted w.fats t a).answer (acted w.fats t a).after (done w.fats t a own)
+  acts_at c a n own = tells c a n (outcome_of w.fats t a).answer (outcome_of w.fats t a).after (done w.fats t a own)
 
   looks : (n : ℕ) (own : Bool) → n < length w.words → Goes (length w.words + 1 - n) (after_look_as w t n own)
   looks n true more = inl refl
@@ -209,7 +209,7 @@ module _ (w : WorldState) (sound : IsSound w) (k : ℕ) (t : ThreadId) (seat : s
   by_told c a (Err e) f = refl
 
   by_act : (c : Call) (a : Action) → length (after_act w t c a).words ≡ length w.words
-  by_act c a = by_told c a (acted w.fats t a).answer (acted w.fats t a).after
+  by_act c a = by_told c a (outcome_of w.fats t a).answer (outcome_of w.fats t a).after
 
   by_look : (n : ℕ) (own : Bool) → length (after_look_as w t n own).words ≡ length w.words
   by_look n true = refl
@@ -293,9 +293,9 @@ TouchesNone w o = IfOk o.answer (λ d. (u : ThreadId) → left_of o.after u ≡ 
 
 wait_ends : (x : WaitEnd) (w : WorldState) (t : ThreadId) (o : Option ℕ) → TouchesNone w (after_wait_end x w t o)
 wait_ends x w t None = tt
-wait_ends x w t (Some k) = by_answer (acted w.fats t x.action).answer
+wait_ends x w t (Some k) = by_answer (outcome_of w.fats t x.action).answer
   where
-    by_answer : (r : Result Done ActFault) → TouchesNone w (after_wait_end_as x w t r (acted w.fats t x.action).after)
+    by_answer : (r : Result Done ActFault) → TouchesNone w (after_wait_end_as x w t r (outcome_of w.fats t x.action).after)
     by_answer (Ok d) = λ u. refl
     by_answer (Err e) = tt
 

@@ -4,7 +4,7 @@ use Rattle.wait_lines.specs.Lines.{Key, key}
 use Rattle.fat_monitor.specs.declared.actions.Post.{Post}
 use Rattle.fat_monitor.specs.declared.actions.Post.TheVariants.{Out, Entering, Waiting, Back, Granted}
 use Rattle.fat_monitor.specs.FatState.{FatState, monitor_at, post_of, post_at, flag_at, with_moment, line_key_of, owns_one}
-use Rattle.fat_monitor.specs.Acting.{Outcome as FatOutcome, told, removed, served, not_due, expired as fat_expired, woken}
+use Rattle.fat_monitor.specs.Acting.{Outcome as FatOutcome, answers, after_removal, granted_by_removal, not_due, expire_outcome, spurious_outcome}
 use Rattle.fat_monitor.specs.declared.actions.Why.TheVariants.{Elapsed}
 use Rattle.fat_monitor.specs.declared.actions.Answer.TheVariants.{Quiet}
 use Rattle.step_core.specs.Machine.{Thread, Exists}
@@ -231,12 +231,12 @@ module _ (w : WorldState) (sound : IsSound w) (t : ThreadId) where
 
   -- a wait expires where it is due, and only there
   expires_at : (k : ℕ) → seat_of w.seats t ≡ Some k → (p : Post) → post_at w.fats t ≡ p
-      → Judged w (step.Expire t) (after_wait_end_as time_over w t (fat_expired w.fats t p).answer (fat_expired w.fats t p).after)
+      → Judged w (step.Expire t) (after_wait_end_as time_over w t (expire_outcome w.fats t p).answer (expire_outcome w.fats t p).after)
   expires_at k e Out is = not_due_at k e Out is (λ m n d same late. cc)
   expires_at k e (Entering m) is = not_due_at k e (Entering m) is (λ j n d same late. cc)
   expires_at k e (Waiting m n None) is = not_due_at k e (Waiting m n None) is (λ j x d same late. cc)
   expires_at k e (Waiting m n (Some d)) is =
-      cond_both (nat_lt w.fats.moment d) (not_due w.fats) (told (removed w.fats t Elapsed (Waiting m n (Some d))) Quiet (served w.fats t (Waiting m n (Some d))) None)
+      cond_both (nat_lt w.fats.moment d) (not_due w.fats) (answers (after_removal w.fats t Elapsed (Waiting m n (Some d))) Quiet (granted_by_removal w.fats t (Waiting m n (Some d))) None)
       (λ (x : FatOutcome). Judged w (step.Expire t) (after_wait_end_as time_over w t x.answer x.after))
       (λ early. not_due_at k e (Waiting m n (Some d)) is (λ j x y same late. let one = posted_until same in let before = ltb-true w.fats.moment d early in omega arith))
       (λ due. (accepted_only (ltb-false w.fats.moment d due), tt))
@@ -281,7 +281,7 @@ module _ (w : WorldState) (sound : IsSound w) (t : ThreadId) where
 
   -- a wake-up is for a thread that waits, and only for one
   wakes_at : (k : ℕ) → seat_of w.seats t ≡ Some k → (p : Post) → post_at w.fats t ≡ p
-      → Judged w (step.Spurious t) (after_wait_end_as wake_up w t (woken w.fats t p).answer (woken w.fats t p).after)
+      → Judged w (step.Spurious t) (after_wait_end_as wake_up w t (spurious_outcome w.fats t p).answer (spurious_outcome w.fats t p).after)
   wakes_at k e Out is = not_waiting_at k e Out is (λ m n d same. cc)
   wakes_at k e (Entering m) is = not_waiting_at k e (Entering m) is (λ j n d same. cc)
   wakes_at k e (Waiting m n d) is = (accepted_only, tt)

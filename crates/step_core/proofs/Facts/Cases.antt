@@ -16,7 +16,7 @@ use Rattle.fat_monitor.specs.declared.actions.Cause.TheVariants.{StillOwner}
 use Rattle.fat_monitor.specs.declared.actions.Post.{Post}
 use Rattle.fat_monitor.specs.declared.actions.Post.TheVariants.{Out, Entering, Waiting, Back, Granted}
 use Rattle.fat_monitor.specs.FatState.{post_of, with_post, without_thread, owns_one, IsAttached}
-use Rattle.fat_monitor.specs.Acting.{Outcome as FatOutcome, collected, replied as fat_replied}
+use Rattle.fat_monitor.specs.Acting.{Outcome as FatOutcome, collect_outcome, replies}
 use Rattle.fast_path.specs.declared.calls.Call.{Call}
 use Rattle.fast_path.specs.Calls.{object_of}
 use Rattle.step_core.specs.declared.places.Place.{Place}
@@ -37,7 +37,7 @@ use Rattle.step_core.proofs.Facts.PlaceFacts.{agrees_out}
 -- what an End leaves of a thread that owns a fat monitor, or owns none
 abbrev pub end_outcome : WorldState → ThreadId → Bool → FatOutcome
 end_outcome w t owns =
-    if owns then fat_replied w.fats (reply.Refused StillOwner) else fat_replied (without_thread w.fats t) reply.Ended
+    if owns then replies w.fats (reply.Refused StillOwner) else replies (without_thread w.fats t) reply.Ended
 
 abbrev pub ended_as : WorldState → ℕ → ThreadId → Bool → AfterStep
 ended_as w k t owns = after_end w k t (end_outcome w t owns).answer (end_outcome w t owns).after
@@ -96,7 +96,7 @@ module _ (w : WorldState) (sound : IsSound w) (t : ThreadId) (P : AfterStep → 
     out p at free = agrees_out p (post_of w.fats t) free (rw at at (sound.posted t k seat))
 
     go_collect : place_at w k ≡ AtPost → (o : Option Post) → post_of w.fats t ≡ o
-        → P (after_collect w k t (collected w.fats t (unwrap_or o Out)).answer (collected w.fats t (unwrap_or o Out)).after)
+        → P (after_collect w k t (collect_outcome w.fats t (unwrap_or o Out)).answer (collect_outcome w.fats t (unwrap_or o Out)).after)
     go_collect at None post =
         let here : IsAttached w.fats t = sound.attached t (rw seat refl) in
         let never : IsSome {T = Post} None = rw post at here in absurd (cc)

@@ -17,7 +17,7 @@ use Rattle.fat_monitor.specs.declared.actions.Action.TheVariants as action
 use Rattle.fat_monitor.specs.declared.actions.Post.{Post}
 use Rattle.fat_monitor.specs.declared.actions.Post.TheVariants.{Out, Entering, Waiting, Granted}
 use Rattle.fat_monitor.specs.FatState.{FatState, monitor_at, unbound, is_owned_by, IsFair, post_of, post_at, flag_at, first_of, with_owner, with_flag}
-use Rattle.fat_monitor.specs.Acting.{acted, told, granted, replied as fat_replied, are_good, deadline, parked, holds_granted, reply_granted}
+use Rattle.fat_monitor.specs.Acting.{outcome_of, answers, after_grant, replies, are_good, deadline, after_parking, holds_granted, reply_granted}
 use Rattle.fat_monitor.proofs.Effects.{post-with_post_same, post-with_post_other}
 use Rattle.fat_monitor.proofs.Flags.{settled_flag}
 use Rattle.fast_path.specs.declared.calls.Call.{Call}
@@ -39,7 +39,7 @@ use Rattle.step_core.proofs.Facts.ShownStates.{does, thread_in, acts_alike}
 use Rattle.step_core.proofs.Facts.OneFatAction.{same_thread, one_thread, same_post, post_is, own_thread, kept_thread, shown_turned}
 use Rattle.step_core.proofs.Facts.OneThread.{act_out}
 use Rattle.step_core.proofs.Runs.WordRuns.{good_time, not_good}
-use Rattle.step_core.proofs.Facts.Grants.{monitors-granted, post-granted_same, post-granted_other, flag-granted_same, flag-granted_other, moment-granted}
+use Rattle.step_core.proofs.Facts.Grants.{monitors-after_grant, post-after_grant_same, post-after_grant_other, flag-after_grant_same, flag-after_grant_other, moment-after_grant}
 use Rattle.step_core.proofs.Runs.ActionShows.{object-with_owner, shown_flagged, here, object_here, monitors_turned, monitors_kept, with_holds, Goal, by_outcome, keeps_all, owner_changes, owned_by_me, not_mine, mine, shown_handed, shown_handed_over, Granting, first_granting, shows_wanting}
 
 -- one hold is the last
@@ -58,25 +58,25 @@ module _ (w : WorldState) (sound : IsSound w) (k : ℕ) (t : ThreadId) (seat : s
     where
       parks : (u.0 == t.0) ≡ false → Goal w k t (call.Enter o) (action.Enter m)
       parks other =
-          by_outcome w k t (call.Enter o) (action.Enter m) (told (parked w.fats t (Entering m) m Entry) answer.Parked None None) (rw (own, other) refl)
-          (shown_turned w sound k t seat (parked w.fats t (Entering m) m Entry) AtPost (no_move (atomic.Acted (action.Enter m) answer.Parked)) (shown w) refl refl
-          (λ v. at_thread v (cases_eq v.0 t.0)) (monitors_kept w k (parked w.fats t (Entering m) m Entry) AtPost (no_move (atomic.Acted (action.Enter m) answer.Parked)) refl))
+          by_outcome w k t (call.Enter o) (action.Enter m) (answers (after_parking w.fats t (Entering m) m Entry) answer.Parked None None) (rw (own, other) refl)
+          (shown_turned w sound k t seat (after_parking w.fats t (Entering m) m Entry) AtPost (no_move (atomic.Acted (action.Enter m) answer.Parked)) (shown w) refl refl
+          (λ v. at_thread v (cases_eq v.0 t.0)) (monitors_kept w k (after_parking w.fats t (Entering m) m Entry) AtPost (no_move (atomic.Acted (action.Enter m) answer.Parked)) refl))
         where
-          wants : act_of (parked w.fats t (Entering m) m Entry) (post_at (parked w.fats t (Entering m) m Entry) t) AtPost ≡ doing.Wants (call.Enter o)
+          wants : act_of (after_parking w.fats t (Entering m) m Entry) (post_at (after_parking w.fats t (Entering m) m Entry) t) AtPost ≡ doing.Wants (call.Enter o)
           wants =
-              ap (λ (q : Post). act_of (parked w.fats t (Entering m) m Entry) q AtPost)
-              (post_is (parked w.fats t (Entering m) m Entry) t (Entering m) (post-with_post_same w.fats t (Entering m)))
+              ap (λ (q : Post). act_of (after_parking w.fats t (Entering m) m Entry) q AtPost)
+              (post_is (after_parking w.fats t (Entering m) m Entry) t (Entering m) (post-with_post_same w.fats t (Entering m)))
               ∙ ap (λ (x : ObjectId). doing.Wants (call.Enter x)) (object_here w sound o m shows)
 
           at_thread : (v : ThreadId) → (v.0 ≡ t.0) ⊎ (v.0 ≡ t.0 → ⊥)
-              → thread_of (with_go w k (fats_changed w (parked w.fats t (Entering m) m Entry) AtPost (no_move (atomic.Acted (action.Enter m) answer.Parked)))) v (seat_of w.seats v) ≡ (shown w).thread v
+              → thread_of (with_go w k (fats_changed w (after_parking w.fats t (Entering m) m Entry) AtPost (no_move (atomic.Acted (action.Enter m) answer.Parked)))) v (seat_of w.seats v) ≡ (shown w).thread v
           at_thread v (inl e) =
-              own_thread w sound k t seat (parked w.fats t (Entering m) m Entry) AtPost (no_move (atomic.Acted (action.Enter m) answer.Parked)) (does (flag_at w.fats t) (doing.Wants (call.Enter o))) (ap (does (flag_at w.fats t)) wants) v e
+              own_thread w sound k t seat (after_parking w.fats t (Entering m) m Entry) AtPost (no_move (atomic.Acted (action.Enter m) answer.Parked)) (does (flag_at w.fats t) (doing.Wants (call.Enter o))) (ap (does (flag_at w.fats t)) wants) v e
               ∙ sym (ap (λ (x : ThreadId). (shown w).thread x) (one_thread v t e) ∙ is)
           at_thread v (inr ne) =
-              kept_thread w sound k t seat (parked w.fats t (Entering m) m Entry) AtPost (no_move (atomic.Acted (action.Enter m) answer.Parked)) v ne
-              (acts_alike w.fats (parked w.fats t (Entering m) m Entry) v sound.fats refl
-              (same_post w.fats (parked w.fats t (Entering m) m Entry) v (post-with_post_other w.fats t v (Entering m) (λ e. ne (ap (λ (x : ThreadId). x.0) e)))) (λ j h. refl))
+              kept_thread w sound k t seat (after_parking w.fats t (Entering m) m Entry) AtPost (no_move (atomic.Acted (action.Enter m) answer.Parked)) v ne
+              (acts_alike w.fats (after_parking w.fats t (Entering m) m Entry) v sound.fats refl
+              (same_post w.fats (after_parking w.fats t (Entering m) m Entry) v (post-with_post_other w.fats t v (Entering m) (λ e. ne (ap (λ (x : ThreadId). x.0) e)))) (λ j h. refl))
 
       by_test : (b : Bool) → (u.0 == t.0) ≡ b → ((monitor_at w.fats m).holds < 65535) ⊎ (65535 ≤ (monitor_at w.fats m).holds) → Goal w k t (call.Enter o) (action.Enter m)
       by_test true same (inl few) =
@@ -99,7 +99,7 @@ module _ (w : WorldState) (sound : IsSound w) (k : ℕ) (t : ThreadId) (seat : s
 
   -- a call for the owner alone, by another
   pub illegal_run : (c : Call) (a : Action) (o : ObjectId) (m : ℕ) (is : Is (shown w) t (flag_at w.fats t) (doing.Wants c)) (shows : lock_at w o.0 ≡ Fat m) → owner_only c ≡ Some o
-      → is_owned_by (monitor_at w.fats m).owner t ≡ false → acted w.fats t a ≡ fat_replied w.fats reply.IllegalMonitorState → Goal w k t c a
+      → is_owned_by (monitor_at w.fats m).owner t ≡ false → outcome_of w.fats t a ≡ replies w.fats reply.IllegalMonitorState → Goal w k t c a
   illegal_run c a o m is shows only b e =
       keeps_all w sound k t seat out c a reply.IllegalMonitorState e
       (run_illegal (shown w) t (flag_at w.fats t) c o only is (not_mine w sound k t seat out c o m is shows (monitor_at w.fats m).owner refl b))
@@ -136,7 +136,7 @@ module _ (w : WorldState) (sound : IsSound w) (k : ℕ) (t : ThreadId) (seat : s
           owner_changes w sound k t seat out (call.Exit o) o m is shows (action.Exit m) reply.Exited None 0 (rw (b, one, first) refl)
           (run_exited (shown w) t (flag_at w.fats t) o 0 is (monitor_held o m shows own 1 (one_hold one)))
       last one (Some u) first =
-          by_outcome w k t (call.Exit o) (action.Exit m) (told (granted w.fats m u x.post Entry) (answer.Reply reply.Exited) (Some u) None) (rw (b, one, first, post_is w.fats u x.post x.is_at) refl)
+          by_outcome w k t (call.Exit o) (action.Exit m) (answers (after_grant w.fats m u x.post Entry) (answer.Reply reply.Exited) (Some u) None) (rw (b, one, first, post_is w.fats u x.post x.is_at) refl)
           (rw theirs
           (subst (λ (s : State). Run (shown w) (move.Unlock t ∷ granting u (Granted r) ∷ move.Return t reply.Exited ∷ []) s) (sym shown_then)
           (run_handed_over (shown w) t u (flag_at w.fats t) (settled_flag x.post (flag_at w.fats u)) o n r (doing.Has reply.Exited) (move.Unlock t) (granting u (Granted r))
@@ -148,7 +148,7 @@ module _ (w : WorldState) (sound : IsSound w) (k : ℕ) (t : ThreadId) (seat : s
           x = first_granting w sound k t seat out (call.Exit o) o m is shows u first
 
           g : FatState
-          g = granted w.fats m u x.post Entry
+          g = after_grant w.fats m u x.post Entry
 
           r : Reply
           r = reply_granted x.post
@@ -162,8 +162,8 @@ module _ (w : WorldState) (sound : IsSound w) (k : ℕ) (t : ThreadId) (seat : s
           apart : t ≢ u
           apart e = x.apart (sym (ap (λ (y : ThreadId). y.0) e))
 
-          theirs : post_at (granted w.fats m u x.post Entry) u ≡ Granted (reply_granted x.post)
-          theirs = post_is (granted w.fats m u x.post Entry) u (Granted (reply_granted x.post)) (post-granted_same w.fats m u x.post Entry)
+          theirs : post_at (after_grant w.fats m u x.post Entry) u ≡ Granted (reply_granted x.post)
+          theirs = post_is (after_grant w.fats m u x.post Entry) u (Granted (reply_granted x.post)) (post-after_grant_same w.fats m u x.post Entry)
 
           wanting : Is (given_up o m shows own (flag_at w.fats t) (doing.Has reply.Exited)) u (flag_at w.fats u) x.act
           wanting = now_is-other (shown w) u t (flag_at w.fats t) (doing.Has reply.Exited) x.apart ∙ shows_wanting w sound k t seat out (call.Exit o) o m is shows u x
@@ -173,12 +173,12 @@ module _ (w : WorldState) (sound : IsSound w) (k : ℕ) (t : ThreadId) (seat : s
 
           shown_then : shown (with_go w k (fats_changed w g Idle did)) ≡ with_monitor (now_is (now_is (shown w) u theirs_flag (doing.Has r)) t (flag_at w.fats t) doing.Idle) o (held u n)
           shown_then = shown_handed_over w sound k t seat out (call.Exit o) o m is shows u g Idle did (flag_at w.fats t) theirs_flag doing.Idle r n x.apart x.live
-              (rw (flag-granted_other w.fats m u x.post Entry t apart) (ap (does (flag_at w.fats t)) (act_out g t Idle (post-granted_other w.fats m u x.post Entry t apart ∙ out))))
-              theirs (flag-granted_same w.fats m u x.post Entry)
-              (λ v ne nu. same_post w.fats g v (post-granted_other w.fats m u x.post Entry v (λ e. nu (ap (λ (y : ThreadId). y.0) e))))
-              (λ v ne nu. flag-granted_other w.fats m u x.post Entry v (λ e. nu (ap (λ (y : ThreadId). y.0) e)))
-              (moment-granted w.fats m u x.post Entry)
-              (monitors-granted w.fats m u x.post Entry)
+              (rw (flag-after_grant_other w.fats m u x.post Entry t apart) (ap (does (flag_at w.fats t)) (act_out g t Idle (post-after_grant_other w.fats m u x.post Entry t apart ∙ out))))
+              theirs (flag-after_grant_same w.fats m u x.post Entry)
+              (λ v ne nu. same_post w.fats g v (post-after_grant_other w.fats m u x.post Entry v (λ e. nu (ap (λ (y : ThreadId). y.0) e))))
+              (λ v ne nu. flag-after_grant_other w.fats m u x.post Entry v (λ e. nu (ap (λ (y : ThreadId). y.0) e)))
+              (moment-after_grant w.fats m u x.post Entry)
+              (monitors-after_grant w.fats m u x.post Entry)
 
       by_holds : (more : Bool) → nat_lt 1 (monitor_at w.fats m).holds ≡ more → Goal w k t (call.Exit o) (action.Exit m)
       by_holds true more =
@@ -208,13 +208,13 @@ module _ (w : WorldState) (sound : IsSound w) (k : ℕ) (t : ThreadId) (seat : s
 
       -- what a fat state shows of a thread that it parks so
       waiting : (f : FatState) → (monitor_at f m).object ≡ (monitor_at w.fats m).object
-          → act_of (parked f t post m WaitSet) (post_at (parked f t post m WaitSet) t) AtPost ≡ waits
+          → act_of (after_parking f t post m WaitSet) (post_at (after_parking f t post m WaitSet) t) AtPost ≡ waits
       waiting f same =
-          ap (λ (q : Post). act_of (parked f t post m WaitSet) q AtPost) (post_is (parked f t post m WaitSet) t post (post-with_post_same f t post))
+          ap (λ (q : Post). act_of (after_parking f t post m WaitSet) q AtPost) (post_is (after_parking f t post m WaitSet) t post (post-with_post_same f t post))
           ∙ ap (λ (x : ObjectId). doing.Waits x (monitor_at w.fats m).holds (deadline w.fats.moment millis nanos)) (same ∙ object_here w sound o m shows)
 
       mine_then : (f : FatState) → flag_at f t ≡ false → (monitor_at f m).object ≡ (monitor_at w.fats m).object
-          → thread_in (parked f t post m WaitSet) t AtPost ≡ does false waits
+          → thread_in (after_parking f t post m WaitSet) t AtPost ≡ does false waits
       mine_then f clear same = rw clear (ap (does false) (waiting f same))
 
       gives_up : (flag_at w.fats t) ≡ false → AreGood millis nanos → Steps (shown w) (move.Wait t) (given_up o m shows own false waits)
@@ -230,14 +230,14 @@ module _ (w : WorldState) (sound : IsSound w) (k : ℕ) (t : ThreadId) (seat : s
 
       parks : (flag_at w.fats t) ≡ false → are_good millis nanos ≡ true → (first : Option ThreadId) → first_of w.fats m Entry ≡ first → Goal w k t (call.Wait o millis nanos) (action.Wait m millis nanos)
       parks clear good None first =
-          by_outcome w k t (call.Wait o millis nanos) (action.Wait m millis nanos) (told g answer.Parked None None) (rw (b, good, clear, first) refl)
+          by_outcome w k t (call.Wait o millis nanos) (action.Wait m millis nanos) (answers g answer.Parked None None) (rw (b, good, clear, first) refl)
           (given_up o m shows own false waits, gives_up clear (good_time millis nanos good), shown_then)
         where
           f : FatState
           f = with_owner w.fats m None 0
 
           g : FatState
-          g = parked f t post m WaitSet
+          g = after_parking f t post m WaitSet
 
           did : Did
           did = parking (call.Wait o millis nanos) (atomic.Acted (action.Wait m millis nanos) answer.Parked) t None
@@ -257,7 +257,7 @@ module _ (w : WorldState) (sound : IsSound w) (k : ℕ) (t : ThreadId) (seat : s
               (get_or-set_same w.fats.monitors m (with_holds w m None 0) unbound (here w sound o m shows).0)
               (λ j ne. get_or-set_other w.fats.monitors m j (with_holds w m None 0) unbound ne))
       parks clear good (Some u) first =
-          by_outcome w k t (call.Wait o millis nanos) (action.Wait m millis nanos) (told g answer.Parked (Some u) None) (rw (b, good, clear, first, post_is w.fats u x.post x.is_at) refl)
+          by_outcome w k t (call.Wait o millis nanos) (action.Wait m millis nanos) (answers g answer.Parked (Some u) None) (rw (b, good, clear, first, post_is w.fats u x.post x.is_at) refl)
           (rw theirs
           (subst (λ (s : State). Run (shown w) (move.Wait t ∷ granting u (Granted r) ∷ []) s) (sym shown_then)
           (run_handed (shown w) t u false theirs_flag o n r waits (move.Wait t) (granting u (Granted r)) (gives_up clear (good_time millis nanos good))
@@ -273,22 +273,22 @@ module _ (w : WorldState) (sound : IsSound w) (k : ℕ) (t : ThreadId) (seat : s
           n = holds_granted x.post
 
           f : FatState
-          f = granted w.fats m u x.post Entry
+          f = after_grant w.fats m u x.post Entry
 
           g : FatState
-          g = parked f t post m WaitSet
+          g = after_parking f t post m WaitSet
 
           theirs_flag : Bool
           theirs_flag = settled_flag x.post (flag_at w.fats u)
 
           same_object : (monitor_at f m).object ≡ (monitor_at w.fats m).object
           same_object =
-              ap (λ (xs : List fat.Monitor). (get_or xs m unbound).object) (monitors-granted w.fats m u x.post Entry)
+              ap (λ (xs : List fat.Monitor). (get_or xs m unbound).object) (monitors-after_grant w.fats m u x.post Entry)
               ∙ object-with_owner w.fats m (Some u) n m (here w sound o m shows).0
 
-          theirs : post_at (parked (granted w.fats m u x.post Entry) t post m WaitSet) u ≡ Granted (reply_granted x.post)
+          theirs : post_at (after_parking (after_grant w.fats m u x.post Entry) t post m WaitSet) u ≡ Granted (reply_granted x.post)
           theirs =
-              post_is g u (Granted r) (post-with_post_other f t u post (λ e. x.apart (ap (λ (y : ThreadId). y.0) e)) ∙ post-granted_same w.fats m u x.post Entry)
+              post_is g u (Granted r) (post-with_post_other f t u post (λ e. x.apart (ap (λ (y : ThreadId). y.0) e)) ∙ post-after_grant_same w.fats m u x.post Entry)
 
           wanting : Is (given_up o m shows own false waits) u (flag_at w.fats u) x.act
           wanting = now_is-other (shown w) u t false waits x.apart ∙ shows_wanting w sound k t seat out (call.Wait o millis nanos) o m is shows u x
@@ -298,17 +298,17 @@ module _ (w : WorldState) (sound : IsSound w) (k : ℕ) (t : ThreadId) (seat : s
 
           shown_then : shown (with_go w k (fats_changed w g AtPost did)) ≡ with_monitor (now_is (now_is (shown w) t false waits) u theirs_flag (doing.Has r)) o (held u n)
           shown_then = shown_handed w sound k t seat out (call.Wait o millis nanos) o m is shows u g AtPost did false theirs_flag waits r n x.apart x.live
-              (mine_then f (flag-granted_other w.fats m u x.post Entry t (λ e. x.apart (sym (ap (λ (y : ThreadId). y.0) e))) ∙ clear) same_object)
-              theirs (flag-granted_same w.fats m u x.post Entry)
-              (λ v ne nu. same_post w.fats g v (post-with_post_other f t v post (λ e. ne (ap (λ (y : ThreadId). y.0) e)) ∙ post-granted_other w.fats m u x.post Entry v (λ e. nu (ap (λ (y : ThreadId). y.0) e))))
-              (λ v ne nu. flag-granted_other w.fats m u x.post Entry v (λ e. nu (ap (λ (y : ThreadId). y.0) e)))
-              (moment-granted w.fats m u x.post Entry)
-              (monitors-granted w.fats m u x.post Entry)
+              (mine_then f (flag-after_grant_other w.fats m u x.post Entry t (λ e. x.apart (sym (ap (λ (y : ThreadId). y.0) e))) ∙ clear) same_object)
+              theirs (flag-after_grant_same w.fats m u x.post Entry)
+              (λ v ne nu. same_post w.fats g v (post-with_post_other f t v post (λ e. ne (ap (λ (y : ThreadId). y.0) e)) ∙ post-after_grant_other w.fats m u x.post Entry v (λ e. nu (ap (λ (y : ThreadId). y.0) e))))
+              (λ v ne nu. flag-after_grant_other w.fats m u x.post Entry v (λ e. nu (ap (λ (y : ThreadId). y.0) e)))
+              (moment-after_grant w.fats m u x.post Entry)
+              (monitors-after_grant w.fats m u x.post Entry)
 
       -- an interrupted thread does not wait
       early : flag_at w.fats t ≡ true → are_good millis nanos ≡ true → Goal w k t (call.Wait o millis nanos) (action.Wait m millis nanos)
       early set good =
-          by_outcome w k t (call.Wait o millis nanos) (action.Wait m millis nanos) (fat_replied (with_flag w.fats t false) reply.Interrupted) (rw (b, good, set) refl)
+          by_outcome w k t (call.Wait o millis nanos) (action.Wait m millis nanos) (replies (with_flag w.fats t false) reply.Interrupted) (rw (b, good, set) refl)
           (subst (λ (s : State). Run (shown w) (move.Early t ∷ move.Return t reply.Interrupted ∷ []) s) (sym (shown_flagged w sound k t seat out false (move_and_return (atomic.Acted (action.Wait m millis nanos) (answer.Reply reply.Interrupted)) (move.Early t) t reply.Interrupted)))
           (run_early (shown w) t o millis nanos (subst (λ (flag : Bool). Is (shown w) t flag (doing.Wants (call.Wait o millis nanos))) set is)
           (owned_by_me w sound k t seat out (call.Wait o millis nanos) o m is shows own) (good_time millis nanos good)))

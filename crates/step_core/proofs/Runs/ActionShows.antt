@@ -18,7 +18,7 @@ use Rattle.fat_monitor.specs.declared.actions.Why.TheVariants as why
 use Rattle.fat_monitor.specs.declared.actions.Post.{Post}
 use Rattle.fat_monitor.specs.declared.actions.Post.TheVariants.{Out, Entering, Waiting, Back, Granted}
 use Rattle.fat_monitor.specs.FatState.{FatState, monitor_at, unbound, is_owned_by, IsHeld, post_of, post_at, flag_at, first_of, with_owner, with_flag}
-use Rattle.fat_monitor.specs.Acting.{Outcome, acted, replied as fat_replied, holds_granted, reply_granted, reply_back}
+use Rattle.fat_monitor.specs.Acting.{Outcome, outcome_of, replies, holds_granted, reply_granted, reply_back}
 use Rattle.fat_monitor.proofs.Effects.{first_entering}
 use Rattle.fat_monitor.proofs.Flags.{settled_flag, flag-with_flag_same, flag-with_flag_other}
 use Rattle.fast_path.specs.declared.calls.Call.{Call}
@@ -111,7 +111,7 @@ module _ (w : WorldState) (k : ℕ) (t : ThreadId) (c : Call) (a : Action) where
   abbrev pub Goal : Type 0
   Goal = Run (shown w) (moves_made (after_act w t c a).did.moves) (shown (with_go w k (after_act w t c a)))
 
-  pub by_outcome : (x : Outcome) → acted w.fats t a ≡ x
+  pub by_outcome : (x : Outcome) → outcome_of w.fats t a ≡ x
       → Run (shown w) (moves_made (after_told w t c a x.answer x.after).did.moves) (shown (with_go w k (after_told w t c a x.answer x.after)))
       → Goal
   by_outcome x e run =
@@ -138,10 +138,10 @@ module _ (w : WorldState) (sound : IsSound w) (k : ℕ) (t : ThreadId) (seat : s
           (acts_alike w.fats g v sound.fats (flag-with_flag_other w.fats t v flag (λ e. ne (ap (λ (x : ThreadId). x.0) e))) refl (λ j h. refl)))
 
   -- a reply that leaves the fat state as it is
-  pub keeps_all : (c : Call) (a : Action) (r : Reply) → acted w.fats t a ≡ fat_replied w.fats r
+  pub keeps_all : (c : Call) (a : Action) (r : Reply) → outcome_of w.fats t a ≡ replies w.fats r
       → Run (shown w) (move_for c r None t ∷ move.Return t r ∷ []) (now_is (shown w) t (flag_at w.fats t) doing.Idle) → Goal w k t c a
   keeps_all c a r e run =
-      by_outcome w k t c a (fat_replied w.fats r) e
+      by_outcome w k t c a (replies w.fats r) e
       (subst (λ (s : State). Run (shown w) (move_for c r None t ∷ move.Return t r ∷ []) s)
       (sym (shown_stays w sound k t seat Idle (move_and_return (atomic.Acted a (answer.Reply r)) (move_for c r None t) t r) out)) run)
 
@@ -164,10 +164,10 @@ module _ (w : WorldState) (sound : IsSound w) (k : ℕ) (t : ThreadId) (seat : s
             (acts_alike w.fats (with_owner w.fats m x n) v sound.fats refl refl (λ j h. object-with_owner w.fats m x n j (here w sound o m shows).0)))
 
     -- a reply that changes the owner and the holds
-    pub owner_changes : (a : Action) (r : Reply) (x : Option ThreadId) (n : ℕ) → acted w.fats t a ≡ fat_replied (with_owner w.fats m x n) r
+    pub owner_changes : (a : Action) (r : Reply) (x : Option ThreadId) (n : ℕ) → outcome_of w.fats t a ≡ replies (with_owner w.fats m x n) r
         → Run (shown w) (move_for c r None t ∷ move.Return t r ∷ []) (with_monitor (now_is (shown w) t (flag_at w.fats t) doing.Idle) o (record { owner = x; count = n })) → Goal w k t c a
     owner_changes a r x n e run =
-        by_outcome w k t c a (fat_replied (with_owner w.fats m x n) r) e
+        by_outcome w k t c a (replies (with_owner w.fats m x n) r) e
         (subst (λ (s : State). Run (shown w) (move_for c r None t ∷ move.Return t r ∷ []) s)
         (sym (shown_owned Idle (move_and_return (atomic.Acted a (answer.Reply r)) (move_for c r None t) t r) x n)) run)
 

@@ -16,7 +16,7 @@ use Rattle.fat_monitor.specs.declared.actions.Action.TheVariants as action
 use Rattle.fat_monitor.specs.declared.actions.Post.{Post}
 use Rattle.fat_monitor.specs.declared.actions.Post.TheVariants.{Out, Entering, Waiting, Back, Granted}
 use Rattle.fat_monitor.specs.FatState.{FatState, monitor_at, IsAttached, post_of, post_at, flag_at, with_flag}
-use Rattle.fat_monitor.specs.Acting.{acted, told, granted, sent_back, replied as fat_replied}
+use Rattle.fat_monitor.specs.Acting.{outcome_of, answers, after_grant, after_sending_back, replies}
 use Rattle.fat_monitor.proofs.Effects.{post-with_post_same, post-with_post_other}
 use Rattle.fat_monitor.proofs.Flags.{flag-with_flag_same, flag-with_flag_other}
 use Rattle.fast_path.specs.declared.calls.InterruptCall.{InterruptCall}
@@ -42,7 +42,7 @@ use Rattle.step_core.proofs.Facts.PlaceFacts.{stirred_out, who_bound}
 use Rattle.step_core.proofs.Facts.ShownStates.{does, thread_in, ActsAlike, acts_alike}
 use Rattle.step_core.proofs.Facts.OneFatAction.{one_thread, same_post, post_is, own_thread, kept_thread, by_seat, shown_turned}
 use Rattle.step_core.proofs.Facts.OneThread.{stands_at, is_at, act_out}
-use Rattle.step_core.proofs.Facts.Grants.{monitors-granted, post-granted_same, post-granted_other, flag-granted_same, flag-granted_other, moment-granted}
+use Rattle.step_core.proofs.Facts.Grants.{monitors-after_grant, post-after_grant_same, post-after_grant_other, flag-after_grant_same, flag-after_grant_other, moment-after_grant}
 use Rattle.step_core.proofs.Runs.ActionShows.{act_same, monitors_kept, Goal, by_outcome, shown_flagged, keeps_all, shown_handed_over}
 
 -- A monitor that nobody owns is shown by its object: whoever is to store one owns it.
@@ -64,12 +64,12 @@ module _ (w : WorldState) (sound : IsSound w) (k : ℕ) (t : ThreadId) (seat : s
   -- t asks whether it is with_interrupt
   test_run : (flag : Bool) → flag_at w.fats t ≡ flag → Is (shown w) t flag (doing.Wants call.Interrupted) → Goal w k t call.Interrupted action.Interrupted
   test_run true e is =
-      by_outcome w k t call.Interrupted action.Interrupted (fat_replied (with_flag w.fats t false) reply.Yes) (rw e refl)
+      by_outcome w k t call.Interrupted action.Interrupted (replies (with_flag w.fats t false) reply.Yes) (rw e refl)
       (subst (λ (s : State). Run (shown w) (move.TestClear t ∷ move.Return t reply.Yes ∷ []) s)
       (sym (shown_flagged w sound k t seat out false (move_and_return (atomic.Acted action.Interrupted (answer.Reply reply.Yes)) (move.TestClear t) t reply.Yes)))
       (run_tested (shown w) t true is))
   test_run false e is =
-      by_outcome w k t call.Interrupted action.Interrupted (fat_replied (with_flag w.fats t false) reply.No) (rw e refl)
+      by_outcome w k t call.Interrupted action.Interrupted (replies (with_flag w.fats t false) reply.No) (rw e refl)
       (subst (λ (s : State). Run (shown w) (move.TestClear t ∷ move.Return t reply.No ∷ []) s)
       (sym (shown_flagged w sound k t seat out false (move_and_return (atomic.Acted action.Interrupted (answer.Reply reply.No)) (move.TestClear t) t reply.No)))
       (run_tested (shown w) t false is))
@@ -108,7 +108,7 @@ module _ (w : WorldState) (sound : IsSound w) (k : ℕ) (t : ThreadId) (seat : s
   -- t interrupts itself
   own_run : Is (shown w) t (flag_at w.fats t) (doing.Wants (call.Interrupt t)) → Goal w k t (call.Interrupt t) (action.Interrupt t)
   own_run is =
-      by_outcome w k t (call.Interrupt t) (action.Interrupt t) (told (with_flag w.fats t true) (answer.Reply reply.Done) None None) (rw out refl)
+      by_outcome w k t (call.Interrupt t) (action.Interrupt t) (answers (with_flag w.fats t true) (answer.Reply reply.Done) None None) (rw out refl)
       (subst (λ (s : State). Run (shown w) (move.Interrupt t ∷ move.Return t reply.Done ∷ []) s)
       (with_thread-with_thread (shown w) t (Some (with_interrupt x)) (Some (does true doing.Idle))
       ∙ sym (shown_flagged w sound k t seat out true (move_and_return (atomic.Acted (action.Interrupt t) (answer.Reply reply.Done)) (move.Interrupt t) t reply.Done)))
@@ -141,19 +141,19 @@ module _ (w : WorldState) (sound : IsSound w) (k : ℕ) (t : ThreadId) (seat : s
         at_thread v (inr ne) (inr nu) = rw (ne_eqb v.0 t.0 ne, ne_eqb v.0 u.0 nu) (kept_thread w sound k t seat g Idle did v ne (others v ne nu))
 
     -- the run that leads there
-    stirred_run : (g : FatState) → acted w.fats t (action.Interrupt u) ≡ told g (answer.Reply reply.Done) None None
+    stirred_run : (g : FatState) → outcome_of w.fats t (action.Interrupt u) ≡ answers g (answer.Reply reply.Done) None None
         → g.monitors ≡ w.fats.monitors → g.moment ≡ w.fats.moment → post_of g t ≡ Some Out → flag_at g t ≡ flag_at w.fats t
         → ((q : Place) → thread_in g u q ≡ with_interrupt (thread_in w.fats u q))
         → ((v : ThreadId) → (v.0 ≡ t.0 → ⊥) → (v.0 ≡ u.0 → ⊥) → ActsAlike w.fats g v)
         → Is (shown w) t (flag_at w.fats t) (doing.Wants (call.Interrupt u)) → Goal w k t (call.Interrupt u) (action.Interrupt u)
     stirred_run g e same moment mine flag stirs others is =
-        by_outcome w k t (call.Interrupt u) (action.Interrupt u) (told g (answer.Reply reply.Done) None None) e
+        by_outcome w k t (call.Interrupt u) (action.Interrupt u) (answers g (answer.Reply reply.Done) None None) e
         (subst (λ (s : State). Run (shown w) (move.Interrupt t ∷ move.Return t reply.Done ∷ []) s)
         (sym (shown_stirred g (move_and_return (atomic.Acted (action.Interrupt u) (answer.Reply reply.Done)) (move.Interrupt t) t reply.Done) same moment mine flag stirs others))
         (rw (ne_eqb t.0 u.0 (λ x. apart (sym x))) at (run_interrupted (shown w) t u (flag_at w.fats t) them is (rw theirs refl))))
 
     -- u does not wait: its flag is set
-    flagged_run : (p : Post) → post_of w.fats u ≡ Some p → acted w.fats t (action.Interrupt u) ≡ told (with_flag w.fats u true) (answer.Reply reply.Done) None None
+    flagged_run : (p : Post) → post_of w.fats u ≡ Some p → outcome_of w.fats t (action.Interrupt u) ≡ answers (with_flag w.fats u true) (answer.Reply reply.Done) None None
         → ((q : Place) → act_of w.fats p q ≡ after_interrupt (act_of w.fats p q))
         → Is (shown w) t (flag_at w.fats t) (doing.Wants (call.Interrupt u)) → Goal w k t (call.Interrupt u) (action.Interrupt u)
     flagged_run p at e stays is =
@@ -176,13 +176,13 @@ module _ (w : WorldState) (sound : IsSound w) (k : ℕ) (t : ThreadId) (seat : s
         is
       where
         g : FatState
-        g = sent_back (with_flag w.fats u true) u m (Back m n why.Interrupted) (Some owner)
+        g = after_sending_back (with_flag w.fats u true) u m (Back m n why.Interrupted) (Some owner)
 
     -- u waits on a monitor that nobody owns, and gets it at once
     served_run : (m n : ℕ) (d : Option ℕ) → post_of w.fats u ≡ Some (Waiting m n d) → (monitor_at w.fats m).owner ≡ None
         → Is (shown w) t (flag_at w.fats t) (doing.Wants (call.Interrupt u)) → Goal w k t (call.Interrupt u) (action.Interrupt u)
     served_run m n d at free is =
-        by_outcome w k t (call.Interrupt u) (action.Interrupt u) (told g (answer.Reply reply.Done) (Some u) None) (rw (at, free) refl)
+        by_outcome w k t (call.Interrupt u) (action.Interrupt u) (answers g (answer.Reply reply.Done) (Some u) None) (rw (at, free) refl)
         (rw their_post
         (subst (λ (s : State). Run (shown w) (move.Interrupt t ∷ move.Relock u ∷ move.Return t reply.Done ∷ []) s) (sym shown_then)
         (run_stirred (shown w) t u (flag_at w.fats t) (flag_at w.fats u) o n d is waits unowned (λ x. apart (sym x)))))
@@ -191,7 +191,7 @@ module _ (w : WorldState) (sound : IsSound w) (k : ℕ) (t : ThreadId) (seat : s
         p = Back m n why.Interrupted
 
         g : FatState
-        g = granted (with_flag w.fats u true) m u (Back m n why.Interrupted) WaitSet
+        g = after_grant (with_flag w.fats u true) m u (Back m n why.Interrupted) WaitSet
 
         o : ObjectId
         o = (monitor_at w.fats m).object
@@ -208,21 +208,21 @@ module _ (w : WorldState) (sound : IsSound w) (k : ℕ) (t : ThreadId) (seat : s
         other : t ≢ u
         other x = apart (sym (ap (λ (y : ThreadId). y.0) x))
 
-        their_post : post_at (granted (with_flag w.fats u true) m u (Back m n why.Interrupted) WaitSet) u ≡ Granted reply.Interrupted
-        their_post = post_is g u (Granted reply.Interrupted) (post-granted_same (with_flag w.fats u true) m u (Back m n why.Interrupted) WaitSet)
+        their_post : post_at (after_grant (with_flag w.fats u true) m u (Back m n why.Interrupted) WaitSet) u ≡ Granted reply.Interrupted
+        their_post = post_is g u (Granted reply.Interrupted) (post-after_grant_same (with_flag w.fats u true) m u (Back m n why.Interrupted) WaitSet)
 
         did : Did
         did = move_grant_and_return (atomic.Acted (action.Interrupt u) (answer.Reply reply.Done)) (move.Interrupt t) (Some (move.Relock u)) t reply.Done
 
         shown_then : shown (with_go w k (fats_changed w g Idle did)) ≡ with_monitor (now_is (now_is (shown w) u false (doing.Has reply.Interrupted)) t (flag_at w.fats t) doing.Idle) o (held u n)
         shown_then = shown_handed_over w sound k t seat out (call.Interrupt u) o m is shows u g Idle did (flag_at w.fats t) false doing.Idle reply.Interrupted n apart (rw theirs refl)
-            (rw (flag-granted_other (with_flag w.fats u true) m u p WaitSet t other, flag-with_flag_other w.fats u t true other)
-            (ap (does (flag_at w.fats t)) (act_out g t Idle (post-granted_other (with_flag w.fats u true) m u p WaitSet t other ∙ out))))
-            their_post (flag-granted_same (with_flag w.fats u true) m u p WaitSet)
-            (λ v ne nu. same_post w.fats g v (post-granted_other (with_flag w.fats u true) m u p WaitSet v (λ e. nu (ap (λ (y : ThreadId). y.0) e))))
-            (λ v ne nu. flag-granted_other (with_flag w.fats u true) m u p WaitSet v (λ e. nu (ap (λ (y : ThreadId). y.0) e)) ∙ flag-with_flag_other w.fats u v true (λ e. nu (ap (λ (y : ThreadId). y.0) e)))
-            (moment-granted (with_flag w.fats u true) m u p WaitSet)
-            (monitors-granted (with_flag w.fats u true) m u p WaitSet)
+            (rw (flag-after_grant_other (with_flag w.fats u true) m u p WaitSet t other, flag-with_flag_other w.fats u t true other)
+            (ap (does (flag_at w.fats t)) (act_out g t Idle (post-after_grant_other (with_flag w.fats u true) m u p WaitSet t other ∙ out))))
+            their_post (flag-after_grant_same (with_flag w.fats u true) m u p WaitSet)
+            (λ v ne nu. same_post w.fats g v (post-after_grant_other (with_flag w.fats u true) m u p WaitSet v (λ e. nu (ap (λ (y : ThreadId). y.0) e))))
+            (λ v ne nu. flag-after_grant_other (with_flag w.fats u true) m u p WaitSet v (λ e. nu (ap (λ (y : ThreadId). y.0) e)) ∙ flag-with_flag_other w.fats u v true (λ e. nu (ap (λ (y : ThreadId). y.0) e)))
+            (moment-after_grant (with_flag w.fats u true) m u p WaitSet)
+            (monitors-after_grant (with_flag w.fats u true) m u p WaitSet)
 
     -- by the post of u
     other_run : (p : Post) → post_of w.fats u ≡ Some p → Is (shown w) t (flag_at w.fats t) (doing.Wants (call.Interrupt u)) → Goal w k t (call.Interrupt u) (action.Interrupt u)

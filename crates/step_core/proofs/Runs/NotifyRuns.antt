@@ -21,9 +21,9 @@ use Rattle.fat_monitor.specs.declared.actions.Action.TheVariants as action
 use Rattle.fat_monitor.specs.declared.actions.Post.{Post}
 use Rattle.fat_monitor.specs.declared.actions.Post.TheVariants.{Out, Entering, Waiting, Back, Granted}
 use Rattle.fat_monitor.specs.FatState.{FatState, monitor_at, is_owned_by, IsFair, IsProper, post_of, post_at, flag_at, first_of, line_of, with_post}
-use Rattle.fat_monitor.specs.Acting.{told, granted, sent_back, all_removed}
-use Rattle.fat_monitor.proofs.Effects.{post-with_post_same, post-with_post_other, first_waiting, nobody_waiting, called_back, post-all_removed, monitors-all_removed, moment-all_removed}
-use Rattle.fat_monitor.proofs.Flags.{flags-all_removed}
+use Rattle.fat_monitor.specs.Acting.{answers, after_grant, after_sending_back, after_removals}
+use Rattle.fat_monitor.proofs.Effects.{post-with_post_same, post-with_post_other, first_waiting, nobody_waiting, called_back, post-after_removals, monitors-after_removals, moment-after_removals}
+use Rattle.fat_monitor.proofs.Flags.{flags-after_removals}
 use Rattle.fast_path.specs.declared.calls.Operation.{Operation}
 use Rattle.fast_path.specs.declared.calls.Operation.TheVariants as op
 use Rattle.fast_path.specs.declared.calls.MonitorCall.{MonitorCall}
@@ -99,7 +99,7 @@ module _ (w : WorldState) (sound : IsSound w) (k : ℕ) (t : ThreadId) (seat : s
       keeps_all w sound k t seat out (call.Notify o) (action.Notify m) reply.Notified (rw (b, e) refl)
       (run_unnoticed (shown w) t (flag_at w.fats t) o is (owned_by_me w sound k t seat out (call.Notify o) o m is shows own) (nobody_waits o m shows e))
   notify_run o m is shows true b (Some u) e =
-      by_outcome w k t (call.Notify o) (action.Notify m) (told g (answer.Reply reply.Notified) None (Some u)) (rw (b, e, post_is w.fats u (Waiting m n d) at, own) refl)
+      by_outcome w k t (call.Notify o) (action.Notify m) (answers g (answer.Reply reply.Notified) None (Some u)) (rw (b, e, post_is w.fats u (Waiting m n d) at, own) refl)
       (subst (λ (s : State). Run (shown w) (move.Notify t (Some u) ∷ move.Return t reply.Notified ∷ []) s) (sym shown_then)
       (run_notified (shown w) t u (flag_at w.fats t) (flag_at w.fats u) o n d is (owned_by_me w sound k t seat out (call.Notify o) o m is shows own) waiting (λ x. apart (sym x))))
     where
@@ -116,7 +116,7 @@ module _ (w : WorldState) (sound : IsSound w) (k : ℕ) (t : ThreadId) (seat : s
       at = (first_waiting w.fats m u sound.fats e).2
 
       g : FatState
-      g = sent_back w.fats u m (Back m n why.Notified) (Some t)
+      g = after_sending_back w.fats u m (Back m n why.Notified) (Some t)
 
       did : Did
       did = move_and_return (atomic.Acted (action.Notify m) (answer.Reply reply.Notified)) (move.Notify t (Some u)) t reply.Notified
@@ -160,7 +160,7 @@ module _ (w : WorldState) (sound : IsSound w) (k : ℕ) (t : ThreadId) (seat : s
       → (b : Bool) → is_owned_by (monitor_at w.fats m).owner t ≡ b → Goal w k t (call.NotifyAll o) (action.NotifyAll m)
   notify_all_run o m is shows false b = illegal_run w sound k t seat out (call.NotifyAll o) (action.NotifyAll m) o m is shows refl b (rw b refl)
   notify_all_run o m is shows true b =
-      by_outcome w k t (call.NotifyAll o) (action.NotifyAll m) (told g (answer.Reply reply.Notified) None None) (rw b refl)
+      by_outcome w k t (call.NotifyAll o) (action.NotifyAll m) (answers g (answer.Reply reply.Notified) None None) (rw b refl)
       (subst (λ (s : State). Run (shown w) (move.NotifyAll t ∷ move.Return t reply.Notified ∷ []) s) (sym shown_then)
       (run_notified_all (shown w) t (flag_at w.fats t) o is (owned_by_me w sound k t seat out (call.NotifyAll o) o m is shows own)))
     where
@@ -168,7 +168,7 @@ module _ (w : WorldState) (sound : IsSound w) (k : ℕ) (t : ThreadId) (seat : s
       own = mine w sound k t seat out (call.NotifyAll o) o m is shows (monitor_at w.fats m).owner refl b
 
       g : FatState
-      g = all_removed w.fats (line_of w.fats m WaitSet)
+      g = after_removals w.fats (line_of w.fats m WaitSet)
 
       did : Did
       did = move_and_return (atomic.Acted (action.NotifyAll m) (answer.Reply reply.Notified)) (move.NotifyAll t) t reply.Notified
@@ -176,14 +176,14 @@ module _ (w : WorldState) (sound : IsSound w) (k : ℕ) (t : ThreadId) (seat : s
       owned : IsSome (monitor_at w.fats m).owner
       owned = rw own refl
 
-      same : (all_removed w.fats (line_of w.fats m WaitSet)).monitors ≡ w.fats.monitors
-      same = monitors-all_removed w.fats m sound.fats owned
+      same : (after_removals w.fats (line_of w.fats m WaitSet)).monitors ≡ w.fats.monitors
+      same = monitors-after_removals w.fats m sound.fats owned
 
-      posts : (v : ThreadId) → post_of (all_removed w.fats (line_of w.fats m WaitSet)) v ≡ option_map (called_back m) (post_of w.fats v)
-      posts v = post-all_removed w.fats m v sound.fats owned
+      posts : (v : ThreadId) → post_of (after_removals w.fats (line_of w.fats m WaitSet)) v ≡ option_map (called_back m) (post_of w.fats v)
+      posts v = post-after_removals w.fats m v sound.fats owned
 
-      flags : (v : ThreadId) → flag_at (all_removed w.fats (line_of w.fats m WaitSet)) v ≡ flag_at w.fats v
-      flags v = ap (λ (fs : map.FinMap nat_cmp Bool). unwrap_or (map.get fs v.0) false) (flags-all_removed w.fats m sound.fats owned)
+      flags : (v : ThreadId) → flag_at (after_removals w.fats (line_of w.fats m WaitSet)) v ≡ flag_at w.fats v
+      flags v = ap (λ (fs : map.FinMap nat_cmp Bool). unwrap_or (map.get fs v.0) false) (flags-after_removals w.fats m sound.fats owned)
 
       -- a thread that waits on the object comes back, and another does what it did
       woken_post : (q : Post) (p : Place) → IsProper w.fats q → act_of w.fats (called_back m q) p ≡ after_notify_all o (act_of w.fats q p)
@@ -216,7 +216,7 @@ module _ (w : WorldState) (sound : IsSound w) (k : ℕ) (t : ThreadId) (seat : s
               ∙ woken_post (post_at w.fats v) (place_at w j) (proper_at w.fats v sound.fats)))
 
       shown_then : shown (with_go w k (fats_changed w g Idle did)) ≡ now_is (all_notified (shown w) o) t (flag_at w.fats t) doing.Idle
-      shown_then = shown_turned w sound k t seat g Idle did (now_is (all_notified (shown w) o) t (flag_at w.fats t) doing.Idle) refl (sym (moment-all_removed w.fats (line_of w.fats m WaitSet)))
+      shown_then = shown_turned w sound k t seat g Idle did (now_is (all_notified (shown w) o) t (flag_at w.fats t) doing.Idle) refl (sym (moment-after_removals w.fats (line_of w.fats m WaitSet)))
           (λ v. at_thread v (cases_eq v.0 t.0)) (monitors_kept w k g Idle did same)
 
   -- a Go that makes the action of an operation's own name
@@ -257,7 +257,7 @@ module _ (w : WorldState) (sound : IsSound w) (k : ℕ) (t : ThreadId) (seat : s
       did = return_alone (atomic.Acted action.Collect (answer.Reply r)) t r
 
       has : Is (shown w) t (flag_at w.fats t) (doing.Has r)
-      has = rw (seat, at) (ap (λ (q : Post). Some (does (flag_at w.fats t) (act_of w.fats q AtPost))) (post_is w.fats t (Granted r) granted))
+      has = rw (seat, at) (ap (λ (q : Post). Some (does (flag_at w.fats t) (act_of w.fats q AtPost))) (post_is w.fats t (Granted r) after_grant))
 
       at_thread : (v : ThreadId) → (v.0 ≡ t.0) ⊎ (v.0 ≡ t.0 → ⊥) → thread_of (with_go w k (fats_changed w g Idle did)) v (seat_of w.seats v) ≡ (now_is (shown w) t (flag_at w.fats t) doing.Idle).thread v
       at_thread v (inl e) = rw (eq-eqb v.0 t.0 e) (own_thread w sound k t seat g Idle did (does (flag_at w.fats t) doing.Idle) (ap (does (flag_at w.fats t)) (act_out g t Idle (post-with_post_same w.fats t Out))) v e)

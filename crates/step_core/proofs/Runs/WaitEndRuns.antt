@@ -18,7 +18,7 @@ use Rattle.fat_monitor.specs.declared.actions.Action.TheVariants as action
 use Rattle.fat_monitor.specs.declared.actions.Post.{Post}
 use Rattle.fat_monitor.specs.declared.actions.Post.TheVariants.{Out, Entering, Waiting, Back, Granted}
 use Rattle.fat_monitor.specs.FatState.{FatState, monitor_at, unbound, post_of, post_at, flag_at, with_owner, with_moment}
-use Rattle.fat_monitor.specs.Acting.{Outcome, acted, told, granted, sent_back, removed, served, reply_back}
+use Rattle.fat_monitor.specs.Acting.{Outcome, outcome_of, answers, after_grant, after_sending_back, after_removal, granted_by_removal, reply_back}
 use Rattle.fat_monitor.proofs.Effects.{post-with_post_same, post-with_post_other}
 use Rattle.fat_monitor.proofs.Flags.{settled_flag}
 use Rattle.step_core.specs.declared.machine.Doing.{Doing}
@@ -38,7 +38,7 @@ use Rattle.step_core.specs.Step.{AfterStep as Stepped, WaitEnd, time_over, wake_
 use Rattle.step_core.proofs.Runs.Regaining.{run_back_free}
 use Rattle.step_core.proofs.Facts.ShownStates.{does, acts_alike}
 use Rattle.step_core.proofs.Facts.OneFatAction.{same_post, post_is, own_thread, kept_thread, shown_turned}
-use Rattle.step_core.proofs.Facts.Grants.{monitors-granted, post-granted_same, post-granted_other, flag-granted_same, flag-granted_other, moment-granted}
+use Rattle.step_core.proofs.Facts.Grants.{monitors-after_grant, post-after_grant_same, post-after_grant_other, flag-after_grant_same, flag-after_grant_other, moment-after_grant}
 use Rattle.step_core.proofs.Runs.ActionShows.{act_same, monitors_kept, monitors_turned, with_holds, object-with_owner}
 use Rattle.step_core.proofs.Runs.InterruptRuns.{unowned_shows}
 
@@ -80,13 +80,13 @@ module _ (w : WorldState) (sound : IsSound w) (t : ThreadId) (k : ℕ) (seat : s
     did = no_move (atomic.Acted x.action answer.Quiet)
 
     -- behind an owner it comes back
-    behind_run : (owner : ThreadId) → EndRun x w t (told (sent_back w.fats t m (Back m n y) (Some owner)) answer.Quiet None None)
+    behind_run : (owner : ThreadId) → EndRun x w t (answers (after_sending_back w.fats t m (Back m n y) (Some owner)) answer.Quiet None None)
     behind_run owner =
         subst (λ (s : State). Run (shown w) (x.made t ∷ []) s) (sym (as_gone g did ∙ shown_then))
         (now_is (shown w) t (flag_at w.fats t) (doing.Back (monitor_at w.fats m).object n y), leaves, refl)
       where
         g : FatState
-        g = sent_back w.fats t m (Back m n y) (Some owner)
+        g = after_sending_back w.fats t m (Back m n y) (Some owner)
 
         at_thread : (v : ThreadId) → (v.0 ≡ t.0) ⊎ (v.0 ≡ t.0 → ⊥)
             → thread_of (with_go w k (fats_changed w g (place_at w k) did)) v (seat_of w.seats v) ≡ (now_is (shown w) t (flag_at w.fats t) (doing.Back (monitor_at w.fats m).object n y)).thread v
@@ -103,7 +103,7 @@ module _ (w : WorldState) (sound : IsSound w) (t : ThreadId) (k : ℕ) (seat : s
             (λ v. at_thread v (cases_eq v.0 t.0)) (monitors_kept w k g (place_at w k) did refl)
 
     -- a monitor that nobody owns it gets at once
-    served_run : (monitor_at w.fats m).owner ≡ None → EndRun x w t (told (granted w.fats m t (Back m n y) WaitSet) answer.Quiet (Some t) None)
+    served_run : (monitor_at w.fats m).owner ≡ None → EndRun x w t (answers (after_grant w.fats m t (Back m n y) WaitSet) answer.Quiet (Some t) None)
     served_run free =
         rw (theirs, granting-back t y)
         (subst (λ (s : State). Run (shown w) (x.made t ∷ move.Relock t ∷ []) s) (sym (as_gone g did ∙ shown_then))
@@ -113,7 +113,7 @@ module _ (w : WorldState) (sound : IsSound w) (t : ThreadId) (k : ℕ) (seat : s
         p = Back m n y
 
         g : FatState
-        g = granted w.fats m t (Back m n y) WaitSet
+        g = after_grant w.fats m t (Back m n y) WaitSet
 
         o : ObjectId
         o = (monitor_at w.fats m).object
@@ -130,14 +130,14 @@ module _ (w : WorldState) (sound : IsSound w) (t : ThreadId) (k : ℕ) (seat : s
         unowned : Unowned (shown w) (monitor_at w.fats m).object
         unowned = rw shows free
 
-        theirs : post_at (granted w.fats m t (Back m n y) WaitSet) t ≡ Granted (reply_back y)
-        theirs = post_is g t (Granted (reply_back y)) (post-granted_same w.fats m t (Back m n y) WaitSet)
+        theirs : post_at (after_grant w.fats m t (Back m n y) WaitSet) t ≡ Granted (reply_back y)
+        theirs = post_is g t (Granted (reply_back y)) (post-after_grant_same w.fats m t (Back m n y) WaitSet)
 
-        flag : flag_at (granted w.fats m t (Back m n y) WaitSet) t ≡ flag_back y (flag_at w.fats t)
-        flag = flag-granted_same w.fats m t (Back m n y) WaitSet ∙ settled_flag-back m n y (flag_at w.fats t)
+        flag : flag_at (after_grant w.fats m t (Back m n y) WaitSet) t ≡ flag_back y (flag_at w.fats t)
+        flag = flag-after_grant_same w.fats m t (Back m n y) WaitSet ∙ settled_flag-back m n y (flag_at w.fats t)
 
-        same : (granted w.fats m t (Back m n y) WaitSet).monitors ≡ (with_owner w.fats m (Some t) n).monitors
-        same = monitors-granted w.fats m t (Back m n y) WaitSet
+        same : (after_grant w.fats m t (Back m n y) WaitSet).monitors ≡ (with_owner w.fats m (Some t) n).monitors
+        same = monitors-after_grant w.fats m t (Back m n y) WaitSet
 
         at_thread : (v : ThreadId) → (v.0 ≡ t.0) ⊎ (v.0 ≡ t.0 → ⊥) → thread_of (with_go w k (fats_changed w g (place_at w k) did)) v (seat_of w.seats v) ≡ after.thread v
         at_thread v (inl e) =
@@ -146,37 +146,37 @@ module _ (w : WorldState) (sound : IsSound w) (t : ThreadId) (k : ℕ) (seat : s
         at_thread v (inr ne) =
             let other : v ≢ t = λ z. ne (ap (λ (u : ThreadId). u.0) z) in
             rw (ne_eqb v.0 t.0 ne) (kept_thread w sound k t seat g (place_at w k) did v ne
-            (acts_alike w.fats g v sound.fats (flag-granted_other w.fats m t p WaitSet v other) (same_post w.fats g v (post-granted_other w.fats m t p WaitSet v other))
+            (acts_alike w.fats g v sound.fats (flag-after_grant_other w.fats m t p WaitSet v other) (same_post w.fats g v (post-after_grant_other w.fats m t p WaitSet v other))
             (λ j l. ap (λ (xs : List fat.Monitor). (get_or xs j unbound).object) same ∙ object-with_owner w.fats m (Some t) n j bound)))
 
         shown_then : shown (with_go w k (fats_changed w g (place_at w k) did)) ≡ after
         shown_then =
-            shown_turned w sound k t seat g (place_at w k) did after refl (sym (moment-granted w.fats m t p WaitSet))
+            shown_turned w sound k t seat g (place_at w k) did after refl (sym (moment-after_grant w.fats m t p WaitSet))
             (λ v. at_thread v (cases_eq v.0 t.0))
             (monitors_turned w sound o m shows k g (place_at w k) did (with_holds w m (Some t) n)
             (ap (λ (xs : List fat.Monitor). get_or xs m unbound) same ∙ get_or-set_same w.fats.monitors m (with_holds w m (Some t) n) unbound bound)
             (λ j ne. ap (λ (xs : List fat.Monitor). get_or xs j unbound) same ∙ get_or-set_other w.fats.monitors m j (with_holds w m (Some t) n) unbound ne))
 
     end_run : (owner : Option ThreadId) → (monitor_at w.fats m).owner ≡ owner
-        → EndRun x w t (told (removed w.fats t y (Waiting m n d)) answer.Quiet (served w.fats t (Waiting m n d)) None)
+        → EndRun x w t (answers (after_removal w.fats t y (Waiting m n d)) answer.Quiet (granted_by_removal w.fats t (Waiting m n d)) None)
     end_run (Some owner) own = subst (EndRun x w t) (sym goes) (behind_run owner)
       where
-        goes : told (removed w.fats t y (Waiting m n d)) answer.Quiet (served w.fats t (Waiting m n d)) None ≡ told (sent_back w.fats t m (Back m n y) (Some owner)) answer.Quiet None None
+        goes : answers (after_removal w.fats t y (Waiting m n d)) answer.Quiet (granted_by_removal w.fats t (Waiting m n d)) None ≡ answers (after_sending_back w.fats t m (Back m n y) (Some owner)) answer.Quiet None None
         goes = rw own refl
     end_run None free = subst (EndRun x w t) (sym goes) (served_run free)
       where
-        goes : told (removed w.fats t y (Waiting m n d)) answer.Quiet (served w.fats t (Waiting m n d)) None ≡ told (granted w.fats m t (Back m n y) WaitSet) answer.Quiet (Some t) None
+        goes : answers (after_removal w.fats t y (Waiting m n d)) answer.Quiet (granted_by_removal w.fats t (Waiting m n d)) None ≡ answers (after_grant w.fats m t (Back m n y) WaitSet) answer.Quiet (Some t) None
         goes = rw free refl
 
   -- by the post of t
-  expire_at : (p : Option Post) → post_of w.fats t ≡ p → EndRun time_over w t (acted w.fats t action.Expire)
+  expire_at : (p : Option Post) → post_of w.fats t ≡ p → EndRun time_over w t (outcome_of w.fats t action.Expire)
   expire_at None e = rw e refl
   expire_at (Some Out) e = rw e refl
   expire_at (Some (Entering m)) e = rw e refl
   expire_at (Some (Waiting m n None)) e = rw e refl
   expire_at (Some (Waiting m n (Some d))) e = by_time (nat_lt w.fats.moment d) refl
     where
-      by_time : (early : Bool) → nat_lt w.fats.moment d ≡ early → EndRun time_over w t (acted w.fats t action.Expire)
+      by_time : (early : Bool) → nat_lt w.fats.moment d ≡ early → EndRun time_over w t (outcome_of w.fats t action.Expire)
       by_time true early = rw (e, early) refl
       by_time false due =
           rw (e, due) (end_run time_over why.Elapsed m n (Some d) e
@@ -184,7 +184,7 @@ module _ (w : WorldState) (sound : IsSound w) (t : ThreadId) (k : ℕ) (seat : s
   expire_at (Some (Back m n y)) e = rw e refl
   expire_at (Some (Granted r)) e = rw e refl
 
-  wake_at : (p : Option Post) → post_of w.fats t ≡ p → EndRun wake_up w t (acted w.fats t action.Spurious)
+  wake_at : (p : Option Post) → post_of w.fats t ≡ p → EndRun wake_up w t (outcome_of w.fats t action.Spurious)
   wake_at None e = rw e refl
   wake_at (Some Out) e = rw e refl
   wake_at (Some (Entering m)) e = rw e refl

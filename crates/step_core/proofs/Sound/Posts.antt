@@ -20,9 +20,9 @@ use Rattle.fat_monitor.specs.declared.actions.Why.{Why}
 use Rattle.fat_monitor.specs.declared.actions.Why.TheVariants.{Notified, Interrupted}
 use Rattle.fat_monitor.specs.FatState.{FatState, monitor_at, post_of, post_at, flag_at, flag_of, thread_count, IsAttached, IsHeld, first_of, with_owner, with_post, with_flag, is_owned_by}
 use Rattle.fat_monitor.specs.FatState as book
-use Rattle.fat_monitor.specs.Acting.{Outcome, acted, entered, waited, notified, interrupted, asked, granted, settled, sent_back, removed, handed_on, are_good, deadline, holds_granted, reply_granted}
-use Rattle.fat_monitor.proofs.Effects.{post-with_post_same, post-with_post_other, first_entering, first_waiting, post-all_removed, called_back}
-use Rattle.fat_monitor.proofs.Flags.{threads-settled}
+use Rattle.fat_monitor.specs.Acting.{Outcome, outcome_of, enter_outcome, wait_outcome, notify_outcome, interrupt_outcome, flag_outcome, after_grant, after_settling, after_sending_back, after_removal, after_hand_on, are_good, deadline, holds_granted, reply_granted}
+use Rattle.fat_monitor.proofs.Effects.{post-with_post_same, post-with_post_other, first_entering, first_waiting, post-after_removals, called_back}
+use Rattle.fat_monitor.proofs.Flags.{threads-after_settling}
 use Rattle.step_core.specs.Sound.{Agrees}
 use Rattle.step_core.specs.Go.{place_after}
 
@@ -63,53 +63,53 @@ first_apart f t u m out (inl e) = apart f t u (Entering m) out e (λ x. cc)
 first_apart f t u m out (inr (n, w, e, held)) = apart f t u (Back m n w) out e (λ x. cc)
 
 -- whoever is granted a monitor leaves the posts of the others
-post-granted_other : (f : FatState) (m : ℕ) (u t : ThreadId) (p : Post) (r : Role) → t ≢ u → post_of (granted f m u p r) t ≡ post_of f t
-post-granted_other f m u t p r other =
-    post-with_post_other (with_owner (settled f u p) m (Some u) (holds_granted p)) u t (Granted (reply_granted p)) other
-    ∙ ap (λ (ps : map.FinMap nat_cmp Post). map.get ps t.0) (threads-settled f u p)
+post-after_grant_other : (f : FatState) (m : ℕ) (u t : ThreadId) (p : Post) (r : Role) → t ≢ u → post_of (after_grant f m u p r) t ≡ post_of f t
+post-after_grant_other f m u t p r other =
+    post-with_post_other (with_owner (after_settling f u p) m (Some u) (holds_granted p)) u t (Granted (reply_granted p)) other
+    ∙ ap (λ (ps : map.FinMap nat_cmp Post). map.get ps t.0) (threads-after_settling f u p)
 
 -- and so does whoever is taken out of its wait set
-post-sent_back_other : (f : FatState) (u t : ThreadId) (m : ℕ) (p : Post) (o : Option ThreadId) → t ≢ u → post_of (sent_back f u m p o) t ≡ post_of f t
-post-sent_back_other f u t m p (Some owner) other = post-with_post_other f u t p other
-post-sent_back_other f u t m p None other = post-granted_other f m u t p WaitSet other
+post-after_sending_back_other : (f : FatState) (u t : ThreadId) (m : ℕ) (p : Post) (o : Option ThreadId) → t ≢ u → post_of (after_sending_back f u m p o) t ≡ post_of f t
+post-after_sending_back_other f u t m p (Some owner) other = post-with_post_other f u t p other
+post-after_sending_back_other f u t m p None other = post-after_grant_other f m u t p WaitSet other
 
 -- for whatever reason
-post-removed_other : (f : FatState) (u t : ThreadId) (w : Why) (p : Post) → t ≢ u → post_of (removed f u w p) t ≡ post_of f t
-post-removed_other f u t w Out other = refl
-post-removed_other f u t w (Entering m) other = refl
-post-removed_other f u t w (Waiting m n d) other = post-sent_back_other f u t m (Back m n w) (monitor_at f m).owner other
-post-removed_other f u t w (Back m n x) other = refl
-post-removed_other f u t w (Granted r) other = refl
+post-after_removal_other : (f : FatState) (u t : ThreadId) (w : Why) (p : Post) → t ≢ u → post_of (after_removal f u w p) t ≡ post_of f t
+post-after_removal_other f u t w Out other = refl
+post-after_removal_other f u t w (Entering m) other = refl
+post-after_removal_other f u t w (Waiting m n d) other = post-after_sending_back_other f u t m (Back m n w) (monitor_at f m).owner other
+post-after_removal_other f u t w (Back m n x) other = refl
+post-after_removal_other f u t w (Granted r) other = refl
 
 -- whoever is out stays so when a monitor is handed on
 handed_out : (f : FatState) (t : ThreadId) (m : ℕ) (o : Option ThreadId) → book.IsSound f → post_of f t ≡ Some Out → first_of f m Entry ≡ o
-    → post_of (handed_on f m o) t ≡ Some Out
+    → post_of (after_hand_on f m o) t ≡ Some Out
 handed_out f t m None sound out e = out
 handed_out f t m (Some u) sound out e =
-    post-granted_other f m u t (post_at f u) Entry (first_apart f t u m out (first_entering f m u sound e)) ∙ out
+    post-after_grant_other f m u t (post_at f u) Entry (first_apart f t u m out (first_entering f m u sound e)) ∙ out
 
 -- and when another thread is taken out of its wait set
 noticed_out : (f : FatState) (t : ThreadId) (m : ℕ) (o : Option ThreadId) → book.IsSound f → post_of f t ≡ Some Out → first_of f m WaitSet ≡ o
-    → Leaves t (notified f o)
+    → Leaves t (notify_outcome f o)
 noticed_out f t m None sound out e = out
 noticed_out f t m (Some u) sound out e =
     let (n, d, post, held) = first_waiting f m u sound e in
-    post-removed_other f u t Notified (post_at f u) (apart f t u (Waiting m n d) out post (λ x. cc)) ∙ out
+    post-after_removal_other f u t Notified (post_at f u) (apart f t u (Waiting m n d) out post (λ x. cc)) ∙ out
 
 -- an interrupt of oneself, or of another thread, that waits or not
-stirred_out : (f : FatState) (t u : ThreadId) (o : Option Post) → post_of f t ≡ Some Out → post_of f u ≡ o → Leaves t (interrupted f u o)
+stirred_out : (f : FatState) (t u : ThreadId) (o : Option Post) → post_of f t ≡ Some Out → post_of f u ≡ o → Leaves t (interrupt_outcome f u o)
 stirred_out f t u None out e = out
 stirred_out f t u (Some Out) out e = out
 stirred_out f t u (Some (Entering m)) out e = out
 stirred_out f t u (Some (Waiting m n d)) out e =
-    post-removed_other (with_flag f u true) u t Interrupted (Waiting m n d) (apart f t u (Waiting m n d) out e (λ x. cc)) ∙ out
+    post-after_removal_other (with_flag f u true) u t Interrupted (Waiting m n d) (apart f t u (Waiting m n d) out e (λ x. cc)) ∙ out
 stirred_out f t u (Some (Back m n w)) out e = out
 stirred_out f t u (Some (Granted r)) out e = out
 
 -- a question changes nothing
-asked_out : (f : FatState) (t : ThreadId) (o : Option Bool) → post_of f t ≡ Some Out → Leaves t (asked f o)
-asked_out f t None out = out
-asked_out f t (Some flag) out = out
+flag_outcome_out : (f : FatState) (t : ThreadId) (o : Option Bool) → post_of f t ≡ Some Out → Leaves t (flag_outcome f o)
+flag_outcome_out f t None out = out
+flag_outcome_out f t (Some flag) out = out
 
 -- a thread that has another post than out is not out
 parked_in : (f : FatState) (t : ThreadId) (p : Post) → p ≢ Out → post_of (with_post f t p) t ≢ Some Out
@@ -121,36 +121,36 @@ has_owner None t h = absurd (cc)
 has_owner (Some u) t h = refl
 
 -- an enter has its reply, or stands in the entry line
-leaves_enter : (f : FatState) (t : ThreadId) (m : ℕ) (o : Option ThreadId) → post_of f t ≡ Some Out → Leaves t (entered f t m o)
+leaves_enter : (f : FatState) (t : ThreadId) (m : ℕ) (o : Option ThreadId) → post_of f t ≡ Some Out → Leaves t (enter_outcome f t m o)
 leaves_enter f t m None out = out
 leaves_enter f t m (Some u) out =
     either t (u.0 == t.0) _ _ (either t (nat_lt (monitor_at f m).holds 65535) _ _ out out) (parked_in f t (Entering m) (λ x. cc))
 
 -- a wait has its reply, or stands in the wait set
-leaves_wait : (f : FatState) (t : ThreadId) (m : ℕ) (millis nanos : ℤ) → post_of f t ≡ Some Out → Leaves t (waited f t m millis nanos)
+leaves_wait : (f : FatState) (t : ThreadId) (m : ℕ) (millis nanos : ℤ) → post_of f t ≡ Some Out → Leaves t (wait_outcome f t m millis nanos)
 leaves_wait f t m millis nanos out =
     either t (are_good millis nanos) _ _
     (either t (flag_at f t) _ _ out
-    (parked_in (handed_on f m (first_of f m Entry)) t (Waiting m (monitor_at f m).holds (deadline f.moment millis nanos)) (λ x. cc))) out
+    (parked_in (after_hand_on f m (first_of f m Entry)) t (Waiting m (monitor_at f m).holds (deadline f.moment millis nanos)) (λ x. cc))) out
 
 -- What an action leaves of the post of the thread that makes it, which was out.
 pub own_post : (f : FatState) (t : ThreadId) (a : Action) → book.IsSound f → post_of f t ≡ Some Out → a ≢ action.End
-    → OwnPost t (acted f t a).answer (acted f t a).after
+    → OwnPost t (outcome_of f t a).answer (outcome_of f t a).after
 own_post f t (action.Enter m) sound out other = leaves_enter f t m (monitor_at f m).owner out
 own_post f t (action.Exit m) sound out other =
     either t (is_owned_by (monitor_at f m).owner t) _ _
     (either t (nat_lt 1 (monitor_at f m).holds) _ _ out (handed_out f t m (first_of f m Entry) sound out refl)) out
 own_post f t (action.Wait m millis nanos) sound out other =
-    either t (is_owned_by (monitor_at f m).owner t) (waited f t m millis nanos) _ (leaves_wait f t m millis nanos out) out
+    either t (is_owned_by (monitor_at f m).owner t) (wait_outcome f t m millis nanos) _ (leaves_wait f t m millis nanos out) out
 own_post f t (action.Notify m) sound out other =
-    either t (is_owned_by (monitor_at f m).owner t) (notified f (first_of f m WaitSet)) _ (noticed_out f t m (first_of f m WaitSet) sound out refl) out
+    either t (is_owned_by (monitor_at f m).owner t) (notify_outcome f (first_of f m WaitSet)) _ (noticed_out f t m (first_of f m WaitSet) sound out refl) out
 own_post f t (action.NotifyAll m) sound out other =
     cond_both (is_owned_by (monitor_at f m).owner t) _ _ (Leaves t)
-    (λ owns. post-all_removed f m t sound (has_owner (monitor_at f m).owner t owns) ∙ ap (λ (o : Option Post). option_map (called_back m) o) out) (λ _. out)
+    (λ owns. post-after_removals f m t sound (has_owner (monitor_at f m).owner t owns) ∙ ap (λ (o : Option Post). option_map (called_back m) o) out) (λ _. out)
 own_post f t (action.Holds m) sound out other = out
 own_post f t (action.Interrupt u) sound out other = stirred_out f t u (post_of f u) out refl
 own_post f t action.Interrupted sound out other = out
-own_post f t (action.IsInterrupted u) sound out other = asked_out f t (flag_of f u) out
+own_post f t (action.IsInterrupted u) sound out other = flag_outcome_out f t (flag_of f u) out
 own_post f t action.Expire sound out other = rw out tt
 own_post f t action.Spurious sound out other = rw out tt
 own_post f t action.Collect sound out other = rw out tt

@@ -24,9 +24,9 @@ use Rattle.fat_monitor.specs.declared.actions.ActFault.{ActFault}
 use Rattle.fat_monitor.specs.declared.actions.Done.{Done}
 use Rattle.fat_monitor.specs.declared.actions.Post.TheVariants.{Out, Granted}
 use Rattle.fat_monitor.specs.FatState.{FatState, monitor_at, unbound, post_of, with_post, IsAttached}
-use Rattle.fat_monitor.specs.Acting.{acted, MayAct, NamesBound}
-use Rattle.fat_monitor.proofs.Soundness.{IsSound-acted}
-use Rattle.fat_monitor.proofs.Effects.{named, length-acted, object-acted, other-acted, count-acted, attached-acted, out-acted, post-with_post_same}
+use Rattle.fat_monitor.specs.Acting.{outcome_of, MayAct, NamesBound}
+use Rattle.fat_monitor.proofs.Soundness.{IsSound-outcome_of}
+use Rattle.fat_monitor.proofs.Effects.{named, length-outcome_of, object-outcome_of, other-outcome_of, count-outcome_of, attached-outcome_of, out-outcome_of, post-with_post_same}
 use Rattle.fast_path.specs.declared.calls.Call.{Call}
 use Rattle.fast_path.specs.declared.calls.Call.TheVariants as call
 use Rattle.fast_path.specs.declared.calls.Operation.{Operation}
@@ -168,16 +168,16 @@ module _ (w : WorldState) (sound : IsSound w) (k : ℕ) (t : ThreadId) (seat : s
   -- The fat action of a call, where it leaves each monitor that is bound and not stored.
   module _ (c : Call) (a : Action) (may : MayAct w.fats t a) (bound_there : NamesBound w.fats a) (no_end : a ≢ action.End)
       (thin : (j i n : ℕ) → lock_at w (monitor_at w.fats j).object.0 ≡ Thin i n → IsSome (monitor_at w.fats j).owner
-      → monitor_at (acted w.fats t a).after j ≡ monitor_at w.fats j)
+      → monitor_at (outcome_of w.fats t a).after j ≡ monitor_at w.fats j)
       (none : bound_by (place_at w k) ≡ None) (out : post_of w.fats t ≡ Some Out) where
     abbrev left : FatState
-    left = (acted w.fats t a).after
+    left = (outcome_of w.fats t a).after
 
     kept : KeepsPosts w.fats t left
     kept = (
-      count-acted w.fats t a sound.fats may no_end,
-      (λ u. attached-acted w.fats t u a sound.fats may no_end),
-      (λ u other. out-acted w.fats t u a sound.fats may other),
+      count-outcome_of w.fats t a sound.fats may no_end,
+      (λ u. attached-outcome_of w.fats t u a sound.fats may no_end),
+      (λ u other. out-outcome_of w.fats t u a sound.fats may other),
     )
 
     place_fits : (x : AfterGo) (y : Answer) → Fitting (with_go w k x) k (place_after y)
@@ -185,16 +185,16 @@ module _ (w : WorldState) (sound : IsSound w) (k : ℕ) (t : ThreadId) (seat : s
     place_fits x answer.Parked = tt
     place_fits x answer.Quiet = tt
 
-    told_sound : (r : Result Done ActFault) → (acted w.fats t a).answer ≡ r → IsSound (with_go w k (after_told w t c a r left))
+    told_sound : (r : Result Done ActFault) → (outcome_of w.fats t a).answer ≡ r → IsSound (with_go w k (after_told w t c a r left))
     told_sound (Ok d) e =
-        sound_changed w sound k t seat left (length-acted w.fats t a) (object-acted w.fats t a) thin
-        (IsSound-acted w.fats t a sound.fats may bound_there) kept (place_after d.answer) (did_action c a left t d) none
+        sound_changed w sound k t seat left (length-outcome_of w.fats t a) (object-outcome_of w.fats t a) thin
+        (IsSound-outcome_of w.fats t a sound.fats may bound_there) kept (place_after d.answer) (did_action c a left t d) none
         (subst (λ (x : Result Done ActFault). OwnPost t x left) e (own_post w.fats t a sound.fats out no_end))
         (place_fits (fats_changed w left (place_after d.answer) (did_action c a left t d)) d.answer)
     told_sound (Err x) e = sound_stays w sound k t seat Idle (no_move atomic.Label) none out tt
 
     acted_sound : IsSound (with_go w k (after_act w t c a))
-    acted_sound = told_sound (acted w.fats t a).answer refl
+    acted_sound = told_sound (outcome_of w.fats t a).answer refl
 
   -- the fat action of an operation, on the monitor that the word of its object shows
   module _ (c : MonitorCall) (m : ℕ) (shows : lock_at w c.object.0 ≡ Fat m) where
@@ -231,8 +231,8 @@ module _ (w : WorldState) (sound : IsSound w) (k : ℕ) (t : ThreadId) (seat : s
 
     -- a monitor whose object shows a thin word is another one
     thin_apart : (p : Operation) (j i n : ℕ) → lock_at w (monitor_at w.fats j).object.0 ≡ Thin i n → IsSome (monitor_at w.fats j).owner
-        → monitor_at (acted w.fats t (action_on p m)).after j ≡ monitor_at w.fats j
-    thin_apart p j i n thin owned = other-acted w.fats t (action_on p m) j (λ e.
+        → monitor_at (outcome_of w.fats t (action_on p m)).after j ≡ monitor_at w.fats j
+    thin_apart p j i n thin owned = other-outcome_of w.fats t (action_on p m) j (λ e.
         let same : m ≡ j = same_Some m j (sym (names_monitor p) ∙ e) in
         let both : Thin i n ≡ Fat m = sym thin ∙ (rw (← same, here.1) shows) in
         absurd (cc)) owned
@@ -244,11 +244,11 @@ module _ (w : WorldState) (sound : IsSound w) (k : ℕ) (t : ThreadId) (seat : s
   -- a call about interrupts names no monitor
   direct_sound : (c : InterruptCall) → bound_by (place_at w k) ≡ None → post_of w.fats t ≡ Some Out → IsSound (with_go w k (after_act w t (call_about c) (action_about c)))
   direct_sound (about.Interrupt u) none out =
-      acted_sound (call.Interrupt u) (action.Interrupt u) out tt (λ e. cc) (λ j i n thin owned. other-acted w.fats t (action.Interrupt u) j (λ e. cc) owned) none out
+      acted_sound (call.Interrupt u) (action.Interrupt u) out tt (λ e. cc) (λ j i n thin owned. other-outcome_of w.fats t (action.Interrupt u) j (λ e. cc) owned) none out
   direct_sound about.Interrupted none out =
-      acted_sound call.Interrupted action.Interrupted out tt (λ e. cc) (λ j i n thin owned. other-acted w.fats t action.Interrupted j (λ e. cc) owned) none out
+      acted_sound call.Interrupted action.Interrupted out tt (λ e. cc) (λ j i n thin owned. other-outcome_of w.fats t action.Interrupted j (λ e. cc) owned) none out
   direct_sound (about.IsInterrupted u) none out =
-      acted_sound (call.IsInterrupted u) (action.IsInterrupted u) out tt (λ e. cc) (λ j i n thin owned. other-acted w.fats t (action.IsInterrupted u) j (λ e. cc) owned) none out
+      acted_sound (call.IsInterrupted u) (action.IsInterrupted u) out tt (λ e. cc) (λ j i n thin owned. other-outcome_of w.fats t (action.IsInterrupted u) j (λ e. cc) owned) none out
 
   -- A load of a thread that is to end keeps the world sound.
   pub look_sound : (n : ℕ) → bound_by (place_at w k) ≡ None → post_of w.fats t ≡ Some Out → Fitting w k (Ending n) → n < length w.words
@@ -280,18 +280,18 @@ module _ (w : WorldState) (sound : IsSound w) (k : ℕ) (t : ThreadId) (seat : s
   pub collect_sound : (r : Reply) → place_at w k ≡ AtPost → post_of w.fats t ≡ Some (Granted r)
       → (d : Did) → IsSound (with_go w k (fats_changed w (with_post w.fats t Out) Idle d))
   collect_sound r e post d =
-      sound_changed w sound k t seat (with_post w.fats t Out) refl (λ m. refl) (λ m i n thin owned. refl) (rw after at (IsSound-acted w.fats t action.Collect sound.fats here tt)) (rw after at kept) Idle d (rw e refl)
+      sound_changed w sound k t seat (with_post w.fats t Out) refl (λ m. refl) (λ m i n thin owned. refl) (rw after at (IsSound-outcome_of w.fats t action.Collect sound.fats here tt)) (rw after at kept) Idle d (rw e refl)
       (post-with_post_same w.fats t Out) tt
     where
       here : IsAttached w.fats t
       here = rw post refl
 
-      after : (acted w.fats t action.Collect).after ≡ with_post w.fats t Out
+      after : (outcome_of w.fats t action.Collect).after ≡ with_post w.fats t Out
       after = rw post refl
 
-      kept : KeepsPosts w.fats t (acted w.fats t action.Collect).after
+      kept : KeepsPosts w.fats t (outcome_of w.fats t action.Collect).after
       kept = (
-        count-acted w.fats t action.Collect sound.fats here (λ x. cc),
-        (λ u. attached-acted w.fats t u action.Collect sound.fats here (λ x. cc)),
-        (λ u other. out-acted w.fats t u action.Collect sound.fats here other),
+        count-outcome_of w.fats t action.Collect sound.fats here (λ x. cc),
+        (λ u. attached-outcome_of w.fats t u action.Collect sound.fats here (λ x. cc)),
+        (λ u other. out-outcome_of w.fats t u action.Collect sound.fats here other),
       )

@@ -3,7 +3,7 @@ use Rattle.std.specs.FinMap as map
 use Rattle.wait_lines.specs.declared.links.Stop.TheVariants.{End}
 use Rattle.wait_lines.specs.Links.{Chart, chart, node, linked, behind_of, before_of}
 use Rattle.wait_lines.specs.Rings.{AreRings}
-use Rattle.wait_lines.specs.Lines.{LinesState, joined}
+use Rattle.wait_lines.specs.Lines.{LinesState, after_join}
 use Rattle.wait_lines.specs.Arrivals.{lines_of, nodes_of, arrivals_of, IsKept}
 use Rattle.wait_lines.specs.Tables.{TableState, bucket_of, IsInRow, IsIndexed}
 use Rattle.wait_lines.proofs.IndexLemmas.{IsIndexed-joined}
@@ -73,7 +73,7 @@ returns-clause-joined c =
     ∙ lines_joined (chart c.self.inside.links) c.in-At.node.0 c.args.thread c.in-Some.line c.args.monitor c.args.role c.self.invariant.kept c.in-At.is c.in-Some.ensures.found (rw (← c.self.view_is) at c.requires.nowhere) (rw (← c.self.view_is) at c.requires.room)
     (line_for-fits (chart c.self.inside.links) c.args.monitor c.args.role c.in-Some.line c.self.invariant.kept c.in-Some.ensures.found c.in-Some.ensures.fits)
     (line_for-none (chart c.self.inside.links) c.args.monitor c.args.role c.in-Some.line c.self.invariant.kept c.in-Some.ensures.found c.in-Some.ensures.fits)
-    ∙ ap (λ (x : LinesState). joined x.lines c.args.thread c.args.monitor c.args.role) c.self.view_is
+    ∙ ap (λ (x : LinesState). after_join x.lines c.args.thread c.args.monitor c.args.role) c.self.view_is
 
 pub returns-clause-node : goal.returns-clause-node
 returns-clause-node c =

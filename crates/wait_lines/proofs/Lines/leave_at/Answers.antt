@@ -3,7 +3,7 @@ use Rattle.wait_lines.specs.Links.{Chart, chart, node, linked, behind_of, before
 use Rattle.wait_lines.specs.Rings.{AreRings}
 use Rattle.std.specs.FinMap as map
 use Rattle.wait_lines.specs.declared.links.Stop.TheVariants.{Free}
-use Rattle.wait_lines.specs.Lines.{LinesState, left}
+use Rattle.wait_lines.specs.Lines.{LinesState, after_leave}
 use Rattle.wait_lines.specs.Arrivals.{lines_of, nodes_of, arrivals_of, IsKept}
 use Rattle.wait_lines.specs.declared.links.Stop.{Stop}
 use Rattle.wait_lines.specs.Tables.{TableState, released, IsReleased, IsWhole}
@@ -76,7 +76,7 @@ pub returns-clause-left : goal.returns-clause-left
 returns-clause-left c t m r at_node in_line =
     ap (λ (d : Chart). lines_of (arrivals_of d)) (c.link.ensures ∙ ap (λ (d : Chart). linked d (node c.args.node.0) Free) c.unlink.ensures)
     ∙ (lines_after (chart c.self.inside.links) c.args.node.0 t c.self.invariant.kept (rw (← c.self.view_is) at at_node) m r (rw (← c.self.view_is) at in_line))
-    ∙ ap (λ (x : LinesState). left x.lines t m r) c.self.view_is
+    ∙ ap (λ (x : LinesState). after_leave x.lines t m r) c.self.view_is
 
 pub returns-clause-nodes : goal.returns-clause-nodes
 returns-clause-nodes c t at_node =

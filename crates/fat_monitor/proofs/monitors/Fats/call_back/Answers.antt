@@ -1,13 +1,13 @@
 use Rattle.std.proofs.Common.{◌≡◌, ◌≤◌, ◌∙◌, sym, ap, Some, IsSome, arith, refl, subst}
-use Rattle.wait_lines.specs.Lines.{LineMap, StandsIn, StandsNowhere, standing, total_count, left}
+use Rattle.wait_lines.specs.Lines.{LineMap, StandsIn, StandsNowhere, standing, total_count, after_leave}
 use Rattle.wait_lines.specs.declared.Role.TheVariants.{Waiting as WaitSet}
-use Rattle.wait_lines.proofs.LineLemmas.{total_count-left, StandsNowhere-left}
+use Rattle.wait_lines.proofs.LineLemmas.{total_count-after_leave, StandsNowhere-after_leave}
 use Rattle.fat_monitor.specs.declared.actions.Post.TheVariants.{Waiting}
 use Rattle.fat_monitor.specs.FatState.{FatState, IsSound, post_of, monitor_at}
 use Rattle.fat_monitor.specs.Fats.{fat_state_in}
-use Rattle.fat_monitor.proofs.Soundness.{IsSound-removed}
+use Rattle.fat_monitor.proofs.Soundness.{IsSound-after_removal}
 use Rattle.fat_monitor.proofs.Steps.{queued_as}
-use Rattle.fat_monitor.proofs.WaitSets.{removed-behind}
+use Rattle.fat_monitor.proofs.WaitSets.{after_removal-behind}
 use Rattle.fat_monitor.specs.Slots.{Posted}
 use Rattle.fat_monitor.specs.Fats.{AreSeated, AreCounted}
 use Rattle.std.specs.FinMap as map
@@ -34,8 +34,8 @@ join-node-requires-clause-room c =
     let waits : post_of (fat_state_in c.self.inside) c.args.thread ≡ Some (Waiting m c.in-Some-Waiting.holds c.in-Some-Waiting.field-0-2) = rw (c.in-Some-Waiting.field-0-is) at (sym c.in-Some-Waiting.ensures) in
     let stands : StandsIn s.lines c.args.thread m WaitSet = c.self.invariant.sound.posted c.args.thread _ m WaitSet waits refl in
     let here = stands_at _ _ _ c.self.invariant.seated c.args.thread _ c.node.result.0 waits refl c.node.ensures in
-    let now : total_count c.leave_at.new.self.lines ≡ total_count (left s.lines c.args.thread m WaitSet) = ap total_count (c.leave_at.ensures.left c.args.thread m WaitSet here stands) in
-    let fewer = total_count-left s c.args.thread m WaitSet c.self.invariant.sound.orderly stands in
+    let now : total_count c.leave_at.new.self.lines ≡ total_count (after_leave s.lines c.args.thread m WaitSet) = ap total_count (c.leave_at.ensures.left c.args.thread m WaitSet here stands) in
+    let fewer = total_count-after_leave s c.args.thread m WaitSet c.self.invariant.sound.orderly stands in
     let within : total_count s.lines ≤ s.reservations = c.self.invariant.sound.orderly.within in
     let kept = c.leave_at.ensures.reservations in
     omega arith
@@ -52,13 +52,13 @@ returns-clause-after c =
     rw (← c.self.view_is) (
     queued_as f c.args.thread c.args.why m c.in-Some-Waiting.holds c.in-Some-Waiting.field-0-2 c.park.new.self c.leave_at.new.self c.join-node.new.self c.park.ensures
     (c.leave_at.ensures.left c.args.thread m WaitSet here stands) c.leave_at.ensures.reservations c.join-node.ensures.joined c.join-node.ensures.reservations
-    ∙ sym (removed-behind f c.args.thread c.args.why m c.in-Some-Waiting.holds c.in-Some-Waiting.field-0-2 waits owned))
+    ∙ sym (after_removal-behind f c.args.thread c.args.why m c.in-Some-Waiting.holds c.in-Some-Waiting.field-0-2 waits owned))
 
 pub invariant_of-self : goal.invariant_of-self
 invariant_of-self c =
     record {
       sound =
-          rw (returns-clause-after c) (IsSound-removed c.args.self.now c.args.thread c.args.why (subst (λ (f : FatState). IsSound f) c.self.view_is c.self.invariant.sound));
+          rw (returns-clause-after c) (IsSound-after_removal c.args.self.now c.args.thread c.args.why (subst (λ (f : FatState). IsSound f) c.self.view_is c.self.invariant.sound));
       seated =
           let m = c.in-Some-Waiting.monitor in
           let waits : post_of (fat_state_in c.self.inside) c.args.thread ≡ Some (Waiting m c.in-Some-Waiting.holds c.in-Some-Waiting.field-0-2) = rw (c.in-Some-Waiting.field-0-is) at (sym c.in-Some-Waiting.ensures) in
@@ -83,4 +83,4 @@ join-node-requires-clause-nowhere c =
     let here = stands_at _ _ _ c.self.invariant.seated c.args.thread _ c.node.result.0 waits refl c.node.ensures in
     let stands = c.self.invariant.sound.posted c.args.thread _ m WaitSet waits refl in
     subst (λ (l : LineMap). StandsNowhere l c.args.thread) (sym (c.leave_at.ensures.left c.args.thread m WaitSet here stands))
-    (StandsNowhere-left (standing c.self.inside.lines) c.args.thread m WaitSet c.self.invariant.sound.orderly stands)
+    (StandsNowhere-after_leave (standing c.self.inside.lines) c.args.thread m WaitSet c.self.invariant.sound.orderly stands)

@@ -3,7 +3,7 @@ use Rattle.fat_monitor.specs.declared.actions.Action.TheVariants.{Collect}
 use Rattle.fat_monitor.specs.declared.actions.Post.TheVariants.{Granted, Out}
 use Rattle.fat_monitor.specs.FatState.{FatState, IsSound, post_of, with_post}
 use Rattle.fat_monitor.specs.Fats.{fat_state_in}
-use Rattle.fat_monitor.proofs.Steps.{replied_at, sound_after}
+use Rattle.fat_monitor.proofs.Steps.{replies_at, sound_after}
 use Rattle.fat_monitor.specs.Slots.{Posted}
 use Rattle.fat_monitor.specs.Fats.{AreSeated, AreCounted}
 use Rattle.fat_monitor.proofs.Seats.{AreSeated-set}
@@ -13,7 +13,7 @@ pub returns : goal.returns
 returns c =
     let held : post_of (fat_state_in c.self.inside) c.args.thread ≡ Some (Granted c.in-Some-Granted.reply) = rw (c.in-Some-Granted.field-0-is) at (sym c.in-Some-Granted.ensures) in
     let after : record (fat_state_in c.self.inside) { threads = c.set.new.self.posts; flags = c.set.new.self.flags } ≡ with_post (fat_state_in c.self.inside) c.args.thread Out = rw (c.set.ensures) refl in
-    rw (← c.self.view_is, held) (replied_at c.reply_with.result c.in-Some-Granted.reply _ _ c.reply_with.ensures after)
+    rw (← c.self.view_is, held) (replies_at c.reply_with.result c.in-Some-Granted.reply _ _ c.reply_with.ensures after)
 
 pub invariant_of-self : goal.invariant_of-self
 invariant_of-self c =

@@ -9,7 +9,7 @@ use Rattle.fat_monitor.specs.declared.actions.Post.TheVariants.{Entering}
 use Rattle.fat_monitor.specs.FatState.{FatState, IsSound, post_of}
 use Rattle.fat_monitor.specs.Fats.{fat_state_in}
 use Rattle.fat_monitor.proofs.Soundness.{stands_nowhere, room_to_join}
-use Rattle.fat_monitor.proofs.Steps.{written, parked_as, replied_at, told_at, sound_after}
+use Rattle.fat_monitor.proofs.Steps.{written, after_parking_as, replies_at, answers_at, sound_after}
 use Rattle.std.specs.FinMap as map
 use Rattle.fat_monitor.specs.Slots.{Posted}
 use Rattle.fat_monitor.specs.Fats.{AreSeated, AreCounted}
@@ -22,7 +22,7 @@ pub returns-in_default : goal.returns-in_default
 returns-in_default c =
     let bound = rw (← c.self.view_is) at c.requires.bound in
     let after = written (fat_state_in c.self.inside) c.args.monitor c.index_mut.result.now c.give.new.self (Some c.args.thread) 1 bound c.index_mut.ensures.value c.give.ensures in
-    rw (← c.in_default.ensures, ← c.self.view_is, c.hand_over.ensures) (replied_at c.reply_with.result _ _ _ c.reply_with.ensures after)
+    rw (← c.in_default.ensures, ← c.self.view_is, c.hand_over.ensures) (replies_at c.reply_with.result _ _ _ c.reply_with.ensures after)
 
 pub invariant_of-self : goal.invariant_of-self
 invariant_of-self c =
@@ -55,11 +55,11 @@ pub invariant_of-self-then-owner-thread : goal.invariant_of-self-then-owner-thre
 invariant_of-self-then-owner-thread c =
     record {
       sound =
-          let after = parked_as (fat_state_in c.self.inside) c.args.thread (Entering c.args.monitor) c.args.monitor Entry c.park.new.self c.join-node.new.self c.park.ensures c.join-node.ensures.joined c.join-node.ensures.reservations in
+          let after = after_parking_as (fat_state_in c.self.inside) c.args.thread (Entering c.args.monitor) c.args.monitor Entry c.park.new.self c.join-node.new.self c.park.ensures c.join-node.ensures.joined c.join-node.ensures.reservations in
           sound_after c.args.self.now _ c.args.thread (Enter c.args.monitor) (Ok c.tell.result)
           (subst (λ (f : FatState). IsSound f) c.self.view_is c.self.invariant.sound) c.requires.out c.requires.bound
           (rw (← c.in-Some.ensures, ne_eqb c.in-Some.owner.0 c.args.thread.0 c.if-owner-thread.true, ← c.self.view_is)
-          (told_at c.tell.result _ _ _ _ _ c.tell.ensures after));
+          (answers_at c.tell.result _ _ _ _ _ c.tell.ensures after));
       seated = subst (λ (m : NodeMap). AreSeated c.park.new.self.posts c.park.new.self.nodes m) (sym c.join-node.ensures.node)
           (subst (λ (p : Posted). AreSeated p.posts p.nodes (map.insert c.self.inside.lines.nodes c.args.thread.0 c.join-node.result.0)) (sym c.park.ensures) (AreSeated-joined _ _ _ c.self.invariant.seated c.args.thread (Entering c.args.monitor) c.join-node.result.0));
       counted = subst (λ (p : Posted). AreCounted c.self.inside.monitors.items p.owned) (sym c.park.ensures) c.self.invariant.counted;
@@ -78,7 +78,7 @@ returns c =
     let fits : c.holds-holds.result < 65536 = c.holds-holds.type_inv in
     let below : c.holds-holds.result < 65535 = let no = c.if-holds.false in omega arith in
     rw (← c.in-Some.ensures, eq-eqb c.in-Some.owner.0 c.args.thread.0 c.if-owner-thread.false, ← c.holds-holds.ensures, lt-ltb c.holds-holds.result 65535 below, ← c.self.view_is)
-    (replied_at c.reply_with-2.result _ _ _ c.reply_with-2.ensures after)
+    (replies_at c.reply_with-2.result _ _ _ c.reply_with-2.ensures after)
 
 pub invariant_of-self-2 : goal.invariant_of-self-2
 invariant_of-self-2 c =

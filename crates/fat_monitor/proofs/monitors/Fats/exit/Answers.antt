@@ -3,7 +3,7 @@ use Rattle.std.proofs.lemmas.Bool.{lt-ltb}
 use Rattle.fat_monitor.specs.declared.actions.Action.TheVariants.{Exit}
 use Rattle.fat_monitor.specs.FatState.{FatState, IsSound}
 use Rattle.fat_monitor.specs.Fats.{fat_state_in}
-use Rattle.fat_monitor.proofs.Steps.{written, replied_at, sound_after}
+use Rattle.fat_monitor.proofs.Steps.{written, replies_at, sound_after}
 use Rattle.fat_monitor.specs.declared.monitors.Monitor.{Monitor}
 use Rattle.fat_monitor.proofs.OwnedCounts.{AreCounted-kept, owner_is}
 use Rattle.fat_monitor.proofs.monitors.Fats.exit.Goals as goal
@@ -16,7 +16,7 @@ returns-then-holds-gt1 c =
     let bound = rw (← c.self.view_is) at c.requires.bound in
     let after = written (fat_state_in c.self.inside) c.args.monitor c.index_mut.result.now c.give.new.self (Some c.args.thread) (c.holds-holds.result - 1) bound c.index_mut.ensures.value c.give.ensures in
     rw (← c.if-not-is_owner.ensures, ← c.holds-holds.ensures, lt-ltb 1 c.holds-holds.result c.if-holds-gt1.true, ← c.self.view_is)
-    (replied_at c.reply_with-then-holds-gt1.result _ _ _ c.reply_with-then-holds-gt1.ensures after)
+    (replies_at c.reply_with-then-holds-gt1.result _ _ _ c.reply_with-then-holds-gt1.ensures after)
 
 pub invariant_of-self : goal.invariant_of-self
 invariant_of-self c =

@@ -10,8 +10,8 @@ use Rattle.fat_monitor.specs.FatState.{FatState, IsSound, post_of}
 use Rattle.fat_monitor.specs.Acting.{reply_granted}
 use Rattle.fat_monitor.specs.Fats.{fat_state_in}
 use Rattle.fat_monitor.proofs.SoundSteps.{line_key_bound}
-use Rattle.fat_monitor.proofs.SoundGrants.{granted_flags, IsSound-granted}
-use Rattle.fat_monitor.proofs.Steps.{has_line_key, flags_cleared, flags_kept, granted_as}
+use Rattle.fat_monitor.proofs.SoundGrants.{flags_after_grant, IsSound-after_grant}
+use Rattle.fat_monitor.proofs.Steps.{has_line_key, flags_cleared, flags_kept, after_grant_as}
 use Rattle.fat_monitor.specs.Slots.{Posted, handed_over}
 use Rattle.fat_monitor.specs.Fats.{AreSeated}
 use Rattle.std.specs.FinMap as map
@@ -25,7 +25,7 @@ use Rattle.fat_monitor.proofs.monitors.Fats.grant.Goals as goal
 -- the posts with the flag that the grant leaves, and the monitor counted
 abbrev posts_with : (c : goal.After-set) → Posted
 posts_with c = record c.self.inside.posts {
-  flags = granted_flags (fat_state_in c.self.inside) c.args.thread c.args.post;
+  flags = flags_after_grant (fat_state_in c.self.inside) c.args.thread c.args.post;
   owned = handed_over c.self.inside.posts.owned c.owner-owner.result (Some c.args.thread);
 }
 
@@ -62,7 +62,7 @@ returns c r in_line =
     let lines = c.leave_at.ensures.left in
     let kept = c.leave_at.ensures.reservations in
     rw (← c.self.view_is, settled c) (
-    granted_as f m c.args.thread c.args.post r c.index_mut.result.now c.give.new.self c.granted_to-holds.result
+    after_grant_as f m c.args.thread c.args.post r c.index_mut.result.now c.give.new.self c.granted_to-holds.result
     (posts_with c) c.set.new.self c.leave_at.new.self
     bound c.index_mut.ensures.value c.give.ensures c.granted_to-holds.ensures refl set (lines c.args.thread m r at_node stands) kept)
 
@@ -72,7 +72,7 @@ invariant_of-self c =
       sound =
           let f = c.args.self.now in
           let post = has_line_key f c.args.thread _ c.requires.stands.1 in
-          let kept = IsSound-granted f c.args.monitor c.args.thread c.args.post post.0 c.requires.stands.0 (subst (λ (f : FatState). IsSound f) c.self.view_is c.self.invariant.sound) post.1 post.2 c.requires.comes in
+          let kept = IsSound-after_grant f c.args.monitor c.args.thread c.args.post post.0 c.requires.stands.0 (subst (λ (f : FatState). IsSound f) c.self.view_is c.self.invariant.sound) post.1 post.2 c.requires.comes in
           rw (returns c c.requires.stands.0 c.requires.stands.1) kept;
       seated =
           let post = has_line_key (fat_state_in c.self.inside) c.args.thread _ (rw (← c.self.view_is) at c.requires.stands.1) in

@@ -3,9 +3,9 @@ use Rattle.wait_lines.specs.declared.Role.TheVariants.{Entry}
 use Rattle.wait_lines.proofs.LineLemmas.{StandsIn-first}
 use Rattle.fat_monitor.specs.declared.actions.Post.{Post}
 use Rattle.fat_monitor.specs.FatState.{FatState, IsSound, first_of, post_at, line_key_of}
-use Rattle.fat_monitor.specs.Acting.{granted}
+use Rattle.fat_monitor.specs.Acting.{after_grant}
 use Rattle.fat_monitor.specs.Fats.{fat_state_in}
-use Rattle.fat_monitor.proofs.Soundness.{IsSound-handed_on, post_at-is, comes_back}
+use Rattle.fat_monitor.proofs.Soundness.{IsSound-after_hand_on, post_at-is, comes_back}
 use Rattle.fat_monitor.proofs.Steps.{written}
 use Rattle.fat_monitor.specs.declared.monitors.Monitor.{Monitor}
 use Rattle.fat_monitor.specs.Slots.{Posted}
@@ -19,7 +19,7 @@ invariant_of-self c =
       sound =
           let bound = rw (← c.self.view_is) at c.requires in
           let after = written (fat_state_in c.self.inside) c.args.monitor c.index_mut.result.now c.give.new.self None 0 bound c.index_mut.ensures.value c.give.ensures in
-          let kept = rw (← c.in_default.ensures.first) at (IsSound-handed_on (fat_state_in c.self.inside) c.args.monitor c.self.invariant.sound bound) in
+          let kept = rw (← c.in_default.ensures.first) at (IsSound-after_hand_on (fat_state_in c.self.inside) c.args.monitor c.self.invariant.sound bound) in
           rw (c.hand_over.ensures, after) kept;
       seated = subst (λ (p : Posted). AreSeated p.posts p.nodes c.self.inside.lines.nodes) (sym c.hand_over.ensures) c.self.invariant.seated;
       counted =
@@ -53,4 +53,4 @@ returns-clause-after c =
     let post : c.unwrap_or-post.result ≡ post_at f c.in-Some.next = rw (c.unwrap_or-post.ensures, c.get.ensures, ← c.self.view_is) refl in
     rw (first) (
     c.grant.ensures Entry (ap line_key_of (post_at-is f c.in-Some.next stood.0 stood.1) ∙ stood.2)
-    ∙ ap (λ (p : Post). granted f c.args.monitor c.in-Some.next p Entry) post)
+    ∙ ap (λ (p : Post). after_grant f c.args.monitor c.in-Some.next p Entry) post)

@@ -1,7 +1,7 @@
 use Rattle.std.proofs.Common.{true, sym, subst}
 use Rattle.fat_monitor.specs.Fats.{fat_state_in}
 use Rattle.fat_monitor.proofs.SoundSteps.{IsSound-flags}
-use Rattle.fat_monitor.proofs.Steps.{flagged_as, replied_at, interrupted_outside}
+use Rattle.fat_monitor.proofs.Steps.{flagged_as, replies_at, interrupt_outcome_outside}
 use Rattle.fat_monitor.specs.Slots.{Posted}
 use Rattle.fat_monitor.specs.Fats.{AreSeated, AreCounted}
 use Rattle.fat_monitor.proofs.monitors.Fats.interrupt.Goals as goal
@@ -35,5 +35,5 @@ pub returns-in_default-post : goal.returns-in_default-post
 returns-in_default-post c t =
     let f = fat_state_in c.self.inside in
     let after = flagged_as f c.args.target true c.set_flag.new.self c.set_flag.ensures in
-    rw (← c.self.view_is, ← c.in-Some.ensures, interrupted_outside f c.args.target c.in-Some.post c.in_default-post.not-Waiting)
-    (replied_at c.reply_with-in_default-post.result _ _ _ c.reply_with-in_default-post.ensures after)
+    rw (← c.self.view_is, ← c.in-Some.ensures, interrupt_outcome_outside f c.args.target c.in-Some.post c.in_default-post.not-Waiting)
+    (replies_at c.reply_with-in_default-post.result _ _ _ c.reply_with-in_default-post.ensures after)

@@ -4,8 +4,8 @@ use Rattle.fat_monitor.specs.declared.monitors.Monitor.{Monitor}
 use Rattle.fat_monitor.specs.declared.actions.Reply.TheVariants.{Notified}
 use Rattle.fat_monitor.specs.FatState.{FatState, IsSound, monitor_at, first_of, unbound, is_owned_by}
 use Rattle.fat_monitor.proofs.Effects.{first_waiting}
-use Rattle.fat_monitor.proofs.Soundness.{all_removed-first, all_removed-none, length-wait_set, monitors-removed_first}
-use Rattle.fat_monitor.proofs.Steps.{owned_by, replied_at}
+use Rattle.fat_monitor.proofs.Soundness.{after_removals-first, after_removals-none, length-wait_set, monitors-after_removal_first}
+use Rattle.fat_monitor.proofs.Steps.{owned_by, replies_at}
 use Rattle.fat_monitor.proofs.monitors.Fats.notify_all.Goals as goal
 
 pub returns-then-not-is_owner : goal.returns-then-not-is_owner
@@ -42,13 +42,13 @@ pub loop-first-preserved : goal.loop-first-preserved
 loop-first-preserved c =
     let f = c.loop-first.self in
     rw (c.call_back.ensures.after) (record {
-      removed = sym (all_removed-first f c.in-Some.first c.args.monitor (sound c) (owned c) (first c)) ∙ c.loop-first.invariant.removed;
-      monitors = monitors-removed_first f c.in-Some.first c.args.monitor (sound c) (owned c) (first c) ∙ c.loop-first.invariant.monitors;
+      removed = sym (after_removals-first f c.in-Some.first c.args.monitor (sound c) (owned c) (first c)) ∙ c.loop-first.invariant.removed;
+      monitors = monitors-after_removal_first f c.in-Some.first c.args.monitor (sound c) (owned c) (first c) ∙ c.loop-first.invariant.monitors;
     })
 
 pub returns : goal.returns
 returns c =
     let f = c.loop-first.self in
     let none : first_of f c.args.monitor WaitSet ≡ None = rw (← c.self-in-loop-first.view_is) (sym c.in_default.ensures.first) in
-    let all = sym (all_removed-none f c.args.monitor none) ∙ c.loop-first.invariant.removed in
-    rw (← c.if-not-is_owner.ensures) (replied_at c.reply_with-2.result Notified _ _ c.reply_with-2.ensures all)
+    let all = sym (after_removals-none f c.args.monitor none) ∙ c.loop-first.invariant.removed in
+    rw (← c.if-not-is_owner.ensures) (replies_at c.reply_with-2.result Notified _ _ c.reply_with-2.ensures all)

@@ -1,7 +1,7 @@
 use Rattle.std.proofs.Common.{false, sym, subst}
 use Rattle.fat_monitor.specs.Fats.{fat_state_in}
 use Rattle.fat_monitor.proofs.SoundSteps.{IsSound-flags}
-use Rattle.fat_monitor.proofs.Steps.{flagged_as, replied_at}
+use Rattle.fat_monitor.proofs.Steps.{flagged_as, replies_at}
 use Rattle.fat_monitor.specs.Slots.{Posted}
 use Rattle.fat_monitor.specs.Fats.{AreSeated, AreCounted}
 use Rattle.fat_monitor.proofs.monitors.Fats.test_and_clear.Goals as goal
@@ -20,4 +20,4 @@ invariant_of-self c =
 pub returns : goal.returns
 returns c =
     let after = flagged_as (fat_state_in c.self.inside) c.args.thread false c.set_flag.new.self c.set_flag.ensures in
-    rw (← c.self.view_is, ← c.flag-flag.ensures, ← c.yes_or_no.ensures) (replied_at c.reply_with.result _ _ _ c.reply_with.ensures after)
+    rw (← c.self.view_is, ← c.flag-flag.ensures, ← c.yes_or_no.ensures) (replies_at c.reply_with.result _ _ _ c.reply_with.ensures after)

@@ -9,11 +9,11 @@ use Rattle.fat_monitor.specs.declared.actions.Reply.TheVariants.{Interrupted}
 use Rattle.fat_monitor.specs.declared.actions.Post.{Post}
 use Rattle.fat_monitor.specs.declared.actions.Post.TheVariants.{Out, Waiting}
 use Rattle.fat_monitor.specs.FatState.{FatState, IsSound, post_of, monitor_at, first_of, flag_at}
-use Rattle.fat_monitor.specs.Acting.{are_good, deadline, handed_on, parked}
+use Rattle.fat_monitor.specs.Acting.{are_good, deadline, after_hand_on, after_parking}
 use Rattle.fat_monitor.specs.Fats.{fat_state_in}
 use Rattle.fat_monitor.proofs.SoundSteps.{IsSound-flags}
-use Rattle.fat_monitor.proofs.Soundness.{stands_nowhere, room_to_join, out-handed_on}
-use Rattle.fat_monitor.proofs.Steps.{monitor_read, parked_as, flagged_as, replied_at, told_at, sound_after}
+use Rattle.fat_monitor.proofs.Soundness.{stands_nowhere, room_to_join, out-after_hand_on}
+use Rattle.fat_monitor.proofs.Steps.{monitor_read, after_parking_as, flagged_as, replies_at, answers_at, sound_after}
 use Rattle.std.specs.FinMap as map
 use Rattle.fat_monitor.specs.Slots.{Posted}
 use Rattle.fat_monitor.specs.Fats.{AreSeated, AreCounted}
@@ -46,14 +46,14 @@ returns-then-flag c =
     simp (to_z-of_z w64 c.args.millis c.ranges.millis, to_z-of_z w32 c.args.nanos c.ranges.nanos) at c.if-not-are_good.ensures in
     let flagged : true ≡ flag_at c.args.self.now c.args.thread = rw (← c.self.view_is) (sym c.if-flag.true ∙ c.flag.ensures) in
     let after = flagged_as (fat_state_in c.self.inside) c.args.thread false c.set_flag.new.self c.set_flag.ensures in
-    rw (← c.if-not-is_owner.ensures, ← good, ← flagged, ← c.self.view_is) (replied_at c.reply_with-then-flag.result Interrupted _ _ c.reply_with-then-flag.ensures after)
+    rw (← c.if-not-is_owner.ensures, ← good, ← flagged, ← c.self.view_is) (replies_at c.reply_with-then-flag.result Interrupted _ _ c.reply_with-then-flag.ensures after)
 
 pub park-requires : goal.park-requires
 park-requires c =
     let sound = subst (λ (f : FatState). IsSound f) c.self.view_is c.self.invariant.sound in
     let after = c.self-2.view_is ∙ c.hand_on-granted.ensures.after in
     let out : post_of (fat_state_in c.self-2.inside) c.args.thread ≡ Some Out =
-    subst (λ (f : FatState). post_of f c.args.thread ≡ Some Out) (sym after) (out-handed_on c.args.self.now c.args.thread c.args.monitor sound c.requires.out) in
+    subst (λ (f : FatState). post_of f c.args.thread ≡ Some Out) (sym after) (out-after_hand_on c.args.self.now c.args.thread c.args.monitor sound c.requires.out) in
     rw (out) refl
 
 pub join-node-requires-clause-nowhere : goal.join-node-requires-clause-nowhere
@@ -61,7 +61,7 @@ join-node-requires-clause-nowhere c =
     let sound = subst (λ (f : FatState). IsSound f) c.self.view_is c.self.invariant.sound in
     let after = c.self-2.view_is ∙ c.hand_on-granted.ensures.after in
     let out : post_of (fat_state_in c.self-2.inside) c.args.thread ≡ Some Out =
-    subst (λ (f : FatState). post_of f c.args.thread ≡ Some Out) (sym after) (out-handed_on c.args.self.now c.args.thread c.args.monitor sound c.requires.out) in
+    subst (λ (f : FatState). post_of f c.args.thread ≡ Some Out) (sym after) (out-after_hand_on c.args.self.now c.args.thread c.args.monitor sound c.requires.out) in
     stands_nowhere (fat_state_in c.self-2.inside) c.args.thread c.self-2.invariant.sound out
 
 pub join-node-requires-clause-room : goal.join-node-requires-clause-room
@@ -69,7 +69,7 @@ join-node-requires-clause-room c =
     let sound = subst (λ (f : FatState). IsSound f) c.self.view_is c.self.invariant.sound in
     let after = c.self-2.view_is ∙ c.hand_on-granted.ensures.after in
     let out : post_of (fat_state_in c.self-2.inside) c.args.thread ≡ Some Out =
-    subst (λ (f : FatState). post_of f c.args.thread ≡ Some Out) (sym after) (out-handed_on c.args.self.now c.args.thread c.args.monitor sound c.requires.out) in
+    subst (λ (f : FatState). post_of f c.args.thread ≡ Some Out) (sym after) (out-after_hand_on c.args.self.now c.args.thread c.args.monitor sound c.requires.out) in
     room_to_join (fat_state_in c.self-2.inside) c.args.thread c.self-2.invariant.sound out
 
 pub returns : goal.returns
@@ -86,12 +86,12 @@ returns c =
     let good : true ≡ are_good c.args.millis c.args.nanos =
     simp (to_z-of_z w64 c.args.millis c.ranges.millis, to_z-of_z w32 c.args.nanos c.ranges.nanos) at c.if-not-are_good.ensures in
     let post : Waiting m c.index.result.now.holds c.deadline.result ≡ Waiting m (monitor_at f m).holds (deadline f.moment c.args.millis c.args.nanos) = rw (read, time) refl in
-    let parks = parked_as (fat_state_in c.self-2.inside) t (Waiting m c.index.result.now.holds c.deadline.result) m WaitSet c.park.new.self c.join-node.new.self c.park.ensures c.join-node.ensures.joined c.join-node.ensures.reservations in
+    let parks = after_parking_as (fat_state_in c.self-2.inside) t (Waiting m c.index.result.now.holds c.deadline.result) m WaitSet c.park.new.self c.join-node.new.self c.park.ensures c.join-node.ensures.joined c.join-node.ensures.reservations in
     let handed = c.self-2.view_is ∙ c.hand_on-granted.ensures.after in
-    let after = parks ∙ ap (λ (g : FatState). parked g t (Waiting m c.index.result.now.holds c.deadline.result) m WaitSet) handed ∙ ap (λ (p : Post). parked (handed_on f m first) t p m WaitSet) post in
+    let after = parks ∙ ap (λ (g : FatState). after_parking g t (Waiting m c.index.result.now.holds c.deadline.result) m WaitSet) handed ∙ ap (λ (p : Post). after_parking (after_hand_on f m first) t p m WaitSet) post in
     let told : c.tell.result ≡ record { answer = Parked; granted = first; chosen = None } =
     c.tell.ensures ∙ ap (λ (u : Option ThreadId). let d : Done = record { answer = Parked; granted = u; chosen = None } in d) c.hand_on-granted.ensures.granted in
-    rw (← c.if-not-is_owner.ensures, ← good, ← clear) (told_at c.tell.result Parked first None _ _ told after)
+    rw (← c.if-not-is_owner.ensures, ← good, ← clear) (answers_at c.tell.result Parked first None _ _ told after)
 
 pub invariant_of-self-2 : goal.invariant_of-self-2
 invariant_of-self-2 c =

@@ -1,7 +1,7 @@
 use Rattle.std.specs.Prelude.{◌<◌, length, Ok}
 use Rattle.std.proofs.Common.{arith, ap, ◌∙◌, subst}
 use Rattle.fat_monitor.specs.FatState.{FatState}
-use Rattle.fat_monitor.proofs.MonitorEffects.{limit-acted}
+use Rattle.fat_monitor.proofs.MonitorEffects.{limit-outcome_of}
 use Rattle.live_turns.specs.Book.{BookState}
 use Rattle.live_turns.proofs.Refusals.{refused_after, done_after}
 use Rattle.live_turns.proofs.Books.{acts_on}
@@ -45,7 +45,7 @@ invariant_of-self-in-Err-Parked c = rw (refused_after c.self.inside.fats c.act.n
 pub returns-in-Ok-clause-limit : goal.returns-in-Ok-clause-limit
 returns-in-Ok-clause-limit c =
     ap (λ (f : FatState). f.limit) (done_after c.self.inside.fats c.act.new.self c.args.thread c.args.action (Ok c.in-Ok.done) c.in-Ok.ensures.table)
-    ∙ (limit-acted c.self.inside.fats c.args.thread c.args.action ∙ ap (λ (b : BookState). b.fats.limit) c.self.view_is)
+    ∙ (limit-outcome_of c.self.inside.fats c.args.thread c.args.action ∙ ap (λ (b : BookState). b.fats.limit) c.self.view_is)
 
 pub returns-in-Ok-clause-place : goal.returns-in-Ok-clause-place
 returns-in-Ok-clause-place c =
