@@ -257,7 +257,7 @@ module _ (w : WorldState) (sound : IsSound w) (k : ℕ) (t : ThreadId) (seat : s
       did = return_alone (atomic.Acted action.Collect (answer.Reply r)) t r
 
       has : Is (shown w) t (flag_at w.fats t) (doing.Has r)
-      has = rw (seat, at) (ap (λ (q : Post). Some (does (flag_at w.fats t) (act_of w.fats q AtPost))) (post_is w.fats t (Granted r) after_grant))
+      has = rw (seat, at) (ap (λ (q : Post). Some (does (flag_at w.fats t) (act_of w.fats q AtPost))) (post_is w.fats t (Granted r) granted))
 
       at_thread : (v : ThreadId) → (v.0 ≡ t.0) ⊎ (v.0 ≡ t.0 → ⊥) → thread_of (with_go w k (fats_changed w g Idle did)) v (seat_of w.seats v) ≡ (now_is (shown w) t (flag_at w.fats t) doing.Idle).thread v
       at_thread v (inl e) = rw (eq-eqb v.0 t.0 e) (own_thread w sound k t seat g Idle did (does (flag_at w.fats t) doing.Idle) (ap (does (flag_at w.fats t)) (act_out g t Idle (post-with_post_same w.fats t Out))) v e)
