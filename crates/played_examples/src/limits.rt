@@ -49,9 +49,9 @@ fn with_moves(report: &str, moves: u64) -> Wanted<'_> {
     }
 }
 
-/// A world with as many objects as a script may declare.
+/// A world with as many objects, monitors and indices as a script may declare.
 fn many_objects(alloc: Global) -> Result<(String, String), AllocError> {
-    let mut script = String::from_str(alloc, "world 4 4\n")?;
+    let mut script = String::from_str(alloc, "world 8388608 32767\n")?;
     let mut report = String::new(alloc);
     for number in 0..MOST_OBJECTS {
         writeln!(script, "object o{number} A5")?;
