@@ -1,4 +1,4 @@
 mod Finishing
+mod GoingOn
 mod Keeping
 mod Passes
-mod Started

@@ -1,8 +1,10 @@
 -- How a seat is kept.
 use Rattle.std.specs.Prelude.{◌≡◌, Bool, Option, Some, None}
-use Rattle.live_seats.specs.Seats.{SeatState, SeatServes, HasOpened}
+use Rattle.fast_path.specs.declared.calls.MonitorCall.{MonitorCall}
+use Rattle.live_seats.specs.Seats.{SeatState, SeatServes, SeatStarts, HasOpened}
 use Rattle.live_seats.specs.declared.opening.Draft.{Draft}
 use Rattle.live_seats.specs.declared.orders.Order.{Order}
+use Rattle.live_seats.specs.declared.orders.Started.{Started}
 use Rattle.live_seats.specs.declared.orders.Told.{Told}
 use Rattle.live_seats.specs.declared.seat.Seat.{Seat}
 
@@ -20,3 +22,8 @@ abbrev pub ServesKept : {L : Type 0} → Option SeatState → Order → Told →
 ServesKept s o t x y =
     (v : SeatState) × (s ≡ Some v) × ((q : Option SeatState) × (x ≡ kept q)
     × ((u : Option SeatState) × (y ≡ kept u) × SeatServes v o t q u))
+
+-- the start of a call, of which this is kept
+abbrev pub StartsKept : {L : Type 0} → Option SeatState → MonitorCall → Started → Option (Seat L) → Type 0
+StartsKept s c t x =
+    (v : SeatState) × (s ≡ Some v) × ((q : Option SeatState) × (x ≡ kept q) × SeatStarts v c t q)

@@ -9,11 +9,15 @@ use Rattle.live_turns.specs.Asked.{IsTickFault}
 use Rattle.live_turns.specs.Log.{thread_numbered}
 use Rattle.live_turns.specs.Points.{resting, standing_of, GivenUpOn, GivenUpAbout}
 use Rattle.live_turns.specs.Ways.{PassState, Went, Halted, AddsNoEvent, ticked_by, new_state}
+use Rattle.fast_path.specs.declared.calls.MonitorCall.{MonitorCall}
+use Rattle.live_turns.specs.declared.turned.Standing.TheVariants as standing
 use Rattle.live_turns.specs.declared.turned.Turned.{Turned}
 use Rattle.live_turns.specs.declared.faults.LiveFault.{LiveFault}
 use Rattle.live_seats.specs.declared.opening.Draft.{Draft}
 use Rattle.live_seats.specs.declared.orders.Order.{Order}
 use Rattle.live_seats.specs.declared.orders.Order.TheVariants.{BeginOn, BeginAbout, Turn, Tick, Thread, Share, Leave}
+use Rattle.live_seats.specs.declared.orders.Started.{Started}
+use Rattle.live_seats.specs.declared.orders.Started.TheVariants as started
 use Rattle.live_seats.specs.declared.orders.Told.{Told}
 use Rattle.live_seats.specs.declared.orders.Told.TheVariants as told
 
@@ -107,6 +111,30 @@ Serves z o told.Shared p q = ⊥
 Serves z o told.NoPass p q = ⊥
 Serves z o told.Memory p q = ⊥
 Serves z o told.Left p q = ⊥
+
+-- What is told of a call whose start was all that was done of it; one that goes on has nothing told yet.
+abbrev pub told_of : Started → Told
+told_of (started.Said r) = told.Turned (standing.Said r) None
+told_of started.GoesOn = told.NotCalling
+told_of started.InCall = told.InCall
+told_of (started.Fault f) = told.Fault f
+
+-- the pass is in the middle of the call: what a turn of it comes to, the call comes to
+abbrev pub LeadsOn : Opening → MonitorCall → PassState → PassState → Type 0
+LeadsOn z c p m = (m.point ≢ At Idle) × ((x : Told) → (q : PassState) → Serves z Turn x m q → Serves z (BeginOn c) x p q)
+
+-- What came of the start of a call: what serves the call as a whole, or the pass goes on with it.
+abbrev pub Starts : Opening → MonitorCall → Started → PassState → PassState → Type 0
+Starts z c (started.Said r) p q = Serves z (BeginOn c) (told_of (started.Said r)) p q
+Starts z c started.GoesOn p q = LeadsOn z c p q
+Starts z c started.InCall p q = Serves z (BeginOn c) (told_of started.InCall) p q
+Starts z c (started.Fault f) p q = Serves z (BeginOn c) (told_of (started.Fault f)) p q
+
+-- the start of a call leaves the seat with all else that it has
+abbrev pub SeatStarts : SeatState → MonitorCall → Started → Option SeatState → Type 0
+SeatStarts s c x None = ⊥
+SeatStarts s c x (Some q) =
+    (q.opening ≡ s.opening) × (q.limit ≡ s.limit) × (q.rest ≡ s.rest) × Starts s.opening c x s.pass q.pass
 
 -- An order that a pass carries out leaves the seat with all else that it has.
 abbrev pub PassServes : SeatState → Order → Told → Option SeatState → Option SeatState → Type 0

@@ -1,6 +1,7 @@
 //! What a seat is asked to do, and what came of it.
 
 use fast_path::{InterruptCall, MonitorCall};
+use fat_monitor::Reply;
 use live_turns::{LiveFault, Standing};
 use lock_word::ThreadId;
 
@@ -21,6 +22,19 @@ pub enum Order {
     Share,
     /// To leave the service: the pass is given up, with those that are left.
     Leave,
+}
+
+/// What came of the start of a call on an object, by its steps on the word alone.
+#[derive(Clone, Copy, PartialEq, Eq, Debug)]
+pub enum Started {
+    /// They are the whole call, and this is its reply.
+    Said(Reply),
+    /// The seat is in the middle of the call, and goes on by turns.
+    GoesOn,
+    /// The call was not begun: the seat is in a call.
+    InCall,
+    /// The call has ended for this fault.
+    Fault(LiveFault),
 }
 
 /// What came of an order.

@@ -10,10 +10,11 @@ ghost use Rattle.live_seats.specs.declared.orders.Order.TheVariants.{BeginOn, Be
 
 use crate::orders::{Order, Told};
 use fast_path::{InterruptCall, MonitorCall};
-use live_turns::{Crew, Standing, TurnPass, Turned, Turns};
+use live_turns::{Crew, TurnPass, Turned, Turns};
 use step_core::{Place, Point};
 
-fn is_idle<L: Crew>(pass: &TurnPass<L>) -> bool
+#[inline(always)]
+pub(crate) fn is_idle<L: Crew>(pass: &TurnPass<L>) -> bool
     ensures idle { result ≡ true → pass.now.point ≡ At Idle }
     ensures busy { result ≡ false → pass.now.point ≡ At Idle → ⊥ }
 {
@@ -47,7 +48,7 @@ fn go_on<L: Crew>(turns: &Turns<L>, pass: &mut TurnPass<L>) -> Told
     }
 }
 
-// The first turn of a call on an object: its start, and where that has not ended it, one turn more.
+// The first turn of a call on an object.
 fn begin_on<L: Crew>(turns: &Turns<L>, pass: &mut TurnPass<L>, call: MonitorCall) -> Told
     requires belongs { Belongs turns.now false pass.old.holding }
     ensures belongs { Belongs turns.now false pass.new.holding }
@@ -56,12 +57,8 @@ fn begin_on<L: Crew>(turns: &Turns<L>, pass: &mut TurnPass<L>, call: MonitorCall
     if !is_idle(pass) {
         return Told::InCall;
     }
-    match turns.start_on(pass, call) {
-        Ok(Some(reply)) => Told::Turned {
-            standing: Standing::Said(reply),
-            granted: None,
-        },
-        Ok(None) => go_on(turns, pass),
+    match turns.begin_on(pass, call) {
+        Ok(turned) => told(turned),
         Err(fault) => Told::Fault(fault),
     }
 }

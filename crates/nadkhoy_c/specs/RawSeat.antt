@@ -12,9 +12,11 @@ use Rattle.std.specs.contracts.marker.Brand as Brand
 use Rattle.std.specs.declared.sync.ledger.Ledger as Ledger
 use Rattle.live_turns.specs.declared.desks.Crew as Crew
 use Rattle.live_seats.specs.Kept.{kept}
-use Rattle.live_seats.specs.Seats.{SeatState, SeatServes}
+use Rattle.live_seats.specs.Seats.{SeatState, SeatServes, SeatStarts}
 use Rattle.live_seats.specs.contracts.seat.Seat as Seat
+use Rattle.fast_path.specs.declared.calls.MonitorCall.{MonitorCall}
 use Rattle.live_seats.specs.declared.orders.Order.{Order}
+use Rattle.live_seats.specs.declared.orders.Started.{Started}
 use Rattle.live_seats.specs.declared.orders.Told.{Told}
 use Rattle.c_slots.specs.Maybe.{maybe_owns}
 
@@ -45,3 +47,7 @@ seat_owns n a p x = maybe_owns (ghosts.dealloc_token a) (seat_row n) p (kept x)
 -- a seat carried out this order
 abbrev pub HasServed : Option SeatState → Order → Told → Option SeatState → Option SeatState → Type 0
 HasServed s o x q u = (v : SeatState) × (s ≡ Some v) × SeatServes v o x q u
+
+-- a seat started this call
+abbrev pub HasStarted : Option SeatState → MonitorCall → Started → Option SeatState → Type 0
+HasStarted s c x q = (v : SeatState) × (s ≡ Some v) × SeatStarts v c x q

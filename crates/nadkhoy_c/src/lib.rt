@@ -21,7 +21,7 @@ mod writing;
 
 pub use ends::{EndSlot, RawEnd};
 pub use laws::every_call_is_read_back;
-pub use live::{Answered, Finished, LiveSlot, RawSeat, Started};
+pub use live::{Answered, Finished, LiveSlot, OpenedSeat, RawSeat, StartedSeat};
 pub use plain::{
     PlainAtomic, PlainCall, PlainDeed, PlainDid, PlainDoing, PlainEnd, PlainMove, PlainObject,
     PlainPass, PlainSizes, PlainStep, PlainThread, PlainTurned,

@@ -10,6 +10,7 @@ ghost use Rattle.nadkhoy_c.specs.Ends.{ClosesSeat, HasClosed};
 ghost use Rattle.nadkhoy_c.specs.Live.{Answers, IsNewService, Opens, SharesSeat, leave_status, order_of, turned_out, number_out};
 ghost use Rattle.nadkhoy_c.specs.RawSeat.{HasServed};
 
+mod beginning;
 mod raw;
 mod slot;
 mod telling;
@@ -17,12 +18,13 @@ mod telling;
 use crate::ends::{EndSlot, RawEnd, closing_status};
 use crate::plain::{PlainCall, PlainTurned};
 use crate::status::Status;
+use beginning::{begin_lock, begin_other, take_turn};
 use live_seats::{Closing, Draft, Order, Told};
-pub use raw::{Answered, Finished, RawSeat, Started};
+pub use raw::{Answered, Finished, OpenedSeat, RawSeat, StartedSeat};
 pub use slot::LiveSlot;
 use std::alloc::Global;
 use std::sync::ledger::Blank;
-use telling::{order_of, told_status, write_number, write_turned};
+use telling::{lock_call, told_status, write_number};
 
 // Opens a service in an empty slot, where the sizes are in range.
 fn open(
@@ -150,14 +152,10 @@ pub extern "C" fn nadkhoy_live_begin(
     let Some(seat) = slot.take(alloc) else {
         return Status::Closed.number();
     };
-    let Some(order) = order_of(call) else {
-        *slot = LiveSlot::of(alloc, seat);
-        return Status::NoStep.number();
-    };
-    let answered = seat.serve(alloc, order);
-    *slot = LiveSlot::of(alloc, answered.seat);
-    write_turned(answered.told, turned);
-    told_status(answered.told)
+    match lock_call(call) {
+        Some(call) => begin_lock(alloc, slot, seat, call, turned),
+        None => begin_other(alloc, slot, seat, call, turned),
+    }
 }
 
 /// Takes one more turn of the call that the seat is in.
@@ -176,10 +174,7 @@ pub extern "C" fn nadkhoy_live_turn(
     let Some(seat) = slot.take(alloc) else {
         return Status::Closed.number();
     };
-    let answered = seat.serve(alloc, Order::Turn);
-    *slot = LiveSlot::of(alloc, answered.seat);
-    write_turned(answered.told, turned);
-    told_status(answered.told)
+    take_turn(alloc, slot, seat, turned)
 }
 
 /// Tells the moment, in nanoseconds, and writes 1; or 0 where another seat has the gate, and nothing

@@ -3,11 +3,12 @@
 ghost use Rattle.std.specs.Prelude.{◌≡◌, ◌≤◌, Option, Some, None, IsSome, length};
 ghost use Rattle.live_seats.specs.Seats.{SeatState, HasOpened};
 ghost use Rattle.nadkhoy_c.specs.Ends.{HasClosed};
-ghost use Rattle.nadkhoy_c.specs.RawSeat.{Numbers, seat_owns, HasServed};
+ghost use Rattle.nadkhoy_c.specs.RawSeat.{Numbers, seat_owns, HasServed, HasStarted};
 
 use crate::ends::RawEnd;
 use c_slots::{MaybeParts, Parts};
-use live_seats::{Closing, Draft, Ended, Opened, Order, Seat, Served, Told};
+use fast_path::MonitorCall;
+use live_seats::{Begun, Closing, Draft, Ended, Opened, Order, Seat, Served, Started, Told};
 use std::alloc::Global;
 use std::marker::{Brand, Model};
 use std::ptr;
@@ -30,7 +31,7 @@ impl Model for RawSeat {
 
 /// The seat of a service that was opened, if there was memory for it.
 #[derive(Drop)]
-pub struct Started {
+pub struct OpenedSeat {
     pub seat: RawSeat,
     /// Whether there is one.
     pub found: bool,
@@ -44,6 +45,13 @@ pub struct Answered {
     pub told: Told,
 }
 
+/// What came of the start of a call.
+#[derive(Drop)]
+pub struct StartedSeat {
+    pub seat: RawSeat,
+    pub started: Started,
+}
+
 /// What came of a close: the seat afterwards if it is not gone, the end of the service if it was
 /// closed, and what is told.
 #[derive(Drop)]
@@ -55,7 +63,7 @@ pub struct Finished {
 
 impl RawSeat {
     /// Opens a service. There is no seat only where the system refused memory.
-    pub fn open(alloc: Global, blank: Blank, draft: Draft) -> Started
+    pub fn open(alloc: Global, blank: Blank, draft: Draft) -> OpenedSeat
         requires parts { blank.parts ≡ draft.passes }
         requires objects { length draft.lows.items ≤ 65535 }
         requires some { 1 ≤ draft.passes }
@@ -65,7 +73,7 @@ impl RawSeat {
     {
         let Opened { seat, found } = Seat::<Brand>::open(alloc, blank, draft);
         let MaybeParts { ptr, alloc } = seat;
-        Started {
+        OpenedSeat {
             seat: RawSeat {
                 at: ptr as *mut (),
                 alloc,
@@ -104,6 +112,28 @@ impl RawSeat {
                 alloc: with,
             },
             told,
+        }
+    }
+
+    /// Starts a call on an object, by its steps on the word of the object.
+    #[inline(always)]
+    pub fn start(self, call: MonitorCall) -> StartedSeat
+        requires { IsSome self.value }
+        ensures { HasStarted self.value call result.started result.seat.value }
+    {
+        let RawSeat { at, alloc: heap } = self;
+        let ptr = at as *mut Seat<Brand>;
+        let Begun { seat, started } = Seat::<Brand>::start(Parts { ptr, alloc: heap }, call);
+        let MaybeParts {
+            ptr: at,
+            alloc: heap,
+        } = seat;
+        StartedSeat {
+            seat: RawSeat {
+                at: at as *mut (),
+                alloc: heap,
+            },
+            started,
         }
     }
 

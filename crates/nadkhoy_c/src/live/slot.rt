@@ -73,12 +73,21 @@ impl LiveSlot {
     }
 }
 
-// A slot that is written over gives its seat up, which leaves the service.
+// A seat leaves its service. This is a function of its own, so that a slot that is written has
+// nothing of it.
+#[inline(never)]
+fn leave(alloc: Global, seat: RawSeat)
+    requires { IsSome seat.value }
+{
+    let _ = seat.serve(alloc, Order::Leave);
+}
+
+// A slot that is written over gives its seat up.
 impl Drop for LiveSlot {
     fn drop(self) {
         let alloc = self.alloc;
         if let Some(seat) = self.into_seat() {
-            let _ = seat.serve(alloc, Order::Leave);
+            leave(alloc, seat);
         }
     }
 }

@@ -1,16 +1,20 @@
 //! What a seat tells, as numbers, and which order a call is.
 
-ghost use Rattle.std.specs.Prelude.{◌≡◌};
+ghost use Rattle.std.specs.Prelude.{◌≡◌, IfSome, Some, None};
+ghost use Rattle.live_seats.specs.Seats.{told_of};
+ghost use Rattle.live_seats.specs.declared.orders.Order.TheVariants.{BeginOn};
+ghost use Rattle.live_turns.specs.declared.turned.Standing.TheVariants.{Said};
 ghost use Rattle.nadkhoy_c.specs.Live.{plain_turned, told_status, turned_out, number_out, order_of, standing_number, granted_number};
 
 use crate::plain::{PlainCall, PlainTurned};
 use crate::reading::call_of;
 use crate::status::Status;
 use crate::writing::{cause_of, reply_number};
-use fast_path::Subject;
-use live_seats::{Order, Told};
+use fast_path::{MonitorCall, Operation, Subject};
+use fat_monitor::Reply;
+use live_seats::{Order, Started, Told};
 use live_turns::Standing;
-use step_core::ThreadId;
+use step_core::{ObjectId, ThreadId};
 
 /// The order that begins the call that the numbers name; None where they name none, or the end of a
 /// thread, which a live service does not have.
@@ -22,6 +26,20 @@ pub(crate) fn order_of(plain: &PlainCall) -> Option<Order>
         Subject::Interrupt(call) => Some(Order::BeginAbout(call)),
         Subject::End => None,
     }
+}
+
+/// The call that the numbers name, if it enters or exits.
+#[inline(always)]
+pub(crate) fn lock_call(plain: &PlainCall) -> Option<MonitorCall>
+    ensures { IfSome result (λ c. order_of plain.now ≡ Some (BeginOn c)) }
+{
+    let operation = match plain.kind {
+        1 => Operation::Enter,
+        2 => Operation::Exit,
+        _ => return None,
+    };
+    let object = ObjectId(plain.target);
+    Some(MonitorCall { object, operation })
 }
 
 fn standing_number(standing: Standing) -> u32
@@ -93,5 +111,41 @@ pub(crate) fn write_number(told: Told, number: &mut u32)
         Told::Ticked(told) => *number = u32::from(told),
         Told::Thread(thread) => *number = thread.0,
         _ => {}
+    }
+}
+
+// A call that has its reply, as numbers.
+#[inline(always)]
+fn plain_said(reply: Reply) -> PlainTurned
+    ensures { result ≡ plain_turned (Said reply) None }
+{
+    PlainTurned {
+        standing: 1,
+        reply: reply_number(reply),
+        cause: cause_of(reply),
+        granted: 0,
+    }
+}
+
+/// Writes what the start of a call came to, if that is its reply.
+#[inline(always)]
+pub(crate) fn write_said(started: Started, turned: &mut PlainTurned)
+    ensures { turned.new ≡ turned_out (told_of started) turned.old }
+{
+    if let Started::Said(reply) = started {
+        *turned = plain_said(reply);
+    }
+}
+
+/// The status of what the start of a call came to; that of a call that goes on is not told.
+#[inline(always)]
+pub(crate) fn started_status(started: Started) -> u32
+    ensures { result ≡ told_status (told_of started) }
+{
+    match started {
+        Started::Said(_) => Status::Done.number(),
+        Started::GoesOn => 7,
+        Started::InCall => 6,
+        Started::Fault(fault) => u32::from(fault.number()),
     }
 }

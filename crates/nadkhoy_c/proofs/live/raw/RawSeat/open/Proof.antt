@@ -2,8 +2,8 @@
 use Rattle.nadkhoy_c.proofs.Steps.{◌≡◌, List, [], ◌∷◌, refl, ap, proved, full_share, id⊢, ftrue, flft, Val, tables, fact, ‵, raw, ◌⊛◌, some, later, ◌$◌, ◌∵◌, !, qed, done, drop, move, use0, use1, split, join, fjoin, pick, await, rewrite, suffices, enter, of_opd, no_more, and_then, returns, alloc_all, pass_all, free_all, look_at, get, get_in, fld, stop, sub, whole, agg, sets, lands_as, yes, no, plain, nothing, heard, only, calls_at, lasts, Lasts, triple_of, Stays, says, stay_dropped, Goes-dropped, ends_at, framed, peeks, shows, lft_new, lft_end, walk_of, pair_Typed, ⊑_static, rawptr_Lawful, fact_i, emp, type_at, T, has_ty, WT, subst}
 use Rattle.std.specs.Prelude.{◌≤◌, length}
 use Rattle.nadkhoy_c.specs.contracts.live.raw.RawSeat as Sealed
-use Rattle.nadkhoy_c.specs.contracts.live.raw.Started as Result
-use Rattle.nadkhoy_c.proofs.live.raw.Started.TheLaws as result
+use Rattle.nadkhoy_c.specs.contracts.live.raw.OpenedSeat as Result
+use Rattle.nadkhoy_c.proofs.live.raw.OpenedSeat.TheLaws as result
 use Rattle.live_seats.specs.contracts.opening.Draft as Draft
 use Rattle.live_seats.proofs.opening.Draft.TheLaws as draft
 use Rattle.core.specs.contracts.ledger.Blank as Blank
