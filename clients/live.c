@@ -540,6 +540,52 @@ static void bare_nests(long rounds) {
     atomic_store(&bare, 0u);
 }
 
+/* The least that calls can do which load the word before they change it: each finds the word by one
+ * pointer, loads it, and makes one atomic operation on it. Nothing of the service is in them. */
+struct words {
+    shared_word *at;
+};
+
+static int lock_word(struct words *words, uint32_t object) {
+    uint32_t found = atomic_load(&words->at[object]);
+    return found == 0u && atomic_compare_exchange_strong(&words->at[object], &found, 0x10000u);
+}
+
+static int unlock_word(struct words *words, uint32_t object) {
+    if (atomic_load(&words->at[object]) != 0x10000u) return 0;
+    atomic_store(&words->at[object], 0u);
+    return 1;
+}
+
+static int nest_word(struct words *words, uint32_t object) {
+    if (atomic_load(&words->at[object]) != 0x10000u) return 0;
+    atomic_store(&words->at[object], 0x10100u);
+    return 1;
+}
+
+static int unnest_word(struct words *words, uint32_t object) {
+    if (atomic_load(&words->at[object]) != 0x10100u) return 0;
+    atomic_store(&words->at[object], 0x10000u);
+    return 1;
+}
+
+typedef int word_call(struct words *, uint32_t);
+
+static void pairs_by_hand(word_call *volatile first, word_call *volatile second, long rounds) {
+    struct words words = {&bare};
+    long done = 0;
+    for (long i = 0; i < rounds; i++) done += first(&words, 0) + second(&words, 0);
+    WANT(done, 2 * rounds);
+}
+
+static void hand_firsts(long rounds) { pairs_by_hand(lock_word, unlock_word, rounds); }
+
+static void hand_nests(long rounds) {
+    atomic_store(&bare, 0x10000u);
+    pairs_by_hand(nest_word, unnest_word, rounds);
+    atomic_store(&bare, 0u);
+}
+
 static double faster(double before, void (*work)(long), long rounds) {
     double start = seconds();
     work(rounds);
@@ -547,22 +593,24 @@ static double faster(double before, void (*work)(long), long rounds) {
     return took < before ? took : before;
 }
 
-static void print_pair(const char *name, void (*plain)(long)) {
+static void print_pair(const char *name, void (*plain)(long), void (*hand)(long)) {
     const long rounds = 1000000;
-    double calls = 1e9, atomics = 1e9;
+    double calls = 1e9, atomics = 1e9, least = 1e9;
     for (int run = 0; run < 9; run++) {
         calls = faster(calls, pairs_by_calls, rounds);
         atomics = faster(atomics, plain, rounds);
+        least = faster(least, hand, rounds);
     }
-    printf("a pair of enter and exit, %s: %.1f ns by calls, %.1f ns bare, %.2f times\n", name,
-           calls, atomics, calls / atomics);
+    printf("a pair of enter and exit, %s: %.1f ns by calls; %.1f ns bare, %.2f times; %.1f ns by "
+           "calls by hand that load the word, %.2f times\n",
+           name, calls, atomics, calls / atomics, least, calls / least);
 }
 
 static void time_pairs(void) {
     open_both(0);
-    print_pair("first", bare_firsts);
+    print_pair("first", bare_firsts, hand_firsts);
     says(&waiter, NADKHOY_CALL_ENTER, 0, NADKHOY_REPLY_ENTERED);
-    print_pair("nested", bare_nests);
+    print_pair("nested", bare_nests, hand_nests);
     says(&waiter, NADKHOY_CALL_EXIT, 0, NADKHOY_REPLY_EXITED);
     leave_both();
 }
