@@ -126,8 +126,15 @@ impl<L: Crew> Turns<L> {
         ensures looked { OnErr result
             (VisitsBook 1 pass.old.holding.words pass.new.holding.words) }
     {
-        let point = pass.point;
-        match self.turn_from(&mut pass.holder, point) {
+        // An action on a monitor, which a call that was started mostly goes on with, is taken with no
+        // copy of the point.
+        let turned = match pass.point {
+            Point::At(Place::InCall(Stage::Acting { call, monitor })) => {
+                self.act(&mut pass.holder, call, monitor)
+            }
+            point => self.turn_from(&mut pass.holder, point),
+        };
+        match turned {
             Ok(turned) => {
                 pass.point = resting(turned.point);
                 Ok(turned)
