@@ -13,10 +13,12 @@ const FIRST_SLEEP: u64 = 50;
 const LONGEST_SLEEP: u64 = 1_000;
 
 // How often a parked call looks at its bell before it sleeps: first with one pause of the processor
-// between two looks, so that it hears the bell at once, and then it lets others run.
-const LOOKS: u32 = 128;
+// between two looks, so that it hears the bell at once, and then it lets others run. All looks
+// together take longer than to wake a thread that sleeps: so of two threads that hand an object to
+// each other, one that had to sleep does not make the other sleep too.
+const LOOKS: u32 = 256;
 
-const YIELDS: u32 = 4;
+const YIELDS: u32 = 64;
 
 // How long a parked call sleeps at most before it looks again, in milliseconds.
 const PARKED_SLEEP: u64 = 10;
@@ -52,7 +54,7 @@ impl Waiting {
     }
 
     /// Waits before the next turn of a call that has parked, until the bell rings, or for some
-    /// milliseconds: it looks at the bell for some microseconds, and then sleeps.
+    /// milliseconds: it looks at the bell for some ten microseconds, and then sleeps.
     pub(crate) fn listen<R: Wait + Clock>(&mut self, rt: &R, bell: &Bell, parker: &Parker) {
         self.meeting.reset();
         self.next_sleep = FIRST_SLEEP;
