@@ -128,8 +128,8 @@ fn main(rt: HostRuntime) -> Result<(), BenchFault> {
             (Work::Contend, Work::Fat),
         ),
         (
-            "a notify and a wait by each of two, beside a fat pair",
-            (Work::HandOn, Work::Fat),
+            "a notify and a wait by each of two, beside a load and a store of a bare word by each",
+            (Work::HandOn, Work::BareHandOn),
         ),
         (
             "the same, both asleep, beside awake",

@@ -8,8 +8,8 @@ use live_turns::Crew;
 use lock_word::ObjectId;
 use std::sync::Wait;
 use std::sync::atomic::{AtomicU64, Ordering};
-use std::thread;
 use std::time::{Clock, Duration, Instant};
+use std::{hint, thread};
 
 pub const OBJECT: ObjectId = ObjectId(0);
 
@@ -28,6 +28,8 @@ pub enum Work {
     Fat,
     /// The same by two threads that contend.
     Contend,
+    /// A load and a store of a bare word by each of two threads, which hand it to each other.
+    BareHandOn,
     /// A notify and a wait by each of two threads, which hand an object to each other.
     HandOn,
     /// The same, where each thread lets the other fall asleep before it notifies.
@@ -39,7 +41,9 @@ impl Work {
     pub fn rounds(self, asked: u32) -> u32 {
         match self {
             Work::BareLock | Work::BareNest | Work::Lock | Work::Nest => asked,
-            Work::Fat | Work::Contend | Work::HandOn => (asked / 32).min(100_000),
+            Work::Fat | Work::Contend | Work::BareHandOn | Work::HandOn => {
+                (asked / 32).min(100_000)
+            }
             Work::HandOnAsleep => (asked / 1_000).min(500),
         }
     }
@@ -47,7 +51,7 @@ impl Work {
     /// How many places of the record so many rounds of it use at most.
     pub fn places(self, rounds: u32) -> u32 {
         match self {
-            Work::BareLock | Work::BareNest | Work::Lock | Work::Nest => 100,
+            Work::BareLock | Work::BareNest | Work::BareHandOn | Work::Lock | Work::Nest => 100,
             _ => rounds.saturating_mul(8).saturating_add(100),
         }
     }
@@ -82,6 +86,38 @@ pub fn bare_nest(word: &AtomicU64, rounds: u32) -> u32 {
     for _ in 0..rounds {
         word.store(0x1_0100, Ordering::SeqCst);
         word.store(0x1_0000, Ordering::SeqCst);
+    }
+    rounds
+}
+
+// How often a thread looks at a bare word with a single pause between two looks, before it lets
+// others run.
+const LOOKS: u32 = 128;
+
+// Waits until a bare word has this value.
+fn await_value<R: Wait>(rt: &R, word: &AtomicU64, value: u64) {
+    let mut looks = 0u32;
+    for _ in rt.forever() {
+        if word.load(Ordering::SeqCst) == value {
+            return;
+        }
+        if looks < LOOKS {
+            looks += 1;
+            hint::spin_loop();
+        } else {
+            thread::yield_now();
+        }
+    }
+}
+
+/// Hands a bare word on, so many times: waits until it has the value that is this thread's turn, and
+/// stores that of the other's. The values count up from 0.
+pub fn bare_hand_on<R: Wait>(rt: &R, word: &AtomicU64, first: u64, rounds: u32) -> u32 {
+    let mut mine = first;
+    for _ in 0..rounds {
+        await_value(rt, word, mine);
+        word.store(mine.wrapping_add(1), Ordering::SeqCst);
+        mine = mine.wrapping_add(2);
     }
     rounds
 }

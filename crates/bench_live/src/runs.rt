@@ -4,8 +4,8 @@ ghost use Rattle.std.specs.Prelude.{◌≡◌};
 
 use crate::BenchFault;
 use crate::rounds::{
-    HandedOn, Measure, OBJECT, Work, bare_lock, bare_nest, hand_on, inflate, nested_pairs,
-    notify_after, pairs, wait_once,
+    HandedOn, Measure, OBJECT, Work, bare_hand_on, bare_lock, bare_nest, hand_on, inflate,
+    nested_pairs, notify_after, pairs, wait_once,
 };
 use live_threads::{Live, LivePass};
 use live_turns::Crew;
@@ -37,6 +37,16 @@ fn hand_on_in_two<L: Crew + Send + Sync, R: Threads + Wait + Clock + Sync>(
         done: one.done.wrapping_add(two.done),
         slept: one.slept.wrapping_add(two.slept),
     }
+}
+
+// The two threads hand a bare word to each other.
+fn bare_hand_on_in_two<R: Threads + Wait + Sync>(rt: &R, word: &AtomicU64, rounds: u32) -> u32 {
+    let (one, two) = join(
+        rt,
+        || bare_hand_on(rt, word, 0, rounds),
+        || bare_hand_on(rt, word, 1, rounds),
+    );
+    one.wrapping_add(two)
 }
 
 // Two threads enter and exit an object that they contend for.
@@ -82,6 +92,7 @@ fn run<L: Crew + Send + Sync, R: Threads + Wait + Clock + Sync>(
         Work::Lock | Work::Fat => pairs(rt, live, first, rounds),
         Work::Nest => nested_pairs(rt, live, first, rounds),
         Work::Contend => contend(rt, live, first, second, rounds),
+        Work::BareHandOn => bare_hand_on_in_two(rt, &word, rounds),
         Work::HandOn | Work::HandOnAsleep => {
             let awake = matches!(work, Work::HandOn);
             let pause = Duration::from_micros(if awake { 0 } else { 1_000 });
