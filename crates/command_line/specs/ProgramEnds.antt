@@ -1,5 +1,6 @@
 -- How the program ends.
-use Rattle.std.specs.Prelude.{ℕ}
+use Rattle.std.specs.Prelude.{◌≡◌, ◌⊎◌, ℕ, []}
+use Rattle.clap.specs.Kinds.{Kinds, IsAmong}
 use Rattle.clap.specs.declared.error.kind.ErrorKind.{ErrorKind}
 use Rattle.clap.specs.declared.error.kind.ErrorKind.TheVariants.{InvalidValue, UnknownArgument, InvalidSubcommand}
 use Rattle.clap.specs.declared.error.kind.ErrorKind.TheVariants.{NoEquals, ValueValidation, TooManyValues, TooFewValues}
@@ -37,3 +38,17 @@ end_for MissingSubcommand = Misused
 end_for DisplayHelpOnMissingArgumentOrSubcommand = Misused
 end_for Io = Misused
 end_for Format = Misused
+
+-- how an order ends: it was carried out, or not
+abbrev pub IsOfOrder : ProgramEnd → Type 0
+IsOfOrder Done = Unit {0}
+IsOfOrder Shown = ⊥
+IsOfOrder (Failed fault) = Unit {0}
+IsOfOrder Misused = ⊥
+
+-- How the program ends where its words may be refused for one of these kinds: for none, then they are an order; or they
+-- were refused, for one of the kinds or for want of memory.
+abbrev pub EndsFor : Kinds → ProgramEnd → Type 0
+EndsFor kinds end =
+    ((kinds ≡ []) × IsOfOrder end)
+    ⊎ ((k : ErrorKind) × ((k ≡ OutOfMemory) ⊎ IsAmong k kinds) × (end ≡ end_for k))

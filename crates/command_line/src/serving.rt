@@ -1,8 +1,12 @@
 //! Does what the words of the command line order, over files and streams.
 
-ghost use Rattle.std.specs.Prelude.{◌≡◌, OnOk};
+ghost use Rattle.std.specs.Prelude.{◌≡◌, OnOk, map, string_bytes};
+ghost use Rattle.std.specs.Process.{exit_status};
+ghost use Rattle.clap.specs.Faults.{fault_of};
 ghost use Rattle.clap.specs.Values.{kind_of};
-ghost use Rattle.command_line.specs.ProgramEnds.{end_for};
+ghost use Rattle.command_line.specs.Orders.{program_words};
+ghost use Rattle.command_line.specs.declared.ends.ProgramEnd.{ProgramEnd};
+ghost use Rattle.command_line.specs.ProgramEnds.{EndsFor, end_for, status_of};
 ghost use Rattle.command_line.specs.Tasks.{IsDone};
 
 use crate::ends::{ProgramEnd, end_for};
@@ -21,6 +25,8 @@ use std::{env, fs, io};
 pub fn serve<R>(rt: &R) -> ExitCode
 where
     R: Env + Files + Input + Print + Eprint + AllocGlobal + Threads + Wait + Clock + Sync,
+    // The status is one that an end of the program has.
+    ensures { (end : ProgramEnd) × (exit_status result ≡ status_of end) }
 {
     let end = match words_behind_name(rt) {
         Ok(words) => serve_words(rt, &words),
@@ -40,6 +46,8 @@ fn words_behind_name<R: Env + AllocGlobal>(rt: &R) -> io::Result<Vec<String>> {
 pub fn serve_words<R>(rt: &R, words: &[String]) -> ProgramEnd
 where
     R: Files + Input + Print + Eprint + AllocGlobal + Threads + Wait + Clock + Sync,
+    // Words that are an order end as an order does, and others by what is wrong with them.
+    ensures { EndsFor (fault_of program_words (map string_bytes words.now)) result }
 {
     match read_words(rt.alloc(), words) {
         Ok(order) => match carry_out(rt, order) {
