@@ -48,4 +48,5 @@ IsPosition threads (Some t) (Some k) = (k < length threads) × (thread_at_positi
 abbrev pub IsRowOf : (ThreadId → Option ThreadId) → List ThreadId → List (Option ℕ) → Type 0
 IsRowOf next threads row =
     (length row ≡ length threads)
-    × ((k : ℕ) → k < length threads → IsPosition threads (next (thread_at_position threads k)) (slice_index_or row k None))
+    × ((k : ℕ) → k < length threads
+    → IsPosition threads (next (thread_at_position threads k)) (slice_index_or row k None))

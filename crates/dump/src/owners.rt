@@ -61,7 +61,8 @@ fn threads_of(
     positions: &[usize],
 ) -> Result<Vec<ThreadId>, AllocError>
     requires { (position : ℕ) → IsIn position positions.now → position < length threads.now }
-    ensures { IfOk result (λ found. found.items ≡ map (thread_at_position threads.now) positions.now) }
+    ensures { IfOk result (λ found. found.items
+        ≡ map (thread_at_position threads.now) positions.now) }
 {
     let mut found = Vec::new(alloc);
     'positions: for position in positions {

@@ -29,7 +29,8 @@ pub record Outcome : Type 0 where
   pub after : FatState
 
 abbrev pub answers : FatState → Answer → Option ThreadId → Option ThreadId → Outcome
-answers f a granted chosen = record { answer = Ok (record { answer = a; granted = granted; chosen = chosen }); after = f }
+answers f a granted chosen =
+    record { answer = Ok (record { answer = a; granted = granted; chosen = chosen }); after = f }
 
 -- the call that made the action has this reply, and no other thread is named
 abbrev pub replies : FatState → Reply → Outcome
@@ -76,7 +77,8 @@ after_settling f u (Granted r) = f
 -- u, which is to have this post, leaves this line of m and becomes the owner of m
 abbrev pub after_grant : FatState → ℕ → ThreadId → Post → Role → FatState
 after_grant f m u p r =
-    with_lines (with_post (with_owner (after_settling f u p) m (Some u) (holds_granted p)) u (Granted (reply_granted p)))
+    with_lines
+    (with_post (with_owner (after_settling f u p) m (Some u) (holds_granted p)) u (Granted (reply_granted p)))
     (after_leave f.standing.lines u m r)
 
 -- the owner gives up m, which goes to this thread, the first of the entry line; without one, nobody owns it
@@ -182,13 +184,15 @@ wait_outcome f t m millis nanos =
 -- A notify removes the thread that has waited longest, if one waits.
 abbrev pub notify_outcome : FatState → Option ThreadId → Outcome
 notify_outcome f None = replies f reply.Notified
-notify_outcome f (Some u) = answers (after_removal f u why.Notified (post_at f u)) (answer.Reply reply.Notified) None (Some u)
+notify_outcome f (Some u) =
+    answers (after_removal f u why.Notified (post_at f u)) (answer.Reply reply.Notified) None (Some u)
 
 -- An interrupt of a thread with this post, if it is attached, sets its flag, and removes it from its wait set.
 abbrev pub interrupt_outcome : FatState → ThreadId → Option Post → Outcome
 interrupt_outcome f u None = replies f (reply.Refused NoThread)
 interrupt_outcome f u (Some p) =
-    answers (after_removal (with_flag f u true) u why.Interrupted p) (answer.Reply reply.Done) (granted_by_removal f u p) None
+    answers (after_removal (with_flag f u true) u why.Interrupted p) (answer.Reply reply.Done)
+    (granted_by_removal f u p) None
 
 -- the answer to whether a thread with this flag, if it is attached, is interrupted
 abbrev pub flag_outcome : FatState → Option Bool → Outcome
@@ -203,7 +207,8 @@ abbrev pub expire_outcome : FatState → ThreadId → Post → Outcome
 expire_outcome f t (Waiting m n (Some d)) =
     if nat_lt f.moment d
     then not_due f
-    else answers (after_removal f t why.Elapsed (Waiting m n (Some d))) answer.Quiet (granted_by_removal f t (Waiting m n (Some d))) None
+    else answers (after_removal f t why.Elapsed (Waiting m n (Some d))) answer.Quiet
+    (granted_by_removal f t (Waiting m n (Some d))) None
 expire_outcome f t (Waiting m n None) = not_due f
 expire_outcome f t Out = not_due f
 expire_outcome f t (Entering m) = not_due f

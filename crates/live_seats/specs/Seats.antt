@@ -121,7 +121,8 @@ told_of (started.Fault f) = told.Fault f
 
 -- the pass is in the middle of the call: what a turn of it comes to, the call comes to
 abbrev pub LeadsOn : Opening → MonitorCall → PassState → PassState → Type 0
-LeadsOn z c p m = (m.point ≢ At Idle) × ((x : Told) → (q : PassState) → Serves z Turn x m q → Serves z (BeginOn c) x p q)
+LeadsOn z c p m =
+    (m.point ≢ At Idle) × ((x : Told) → (q : PassState) → Serves z Turn x m q → Serves z (BeginOn c) x p q)
 
 -- What came of the start of a call: what serves the call as a whole, or the pass goes on with it.
 abbrev pub Starts : Opening → MonitorCall → Started → PassState → PassState → Type 0

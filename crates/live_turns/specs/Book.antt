@@ -29,7 +29,8 @@ pub record BookState : Type 0 where
 
 -- the book at the start
 abbrev pub opening : ℕ → ℕ → ℕ → BookState
-opening monitors passes places = record { fats = nothing_bound passes monitors; log = []; passes = passes; places = places }
+opening monitors passes places =
+    record { fats = nothing_bound passes monitors; log = []; passes = passes; places = places }
 
 -- the objects of the bound monitors, by number
 abbrev pub bindings : BookState → List ObjectId
@@ -71,7 +72,9 @@ told (Err act_fault.Parked) = Err fault.Parked
 told (Err act_fault.NotWaiting) = Err fault.Parked
 
 abbrev pub act_answer : BookState → ThreadId → Action → Result Done BookFault
-act_answer b t a = if nat_lt (free_of b) (need b.fats t a) then Err fault.RecordFull else told (outcome_of b.fats t a).answer
+act_answer b t a =
+    if nat_lt (free_of b) (need b.fats t a) then Err fault.RecordFull
+    else told (outcome_of b.fats t a).answer
 
 abbrev pub tick_answer : BookState → ℕ → Result (Unit {0}) BookFault
 tick_answer b now =

@@ -52,8 +52,8 @@ IsHandedBack z ps (WrongPass t p) = (t ≡ z) × (p.items ≡ ps)
 IsHandedBack z ps (Memory t p) = (t ≡ z) × (p.items ≡ ps)
 IsHandedBack z ps Torn = Unit {0}
 
--- there is a record that replays from nothing bound, and is as long as the deeds of all passes together, but does not have
--- just each pass's deeds under its number
+-- there is a record that replays from nothing bound, and is as long as the deeds of all passes together, but does not
+-- have just each pass's deeds under its number
 pub record Disagrees (z : Opening) (limit : ℕ) (ps : List PassState) : Type 0 where
   pub log : List Logged
   pub fats : FatState

@@ -38,7 +38,9 @@ IsForBook action.End = ⊥
 -- actions says, and the moment does not fall.
 abbrev pub IsLegal : FatState → ThreadId → Deed → Type 0
 IsLegal f t (Bound o n m) = (m ≡ length f.monitors) × (m < f.limit) × (1 ≤ n) × (n ≤ 256)
-IsLegal f t (Acted a r) = IsForBook a × MayAct f t a × NamesBound f a × (d : Done) × ((outcome_of f t a).answer ≡ Ok d) × (r ≡ d.answer)
+IsLegal f t (Acted a r) =
+    IsForBook a × MayAct f t a × NamesBound f a
+    × (d : Done) × ((outcome_of f t a).answer ≡ Ok d) × (r ≡ d.answer)
 IsLegal f t (Ticked now) = f.moment ≤ now
 
 -- the state after the deed
@@ -50,7 +52,8 @@ after_deed f t (Ticked now) = with_moment f now
 -- the log, each deed legal where it stands and of one of the threads, leads from one state to another
 abbrev pub Replays : ℕ → FatState → List Logged → FatState → Type 0
 Replays passes f [] g = f ≡ g
-Replays passes f (e ∷ es) g = IsThreadOf passes e.thread × IsLegal f e.thread e.deed × Replays passes (after_deed f e.thread e.deed) es g
+Replays passes f (e ∷ es) g =
+    IsThreadOf passes e.thread × IsLegal f e.thread e.deed × Replays passes (after_deed f e.thread e.deed) es g
 
 -- the threads 1 to n are attached
 abbrev pub with_threads : ℕ → FatState → FatState

@@ -158,7 +158,8 @@ impl<L: Crew> Desk<L> {
             vec_len own.old.list < vec_capacity own.old.list }
         ensures own { IfOk result (λ d. own.new.list.items ≡ own.old.list.items
             ++ by thread (Acted action d.answer) ∷ []) }
-        ensures told { IfOk result (λ d. (outcome_of self.old.book.fats thread action).answer ≡ Ok d) }
+        ensures told { IfOk result (λ d.
+            (outcome_of self.old.book.fats thread action).answer ≡ Ok d) }
         ensures bindings { bindings self.new.book ≡ bindings self.old.book }
         ensures none { OnErr result (own.new.list.items ≡ own.old.list.items) }
         ensures fault { IfErr result IsDeskFault }

@@ -109,12 +109,14 @@ number_out told.Memory x = x
 number_out told.Left x = x
 
 -- an order that a seat carried out: what is answered of it, the slot then, and what stands where the call writes
-abbrev pub HasAnswered : {X : Type 0} → (Told → X → X) → Order → Option SeatState → X → ℕ → Option SeatState → X → Type 0
+abbrev pub HasAnswered : {X : Type 0} → (Told → X → X) → Order → Option SeatState → X → ℕ → Option SeatState → X
+    → Type 0
 HasAnswered write o s x n s' x' = (t : Told) × HasServed s o t s' None × (n ≡ told_status t) × (x' ≡ write t x)
 
 -- An order of the seat in a slot, if the numbers name one: what is answered, what the slot has then, and what stands
 -- where the call writes. write says what is written of what the seat tells.
-abbrev pub Answers : {X : Type 0} → (Told → X → X) → Option Order → Option SeatState → X → ℕ → Option SeatState → X → Type 0
+abbrev pub Answers : {X : Type 0} → (Told → X → X) → Option Order → Option SeatState → X → ℕ → Option SeatState → X
+    → Type 0
 Answers write o None x n s' x' = (n ≡ status_number status.Closed) × (s' ≡ None) × (x' ≡ x)
 Answers write None (Some v) x n s' x' = (n ≡ status_number status.NoStep) × (s' ≡ Some v) × (x' ≡ x)
 Answers write (Some o) (Some v) x n s' x' = HasAnswered write o (Some v) x n s' x'

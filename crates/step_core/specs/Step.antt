@@ -157,7 +157,8 @@ after_wait_end_as x w t (Err e) f = refuse w x.fault
 
 abbrev pub after_wait_end : WaitEnd → WorldState → ThreadId → Option ℕ → AfterStep
 after_wait_end x w t None = refuse w fault.NoThread
-after_wait_end x w t (Some k) = after_wait_end_as x w t (outcome_of w.fats t x.action).answer (outcome_of w.fats t x.action).after
+after_wait_end x w t (Some k) =
+    after_wait_end_as x w t (outcome_of w.fats t x.action).answer (outcome_of w.fats t x.action).after
 
 -- the moment is told; it never falls
 abbrev pub after_tick : WorldState → ℕ → AfterStep

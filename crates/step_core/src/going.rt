@@ -75,7 +75,8 @@ fn collect(
     ensures { (split : Split) (words : List Word) (seats : List (Option ThreadId))
         → record { answer = result; after = world_of split words seats places.new fats.new }
         ≡ after_collect (world_of split words seats places.old fats.old) seat thread
-        (outcome_of fats.old thread action.Collect).answer (outcome_of fats.old thread action.Collect).after }
+        (outcome_of fats.old thread action.Collect).answer
+        (outcome_of fats.old thread action.Collect).after }
 {
     let action = Action::Collect;
     let Ok(Done { answer, .. }) = fats.act(thread, action) else {
@@ -105,7 +106,8 @@ fn end(
           answer = Ok result;
           after = world_of split words indices.new places.new fats.new;
         } ≡ after_end (world_of split words indices.old places.old fats.old) seat thread
-        (outcome_of fats.old thread action.End).answer (outcome_of fats.old thread action.End).after }
+        (outcome_of fats.old thread action.End).answer
+        (outcome_of fats.old thread action.End).after }
 {
     places[seat] = Place::Idle;
     let action = Action::End;

@@ -246,7 +246,8 @@ impl Fats {
     /// or the one that it is to have, comes back to.
     fn grant(&mut self, monitor: u32, thread: ThreadId, post: Post)
         requires bound { monitor < length self.old.monitors }
-        requires stands { (r : Role) × (line_key_of (post_at self.old thread) ≡ Some (key monitor r)) }
+        requires stands { (r : Role)
+            × (line_key_of (post_at self.old thread) ≡ Some (key monitor r)) }
         requires comes { ComesBack post }
         ensures { (r : Role) → line_key_of (post_at self.old thread) ≡ Some (key monitor r)
             → self.new ≡ after_grant self.old monitor thread post r }
