@@ -331,8 +331,8 @@ typedef struct nadkhoy_thread_shown {
     nadkhoy_doing doing;
 } nadkhoy_thread_shown;
 
-/* What a turn of the call of a seat came to. It may make another thread an owner wherever its own
- * call stands. */
+/* What a turn of the call of a seat came to. It may make a thread an owner, its own too, wherever
+ * its own call stands. */
 typedef struct nadkhoy_turned {
     uint32_t standing; /* enum nadkhoy_standing */
     uint32_t reply;    /* enum nadkhoy_reply; 0 where the call goes on */
@@ -441,7 +441,8 @@ uint32_t nadkhoy_live_begin(nadkhoy_live_slot *slot, const nadkhoy_call *call,
  * taken too early costs time, and nothing else.
  *
  * Answers CLOSED or NOT_CALLING, where all is as it was, or RECORD_FULL or TORN, where the call
- * is given up as by a begin. Any thread that has the slot may call it. */
+ * is given up as by a begin; TORN also where it has parked. Any thread that has the slot may call
+ * it. */
 uint32_t nadkhoy_live_turn(nadkhoy_live_slot *slot, nadkhoy_turned *turned);
 
 /* Tells the service the moment, in nanoseconds, and writes 1; or writes 0 where another seat has
