@@ -16,7 +16,7 @@ const LONGEST_SLEEP: u64 = 1_000;
 // between two looks, so that it hears the bell at once, and then it lets others run. All looks
 // together take longer than to wake a thread that sleeps: so of two threads that hand an object to
 // each other, one that had to sleep does not make the other sleep too.
-const LOOKS: u32 = 256;
+const LOOKS: u32 = 512;
 
 const YIELDS: u32 = 64;
 
