@@ -16,6 +16,9 @@ fn a_receipt_tells_what_was_bound(rt: HostRuntime) -> Result<(), Fail> {
     assert!(rt; receipt.owner() == SEVEN);
     assert!(rt; receipt.holds() == 3);
     assert!(rt; receipt.monitor() == 0);
+    assert!(rt; fats.holds(0) == 3);
+    assert!(rt; fats.post(SEVEN).is_some());
+    assert!(rt; fats.bind(OBJECT, SEVEN, 1).err() == Some(Cause::NoMonitor));
     Ok(())
 }
 

@@ -60,6 +60,42 @@ fn what_was_refused_succeeds_when_tried_again(rt: HostRuntime) -> Result<(), Fai
     Ok(())
 }
 
+/// The Go steps of y in its call, up to its reply, of which there are so many at most.
+fn replies(rt: &impl Abort, world: &mut World, most: u32) -> Option<Reply> {
+    for _ in 0..most {
+        let did = world.step(Step::Go { thread: Y });
+        let Ok(did) = did else {
+            panic!(rt; "the step is accepted");
+        };
+        if did.reply.is_some() {
+            return did.reply;
+        }
+    }
+    None
+}
+
+#[test]
+fn an_enter_that_won_stays_though_its_bind_is_refused(rt: HostRuntime) -> Result<(), Fail> {
+    let mut world = opened(rt.alloc(), Split::Wide)?;
+    attaches(&rt, &mut world, X);
+    attaches(&rt, &mut world, Y);
+    enters(&rt, &mut world, 1);
+    let call = Call::Enter(A);
+    does(&rt, &mut world, Step::Begin { thread: Y, call });
+    does(&rt, &mut world, Step::Go { thread: Y });
+    let call = Call::Exit(A);
+    does(&rt, &mut world, Step::Begin { thread: X, call });
+    goes(&rt, &mut world, 2);
+    assert!(rt; replies(&rt, &mut world, 4) == Some(Reply::Entered));
+    // `shows` does the same: without it nothing says that the world still has the object.
+    assert!(rt; A.0 < world.objects());
+    let word = world.word(A);
+    assert!(rt; word == Word(0x8000_00A5) || word == Word(0x0002_00A5));
+    assert!(rt; world.owner(A) == Some(Y));
+    assert!(rt; world.holds(A) == 1);
+    Ok(())
+}
+
 #[test]
 fn a_refused_relayout_succeeds_when_tried_again(rt: HostRuntime) -> Result<(), Fail> {
     let mut world = opened(rt.alloc(), Split::Deep)?;
