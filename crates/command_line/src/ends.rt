@@ -7,6 +7,7 @@ ghost use Rattle.command_line.specs.ProgramEnds.{end_for, status_of};
 use clap::error::ErrorKind;
 use history::FileFault;
 use live_runs::RunFault;
+use std::fmt;
 
 /// How the program ends.
 #[derive(Clone, Copy, PartialEq, Eq, Debug)]
@@ -31,6 +32,16 @@ impl ProgramEnd {
             ProgramEnd::Failed(_) => 1,
             ProgramEnd::Misused => 2,
         }
+    }
+}
+
+/// The line that tells a fault, without its end.
+#[derive(Clone, Copy, Drop)]
+pub struct FaultLine(pub RunFault);
+
+impl fmt::Display for FaultLine {
+    fn fmt<W: fmt::Write>(&self, f: &mut fmt::Formatter<W>) -> fmt::Result {
+        write!(f, "thinmon: {}", self.0)
     }
 }
 

@@ -9,7 +9,7 @@ ghost use Rattle.command_line.specs.declared.ends.ProgramEnd.{ProgramEnd};
 ghost use Rattle.command_line.specs.ProgramEnds.{EndsFor, end_for, status_of};
 ghost use Rattle.command_line.specs.Tasks.{IsDone};
 
-use crate::ends::{ProgramEnd, end_for};
+use crate::ends::{FaultLine, ProgramEnd, end_for};
 use crate::orders::{Order, Task, read_words};
 use dump::dump_script;
 use history::{FileFault, ReaderSource, Sink, Source, WriterSink, moves, replay, run};
@@ -61,7 +61,7 @@ where
 fn tell_fault(rt: &impl Eprint, fault: RunFault) -> ProgramEnd
     ensures { result ≡ ProgramEnd.Failed fault }
 {
-    let _ = eprintln!(rt; "thinmon: {fault}");
+    let _ = rt.eprintln(FaultLine(fault));
     ProgramEnd::Failed(fault)
 }
 

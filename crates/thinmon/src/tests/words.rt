@@ -1,10 +1,13 @@
 //! The words of the command line, behind the program's name.
 
-use command_line::{Order, Task, end_for, read_words};
+use command_line::{FaultLine, Order, Task, end_for, read_words};
+use history::FileFault;
+use live_runs::RunFault;
 use std::alloc::{AllocError, Global};
+use std::process::Abort;
 use std::test::Fail;
 
-fn words_of(alloc: Global, line: &str) -> Result<Vec<String>, AllocError> {
+pub(crate) fn words_of(alloc: Global, line: &str) -> Result<Vec<String>, AllocError> {
     let mut words = Vec::new(alloc);
     for word in line.split_whitespace() {
         words.push(String::from_str(alloc, word)?)?;
@@ -79,17 +82,99 @@ fn no_orders(rt: HostRuntime) -> Result<(), Fail> {
     Ok(())
 }
 
+/// What is told of words that are no order.
+fn told(alloc: Global, line: &str) -> Result<String, Fail> {
+    let words = words_of(alloc, line)?;
+    match read_words(alloc, &words) {
+        Ok(_) => Err(Fail::from("the words are an order")),
+        Err(error) => Ok(format!(in alloc; "{error}")?),
+    }
+}
+
+fn has_all(rt: &impl Abort, text: &str, parts: &[&str]) {
+    for part in parts {
+        assert!(rt; text.contains(*part), "{part} in {text}");
+    }
+}
+
 #[test]
 fn the_version(rt: HostRuntime) -> Result<(), Fail> {
-    let words = words_of(rt.alloc(), "--version")?;
-    match read_words(rt.alloc(), &words) {
-        Ok(_) => assert!(rt; false),
-        Err(error) => {
-            assert_eq!(rt;
-                format!(in rt.alloc(); "{error}")?.as_str(),
-                "thinmon 0.1.0\n"
-            );
-        }
+    for line in ["--version", "-V"] {
+        assert_eq!(rt; told(rt.alloc(), line)?.as_str(), "thinmon 0.1.0\n");
+    }
+    Ok(())
+}
+
+#[test]
+fn helps(rt: HostRuntime) -> Result<(), Fail> {
+    for line in ["--help", "-h", "help"] {
+        let text = told(rt.alloc(), line)?;
+        let parts = [
+            "Usage: thinmon <COMMAND>\n",
+            "\n  run ",
+            "\n  check ",
+            "\n  dump ",
+            "\n  live ",
+        ];
+        has_all(&rt, text.as_str(), &parts);
+    }
+    for line in ["run --help", "help run"] {
+        let text = told(rt.alloc(), line)?;
+        let parts = ["Usage: thinmon run [OPTIONS] [FILE]\n", "\n      --moves "];
+        has_all(&rt, text.as_str(), &parts);
+    }
+    let helps = [
+        ("help check", "Usage: thinmon check [FILE]\n"),
+        ("help dump", "Usage: thinmon dump [FILE]\n"),
+        ("help live", "Usage: thinmon live [FILE]\n"),
+    ];
+    for (line, usage) in helps {
+        has_all(&rt, told(rt.alloc(), line)?.as_str(), &[usage]);
+    }
+    Ok(())
+}
+
+#[test]
+fn what_is_told_of_wrong_words(rt: HostRuntime) -> Result<(), Fail> {
+    let rows = [
+        ("walk", "'walk'", "Usage: thinmon <COMMAND>\n"),
+        (
+            "run a extra",
+            "'extra'",
+            "Usage: thinmon run [OPTIONS] [FILE]\n",
+        ),
+        (
+            "run --nope",
+            "'--nope'",
+            "Usage: thinmon run [OPTIONS] [FILE]\n",
+        ),
+        (
+            "check --moves",
+            "'--moves'",
+            "Usage: thinmon check [FILE]\n",
+        ),
+        ("--moves run", "'--moves'", "Usage: thinmon <COMMAND>\n"),
+    ];
+    for (line, word, usage) in rows {
+        let text = told(rt.alloc(), line)?;
+        assert!(rt; text.starts_with("error: "), "{text}");
+        has_all(&rt, text.as_str(), &[word, usage]);
+    }
+    Ok(())
+}
+
+#[test]
+fn lines_of_faults(rt: HostRuntime) -> Result<(), Fail> {
+    let faults = [
+        (RunFault::File(FileFault::BadLine(5)), "thinmon: bad line 5"),
+        (RunFault::File(FileFault::Read), "thinmon: read failed"),
+        (RunFault::Torn, "thinmon: fault 18 Torn"),
+    ];
+    for (fault, text) in faults {
+        assert_eq!(rt;
+            format!(in rt.alloc(); "{}", FaultLine(fault))?.as_str(),
+            text
+        );
     }
     Ok(())
 }
