@@ -32,6 +32,7 @@ TESTS = {
         "worlds::memory": [
             "what_was_refused_succeeds_when_tried_again",
             "a_refused_relayout_succeeds_when_tried_again",
+            "an_enter_that_won_stays_though_its_bind_is_refused",
         ],
     },
     "live_tests": {
@@ -46,6 +47,7 @@ TESTS = {
             "a_refused_check_succeeds_when_tried_again",
             "a_refused_live_run_succeeds_when_tried_again",
             "a_refused_print_succeeds_when_tried_again",
+            "refused_words_are_read_when_tried_again",
         ]
     },
 }

@@ -2,6 +2,8 @@
 //! or want of memory, and the same succeeds when it is tried again.
 
 use super::streams::{HISTORY, REPORT, SCRIPT};
+use super::words::words_of;
+use command_line::{Order, ProgramEnd, Task, end_for, read_words};
 use dump::dump_script;
 use history::{FileFault, ReaderSource, WriterSink, moves, print_script, read_script, replay, run};
 use live_runs::{RunFault, run_live};
@@ -140,5 +142,32 @@ fn prints(rt: &impl Abort, alloc: Global) -> bool {
 #[test]
 fn a_refused_print_succeeds_when_tried_again(rt: HostRuntime) -> Result<(), Fail> {
     assert!(rt; prints(&rt, rt.alloc()) || prints(&rt, rt.alloc()));
+    Ok(())
+}
+
+fn reads(rt: &impl Abort, alloc: Global, words: &[String]) -> bool {
+    match read_words(alloc, words) {
+        Ok(order) => {
+            let file = Some("f");
+            let task = Task::Moves;
+            assert_eq!(rt; order, Order { task, file });
+            true
+        }
+        Err(error) => {
+            let fault = RunFault::File(FileFault::Memory);
+            assert_eq!(rt; end_for(&error), ProgramEnd::Failed(fault));
+            false
+        }
+    }
+}
+
+#[test]
+fn refused_words_are_read_when_tried_again(rt: HostRuntime) -> Result<(), Fail> {
+    let line = "run --moves f";
+    let words = match words_of(rt.alloc(), line) {
+        Ok(words) => words,
+        Err(_) => words_of(rt.alloc(), line)?,
+    };
+    assert!(rt; reads(&rt, rt.alloc(), &words) || reads(&rt, rt.alloc(), &words));
     Ok(())
 }
