@@ -17,11 +17,12 @@ use Rattle.step_core.specs.declared.steps.Atomic.{Atomic}
 use Rattle.step_core.specs.declared.steps.Atomic.TheVariants as atomic
 use Rattle.step_core.specs.declared.steps.Did.{Did}
 
--- the call wakes all that wait, and the caller tests and clears its own flag
+-- whether the call wakes all that wait
 abbrev pub wakes_all : Call → Bool
 wakes_all (call.NotifyAll o) = true
 wakes_all c = false
 
+-- whether its caller tests and clears its own flag
 abbrev pub tests_own : Call → Bool
 tests_own call.Interrupted = true
 tests_own c = false

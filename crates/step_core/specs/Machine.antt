@@ -19,7 +19,7 @@ use Rattle.step_core.specs.declared.machine.Doing.TheVariants.{Idle, Wants, Wait
 use Rattle.step_core.specs.declared.machine.Move.{Move}
 use Rattle.step_core.specs.declared.machine.Move.TheVariants as move
 
--- a live thread: whether it is with_interrupt (JLS 17.2.3), and what it is doing
+-- a live thread: whether it is interrupted (JLS 17.2.3), and what it is doing
 pub record Thread : Type 0 where
   pub flag : Bool
   pub act : Doing
@@ -119,7 +119,7 @@ all_notified s o = record s {
   thread = λ u. option_map (λ x. record { flag = x.flag; act = after_notify_all o x.act }) (s.thread u);
 }
 
--- what a thread does once it has been with_interrupt: it comes back, if it waited
+-- what a thread does once it has been interrupted: it comes back, if it waited
 abbrev pub after_interrupt : Doing → Doing
 after_interrupt (Waits o n d) = Back o n why.Interrupted
 after_interrupt Idle = Idle
@@ -127,7 +127,7 @@ after_interrupt (Wants c) = Wants c
 after_interrupt (Back o n w) = Back o n w
 after_interrupt (Has r) = Has r
 
--- the same thread, with_interrupt
+-- the same thread, interrupted
 abbrev pub with_interrupt : Thread → Thread
 with_interrupt x = record { flag = true; act = after_interrupt x.act }
 
@@ -175,7 +175,7 @@ MayRefuse s t (call.IsInterrupted u) NoThread = s.thread u ≡ None
 MayRefuse s t call.End StillOwner = (o : ObjectId) × OwnedBy s o t
 MayRefuse s t c cause = ⊥
 
--- this is the answer to the question that t asks: does it own the object, or is that thread with_interrupt?
+-- this is the answer to the question that t asks: does it own the object, or is that thread interrupted?
 abbrev pub IsAnswer : State → ThreadId → Call → Bool → Type 0
 IsAnswer s t (call.Holds o) answer = (answer ≡ true) ↔ OwnedBy s o t
 IsAnswer s t (call.IsInterrupted u) answer = (x : Thread) × (s.thread u ≡ Some x) × (answer ≡ x.flag)

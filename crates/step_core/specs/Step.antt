@@ -82,7 +82,7 @@ abbrev pub after_begin : WorldState → ThreadId → Call → Option ℕ → Aft
 after_begin w t c None = refuse w fault.NoThread
 after_begin w t c (Some k) = after_begin_on w k t c (object_of c)
 
--- What an End leaves that move_and_return this, and left this fat state: a thread that after_end gives its index back.
+-- What an End leaves that replied this, and left this fat state: a thread that ended gives its index back.
 abbrev pub world_ended : WorldState → ℕ → FatState → Reply → WorldState
 world_ended w k f reply.Ended =
     record w { seats = slice_set w.seats k None; places = slice_set w.places k Idle; fats = f }
@@ -181,7 +181,7 @@ moves_made [] = []
 moves_made (None ∷ ms) = moves_made ms
 moves_made (Some m ∷ ms) = m ∷ moves_made ms
 
--- the moves of an answer: a refuse step has none
+-- the moves of an answer: a refused step has none
 abbrev pub moves_of : Result Did Fault → List Move
 moves_of (Ok d) = moves_made d.moves
 moves_of (Err f) = []

@@ -1,11 +1,11 @@
 //! The monitor service of a Java virtual machine, one atomic step at a time.
 //!
 //! A [`World`] has the header words of its objects, its threads with an index each, the place of
-//! each thread in its call, and the fat monitors. [`World::step`] does one atomic step: one load,
-//! exchange or store of one header word, or one action on the fat monitors; to attach a thread, to
-//! begin a call, to let a timed wait expire and to tell the moment are steps too. Each step hands
-//! out the moves of the abstract machine of `docs/MACHINE.md` (JLS SE 8, 17.1 and 17.2) that it
-//! made.
+//! each thread in its call, and the fat monitors. [`World::step`] does one atomic step of a call:
+//! one load, exchange or store of one header word, one bind of a fat monitor, or one action on the
+//! fat monitors. To attach a thread, to begin a call, to let a timed wait expire, to wake a waiter
+//! spuriously and to tell the moment are steps too. Each step hands out the moves of the abstract
+//! machine of `docs/MACHINE.md` (JLS SE 8, 17.1 and 17.2) that it made.
 //!
 //! A caller attaches a thread once, begins its calls one after another, and does the Go steps of
 //! each:
@@ -24,7 +24,8 @@
 //!             return Ok(did.reply);
 //!         }
 //!         if let Atomic::Acted { answer: Answer::Parked, .. } = did.atomic {
-//!             // No Go until a move Lock or Relock of this thread, made by another's step.
+//!             // No Go until a step has made the move Lock or Relock of this thread: a step of
+//!             // another thread, or the Expire or Spurious that ends its own wait.
 //!             return Ok(None);
 //!         }
 //!     }

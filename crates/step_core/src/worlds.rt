@@ -265,14 +265,14 @@ impl World {
         }
     }
 
-    /// The index of a live thread.
+    /// The index of a live thread; None where it is not live.
     pub fn index(&self, thread: ThreadId) -> Option<u16>
         ensures { result ≡ index_of self.now.seats thread }
     {
         self.indices.index_of(thread)
     }
 
-    /// The thread that has an index.
+    /// The live thread that has an index; None where none has it.
     pub fn thread_at(&self, index: u16) -> Option<ThreadId>
         ensures { result ≡ holder_of self.now.seats index }
     {
@@ -333,7 +333,7 @@ impl World {
         Some(doing)
     }
 
-    /// Whether a thread is in an object's wait set.
+    /// Whether a thread is in an object's wait set; one that is not live is in none.
     pub fn waiting(&self, object: ObjectId, thread: ThreadId) -> bool
         requires { object.0 < length self.now.words }
         ensures { result ≡ is_waiting ((shown self.now).thread thread) object }

@@ -1,4 +1,4 @@
--- Each accept step makes the one change that its atomic step names.
+-- Each accepted step makes the one change that its atomic step names.
 use Rattle.std.specs.Prelude.{◌≡◌, ℕ, ◌+◌, ◌<◌, Bool, true, false, nat_lt, length, Option, Some, None, IfOk, MatchResult, Result, Ok, Err}
 use Rattle.std.proofs.Common.{refl, arith, ap, sym, ◌∙◌}
 use Rattle.std.proofs.lemmas.Bool.{cond_both}
@@ -52,7 +52,7 @@ use Rattle.step_core.proofs.Sound.Stages.{store_fits, number_fits, bound_there, 
 use Rattle.step_core.proofs.Clauses.Patient.{done, own_on}
 use Rattle.step_core.specs.Path.{IsTold}
 
--- an accept step made the change that it names
+-- an accepted step made the change that it names
 abbrev Named : WorldState → Step → AfterStep → Type 0
 Named w s o = IfOk o.answer (λ d. Changes w s d.atomic o.after)
 
@@ -173,7 +173,7 @@ module _ (w : WorldState) (sound : IsSound w) (t : ThreadId) where
   attaches true None (Some k) = (refl, refl)
   attaches false None (Some k) = tt
 
-  -- an expiry that is accept answers nothing
+  -- an expiry that is accepted answers nothing
   expires_at : (p : Post) → post_at w.fats t ≡ p → Named w (step.Expire t) (after_wait_end_as time_over w t (expire_outcome w.fats t p).answer (expire_outcome w.fats t p).after)
   expires_at Out e = tt
   expires_at (Entering m) e = tt
@@ -205,7 +205,7 @@ ticks w now =
     cond_both (nat_lt now w.fats.moment) (refuse w fault.Backwards) (accept (record w { fats = with_moment w.fats now }) (one_move Label (move.Time now))) (Named w (step.Tick now))
     (λ _. tt) (λ _. (refl, refl))
 
--- Each accept step made the one change that it names.
+-- Each accepted step made the one change that it names.
 pub step_changes : (w : WorldState) → IsSound w → (room : Bool) (s : Step) → IfOk (step_of room w s).answer (λ d. Changes w s d.atomic (step_of room w s).after)
 step_changes w sound room (step.Attach t) = attaches w sound t room (seat_of w.seats t) (free_seat w.seats)
 step_changes w sound room (step.Begin t c) = begins w sound t c

@@ -50,7 +50,7 @@ use Rattle.step_core.specs.declared.steps.Fault.{Fault}
 use Rattle.step_core.specs.declared.steps.Fault.TheVariants as fault
 
 -- The moves of a Go of t end with the return of its reply, if it has one, and have no other label; and a
--- call that is refuse makes no other move than its refusal.
+-- call that is refused makes no other move than its refusal.
 abbrev pub Shape : ThreadId → List Move → Option Reply → Type 0
 Shape t ms r = EndsWith t ms r × ((x : Cause) → r ≡ Some (reply.Refused x) → ms ≡ move.Refuse t x ∷ move.Return t (reply.Refused x) ∷ [])
 
@@ -251,7 +251,7 @@ no_refusal r (inl e) x h = let never : reply.Entered ≡ reply.Refused x = sym e
 no_refusal r (inr (inl e)) x h = let never : reply.WaitOver ≡ reply.Refused x = sym e ∙ h in cc
 no_refusal r (inr (inr e)) x h = let never : reply.Interrupted ≡ reply.Refused x = sym e ∙ h in cc
 
--- the moves of an accept Go
+-- the moves of an accepted Go
 pub go_shape : (room : Bool) (w : WorldState) → IsSound w → (t : ThreadId) → IfOk (after_go room w t (seat_of w.seats t)).answer (Shapely t)
 go_shape room w sound t = go_cases w sound t (λ o. IfOk o.answer (Shapely t))
     (λ none. tt)
@@ -267,7 +267,7 @@ go_labels : (t : ThreadId) (r : Result Did Fault) → IfOk r (Shapely t) → IfO
 go_labels t (Ok d) h = h.0
 go_labels t (Err f) h = tt
 
--- an accept step has its labels
+-- an accepted step has its labels
 abbrev Labeled : Step → AfterStep → Type 0
 Labeled s o = IfOk o.answer (HasLabels s)
 
@@ -301,7 +301,7 @@ ticks w now =
     cond_both (nat_lt now w.fats.moment) (refuse w fault.Backwards) (accept (record w { fats = with_moment w.fats now }) (one_move atomic.Label (move.Time now)))
     (Labeled (step.Tick now)) (λ _. tt) (λ _. (refl, refl))
 
--- An accept step has just its labels.
+-- An accepted step has just its labels.
 pub step_labels : (w : WorldState) → IsSound w → (room : Bool) (s : Step) → IfOk (step_of room w s).answer (HasLabels s)
 step_labels w sound room (step.Attach t) = attaches room w t (seat_of w.seats t) (free_seat w.seats)
 step_labels w sound room (step.Begin t c) = begins w t c

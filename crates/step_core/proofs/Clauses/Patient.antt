@@ -58,11 +58,11 @@ use Rattle.step_core.specs.declared.steps.Did.{Did}
 use Rattle.step_core.proofs.Facts.Cases.{ended_as, did_return, begin_cases, go_cases}
 use Rattle.step_core.proofs.Facts.OneThread.{within, is_at, out_at}
 
--- an accept step is patient
+-- an accepted step is patient
 abbrev Patient : WorldState → Step → AfterStep → Type 0
 Patient w s o = IfOk o.answer (λ d. IsPatient w s d o.after)
 
--- the action of a call is never refuse
+-- the action of a call is never refused
 abbrev pub IsDone : FatOutcome → Type 0
 IsDone o = MatchResult o.answer (λ d. IsTold d.answer) (λ e. ⊥)
 
@@ -189,7 +189,7 @@ module _ (w : WorldState) (sound : IsSound w) (k : ℕ) (t : ThreadId) (seat : s
   advances a (inr (inr (inl met))) = inr (inr (inl met))
   advances a (inr (inr (inr lower))) = inr (inr (inr (rw (left_here a) lower.0, rw (left_here a) lower.1)))
 
-  -- another thread's place place_only, and so does the number of objects
+  -- another thread's place stays, and so does the number of objects
   keeps : (a : AfterGo) → length a.words ≡ length w.words → (u : ThreadId) → u.0 ≢ t.0 → left_of (with_go w k a) u ≡ left_of w u
   keeps a size u ne = by_seat (seat_of w.seats u) refl
     where
@@ -304,7 +304,7 @@ ticks w now =
     cond_both (nat_lt now w.fats.moment) (refuse w fault.Backwards) (accept (record w { fats = with_moment w.fats now }) (one_move Label (move.Time now))) (Patient w (step.Tick now))
     (λ _. tt) (λ _ u. refl)
 
--- Each accept step is patient.
+-- Each accepted step is patient.
 pub step_patient : (w : WorldState) → IsSound w → (room : Bool) (s : Step) → IfOk (step_of room w s).answer (λ d. IsPatient w s d (step_of room w s).after)
 step_patient w sound room (step.Attach t) = attaches w sound t room (seat_of w.seats t) (free_seat w.seats) refl refl
 step_patient w sound room (step.Begin t c) = begins w sound t c

@@ -1,4 +1,4 @@
--- A step is refuse with the first of its faults whose cause holds, and only then; and a refuse step changes nothing.
+-- A step is refused with the first of its faults whose cause holds, and only then; and a refused step changes nothing.
 use Rattle.std.specs.Option.{unwrap_or}
 use Rattle.wait_lines.specs.Lines.{Key, key}
 use Rattle.fat_monitor.specs.declared.actions.Post.{Post}
@@ -39,7 +39,7 @@ use Rattle.step_core.proofs.Facts.PlaceFacts.{not_waiting, not_idle}
 use Rattle.step_core.proofs.Facts.Cases.{ended_as, begin_cases, go_cases}
 use Rattle.step_core.proofs.Facts.OneThread.{act_out, out_at}
 
--- what the answer of a step says, and what a refuse step leaves
+-- what the answer of a step says, and what a refused step leaves
 abbrev Judged : WorldState → Step → AfterStep → Type 0
 Judged w s o = MatchResult o.answer (λ d. IsAcceptable w s) (λ f. IsRefused w s f) × OnErr o.answer (o.after ≡ w)
 
@@ -182,7 +182,7 @@ module _ (w : WorldState) (sound : IsSound w) (t : ThreadId) where
           accepted_only Backwards r = absurd r
           accepted_only NotWaiting r = absurd r
 
-  -- a Go of a thread that is in a call and stands nowhere is accept
+  -- a Go of a thread that is in a call and stands nowhere is accepted
   goes : (k : ℕ) → seat_of w.seats t ≡ Some k → (place_at w k ≡ Idle → ⊥) → (IsParked w t → ⊥) → (f : Fault) → IsRefused w (step.Go t) f → f ≡ Memory
   goes k e h free NoThread r = absurd (apart_too k e r)
   goes k e h free NotCalling r = absurd (does_not_idle k e h (shows k e r.0 r.1 ∙ r.2))
@@ -330,7 +330,7 @@ ticks w now =
     accepted_only on NotDue r = absurd r
     accepted_only on NotWaiting r = absurd r
 
--- Each answer is the right one, and a refuse step changes nothing.
+-- Each answer is the right one, and a refused step changes nothing.
 pub step_judged : (w : WorldState) → IsSound w → (room : Bool) (s : Step) → MatchResult (step_of room w s).answer (λ d. IsAcceptable w s) (λ f. IsRefused w s f) × OnErr (step_of room w s).answer ((step_of room w s).after ≡ w)
 step_judged w sound room (step.Attach t) = attaches w sound t room (seat_of w.seats t) (free_seat w.seats) refl refl
 step_judged w sound room (step.Begin t c) = begins w sound t c

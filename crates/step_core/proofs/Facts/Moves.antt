@@ -140,7 +140,7 @@ pub run_unnoticed : (s : State) (t : ThreadId) (flag : Bool) (o : ObjectId) → 
     → Run s (move.Notify t None ∷ move.Return t reply.Notified ∷ []) (now_is s t flag Idle)
 run_unnoticed s t flag o calls owned nobody = run_replied s t flag reply.Notified (move.Notify t None) tt (flag, o, calls, owned, nobody, refl)
 
--- and a notifyAll there: who does not wait is not after_notify_all
+-- and a notifyAll there: who does not wait is not woken
 woken_same : (s : State) (o : ObjectId) → NobodyWaits s o → all_notified s o ≡ s
 woken_same s o nobody = ap (λ (f : ThreadId → Option Thread). record s { thread = f }) (fun_ext (λ u. at_one u (s.thread u) refl))
   where
@@ -268,7 +268,7 @@ pub run_notified_all : (s : State) (t : ThreadId) (mine : Bool) (o : ObjectId) �
     → Run s (move.NotifyAll t ∷ move.Return t reply.Notified ∷ []) (now_is (all_notified s o) t mine Idle)
 run_notified_all s t mine o calls owned = run_told s (all_notified s o) t mine reply.Notified (move.NotifyAll t) tt (mine, o, calls, owned, refl)
 
--- a wait of an with_interrupt thread does not begin
+-- a wait of an interrupted thread does not begin
 pub run_early : (s : State) (t : ThreadId) (o : ObjectId) (millis nanos : ℤ) → Calls s t true (call.Wait o millis nanos) → OwnedBy s o t → AreGood millis nanos
     → Run s (move.Early t ∷ move.Return t reply.Interrupted ∷ []) (now_is s t false Idle)
 run_early s t o millis nanos calls owned good = run_replied s t false reply.Interrupted (move.Early t) tt (o, millis, nanos, calls, owned, good, refl)
@@ -279,7 +279,7 @@ pub run_interrupted : (s : State) (t u : ThreadId) (flag : Bool) (x : Thread) �
 run_interrupted s t u flag x calls live =
     run_told s (with_thread s u (Some (with_interrupt x))) t (if t.0 == u.0 then true else flag) reply.Done (move.Interrupt t) tt (flag, u, x, calls, live, refl)
 
--- t asks whether it is with_interrupt, and is not any more then
+-- t asks whether it is interrupted, and is not any more then
 pub run_tested : (s : State) (t : ThreadId) (flag : Bool) → Calls s t flag call.Interrupted
     → Run s (move.TestClear t ∷ move.Return t (yes_or_no flag) ∷ []) (now_is s t false Idle)
 run_tested s t true calls = run_replied s t false reply.Yes (move.TestClear t) tt (true, calls, refl)

@@ -1,4 +1,4 @@
--- What place_only where a Go of one thread changes the world: shared facts about the thread at one seat.
+-- What stays where a Go of one thread changes the world: shared facts about the thread at one seat.
 use Rattle.std.specs.Prelude.{◌≡◌, ◌⊎◌, ℕ, ◌+◌, ◌-◌, ◌<◌, ◌≤◌, Bool, if◌then◌else◌, ◌==◌, length, Option, Some}
 use Rattle.std.proofs.Common.{arith, refl, ap, sym, ◌∙◌, inl, inr, get_or-set_same, get_or-set_other, length-set}
 use Rattle.std.proofs.Math.Path.{fun_ext}

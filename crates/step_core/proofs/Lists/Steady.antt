@@ -25,7 +25,7 @@ IsSteady (Waits o n d) = ⊥
 IsSteady (Back o n w) = Unit {0}
 IsSteady (Has r) = Unit {0}
 
--- it does the same still, and is with_interrupt if it was
+-- it does the same still, and is interrupted if it was
 abbrev pub Stays : State → ThreadId → Bool → Doing → Type 0
 Stays s u flag d = (now : Bool) × (flag ≡ true → now ≡ true) × Is s u now d
 

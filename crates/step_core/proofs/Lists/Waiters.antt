@@ -1,4 +1,4 @@
--- What becomes of a waiter that is both notified and with_interrupt (JLS SE 8, 17.2.4), move by move of the machine.
+-- What becomes of a waiter that is both notified and interrupted (JLS SE 8, 17.2.4), move by move of the machine.
 use Rattle.std.specs.Prelude.{◌≡◌, ◌⊎◌, ℕ, Bool, true, false, Option, Some, None}
 use Rattle.std.proofs.Common.{refl, ap, sym, ◌∙◌, subst, inl, inr}
 use Rattle.std.proofs.lemmas.Bool.{eq-eqb, ne_eqb}
@@ -54,7 +54,7 @@ not_caller_back : (s : State) (t u : ThreadId) (f g : Bool) (c : Call) (o : Obje
 not_caller_back s t u f g c o n w calls is same =
     let never : Back o n w ≡ Wants c = ap (λ (z : Thread). z.act) (one_thing s u t g f (Back o n w) (Wants c) same is calls) in absurd (cc)
 
--- A waiter that is with_interrupt first leaves the wait set for it,
+-- A waiter that is interrupted first leaves the wait set for it,
 pub first_interrupted : (s s' : State) (t u : ThreadId) (mine theirs : Bool) (o : ObjectId) (n : ℕ) (d : Option ℕ) → Calls s t mine (call.Interrupt u) → Is s u theirs (Waits o n d)
     → Steps s (move.Interrupt t) s' → Is s' u true (Back o n why.Interrupted)
 first_interrupted s s' t u mine theirs o n d calls is one =

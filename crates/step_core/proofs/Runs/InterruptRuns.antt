@@ -61,7 +61,7 @@ unowned_shows w sound m inside free = by_published (sound.published m inside)
         let never : is_some {T = ThreadId} None ≡ true = rw (here, none) at stands.3 in absurd (cc)
 
 module _ (w : WorldState) (sound : IsSound w) (k : ℕ) (t : ThreadId) (seat : seat_of w.seats t ≡ Some k) (out : post_of w.fats t ≡ Some Out) where
-  -- t asks whether it is with_interrupt
+  -- t asks whether it is interrupted
   test_run : (flag : Bool) → flag_at w.fats t ≡ flag → Is (shown w) t flag (doing.Wants call.Interrupted) → Goal w k t call.Interrupted action.Interrupted
   test_run true e is =
       by_outcome w k t call.Interrupted action.Interrupted (replies (with_flag w.fats t false) reply.Yes) (rw e refl)
@@ -90,7 +90,7 @@ module _ (w : WorldState) (sound : IsSound w) (k : ℕ) (t : ThreadId) (seat : s
       by_one None e h = absurd (cc)
       by_one (Some j) e h = (j, e)
 
-  -- t asks whether u is with_interrupt
+  -- t asks whether u is interrupted
   ask_run : (u : ThreadId) (p : Option Post) → post_of w.fats u ≡ p → (flag : Bool) → flag_at w.fats u ≡ flag
       → Is (shown w) t (flag_at w.fats t) (doing.Wants (call.IsInterrupted u)) → Goal w k t (call.IsInterrupted u) (action.IsInterrupted u)
   ask_run u None e flag set is =

@@ -115,7 +115,7 @@ module _ (w : WorldState) (sound : IsSound w) (t : ThreadId) where
     live_now u (inl same) h = rw (seat_now_same u same) refl
     live_now u (inr ne) h = rw (seat_now_other u ne) (sound.live u (rw (post_kept u ne) at h))
 
-    -- nobody was after_attach under this thread's number
+    -- nobody was attached under this thread's number
     fresh : post_of w.fats t ≡ None
     fresh = by_post (post_of w.fats t) refl
       where

@@ -64,7 +64,7 @@ module _ (w : WorldState) (sound : IsSound w) where
             let holds : (monitor_at w.fats m).holds ≡ fit.2.0 + 1 = ap (λ (x : fat.Monitor). x.holds) fit.2.2 in
             (rw size fit.1, rw holds (same ∙ fit.2.2))
 
-    -- Where nothing but the fat state changes, and the same threads are attached and out, the world place_only sound.
+    -- Where nothing but the fat state changes, and the same threads are attached and out, the world stays sound.
     pub sound_fats : book.IsSound g → thread_count g ≡ thread_count w.fats → ((u : ThreadId) → IsAttached g u ↔ IsAttached w.fats u)
         → ((u : ThreadId) → (post_of g u ≡ Some Out) ↔ (post_of w.fats u ≡ Some Out)) → IsSound (record w { fats = g })
     sound_fats fats count attached out = record {
@@ -128,7 +128,7 @@ module _ (w : WorldState) (sound : IsSound w) (k : ℕ) (t : ThreadId) (seat : s
         let l : j < length w.places = omega (arith, length-set w.places k a.place) in
         rw (get_or-set_other w.places k j a.place Idle ne) (others j ne (sound.places j l))
 
-  -- a bound monitor place_only published where fat words stay, its object place_only, and its own thread stores it
+  -- a bound monitor stays published where fat words stay, its object stays, and its own thread stores it
   still_published : (a : AfterGo) (m : ℕ) → IsPublished w m
       → ((q : ℕ) → lock_at w q ≡ Fat m → lock_at (with_go w k a) q ≡ Fat m)
       → (monitor_at a.fats m).object.0 ≡ (monitor_at w.fats m).object.0
@@ -182,7 +182,7 @@ module _ (w : WorldState) (sound : IsSound w) (k : ℕ) (t : ThreadId) (seat : s
     lock_kept : (p : Place) (d : Did) (q : ℕ) → (Mine (lock_at w q) → ⊥) → lock_at (with_go w k (after p d)) q ≡ lock_at w q
     lock_kept p d q h = lock_elsewhere p d q (λ e. h (rw e old))
 
-    -- another thread's thin word place_only
+    -- another thread's thin word stays
     thin_kept : (p : Place) (d : Did) (j : ℕ) → (j ≡ k → ⊥) → (q n : ℕ) → lock_at w q ≡ Thin (j + 1) n → lock_at (with_go w k (after p d)) q ≡ Thin (j + 1) n
     thin_kept p d j ne q n e = lock_kept p d q (λ h. ne (let same : j + 1 ≡ k + 1 = rw e at h in omega arith)) ∙ e
 
@@ -190,7 +190,7 @@ module _ (w : WorldState) (sound : IsSound w) (k : ℕ) (t : ThreadId) (seat : s
     fat_kept : (p : Place) (d : Did) (q m : ℕ) → lock_at w q ≡ Fat m → lock_at (with_go w k (after p d)) q ≡ Fat m
     fat_kept p d q m e = lock_kept p d q (λ h. let never : ⊥ = rw e at h in never) ∙ e
 
-    -- a word that another thread may end beside place_only so
+    -- a word that another thread may end beside stays so
     ending_kept : (p : Place) (d : Did) (j : ℕ) → (j ≡ k → ⊥) → (q : ℕ) → is_own (lock_at w q) (j + 1) ≡ false → (q ≡ o.0) ⊎ (q ≡ o.0 → ⊥)
         → is_own (lock_at (with_go w k (after p d)) q) (j + 1) ≡ false
     ending_kept p d j ne q h (inl e) = subst (λ (x : ℕ). is_own (lock_at (with_go w k (after p d)) x) (j + 1) ≡ false) (sym e) (rw (lock_there p d) (not_own l new j ne))
