@@ -61,7 +61,7 @@ pub record Disagrees (z : Opening) (limit : ℕ) (ps : List PassState) : Type 0 
   pub total : length log ≡ sum (map count_of ps)
   pub other : All (HasOwn log) ps → ⊥
 
--- a pass is told to be torn where the record of the service does not have its deeds
+-- Torn is told where there is such a record, which does not have just each pass's own deeds
 abbrev pub IsTornFrom : {L : Type 0} → Opening → ℕ → List PassState → TurnsClose L → Type 0
 IsTornFrom z limit ps (WrongPass t p) = Unit {0}
 IsTornFrom z limit ps (Memory t p) = Unit {0}

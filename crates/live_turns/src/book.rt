@@ -86,9 +86,9 @@ impl Kept for Book {
 }
 
 impl Book {
-    /// Nothing is bound, the threads 1 to `passes` are out of every action, and the record has
-    /// `places` places. There are at most `monitors` monitors. The system is asked for all memory
-    /// here, and `Err` comes only where it refused some.
+    /// Nothing is bound, the threads 1 to `passes`, 0 to 64 of them, are out of every action, and
+    /// the record has `places` places. There are at most `monitors` monitors, 0 to 8,388,608. The
+    /// system is asked for all memory here, and `Err` comes only where it refused some.
     pub fn new(alloc: Global, monitors: u32, passes: u16, places: u32) -> Result<Book, Memory>
         requires monitors { monitors ≤ 8388608 }
         requires passes { passes ≤ 64 }

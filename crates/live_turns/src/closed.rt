@@ -15,7 +15,7 @@ pub struct Closed {
     pub counts: Vec<u64>,
 }
 
-/// Why a service was not closed, with its number.
+/// Why a service was not closed.
 #[derive(Drop)]
 pub enum TurnsClose<L: Crew> {
     /// The passes are not all of the service's, each once. Everything comes back as it was.

@@ -219,8 +219,8 @@ impl<L: Crew> Desk<L> {
 
     #[tactic(auto, using(crate::proofs::Asking::waking))]
     /// What a parked thread may do itself: it collects its reply where it was granted one, or its
-    /// wait expires where its time is over and `expired` does not say that this was done; None where
-    /// it stays parked.
+    /// wait expires where its time is over and `expired` does not say that this was done; None
+    /// where it stays parked.
     pub(crate) fn awake(
         &mut self,
         own: &mut Own<L>,

@@ -27,12 +27,14 @@ fn resting(point: Point) -> Point
 }
 
 impl<L: Crew> Turns<L> {
-    /// The first turn of a call on an object (JLS SE 8, 17.1 and 17.2). It does at once all that can be
-    /// done at once, and never waits: what to do before the next turn, [`Turned::standing`] says.
+    /// The first turn of a call on an object (JLS SE 8, 17.1 and 17.2). It does at once all that
+    /// can be done at once, and never waits: what to do before the next turn, [`Turned::standing`]
+    /// says.
     ///
     /// A fault ends the call: [`NoObject`](LiveFault::NoObject) before anything was done,
     /// [`RecordFull`](LiveFault::RecordFull) before its action at the book, and
-    /// [`Torn`](LiveFault::Torn) where the pass is not where the book has it.
+    /// [`Torn`](LiveFault::Torn) where the pass is not where the book has it, or its own list of
+    /// deeds is full and the record is not.
     #[inline(always)]
     pub fn begin_on(&self, pass: &mut TurnPass<L>, call: MonitorCall) -> Result<Turned, LiveFault>
         requires belongs { Belongs self.now false pass.old.holding }
@@ -64,8 +66,8 @@ impl<L: Crew> Turns<L> {
 
     /// The first turn of a call about interrupts (JLS SE 8, 17.2.3), which never parks.
     ///
-    /// A fault ends the call: [`NoThread`](LiveFault::NoThread) before anything was done, and as for
-    /// [`begin_on`](Turns::begin_on).
+    /// A fault ends the call: [`NoThread`](LiveFault::NoThread) before anything was done, and else
+    /// as for [`begin_on`](Turns::begin_on).
     pub fn begin_about(
         &self,
         pass: &mut TurnPass<L>,
@@ -109,7 +111,8 @@ impl<L: Crew> Turns<L> {
         }
     }
 
-    /// One more turn of the call that the pass is in. A pass that is in no call stays so.
+    /// One more turn of the call that the pass is in. Of a pass in no call it does nothing: the
+    /// pass stays in none, and [`Turned::standing`] says [`Parked`](crate::Standing::Parked).
     ///
     /// A fault ends the call, as for [`begin_on`](Turns::begin_on).
     pub fn turn(&self, pass: &mut TurnPass<L>) -> Result<Turned, LiveFault>
@@ -126,8 +129,8 @@ impl<L: Crew> Turns<L> {
         ensures looked { OnErr result
             (VisitsBook 1 pass.old.holding.words pass.new.holding.words) }
     {
-        // An action on a monitor, which a call that was started mostly goes on with, is taken with no
-        // copy of the point.
+        // An action on a monitor, which a call that was started mostly goes on with, is taken with
+        // no copy of the point.
         let turned = match pass.point {
             Point::At(Place::InCall(Stage::Acting { call, monitor })) => {
                 self.act(&mut pass.holder, call, monitor)
@@ -193,9 +196,9 @@ impl<L: Crew> Turns<L> {
         }
     }
 
-    /// Tells the moment, in nanoseconds, by a pass that is in no call; false where another pass has the
-    /// gate, and nothing was done. A timed wait ends at its first turn after its moment was told, so
-    /// every sleeper is to be woken then.
+    /// Tells the moment, in nanoseconds, by a pass that is in no call; false where another pass has
+    /// the gate, and nothing was done. A timed wait ends at its first turn after its moment was
+    /// told, so every sleeper is to be woken then.
     ///
     /// A fault leaves everything as it is: [`Torn`](LiveFault::Torn),
     /// [`RecordFull`](LiveFault::RecordFull) or [`Backwards`](LiveFault::Backwards).

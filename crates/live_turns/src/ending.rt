@@ -106,8 +106,8 @@ fn rows_for<L: Crew>(
     Ok((counts, words, rests))
 }
 
-// The words of the passes, and what is left of them. The two rows and the one that comes back have room
-// for all.
+// The words of the passes, and what is left of them. The two rows and the one that comes back have
+// room for all.
 fn take_apart<L: Crew>(
     passes: &mut Vec<TurnPass<L>>,
     words: &mut Vec<Pass<Box<Desk<L>>>>,
@@ -206,8 +206,8 @@ impl<L: Crew> Desk<L> {
 impl<L: Crew> Turns<L> {
     /// Closes the service: the words of its objects, its record, and how many deeds each pass did.
     ///
-    /// A missing pass comes before want of memory; both give everything back as it was. A pass may be
-    /// in the middle of a call, of which the words and the record then have the beginning.
+    /// A missing pass comes before want of memory; both give everything back as it was. A pass may
+    /// be in the middle of a call, of which the words and the record then have the beginning.
     pub fn close(self, alloc: Global, mut passes: Vec<TurnPass<L>>) -> Result<Closed, TurnsClose<L>>
         requires belong { All (λ p. Belongs self false p.holding) passes.items }
         requires crew { (L.parts ≡ self.count) × (L.passes ≡ self.count) }

@@ -46,7 +46,8 @@ pub enum LiveFault {
     Backwards = 10,
     /// The record has too few free places.
     RecordFull = 16,
-    /// The pass is not where the book has it.
+    /// The pass is not where the book has it, or its own list of deeds is full and the record is
+    /// not.
     Torn = 18,
     /// The call names an object that the service does not have.
     NoObject = 19,

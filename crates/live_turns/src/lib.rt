@@ -1,7 +1,11 @@
-//! The book of the live service: the fat monitors, and the record of all that was done to them.
+//! The live service, turn by turn: the calls that several threads make at once on header words that
+//! they share, and behind the gate of these words the book, which is the fat monitors and the
+//! record of all that was done to them.
 //!
-//! A value with no handle: whoever has it in hand may act at once, and nothing here waits, asks for
-//! memory after the opening, or knows of threads of the system.
+//! Each thread has a [`TurnPass`], and drives its calls on the shared [`Turns`] by turns, each of
+//! which does at once all that can be done at once. Nothing here needs a handle: no turn waits,
+//! asks for memory, or knows of threads of the system. Memory is asked for by the opening and the
+//! close.
 #![tactic(auto)]
 
 mod agreeing;

@@ -12,10 +12,10 @@ use crate::holders::Holder;
 use crate::{Book, TurnPass, Turns};
 
 impl<L: Crew> Turns<L> {
-    /// Lends the book to a closure while a pass that is in no call has the gate, and answers what it
-    /// answers. `Err` gives the closure back where another pass has the gate; nothing was done then.
-    /// No call goes on meanwhile that needs the book, so the closure is to be short; it may not call
-    /// the service.
+    /// Lends the book to a closure while a pass that is in no call has the gate, and answers what
+    /// it answers. `Err` gives the closure back where another pass has the gate; nothing was done
+    /// then. No call goes on meanwhile that needs the book, so the closure is to be short; it may
+    /// not call the service.
     pub fn look<F: FnOnce(&Book) -> bool>(&self, pass: &mut TurnPass<L>, f: F) -> Result<bool, F>
         requires belongs { Belongs self.now false pass.old.holding }
         requires idle { pass.old.point ≡ At Idle }

@@ -9,8 +9,8 @@ use lock_word::ThreadId;
 use std::marker::Model;
 use step_core::Point;
 
-/// The right to call under one thread number, with the thread's own deeds, and where its call stands.
-/// One thread of the system has it at a time.
+/// The right to call under one thread number, with the thread's own deeds, and where its call
+/// stands. One thread of the system has it at a time.
 #[derive(Drop)]
 pub struct TurnPass<L: Crew> {
     pub(crate) holder: Holder<L>,

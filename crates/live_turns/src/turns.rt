@@ -24,7 +24,8 @@ use lock_word::ObjectId;
 use std::marker::Model;
 use step_core::Stage;
 
-/// The header words of objects, which threads share, and the book of fat monitors behind their gate.
+/// The header words of objects, which threads share, and the book of fat monitors behind their
+/// gate.
 ///
 /// A call is driven by turns: each does at once all that can be done at once, and never waits.
 #[derive(Drop)]
@@ -175,8 +176,8 @@ impl<L: Crew> Turns<L> {
         told
     }
 
-    // The inflation of an object that the thread holds by its word, and the action of the call, while
-    // the pass has the gate.
+    // The inflation of an object that the thread holds by its word, and the action of the call,
+    // while the pass has the gate.
     fn inflate_at(
         &self,
         holder: &mut Holder<L>,
@@ -240,8 +241,8 @@ impl<L: Crew> Turns<L> {
         told
     }
 
-    // The inflation by an enter that has won the word after contention, while the pass has the gate.
-    // Where it is refused, the enter drops it.
+    // The inflation by an enter that has won the word after contention, while the pass has the
+    // gate. Where it is refused, the enter drops it.
     fn settle_at(&self, holder: &mut Holder<L>, desk: &mut Box<Desk<L>>, object: ObjectId)
         requires belongs { Belongs self.now true holder.old }
         requires object { object.0 < length self.now.lows }
