@@ -23,7 +23,8 @@ TellsEnd count ps (WrongPass s p) = HasEach count (numbers_of ps) → ⊥
 TellsEnd count ps (Memory s p) = HasEach count (numbers_of ps)
 TellsEnd count ps Torn = HasEach count (numbers_of ps)
 
--- a pass is told to be torn where the record of the service does not have its deeds
+-- Torn is told where there is a record that replays, and is as long as the deeds of all passes together, but does not
+-- have just each pass's own deeds
 abbrev pub IsTornFrom : {L : Type 0} → Opening → ℕ → List Holding → LiveClose L → Type 0
 IsTornFrom z limit ps (WrongPass s p) = Unit {0}
 IsTornFrom z limit ps (Memory s p) = Unit {0}

@@ -49,8 +49,9 @@ impl<L: Crew> Live<L> {
 
     /// Locks the object (`monitorenter`; JLS SE 8, 17.1): waits as long as another thread owns it.
     ///
-    /// For a fault of this call and of those below, see [`Turns::begin_on`](live_turns::Turns::begin_on):
-    /// the pass is in no call then either, and can make the next one.
+    /// For a fault of this call and of those below, see
+    /// [`Turns::begin_on`](live_turns::Turns::begin_on): the pass is in no call then either, and
+    /// can make the next one.
     pub fn enter<R: Wait + Clock>(
         &self,
         rt: &R,
@@ -82,9 +83,9 @@ impl<L: Crew> Live<L> {
         self.call_on(rt, pass, MonitorCall { object, operation })
     }
 
-    /// Gives up all locks of the object, waits to be notified or interrupted, for this time at most, and
-    /// locks it as often again (`Object.wait`; JLS SE 8, 17.2.1). 0 and 0 mean no limit; the time goes
-    /// by the moments that [`tick`](Live::tick) tells.
+    /// Gives up all locks of the object, waits to be notified or interrupted, for this time at
+    /// most, and locks it as often again (`Object.wait`; JLS SE 8, 17.2.1). 0 and 0 mean no limit;
+    /// the time goes by the moments that [`tick`](Live::tick) tells.
     pub fn wait_on<R: Wait + Clock>(
         &self,
         rt: &R,
@@ -193,8 +194,8 @@ impl<L: Crew> Live<L> {
         self.call_about(rt, pass, InterruptCall::Interrupted)
     }
 
-    /// Tells the moment, in nanoseconds, and wakes all threads that sleep, so that each sees whether
-    /// its wait is over.
+    /// Tells the moment, in nanoseconds, and wakes all threads that sleep, so that each sees
+    /// whether its wait is over.
     ///
     /// A fault leaves everything as it is: [`Torn`](LiveFault::Torn),
     /// [`RecordFull`](LiveFault::RecordFull) or [`Backwards`](LiveFault::Backwards).

@@ -17,8 +17,8 @@ use std::thread;
 use std::thread::{Promise, Scope, Threads};
 use std::time::Clock;
 
-/// Asked before each call of a worker, and told after it. Workers are numbered from 0 on, as the works
-/// that they were given, and the calls of each from 1 on.
+/// Asked before each call of a worker, and told after it. Workers are numbered from 0 on, as the
+/// works that they were given, and the calls of each from 1 on.
 pub trait Gate {
     /// Whether the worker is to make the call; it is stopped where not.
     fn before(&self, worker: usize, call: usize) -> bool;
@@ -26,7 +26,8 @@ pub trait Gate {
     fn after(&self, worker: usize, call: usize);
 }
 
-/// Calls to make with a pass, one after another.
+/// Calls to make with a pass, one after another. None of them is an End: threads of the service do
+/// not end.
 #[derive(Drop)]
 pub struct Work<L: Crew> {
     pub pass: LivePass<L>,
@@ -146,8 +147,8 @@ fn last_job<L: Crew>(live: &Live<L>, jobs: &mut Vec<Job<L>>) -> Option<Job<L>>
     jobs.pop()
 }
 
-// Starts a worker for each job, from the last to the first, and then joins them, from the first to the
-// last. Where no thread can be started, the work is done here, and its flag stops it at once.
+// Starts a worker for each job, from the last to the first, and then joins them, from the first to
+// the last. Where no thread can be started, the work is done here, and its flag stops it at once.
 fn start_all<'s, E, L: Crew + Send + Sync, G: Gate + Sync, R: Threads + Wait + Clock + Sync>(
     rt: &'s R,
     scope: &'s Scope<'s, E>,
@@ -277,9 +278,9 @@ fn drive_jobs<L: Crew + Send + Sync, G: Gate + Sync, R: Threads + Wait + Clock +
     )
 }
 
-/// Drives each work by a thread of its own, which asks the gate before each of its calls, and comes back
-/// once all are done, with the works' passes and answers in the order of the works. Where no thread can
-/// be started for a work, it makes no call and is stopped.
+/// Drives each work by a thread of its own, which asks the gate before each of its calls, and comes
+/// back once all are done, with the works' passes and answers in the order of the works. Where no
+/// thread can be started for a work, it makes no call and is stopped.
 pub fn drive<L: Crew + Send + Sync, G: Gate + Sync, R: Threads + Wait + Clock + Sync>(
     rt: &R,
     alloc: Global,

@@ -28,8 +28,8 @@ impl<L: Crew> Model for Live<L> {
     ghost view = { λ l. l.turns };
 }
 
-/// The right to call under one thread number. One thread of the system has it at a time, and between
-/// two calls it is in none.
+/// The right to call under one thread number. One thread of the system has it at a time, and
+/// between two calls it is in none.
 #[derive(Drop)]
 pub struct LivePass<L: Crew> {
     pub(crate) turns: TurnPass<L>,

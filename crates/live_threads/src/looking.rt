@@ -13,9 +13,9 @@ use std::sync::Wait;
 use std::time::Clock;
 
 impl<L: Crew> Live<L> {
-    /// Lends the book to a closure as soon as the gate is open, and answers what it answers. No call
-    /// goes on meanwhile that needs the book, so the closure is to be short, and may not call the
-    /// service. Thin calls go on.
+    /// Lends the book to a closure as soon as the gate is open, and answers what it answers. No
+    /// call goes on meanwhile that needs the book, so the closure is to be short, and may not call
+    /// the service. Thin calls go on.
     pub fn look<F: FnOnce(&Book) -> bool, R: Wait + Clock>(
         &self,
         rt: &R,

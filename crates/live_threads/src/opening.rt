@@ -63,9 +63,10 @@ pub(crate) fn with_parkers<L: Crew>(
 }
 
 impl<L: Crew> Live<L> {
-    /// Makes a service of `lows.len()` free objects, of which object `i` keeps the low byte `lows[i]`,
-    /// with at most `monitors` fat monitors, a record of `places` places, and passes for the threads
-    /// 1 to `passes`. The system is asked for all memory here; `Err` comes only where it refused some.
+    /// Makes a service of `lows.len()` free objects, 0 to 65,535, of which object `i` keeps the low
+    /// byte `lows[i]`; with at most `monitors` fat monitors, 0 to 8,388,608; with a record of
+    /// `places` places; and with passes for the threads 1 to `passes`, 1 to 64 of them. The system
+    /// is asked for all memory here; `Err` comes only where it refused some.
     pub fn open(
         alloc: Global,
         blank: Blank,
