@@ -28,7 +28,8 @@ pub record HasEnded (s : SeatState) (e : ServiceEnd) : Type 0 where
   pub end : IsEnd s.opening s.limit (passes_with more s) e.closed
   pub threads : e.threads.items ≡ map thread_of (passes_with more s)
 
--- a pass is torn: the passes are all there, and the record does not have their deeds
+-- a pass is torn: the passes are all there, and there is a record that replays, and is as long as the deeds of all of
+-- them together, but does not have just each pass's own deeds
 pub record IsTornSeat (s : SeatState) : Type 0 where
   pub more : List PassState
   pub each : HasEach s.opening.count (numbers_of (passes_with more s))

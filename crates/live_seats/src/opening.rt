@@ -17,8 +17,9 @@ use std::alloc::Global;
 use std::sync::Arc;
 use std::sync::ledger::Blank;
 
-/// What a service is opened with: the low byte of each object, how many fat monitors it may have, how
-/// many passes there are, and how many places its record has.
+/// What a service is opened with: the low byte of each object, 0 to 65,535 of them; how many fat
+/// monitors it may have, 0 to 8,388,608; how many passes there are, 1 to 64; and how many places
+/// its record has.
 #[derive(Drop)]
 pub struct Draft {
     pub lows: Vec<u8>,
@@ -138,8 +139,8 @@ pub struct Opened<L: Crew> {
 }
 
 impl<L: Crew> Seat<L> {
-    /// Opens a service: the seat has the last pass, and is left the others. There is none only where the
-    /// system refused memory.
+    /// Opens a service: the seat has the last pass, and is left the others. There is none only
+    /// where the system refused memory.
     pub fn open(alloc: Global, blank: Blank, draft: Draft) -> Opened<L>
         requires name { blank.name ≡ L.name }
         requires parts { (blank.parts ≡ L.parts) × (L.parts ≡ draft.passes) }

@@ -197,8 +197,8 @@ fn left<L: Crew>(alloc: Global, seat: Box<Seat<L>>) -> Served<L>
 }
 
 impl<L: Crew> Seat<L> {
-    /// Carries out an order of a seat that is taken apart: by one turn of a call at most, and without
-    /// waiting. Only a new seat asks for memory.
+    /// Carries out an order of a seat that is taken apart: by one turn of a call at most, and
+    /// without waiting. Only a new seat asks for memory.
     pub fn serve(alloc: Global, seat: Parts<Seat<L>, Global>, order: Order) -> Served<L>
         requires { IsSome seat.value.member }
         ensures { ServesKept seat.value.member order result.told result.seat.value
