@@ -1,4 +1,5 @@
-//! The core of the monitor service for programs in C.
+//! The monitor service for programs in C, in two parts: the core, by worlds that do one step at a
+//! time, and the live service, by seats that threads of the system use at once.
 #![tactic(auto)]
 
 ghost use Rattle.std.specs.Prelude.{◌≡◌, Bool, None};

@@ -59,10 +59,10 @@ fn open(
     Status::Done.number()
 }
 
-/// Opens a service with a free object for each low byte, 0 to 65,535 of them; with at most `monitors`
-/// fat monitors, 0 to 8,388,608; with passes for the threads 1 to `passes`, 1 to 64; with a record of
-/// `places` places, 0 to 1,048,576. The slot is to be empty: it has a seat of the thread `passes`
-/// then, to which the other passes are left.
+/// Opens a service with a free object for each low byte, 0 to 65,535 of them; with at most
+/// `monitors` fat monitors, 0 to 8,388,608; with passes for the threads 1 to `passes`, 1 to 64;
+/// with a record of `places` places, 0 to 1,048,576. The slot is to be empty: it has a seat of the
+/// thread `passes` then, to which the other passes are left.
 ///
 /// Answers the first of InUse, Range and Memory that holds, or Done.
 #[unsafe(no_mangle)]
@@ -177,8 +177,8 @@ pub extern "C" fn nadkhoy_live_turn(
     take_turn(alloc, slot, seat, turned)
 }
 
-/// Tells the moment, in nanoseconds, and writes 1; or 0 where another seat has the gate, and nothing
-/// was done.
+/// Tells the moment, in nanoseconds, and writes 1; or 0 where another seat has the gate, and
+/// nothing was done.
 ///
 /// Answers Closed, 6 where the seat is in a call, the fault for which the moment was not told, or
 /// Done, and writes only then.

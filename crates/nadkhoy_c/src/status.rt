@@ -3,29 +3,32 @@
 ghost use Rattle.std.specs.Prelude.{◌≡◌};
 ghost use Rattle.nadkhoy_c.specs.Statuses.{status_number};
 
-/// What a call answers that is no fault of the core. A fault of the core keeps its own number,
-/// which is below 101.
+/// What a call answers that is no fault of the core or of the live service. Such a fault keeps its
+/// own number, which is below 101. A seat that cannot take an order where its call stands answers
+/// with a number of the core too: 6 (InCall) where it is in a call, 7 (NotCalling) where it is in
+/// none.
 #[derive(Clone, Copy, PartialEq, Eq, Hash, Debug)]
 pub enum Status {
     /// It is done.
     Done = 0,
-    /// The system has no memory for the world, the service or the seat.
+    /// The system has no memory for the world, the service, the seat or the end of a service.
     Memory = 2,
     /// The slot is empty.
     Closed = 101,
     /// The slot is full already.
     InUse = 102,
-    /// The world has no such object.
+    /// The world, or the service that has ended, has no such object.
     NoObject = 103,
     /// No such thread is live, or no live thread has the index.
     NoThread = 104,
-    /// The number of the step, or of the call that it begins, is none.
+    /// The number of the step, or of the call that is to begin, is none; or a live service has no
+    /// such call.
     NoStep = 105,
     /// The number of the split is none.
     NoSplit = 106,
     /// There are too many objects, monitors or places, or too few or too many indices or passes.
     Range = 107,
-    /// No pass of the service is left for another seat, or there is no such pass.
+    /// The seat has no pass left for another seat, or the service that has ended had no such pass.
     NoPass = 108,
     /// Other seats are at the service.
     OtherSeats = 109,

@@ -33,8 +33,8 @@ fn carry_out(
     told_status(answered.told)
 }
 
-/// One more turn of a call, for an empty slot. This is a function of its own, so that a call that has
-/// its reply at once has nothing of it.
+/// One more turn of a call, for an empty slot. This is a function of its own, so that a call that
+/// has its reply at once has nothing of it.
 #[inline(never)]
 pub(crate) fn take_turn(
     alloc: Global,
@@ -69,7 +69,8 @@ pub(crate) fn begin_other(
     carry_out(alloc, slot, seat, order, turned)
 }
 
-/// An enter or an exit, for an empty slot: its start, and where that has not ended it, one turn more.
+/// An enter or an exit, for an empty slot: its start, and where that has not ended it, one turn
+/// more.
 #[inline(always)]
 pub(crate) fn begin_lock(
     alloc: Global,
