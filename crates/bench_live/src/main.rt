@@ -1,9 +1,12 @@
 //! Measures the calls of the live service: thin calls against the bare atomic operations that they
-//! stand for, and calls at fat monitors against thin ones.
+//! stand for; calls at a fat monitor against thin ones, and of two threads that contend against
+//! those of one; and two threads that hand an object to each other, awake and asleep, against two
+//! that hand on a bare word.
 //!
-//! With no argument it does 1,000 rounds of each kind of work, or some, and prints how many
-//! succeeded. With a number of rounds it prints the time of a round, in picoseconds of the best of
-//! five runs, and the processor time of a thread that waits for one second.
+//! With no argument it does 1,000 rounds of the cheapest kinds of work and fewer of the others, and
+//! prints how many succeeded, and whether a timed wait was over. With a number of rounds in place
+//! of the 1,000 it prints the time of a round, in picoseconds of the best of five runs, and the
+//! processor time of a thread that waits for one second.
 #![tactic(auto)]
 
 mod rounds;

@@ -110,8 +110,8 @@ fn await_value<R: Wait>(rt: &R, word: &AtomicU64, value: u64) {
     }
 }
 
-/// Hands a bare word on, so many times: waits until it has the value that is this thread's turn, and
-/// stores that of the other's. The values count up from 0.
+/// Hands a bare word on, so many times: waits until it has the value that is this thread's turn,
+/// and stores that of the other's. The values count up from 0.
 pub fn bare_hand_on<R: Wait>(rt: &R, word: &AtomicU64, first: u64, rounds: u32) -> u32 {
     let mut mine = first;
     for _ in 0..rounds {

@@ -1,6 +1,7 @@
-//! Scripts of monitor steps, and the reports of what they did.
+//! Scripts of monitor steps, played on a world: the reports of what they did, and the histories of
+//! the moves that they hand out.
 //!
-//! `docs/FORMATS.md` has the forms of both.
+//! `docs/FORMATS.md` has the forms of all three.
 #![tactic(auto)]
 
 mod histories;

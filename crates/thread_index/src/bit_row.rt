@@ -6,7 +6,8 @@ ghost use Rattle.thread_index.specs.BitRows.{bit_of, AreSetBelow, SameOtherWords
 
 use std::alloc::{AllocError, Global};
 
-/// Bits in words of 64: position 0 is the lowest bit of the first word. Past the last word each is 0.
+/// Bits in words of 64: position 0 is the lowest bit of the first word. Past the last word each is
+/// 0.
 #[derive(Debug, Drop)]
 pub(crate) struct BitRow {
     words: Vec<u64>,

@@ -1,9 +1,10 @@
 //! Which live thread has which index.
 //!
-//! A thin lock shows its owner by an index of 15 bits: 1 to 32,767, and 0 for nobody. A thread
-//! takes the lowest index that is free, keeps it while it lives, and gives it back. A seat is an
-//! index less one. What a call costs does not grow with the number of live threads: a table has
-//! the seat of each thread, and bits tell which seats are taken.
+//! A thin lock shows its owner by an index: of 15 bits in the wide split of header words, 1 to
+//! 32,767, and of 11 bits in the deep one, 1 to 2,047; 0 is nobody's. A thread takes the lowest
+//! index that is free, keeps it while it lives, and gives it back. A seat is an index less one.
+//! What a call costs does not grow with the number of live threads: a table has the seat of each
+//! thread, and bits tell which seats are taken.
 #![tactic(auto)]
 
 ghost use Rattle.std.specs.Prelude.{◌≡◌, ◌↔◌, ◌-◌, ◌<◌, ◌≤◌, ◌+◌, ℕ, length, max, replicate};

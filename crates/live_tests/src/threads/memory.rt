@@ -1,5 +1,6 @@
-//! Want of memory, which only a run with refused allocations meets: what was handed in comes back, and
-//! the same succeeds when it is tried again. A run in which nothing is refused looks at the answers.
+//! Want of memory, which only a run with refused allocations meets: what was handed in comes back,
+//! and the same succeeds when it is tried again. A run in which nothing is refused looks at the
+//! answers.
 
 ghost use Rattle.std.specs.Prelude.{◌≡◌, IfOk, length, ◌∷◌, []};
 ghost use Rattle.std.specs.List.{All};
@@ -77,8 +78,8 @@ fn close_again<L: Crew, R: Abort>(
     }
 }
 
-/// Looks at what one work came to, and closes its service; None where a growth was refused that hands
-/// nothing back.
+/// Looks at what one work came to, and closes its service; None where a growth was refused that
+/// hands nothing back.
 fn close_after<L: Crew, R: Abort>(
     rt: &R,
     alloc: Global,
