@@ -198,7 +198,8 @@ impl Book {
 
     /// Whether the pass of a thread is where the book has it, in a call that has parked or not. A
     /// pass has a list of its own deeds with as many places as the record, and `full` says that it
-    /// has none left. `Err` is [`Torn`](LiveFault::Torn).
+    /// has none left. `Err` is [`Torn`](LiveFault::Torn): the pass is not where the book has it, or
+    /// its list is full and the record is not.
     pub fn check(&self, thread: ThreadId, parked: bool, full: bool) -> Result<(), LiveFault>
         ensures torn { IsErrOf result LiveFault.Torn
             ↔ (is_torn self.now thread parked full ≡ true) }

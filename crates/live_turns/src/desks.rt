@@ -85,7 +85,8 @@ pub(crate) enum Refusal {
 }
 
 impl<L: Crew> Desk<L> {
-    // Whether the pass of the thread is where the book has it, in a call that has parked or not.
+    // Whether the pass of the thread is where the book has it, in a call that has parked or not, and
+    // its own list has room as long as the record has.
     fn check(&self, own: &Own<L>, thread: ThreadId, parked: bool) -> Result<(), LiveFault>
         ensures thread { OnOk result (IsThreadOf self.now.book.passes thread) }
         ensures out { OnOk result (parked ≡ false → post_of self.now.book.fats thread ≡ Some Out) }
