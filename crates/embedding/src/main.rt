@@ -1,71 +1,130 @@
-//! A small runtime over a [`World`]: two threads take turns with the calls of a list each, and
-//! every step is printed with what it did.
-//!
-//! `docs/EMBEDDING.md` tells the loop in words.
+//! A small runtime over a [`World`] alone, whose loop `docs/EMBEDDING.md` tells in words: two
+//! threads make the calls of a list each, one step at a time in turn, and every step is printed
+//! with what it did.
 #![tactic(auto)]
 
-mod deadlines;
-mod reading;
-mod runtime;
-
-use runtime::{JavaThread, Trouble, attach_all, run};
-use step_core::{Call, ObjectId, Split, ThreadId, World};
-
-const OBJECT: ObjectId = ObjectId(0);
-
-const FIRST: ThreadId = ThreadId(10);
-
-const SECOND: ThreadId = ThreadId(20);
-
-const WAIT_5: Call = Call::Wait {
-    object: OBJECT,
-    millis: 5,
-    nanos: 0,
+use std::io::Print;
+use std::{array, io};
+use step_core::{
+    Answer, Atomic, Call, Did, Doing, Fault, Memory, Move, ObjectId, Split, Step, ThreadId, World,
 };
+use thiserror::Error;
 
-const WAIT_8: Call = Call::Wait {
-    object: OBJECT,
-    millis: 8,
-    nanos: 0,
-};
+/// Why the runtime stopped.
+#[derive(Debug, Drop, Error)]
+enum Trouble {
+    #[error("{0}")]
+    Memory(#[from] Memory),
+    #[error("a step was refused: {0}")]
+    Refused(#[from] Fault),
+    #[error("the system: {0}")]
+    System(#[from] io::Error),
+}
 
-const WAIT_FOREVER: Call = Call::Wait {
-    object: OBJECT,
-    millis: 0,
-    nanos: 0,
-};
+/// A thread, the calls that it is still to make, and its next step, unless it is parked or done.
+#[derive(Drop)]
+struct JavaThread {
+    id: ThreadId,
+    calls: array::IntoIter<Call, 8>,
+    next: Option<Step>,
+}
 
-// It nests, and then waits three times: the first wait ends by a notify, the second by its time,
-// the third by an interrupt.
-const FIRST_CALLS: [Call; 8] = [
-    Call::Enter(OBJECT),
-    Call::Enter(OBJECT),
-    WAIT_5,
-    WAIT_5,
-    WAIT_FOREVER,
-    Call::Exit(OBJECT),
-    Call::Exit(OBJECT),
-    Call::End,
-];
+/// A thread that is to be attached, and then to make these calls.
+fn new_thread(id: ThreadId, calls: [Call; 8]) -> JavaThread {
+    let (calls, next) = (calls.into_iter(), Some(Step::Attach { thread: id }));
+    JavaThread { id, calls, next }
+}
 
-const SECOND_CALLS: [Call; 8] = [
-    Call::Enter(OBJECT),
-    Call::Notify(OBJECT),
-    Call::Exit(OBJECT),
-    Call::Enter(OBJECT),
-    WAIT_8,
-    Call::Interrupt(FIRST),
-    Call::Exit(OBJECT),
-    Call::End,
-];
+#[derive(Drop)]
+struct Runtime {
+    world: World,
+    threads: [JavaThread; 2],
+}
+
+impl Runtime {
+    /// Does the next step of each thread that has one.
+    fn round<R: Print>(&mut self, rt: &R) -> Result<(), Trouble> {
+        for at in 0..self.threads.len() {
+            if let Some(step) = self.threads[at].next {
+                let did = self.step(rt, step)?;
+                let JavaThread { id, calls, next } = &mut self.threads[at];
+                *next = match did.atomic {
+                    // It is attached now, or its call has returned: it begins the next one.
+                    _ if did.reply.is_some() || matches!(step, Step::Attach { .. }) => {
+                        calls.next().map(|call| Step::Begin { thread: *id, call })
+                    }
+                    // It stands in a line now, and has no Go until a step grants it the monitor.
+                    Atomic::Acted { answer, .. } if answer == Answer::Parked => None,
+                    _ => Some(Step::Go { thread: *id }),
+                };
+            }
+        }
+        Ok(())
+    }
+
+    /// Tells the first deadline of a wait, and ends that wait. False where no wait has a deadline
+    /// that a moment can come to.
+    fn pass_time<R: Print>(&mut self, rt: &R) -> Result<bool, Trouble> {
+        let mut first = (u128::MAX, ThreadId(0));
+        for JavaThread { id, .. } in &self.threads {
+            if let Some(Doing::Waits { deadline, .. }) = self.world.doing(*id) {
+                first = first.min((deadline.unwrap_or(u128::MAX), *id));
+            }
+        }
+        let (deadline, thread) = first;
+        let Ok(now) = u64::try_from(deadline) else {
+            return Ok(false);
+        };
+        self.step(rt, Step::Tick { now })?;
+        self.step(rt, Step::Expire { thread })?;
+        Ok(true)
+    }
+
+    /// Does a step, and prints what it did. Where it granted the monitor to a parked thread, which
+    /// its second move says, that thread has a Go next.
+    fn step<R: Print>(&mut self, rt: &R, step: Step) -> Result<Did, Trouble> {
+        let did = self.world.step(step)?;
+        match did.atomic {
+            Atomic::Load { word, .. } => println!(rt; "{step:?}: load {word}")?,
+            Atomic::Won { old, new, .. } => println!(rt; "{step:?}: won {old} {new}")?,
+            Atomic::Lost { word, .. } => println!(rt; "{step:?}: lost {word}")?,
+            Atomic::Stored { old, new, .. } => println!(rt; "{step:?}: stored {old} {new}")?,
+            Atomic::Acted { action, answer } => println!(rt; "{step:?}: {action} {answer:?}")?,
+            other => println!(rt; "{step:?}: {other:?}")?,
+        }
+        for made in did.moves.iter().flatten() {
+            println!(rt; "    {made:?}")?;
+        }
+        if let Some(Move::Lock { thread } | Move::Relock { thread }) = did.moves[1] {
+            for parked in self.threads.iter_mut().filter(|t| t.id == thread) {
+                parked.next = Some(Step::Go { thread });
+            }
+        }
+        Ok(did)
+    }
+}
 
 fn main(rt: HostRuntime) -> Result<(), Trouble> {
+    let (object, one, two) = (ObjectId(0), ThreadId(10), ThreadId(20));
+    let (enter, exit, end) = (Call::Enter(object), Call::Exit(object), Call::End);
+    let (notify, interrupt) = (Call::Notify(object), Call::Interrupt(one));
+    let wait = |millis: i64| Call::Wait {
+        object,
+        millis,
+        nanos: 0,
+    };
+    // The three waits of thread one end by the notify, by their time, and by the interrupt.
+    let one_calls = [enter, enter, wait(5), wait(5), wait(0), exit, exit, end];
+    let two_calls = [enter, notify, exit, enter, wait(8), interrupt, exit, end];
     // One object with the low byte A5, one fat monitor, two indices.
-    let mut world = World::new(rt.alloc(), &[0xA5], 1, 2, Split::Wide)?;
-    let mut threads = [
-        JavaThread::new(FIRST, &FIRST_CALLS),
-        JavaThread::new(SECOND, &SECOND_CALLS),
-    ];
-    attach_all(&rt, &mut world, &threads)?;
-    run(&rt, &mut world, &mut threads)
+    let world = World::new(rt.alloc(), &[0xA5], 1, 2, Split::Wide)?;
+    let threads = [new_thread(one, one_calls), new_thread(two, two_calls)];
+    let mut runtime = Runtime { world, threads };
+    for _ in 0..u64::MAX {
+        runtime.round(&rt)?;
+        if runtime.threads.iter().all(|t| t.next.is_none()) && !runtime.pass_time(&rt)? {
+            break;
+        }
+    }
+    Ok(())
 }
