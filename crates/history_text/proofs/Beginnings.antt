@@ -1,5 +1,5 @@
 -- The longest beginning that keeps the rules, line by line; and a script is one with nothing left.
-use Rattle.std.proofs.Common.{◌≡◌, ℕ, ◌+◌, ◌<◌, List, [], ◌∷◌, ◌++◌, length, Bool, true, false, ◌==◌, Option, None, Some, Result, Ok, Err, refl, sym, ap, ◌∙◌, subst, arith, inl, inr, ◌⊎◌, append-nil, append_assoc}
+use Rattle.std.proofs.Common.{◌≡◌, ℕ, ◌+◌, ◌<◌, List, [], ◌∷◌, ◌++◌, length, true, false, ◌==◌, None, Some, Ok, Err, refl, sym, ap, ◌∙◌, arith, inl, inr, append_assoc}
 use Rattle.std.specs.List.{join_with_byte}
 use Rattle.std.proofs.lemmas.Bool.{both_ways, lt-ltb, eqb-true, eq-eqb}
 use Rattle.std.proofs.lemmas.List.Splits.{join_with_byte-slice_split}

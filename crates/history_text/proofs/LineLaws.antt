@@ -19,7 +19,8 @@ use Rattle.history_text.specs.declared.lines.StepLine.{StepLine}
 use Rattle.history_text.specs.declared.lines.StepLine.TheVariants.{Attach, Begin, Go, Expire, Spurious, Tick, Relayout}
 use Rattle.history_text.specs.declared.lines.Call.{Call}
 use Rattle.history_text.specs.declared.lines.Call.TheVariants.{Enter, Exit, Wait, Notify, NotifyAll, Holds, Interrupt, Interrupted, IsInterrupted, End}
-use Rattle.history_text.specs.Words.{IsBelow, is_name, name_from, number_from, signed_from, nanos_from, hex_digit, hex_from, low_text, low_from}
+use Rattle.lock_word.specs.Names.{hex_digit}
+use Rattle.history_text.specs.Words.{IsBelow, is_name, name_from, number_from, signed_from, nanos_from, hex_from, low_text, low_from}
 use Rattle.history_text.specs.Lines.{line_at, line_from, split_name, split_from, step_of_two, line_of_three, line_of_four, world_from, world_of, split_words, wait_from, call_alone, call_naming, call_timed, call_with, begin_from, words_of, line_words, step_words, call_words, line_text, Fits, StepFits, CallFits}
 use Rattle.history_text.proofs.Choices.{by_cond, bound, mapped, none_some, some_same, same_word}
 use Rattle.history_text.proofs.Numerals.{number_takes, number_again}

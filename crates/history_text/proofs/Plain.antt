@@ -8,7 +8,8 @@ use Rattle.std.specs.Int.{is_in_range}
 use Rattle.std.proofs.lemmas.Bool.Decides.{nat_tests}
 use Rattle.std.proofs.lemmas.Fmt.{digits_decimal}
 use Rattle.std.proofs.lemmas.List.Splits.{slice_split-cons_yes, slice_split-cons_no}
-use Rattle.history_text.specs.Words.{is_name_byte, is_name, low_text, hex_digit}
+use Rattle.lock_word.specs.Names.{hex_digit}
+use Rattle.history_text.specs.Words.{is_name_byte, is_name, low_text}
 use Rattle.history_text.proofs.Numerals.{own}
 
 -- a printable byte that is no space

@@ -1,11 +1,10 @@
 -- What reading keeps of the lines so far.
 use Rattle.std.specs.Prelude.{◌≡◌, ℕ, List, [], ◌∷◌, length, drop, Bool, not, ◌&&◌, nat_lt}
-use Rattle.std.specs.List.{list_all, list_any}
-use Rattle.std.specs.Str.{bytes_eq}
+use Rattle.std.specs.List.{list_all}
 use Rattle.history_text.specs.declared.lines.Line.{Line}
 use Rattle.history_text.specs.declared.lines.Line.TheVariants.{World, Object, Step}
 use Rattle.history_text.specs.Lines.{is_object}
-use Rattle.history_text.specs.Names.{with_name}
+use Rattle.history_text.specs.Names.{is_named, with_name}
 
 -- the names of the objects that are declared
 abbrev pub object_names : List Line → List (List ℕ)
@@ -22,7 +21,7 @@ pub record IsNoted (ls : List Line) (declaring : Bool) (names : List (List ℕ))
 abbrev pub may_follow_by : Bool → Bool → List (List ℕ) → Line → Bool
 may_follow_by first declaring names (World m k split) = first
 may_follow_by first declaring names (Object name low) =
-    not first && declaring && not (list_any (bytes_eq name) names) && nat_lt (length names) 65535
+    not first && declaring && not (is_named names name) && nat_lt (length names) 65535
 may_follow_by first declaring names (Step step) = not first
 
 abbrev pub with_object : List (List ℕ) → Line → List (List ℕ)

@@ -19,14 +19,18 @@ abbrev pub Gives : {X : Type 0} → (X → List Line) → Result X FileFault →
 Gives view (Ok x) read = read ≡ Ok (view x)
 Gives view (Err e) read = Fails e read
 
--- Why bytes are no script: where they are few enough, the first bad line, and else a failed read.
+-- Why bytes are not read: where they are few enough, a line that is bad by this rule, and else a failed read.
+abbrev pub IsReasonBy : (ℕ → Type 0) → List ℕ → FileFault → Type 0
+IsReasonBy IsBad bytes (faults.BadLine n) = (length bytes ≤ 16777216) × IsBad n
+IsReasonBy IsBad bytes (faults.BadMove n) = ⊥
+IsReasonBy IsBad bytes (faults.Broken n) = ⊥
+IsReasonBy IsBad bytes faults.Read = 16777216 < length bytes
+IsReasonBy IsBad bytes faults.Write = ⊥
+IsReasonBy IsBad bytes faults.Memory = Unit {0}
+
+-- Why bytes are no script: the line is the first bad one.
 abbrev pub IsReasonFor : List ℕ → FileFault → Type 0
-IsReasonFor bytes (faults.BadLine n) = (length bytes ≤ 16777216) × IsFirstBad bytes n
-IsReasonFor bytes (faults.BadMove n) = ⊥
-IsReasonFor bytes (faults.Broken n) = ⊥
-IsReasonFor bytes faults.Read = 16777216 < length bytes
-IsReasonFor bytes faults.Write = ⊥
-IsReasonFor bytes faults.Memory = Unit {0}
+IsReasonFor bytes fault = IsReasonBy (IsFirstBad bytes) bytes fault
 
 -- these bytes are the text of a script
 abbrev pub IsScriptText : List ℕ → Type 0

@@ -6,6 +6,7 @@ use Rattle.std.specs.List.{list_all}
 use Rattle.std.specs.Int.{is_in_range}
 use Rattle.std.specs.Char.{is_ascii_digit}
 use Rattle.std.specs.Str.Parse.{digits_value}
+use Rattle.lock_word.specs.Names.{hex_digit}
 
 abbrev pub is_name_byte : ℕ → Bool
 is_name_byte c = is_in_range 97 122 c || is_in_range 48 57 c || c == 95
@@ -26,9 +27,6 @@ is_numeral (c ∷ cs) = (length cs == 0 || not (c == 48)) && list_all is_ascii_d
 abbrev pub number_from : List ℕ → Option ℕ
 number_from word =
     if is_numeral word && nat_lt (digits_value 10 word) (2 ^ 64) then Some (digits_value 10 word) else None
-
-abbrev pub hex_digit : ℕ → ℕ
-hex_digit d = if nat_lt d 10 then 48 + d else 55 + d
 
 abbrev pub hex_from : ℕ → Option ℕ
 hex_from c =

@@ -2,7 +2,7 @@
 
 ghost use Rattle.std.specs.Prelude.{◌≡◌, ◌<◌, ◌++◌, ◌∷◌, [], IfOk, OnOk, string_bytes};
 ghost use Rattle.std.specs.List.{join_with_byte};
-ghost use Rattle.history_text.specs.Words.{hex_digit};
+ghost use Rattle.lock_word.specs.Names.{hex_digit};
 ghost use Rattle.history_text.specs.Lines.{call_words, line_text, script_text, step_words};
 
 use crate::lines::{Call, Line, StepLine};

@@ -1,4 +1,4 @@
-use Rattle.std.proofs.Common.{rules, sym, ◌∙◌}
+use Rattle.std.proofs.Common.{rules}
 use Rattle.history_text.proofs.Beginnings.{right_more, text_more}
 use Rattle.history_text.proofs.scripts.read_beginning.Goals as goal
 
