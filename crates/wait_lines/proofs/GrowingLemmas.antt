@@ -13,7 +13,7 @@ use Rattle.wait_lines.specs.Lines.{key, is_thread, standing}
 use Rattle.wait_lines.specs.Links.{Chart, node, alone, unused, behind_of, before_of, linked, grown, nothing}
 use Rattle.wait_lines.specs.Rings.{Walk}
 use Rattle.wait_lines.specs.Rows.{rows_of, end_at, row_at, times_number, times_in_rows, rows_with, AreLinked, AreLinkedBut}
-use Rattle.wait_lines.specs.Arrivals.{Arrival, threads_of, keys_of, arrivals_in, arrivals_of, tail_of, shown, IsKept}
+use Rattle.wait_lines.specs.Arrivals.{Arrival, threads_of, keys_of, arrivals_in, arrivals_of, tail_of, shown_lines, IsKept}
 use Rattle.wait_lines.proofs.LinkLemmas.{sizes-linked}
 use Rattle.wait_lines.proofs.RowLemmas.{rows-shown, AreLinked-linked, AreLinkedBut-grown}
 use Rattle.wait_lines.proofs.LineLemmas.{IsOrderly-nobody, IsOrderly-reserved}
@@ -67,7 +67,7 @@ module _ (c : Chart) (h : IsKept c) (few : length c.spots < 32767) where
   pub IsKept-reserved : IsKept (reserved c)
   IsKept-reserved = record {
     linked = subst (AreLinked (reserved c)) (rows-shown (reserved c) _ more) more;
-    orderly = rw (arrivals_reserved, more_sizes.0) (IsOrderly-reserved (standing (shown c)) h.orderly few);
+    orderly = rw (arrivals_reserved, more_sizes.0) (IsOrderly-reserved (standing (shown_lines c)) h.orderly few);
     solo = λ u. subst (λ xs. count_by (λ (a : Arrival). is_thread u a.thread) xs ≤ 1) (sym arrivals_reserved) (h.solo u);
     even = let e = h.even in let s = more_sizes.0 in let f = more_sizes.1 in omega arith;
     one = λ i j i_in j_in same i_full j_full.

@@ -16,7 +16,7 @@ use Rattle.wait_lines.specs.Lines.{key, StandsNowhere, after_join, total_count, 
 use Rattle.wait_lines.specs.Links.{Chart, node, spot_at, ends_at, behind_of, unlinked, linked, with_thread, with_key, is_node}
 use Rattle.wait_lines.specs.Rings.{without_number, Walk}
 use Rattle.wait_lines.specs.Rows.{rows_of, row_at, times_number, times_in_rows, rows_without, rows_with, AreLinked, AreLinkedBut}
-use Rattle.wait_lines.specs.Arrivals.{Arrival, lines_of, nodes_of, threads_of, keys_of, arrivals_in, arrivals_of, tail_of, shown, IsKept}
+use Rattle.wait_lines.specs.Arrivals.{Arrival, lines_of, nodes_of, threads_of, keys_of, arrivals_in, arrivals_of, tail_of, shown_lines, IsKept}
 use Rattle.wait_lines.proofs.LinkLemmas.{sizes-unlinked, sizes-linked, behind-with_thread, before-with_thread, behind-with_key, before-with_key}
 use Rattle.wait_lines.proofs.RowLemmas.{rows-shown, AreLinked-unlinked, AreLinked-linked, AreLinkedBut-same, rows-without_out, rows-full, times-cons, times-row}
 use Rattle.wait_lines.proofs.ArrivalLemmas.{lines_of-insert, total_count-lines_of}
@@ -176,9 +176,9 @@ module _ (c : Chart) (n : ℕ) (t : ThreadId) (k m : ℕ) (r : Role) (h : IsKept
             (subst (λ rs. 0 < length (row_at rs i)) tail_joined i_full) (subst (λ rs. 0 < length (row_at rs j)) tail_joined j_full) (cases_eq i k) (cases_eq j k);
       }
         where
-          orderly : IsOrderly (standing (shown after))
+          orderly : IsOrderly (standing (shown_lines after))
           orderly =
-              let o = IsOrderly-after_join (standing (shown c)) t m r h.orderly nowhere room in
+              let o = IsOrderly-after_join (standing (shown_lines c)) t m r h.orderly nowhere room in
               let o2 : IsOrderly (record { lines = lines_of (arrivals_of after); reservations = length c.spots }) =
               subst (λ (l : LineMap). IsOrderly (record { lines = l; reservations = length c.spots })) (sym lines_joined) o in
               subst (λ (l : ℕ). IsOrderly (record { lines = lines_of (arrivals_of after); reservations = l })) (sym sizes_joined.0) o2

@@ -66,8 +66,8 @@ tail_of (r ∷ rs) = rs
 abbrev pub arrivals_of : Chart → List Arrival
 arrivals_of c = arrivals_in (threads_of c) (keys_of c) (tail_of (rows_of c))
 
-abbrev pub shown : Chart → LinesState
-shown c = record { lines = lines_of (arrivals_of c); nodes = nodes_of (arrivals_of c); reservations = length c.spots }
+abbrev pub shown_lines : Chart → LinesState
+shown_lines c = record { lines = lines_of (arrivals_of c); nodes = nodes_of (arrivals_of c); reservations = length c.spots }
 
 -- each line has one record
 abbrev pub HaveOne : List Key → List (List ℕ) → Type 0
@@ -79,7 +79,7 @@ HaveOne ks rs =
 -- what always holds of the chart
 pub record IsKept (c : Chart) : Type 0 where
   pub linked : AreLinked c (rows_of c)
-  pub orderly : IsOrderly (standing (shown c))
+  pub orderly : IsOrderly (standing (shown_lines c))
   pub solo : (t : ThreadId) → count_by (λ (a : Arrival). is_thread t a.thread) (arrivals_of c) ≤ 1
   pub even : length c.ends ≡ length c.spots
   pub one : HaveOne (keys_of c) (tail_of (rows_of c))

@@ -59,10 +59,10 @@ impl Model for Lines {
     ghost coded = { Prim.hlevel (codes, map.code) };
 
     ghost use Rattle.wait_lines.specs.Links.{chart};
-    ghost use Rattle.wait_lines.specs.Arrivals.{shown};
+    ghost use Rattle.wait_lines.specs.Arrivals.{shown_lines};
     ghost use Rattle.wait_lines.specs.Tables.{IsWhole};
 
-    ghost view = { λ l. shown (chart l.links) };
+    ghost view = { λ l. shown_lines (chart l.links) };
 
     ghost invariant = { λ l. IsWhole (chart l.links) l.table };
 }
