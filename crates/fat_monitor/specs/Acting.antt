@@ -22,6 +22,7 @@ use Rattle.fat_monitor.specs.declared.actions.ActFault.TheVariants as fault
 use Rattle.fat_monitor.specs.FatState.{FatState, monitor_at, post_of, post_at, flag_at, flag_of, IsAttached, line_of}
 use Rattle.fat_monitor.specs.FatState.{first_of, with_owner, with_post, with_flag, with_lines, without_thread}
 use Rattle.fat_monitor.specs.FatState.{is_owned_by, owns_one}
+use Rattle.fat_monitor.specs.Replies.{yes_or_no}
 
 -- the answer of an action, and the fat state after it
 pub record Outcome : Type 0 where
@@ -140,10 +141,6 @@ are_good millis nanos = int_le (pos 0) millis && int_le (pos 0) nanos && int_le 
 abbrev pub deadline : ℕ → ℤ → ℤ → Option ℕ
 deadline moment millis nanos =
     let time = nat_abs millis * 1000000 + nat_abs nanos in if time == 0 then None else Some (moment + time)
-
-abbrev pub yes_or_no : Bool → Reply
-yes_or_no true = reply.Yes
-yes_or_no false = reply.No
 
 -- what the owner alone may do
 abbrev pub by_owner : FatState → ℕ → ThreadId → Outcome → Outcome

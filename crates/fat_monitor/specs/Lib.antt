@@ -1,4 +1,5 @@
 pub mod Binding
+pub mod Replies
 pub mod FatState
 pub mod Acting
 pub mod Slots

@@ -3,7 +3,7 @@
 ghost use Rattle.std.specs.Prelude.{◌≡◌, Ok};
 ghost use Rattle.fat_monitor.specs.FatState.{FatState, is_owned_by};
 ghost use Rattle.fat_monitor.specs.Acting.{holds_granted, reply_granted, reply_back, replies};
-ghost use Rattle.fat_monitor.specs.Acting.{yes_or_no};
+ghost use Rattle.fat_monitor.specs.Replies.{yes_or_no};
 
 use crate::{Answer, Done, Post, Reply, Why};
 use lock_word::ThreadId;
