@@ -12,7 +12,8 @@ use Rattle.history_text.specs.declared.lines.Line.{Line}
 use Rattle.history_text.specs.declared.lines.Line.TheVariants.{World, Object, Step}
 use Rattle.history_text.specs.declared.lines.StepLine.{StepLine}
 use Rattle.history_text.specs.declared.lines.StepLine.TheVariants.{Attach, Begin, Go, Expire, Spurious, Tick, Relayout}
-use Rattle.live_scripts.specs.Rules.{IsLiveScript, Runs, attached, is_live_call, is_named, may_do, may_run, most_threads}
+use Rattle.history_text.specs.Names.{is_named}
+use Rattle.live_scripts.specs.Rules.{IsLiveScript, Runs, attached, is_live_call, may_do, may_run, most_threads}
 use Rattle.live_scripts.specs.Plans.{call_in, calls_in, calls_of, lows_of, monitors_in, objects_of}
 use Rattle.live_scripts.proofs.Few.{few_objects, few_threads}
 use Rattle.live_threads.specs.Driving.{IsLive}

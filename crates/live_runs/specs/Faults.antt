@@ -1,7 +1,7 @@
 -- Why a live script was not run to its end.
 use Rattle.std.specs.Prelude.{◌≡◌, ℕ, List}
 use Rattle.history_streams.specs.declared.faults.FileFault.TheVariants as faults
-use Rattle.live_scripts.specs.Rules.{IsReasonFor}
+use Rattle.live_scripts.specs.Rules.{IsLiveReasonFor}
 use Rattle.live_runs.specs.declared.faults.RunFault.{RunFault}
 use Rattle.live_runs.specs.declared.faults.RunFault.TheVariants.{File, Torn}
 
@@ -15,5 +15,5 @@ IsOfRun Torn = Unit {0}
 
 -- why these bytes were not run
 abbrev pub IsRunReason : List ℕ → RunFault → Type 0
-IsRunReason bytes (File fault) = IsReasonFor bytes fault
+IsRunReason bytes (File fault) = IsLiveReasonFor bytes fault
 IsRunReason bytes Torn = Unit {0}

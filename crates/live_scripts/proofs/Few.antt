@@ -6,7 +6,8 @@ use Rattle.history_text.specs.declared.lines.Line.{Line}
 use Rattle.history_text.specs.declared.lines.Line.TheVariants.{World, Object, Step}
 use Rattle.history_text.specs.declared.lines.StepLine.TheVariants.{Attach, Begin, Go, Expire, Spurious, Tick, Relayout}
 use Rattle.history_text.specs.Lines.{Continues, may_follow, is_object, is_object_named}
-use Rattle.live_scripts.specs.Rules.{IsLiveScript, Runs, attached, is_named, may_run, most_threads}
+use Rattle.history_text.specs.Names.{is_named}
+use Rattle.live_scripts.specs.Rules.{IsLiveScript, Runs, attached, may_run, most_threads}
 use Rattle.live_scripts.specs.Plans.{objects_of}
 use Rattle.live_scripts.proofs.Positions.{objects_of-append}
 use Rattle.live_scripts.proofs.Running.{attached-append}

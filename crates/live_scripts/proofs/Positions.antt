@@ -1,25 +1,10 @@
--- The position of a name, one name after another; and the lists that lines give, one line more.
-use Rattle.std.proofs.Common.{◌≡◌, ℕ, zero, suc, ◌+◌, ◌<◌, List, [], ◌∷◌, ◌++◌, length, take, drop, get_or, map, true, false, Bor, refl, sym, ap, ◌∙◌, arith, append-nil, append_assoc}
-use Rattle.std.specs.Str.{bytes_eq}
+-- The lists that lines give, one line more.
+use Rattle.std.proofs.Common.{◌≡◌, ℕ, suc, ◌+◌, ◌<◌, List, [], ◌∷◌, ◌++◌, length, take, get_or, map, Bor, refl, sym, ap, ◌∙◌, append-nil, append_assoc}
 use Rattle.std.proofs.lemmas.List.{take_more}
 use Rattle.fast_path.specs.declared.calls.Call.{Call}
 use Rattle.history_text.specs.declared.lines.Line.{Line}
 use Rattle.live_scripts.specs.Rules.{attached}
-use Rattle.live_scripts.specs.Plans.{position_of, calls_in, calls_of, objects_in, objects_of, lows_in, lows_of}
-
-pub position_here : (names : List (Bor (List ℕ))) (i : ℕ) (x : Bor (List ℕ)) (name : List ℕ) → i < length names → x ≡ get_or names i x → bytes_eq x.now name ≡ true
-    → position_of (map (λ t. t.now) (drop i names)) name ≡ 0
-position_here [] i x name within is eq = absurd (omega (arith, within))
-position_here (t ∷ ts) zero x name within is eq = rw (ap (λ (y : Bor (List ℕ)). bytes_eq y.now name) (sym is) ∙ eq) refl
-position_here (t ∷ ts) (suc i) x name within is eq = position_here ts i x name (omega (arith, within)) is eq
-
-pub position_next : (names : List (Bor (List ℕ))) (i : ℕ) (x : Bor (List ℕ)) (name : List ℕ) → i < length names → x ≡ get_or names i x → bytes_eq x.now name ≡ false
-    → position_of (map (λ t. t.now) (drop i names)) name ≡ 1 + position_of (map (λ t. t.now) (drop (i + 1) names)) name
-position_next [] i x name within is eq = absurd (omega (arith, within))
-position_next (t ∷ ts) zero x name within is eq = rw (ap (λ (y : Bor (List ℕ)). bytes_eq y.now name) (sym is) ∙ eq) refl
-position_next (t ∷ ts) (suc i) x name within is eq =
-    let on : suc i + 1 ≡ suc (i + 1) = omega arith in
-    position_next ts i x name (omega (arith, within)) is eq ∙ ap (λ (k : ℕ). 1 + position_of (map (λ t. t.now) (drop k (t ∷ ts))) name) (sym on)
+use Rattle.live_scripts.specs.Plans.{calls_in, calls_of, objects_in, objects_of, lows_in, lows_of}
 
 -- one line more of what lines give together
 pub gathers : {X : Type 0} (one : Line → List X) (all : List Line → List X) → ((xs ys : List Line) → all (xs ++ ys) ≡ all xs ++ all ys) → ((l : Line) → all (l ∷ []) ≡ one l)

@@ -1,6 +1,5 @@
 -- What the threads of a live script call, by the numbers of their names.
 use Rattle.std.specs.Prelude.{ℕ, ◌+◌, List, [], ◌∷◌, ◌++◌, if◌then◌else◌}
-use Rattle.std.specs.List.{position_or_len}
 use Rattle.std.specs.Str.{bytes_eq}
 use Rattle.lock_word.specs.declared.ObjectId.{ObjectId}
 use Rattle.lock_word.specs.declared.ThreadId.{ThreadId}
@@ -13,10 +12,7 @@ use Rattle.history_text.specs.declared.lines.StepLine.{StepLine}
 use Rattle.history_text.specs.declared.lines.StepLine.TheVariants as step
 use Rattle.history_text.specs.declared.lines.Line.{Line}
 use Rattle.history_text.specs.declared.lines.Line.TheVariants.{World, Object, Step}
-
--- the position of a name: for one that is not there, how many names there are
-abbrev pub position_of : List (List ℕ) → List ℕ → ℕ
-position_of names name = position_or_len (λ n. bytes_eq n name) names
+use Rattle.history_text.specs.Names.{position_of}
 
 -- objects are numbered from 0, threads from 1
 abbrev pub object_of : List (List ℕ) → List ℕ → ObjectId

@@ -1,12 +1,9 @@
 -- What a live script is: a script of attaches and begins, whose threads may run on threads of the system.
-use Rattle.std.specs.Prelude.{◌≡◌, ◌⊎◌, ◌<◌, ◌≤◌, ◌+◌, ℕ, List, [], ◌∷◌, ◌++◌, length, Bool, true, false, not, ◌&&◌}
+use Rattle.std.specs.Prelude.{◌≡◌, ◌⊎◌, ◌<◌, ◌+◌, ℕ, List, [], ◌∷◌, ◌++◌, length, Bool, true, false, not, ◌&&◌}
 use Rattle.std.specs.Prelude.{nat_lt}
-use Rattle.std.specs.List.{list_any}
-use Rattle.std.specs.Str.{bytes_eq}
 use Rattle.lock_word.specs.declared.Split.{Split}
 use Rattle.lock_word.specs.declared.Split.TheVariants.{Wide, Deep}
 use Rattle.history_streams.specs.declared.faults.FileFault.{FileFault}
-use Rattle.history_streams.specs.declared.faults.FileFault.TheVariants as faults
 use Rattle.history_text.specs.declared.lines.Line.{Line}
 use Rattle.history_text.specs.declared.lines.Line.TheVariants.{World, Object, Step}
 use Rattle.history_text.specs.declared.lines.StepLine.{StepLine}
@@ -14,6 +11,8 @@ use Rattle.history_text.specs.declared.lines.StepLine.TheVariants.{Attach, Begin
 use Rattle.history_text.specs.declared.lines.Call.{Call}
 use Rattle.history_text.specs.declared.lines.Call.TheVariants.{Enter, Exit, Wait, Notify, NotifyAll, Holds, Interrupt}
 use Rattle.history_text.specs.declared.lines.Call.TheVariants.{Interrupted, IsInterrupted, End}
+use Rattle.history_text.specs.Names.{is_named}
+use Rattle.history_text.specs.Scripts.{IsReasonBy}
 use Rattle.history_text.specs.Lines.{Fits, Continues, IsScript, may_follow, line_text, script_text}
 
 abbrev pub attached_by : StepLine → List (List ℕ)
@@ -61,9 +60,6 @@ is_live_call Interrupted = true
 is_live_call (IsInterrupted target) = true
 is_live_call End = false
 
-abbrev pub is_named : List (List ℕ) → List ℕ → Bool
-is_named names name = list_any (λ n. bytes_eq n name) names
-
 -- a thread is attached once, and there are at most 64; only a thread that is attached begins a call, and not its end
 abbrev pub may_do : ℕ → List (List ℕ) → StepLine → Bool
 may_do most threads (Attach thread) =
@@ -106,10 +102,5 @@ pub record IsFirstBadLive (bytes : List ℕ) (n : ℕ) : Type 0 where
       → rest ≡ line_text l ++ (10 ∷ after) → ⊥
 
 -- Why bytes are no live script: where they are few enough, the first bad line, and else a failed read.
-abbrev pub IsReasonFor : List ℕ → FileFault → Type 0
-IsReasonFor bytes (faults.BadLine n) = (length bytes ≤ 16777216) × IsFirstBadLive bytes n
-IsReasonFor bytes (faults.BadMove n) = ⊥
-IsReasonFor bytes (faults.Broken n) = ⊥
-IsReasonFor bytes faults.Read = 16777216 < length bytes
-IsReasonFor bytes faults.Write = ⊥
-IsReasonFor bytes faults.Memory = Unit {0}
+abbrev pub IsLiveReasonFor : List ℕ → FileFault → Type 0
+IsLiveReasonFor bytes fault = IsReasonBy (IsFirstBadLive bytes) bytes fault

@@ -1,10 +1,11 @@
 //! What the threads of a live script call.
 
 ghost use Rattle.std.specs.Prelude.{◌≡◌, ◌≤◌, ◌<◌, ◌++◌, IfOk, OnOk, length, map};
+ghost use Rattle.history_text.specs.Names.{position_of};
 ghost use Rattle.live_scripts.specs.Rules.{IsLiveScript, attached};
 ghost use Rattle.live_scripts.specs.Plans.{call_in, calls_in, calls_of, lows_in, lows_of};
 ghost use Rattle.live_scripts.specs.Plans.{monitors_in, object_of, objects_in, objects_of};
-ghost use Rattle.live_scripts.specs.Plans.{position_of, thread_of};
+ghost use Rattle.live_scripts.specs.Plans.{thread_of};
 ghost use Rattle.live_scripts.specs.Planned.{IsPlanOf};
 
 use crate::LiveScript;
@@ -37,7 +38,7 @@ fn position_of(names: &[&str], name: &str) -> usize
 {
     let mut position = 0;
     'names: for other in names {
-        if *other == name {
+        if name == *other {
             return position;
         }
         position += 1;

@@ -3,7 +3,7 @@
 ghost use Rattle.std.specs.Prelude.{◌≡◌, ◌<◌, ◌≤◌, List, ℕ, length, IfErr, IfOk, MatchOption, Err};
 ghost use Rattle.history_text.specs.declared.lines.Line.{Line as LineData};
 ghost use Rattle.history_text.specs.Lines.{IsBeginning, script_text};
-ghost use Rattle.live_scripts.specs.Rules.{IsFirstBadLive, IsLiveScript, IsReasonFor};
+ghost use Rattle.live_scripts.specs.Rules.{IsFirstBadLive, IsLiveReasonFor, IsLiveScript};
 ghost use Rattle.live_scripts.specs.Reading.{GivesLive};
 
 use crate::rules::running_lines;
@@ -64,7 +64,7 @@ pub fn read_live<'a>(alloc: Global, bytes: &'a [u8]) -> Result<LiveScript<'a>, F
     ensures only { (ls : List LineData) → IsLiveScript ls → bytes.now ≡ script_text ls
         → length bytes.now ≤ MOST_BYTES → GivesLive result ls }
     ensures too_long { MOST_BYTES < length bytes.now → result ≡ Err FileFault.Read }
-    ensures fault { IfErr result (IsReasonFor bytes.now) }
+    ensures fault { IfErr result (IsLiveReasonFor bytes.now) }
 {
     if bytes.len() > MOST_BYTES {
         return Err(FileFault::Read);
