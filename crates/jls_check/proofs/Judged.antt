@@ -19,14 +19,14 @@ use Rattle.step_core.specs.Machine.{State, Steps, Is, MayRefuse}
 use Rattle.jls_check.specs.declared.threads.Live.{Live}
 use Rattle.jls_check.specs.LiveThreads.{live_of}
 use Rattle.jls_check.specs.MachineState.{MachineState, state, put, put_reply, held_at, thread_of, owns, IsSound}
-use Rattle.jls_check.specs.Taking.{wanted, may_refuse, refuse_for, refuse, time, reply_number, has_reply, after_return, return_at, return_with, is_good}
+use Rattle.jls_check.specs.Taking.{wanted, may_refuse, refuse_for, refuse_call, time, distinct_number, has_reply, after_return, return_at, return_with, is_good}
 use Rattle.jls_check.proofs.States.{state-put, state-without}
 use Rattle.jls_check.proofs.Replying.{one_owned, owned_one, notify_right, notify_only, notify_nobody_right, notify_nobody_only, notify_all_right, notify_all_only, interrupt_right, interrupt_only, ask_right, ask_only, end_right, end_only}
 use Rattle.std.specs.Prelude.{Result, Err, OnOk, OnErr, IsErrOf}
 use Rattle.jls_check.specs.declared.faults.MoveFault.{MoveFault}
 use Rattle.jls_check.specs.declared.faults.MoveFault.TheVariants.{Broken, Memory}
 use Rattle.jls_check.specs.Judging.{IsUnlawful, IsAttach}
-use Rattle.jls_check.specs.Taking.{takes, taken, answered, attach_at, attach, AfterMove}
+use Rattle.jls_check.specs.Taking.{takes, taken, after_move, attach_at, attach, AfterMove}
 use Rattle.jls_check.proofs.Guards.{guarded, guarded_not, refused, refused_not, both_true, owner_is, owner_yes, good_time, time_good}
 use Rattle.jls_check.proofs.Judging.{lock_right, lock_only, unlock_right, unlock_only, illegal_right, illegal_only, bad_argument_right, bad_argument_only, early_right, early_only, wait_right, wait_only, test_clear_right, test_clear_only, expire_right, expire_only, wake_right, wake_only, relock_right, relock_only, attach_right, attach_only, make_call_right, make_call_only, live_is, is_live, calls, wanted_as, answer}
 
@@ -39,7 +39,7 @@ numbered n =
     else if n == 11 then reply.Refused cause.NoMonitor else if n == 12 then reply.Refused cause.Memory else if n == 13 then reply.Refused cause.TooDeep
     else if n == 14 then reply.Refused cause.StillOwner else reply.Refused cause.NoThread
 
-numbered_back : (r : Reply) → numbered (reply_number r) ≡ r
+numbered_back : (r : Reply) → numbered (distinct_number r) ≡ r
 unfolding numbered
 numbered_back reply.Entered = refl
 numbered_back reply.Exited = refl
@@ -58,8 +58,8 @@ numbered_back (reply.Refused cause.TooDeep) = refl
 numbered_back (reply.Refused cause.StillOwner) = refl
 numbered_back (reply.Refused cause.NoThread) = refl
 
-pub one_reply : (q r : Reply) → (reply_number q == reply_number r) ≡ true → q ≡ r
-one_reply q r e = sym (numbered_back q) ∙ ap numbered (eqb-true (reply_number q) (reply_number r) e) ∙ numbered_back r
+pub one_reply : (q r : Reply) → (distinct_number q == distinct_number r) ≡ true → q ≡ r
+one_reply q r e = sym (numbered_back q) ∙ ap numbered (eqb-true (distinct_number q) (distinct_number r) e) ∙ numbered_back r
 
 has_it : (d : Doing) (r : Reply) → has_reply d r ≡ true → d ≡ Has r
 has_it (Has q) r e = ap (λ (x : Reply). Has x) (one_reply q r e)
@@ -93,7 +93,7 @@ module _ (v : MachineState) (t : ThreadId) where
   return_only : (r : Reply) (s : State) → return_with v t r ≡ None → Steps (state v) (move.Return t r) s → ⊥
   return_only r s e p =
       let k = returns r s p in
-      refused (reply_number r == reply_number r) (after_return v t k.0 r) (ap (return_at v t r) (sym (live_is v t k.0 (Has r) k.1)) ∙ e) (eq-eqb (reply_number r) (reply_number r) refl)
+      refused (distinct_number r == distinct_number r) (after_return v t k.0 r) (ap (return_at v t r) (sym (live_is v t k.0 (Has r) k.1)) ∙ e) (eq-eqb (distinct_number r) (distinct_number r) refl)
 
   -- ---- refusals
 
@@ -139,7 +139,7 @@ module _ (v : MachineState) (t : ThreadId) where
   must call.End cause.StillOwner h = owned_one v t v.objects h.0.0 (owner_yes (held_at v h.0).owner t h.1)
   must c y h = absurd h
 
-  refuse_right : (y : Cause) (w : MachineState) → refuse v t y ≡ Some w → Steps (state v) (move.Refuse t y) (state w)
+  refuse_right : (y : Cause) (w : MachineState) → refuse_call v t y ≡ Some w → Steps (state v) (move.Refuse t y) (state w)
   refuse_right y w e = by (wanted v t) refl e
     where
       by : (q : Option (Bool × Call)) → wanted v t ≡ q → refuse_for v t y q ≡ Some w → Steps (state v) (move.Refuse t y) (state w)
@@ -148,7 +148,7 @@ module _ (v : MachineState) (t : ThreadId) where
           let g = guarded (may_refuse v t c y) (put_reply v t flag (reply.Refused y)) w e in
           (flag, c, calls v t flag c h, may c y g.0, answer v t flag (reply.Refused y) w g.1)
 
-  refuse_only : (y : Cause) (s : State) → refuse v t y ≡ None → Steps (state v) (move.Refuse t y) s → ⊥
+  refuse_only : (y : Cause) (s : State) → refuse_call v t y ≡ None → Steps (state v) (move.Refuse t y) s → ⊥
   refuse_only y s e p =
       refused (may_refuse v t p.1 y) (put_reply v t p.0 (reply.Refused y)) (ap (refuse_for v t y) (sym (wanted_as v t p.0 p.1 p.2)) ∙ e) (must p.1 y p.3)
 
@@ -235,11 +235,11 @@ module _ (v : MachineState) (sound : IsSound v) where
       (tt, ((λ h. absurd (cc)), (λ no. absurd (no (state (put v t false Idle)) right))), (λ _. tt), refl)
   no_room t (Some x) e = (tt, ((λ _ s p. takes_only v (move.Attach t) s (ap (attach_at v t) e) p), (λ _. refl)), (λ _. tt), refl)
 
-  judge : (room : Bool) (m : Move) → Judges v m (answered room v m).answer (answered room v m).after
+  judge : (room : Bool) (m : Move) → Judges v m (after_move room v m).answer (after_move room v m).after
   judge true (move.Attach t) = by_taken (move.Attach t) (attach v t) refl
   judge false (move.Attach t) = no_room t (live_of v.threads t) refl
   judge room m = by_taken m (takes v m) refl
 
   pub judged : (room : Bool) (m : Move) (r : Result (Unit {0}) MoveFault) (w : MachineState)
-      → ◌≡◌ {A = AfterMove} (record { answer = r; after = w }) (answered room v m) → Judges v m r w
+      → ◌≡◌ {A = AfterMove} (record { answer = r; after = w }) (after_move room v m) → Judges v m r w
   judged room m r w e = subst (λ (o : AfterMove). Judges v m o.answer o.after) (sym e) (judge room m)

@@ -15,7 +15,8 @@ use Rattle.fast_path.specs.Calls.{object_of}
 use Rattle.step_core.specs.declared.machine.Doing.{Doing}
 use Rattle.step_core.specs.declared.machine.Doing.TheVariants.{Idle, Wants, Waits, Back, Has}
 use Rattle.step_core.specs.declared.machine.Move.TheVariants as move
-use Rattle.step_core.specs.Machine.{State, Thread, Monitor, Steps, Is, Calls, Exists, now_is, with_reply, with_monitor, OwnedBy, held, free, owner_only, over_at, yes_or_no, flag_back, reply_of}
+use Rattle.fat_monitor.specs.Replies.{yes_or_no}
+use Rattle.step_core.specs.Machine.{State, Thread, Monitor, Steps, Is, Calls, Exists, now_is, with_reply, with_monitor, OwnedBy, held, free, owner_only, over_at, flag_back, reply_of}
 use Rattle.jls_check.specs.declared.threads.Live.{Live}
 use Rattle.jls_check.specs.declared.monitors.Held.{Held}
 use Rattle.jls_check.specs.declared.machine.Wish.{Wish}

@@ -14,7 +14,7 @@ use Rattle.jls_check.specs.declared.threads.Live.{Live}
 use Rattle.jls_check.specs.declared.threads.ThreadRecord.{ThreadRecord}
 use Rattle.jls_check.specs.declared.monitors.Held.{Held}
 use Rattle.jls_check.specs.declared.monitors.ObjectRecord.{ObjectRecord}
-use Rattle.jls_check.specs.LiveThreads.{LiveThreads, live_in, live_of, owned_in, owned_of, with_live, with_owned_in, with_owned, lost, gained, does_wait, waiting_count}
+use Rattle.jls_check.specs.LiveThreads.{LiveThreads, live_in, live_of, owned_in, owned_of, with_live, with_owned_in, with_owned, owning_one_less, owning_one_more, does_wait, waiting_count}
 use Rattle.jls_check.specs.Monitors.{untouched, kept_at, waiting_in, with_waiting, with_monitor_held, left, joined, HasWaiter, is_owned_by, has_owner, owned_count}
 use Rattle.jls_check.proofs.Counts.{count-same, count-set}
 
@@ -75,21 +75,21 @@ abbrev pub mine : Option ThreadId → ThreadId → ℕ
 mine a u = cond (is_owned_by a u) 1 0
 
 module _ (l : LiveThreads) where
-  pub live-lost : (a : Option ThreadId) (u : ThreadId) → live_of (lost l a) u ≡ live_of l u
-  live-lost None u = refl
-  live-lost (Some t) u = live-with_owned l t (owned_of l t - 1) u
+  pub live-owning_one_less : (a : Option ThreadId) (u : ThreadId) → live_of (owning_one_less l a) u ≡ live_of l u
+  live-owning_one_less None u = refl
+  live-owning_one_less (Some t) u = live-with_owned l t (owned_of l t - 1) u
 
-  pub live-gained : (a : Option ThreadId) (u : ThreadId) → live_of (gained l a) u ≡ live_of l u
-  live-gained None u = refl
-  live-gained (Some t) u = live-with_owned l t (owned_of l t + 1) u
+  pub live-owning_one_more : (a : Option ThreadId) (u : ThreadId) → live_of (owning_one_more l a) u ≡ live_of l u
+  live-owning_one_more None u = refl
+  live-owning_one_more (Some t) u = live-with_owned l t (owned_of l t + 1) u
 
-  pub waiting-lost : (a : Option ThreadId) (o : ObjectId) → waiting_count (lost l a) o ≡ waiting_count l o
-  waiting-lost None o = refl
-  waiting-lost (Some t) o = waiting-with_owned l t (owned_of l t - 1) o
+  pub waiting-owning_one_less : (a : Option ThreadId) (o : ObjectId) → waiting_count (owning_one_less l a) o ≡ waiting_count l o
+  waiting-owning_one_less None o = refl
+  waiting-owning_one_less (Some t) o = waiting-with_owned l t (owned_of l t - 1) o
 
-  pub waiting-gained : (a : Option ThreadId) (o : ObjectId) → waiting_count (gained l a) o ≡ waiting_count l o
-  waiting-gained None o = refl
-  waiting-gained (Some t) o = waiting-with_owned l t (owned_of l t + 1) o
+  pub waiting-owning_one_more : (a : Option ThreadId) (o : ObjectId) → waiting_count (owning_one_more l a) o ≡ waiting_count l o
+  waiting-owning_one_more None o = refl
+  waiting-owning_one_more (Some t) o = waiting-with_owned l t (owned_of l t + 1) o
 
   -- who owns something is live
   pub owner_lives : (t : ThreadId) → 1 ≤ owned_of l t → IsSome (live_of l t)
@@ -99,39 +99,39 @@ module _ (l : LiveThreads) where
       by None h = absurd (omega (arith, h))
       by (Some r) h = refl
 
-  pub owned-lost : (a : Option ThreadId) (u : ThreadId) → MatchOption a (Unit {0}) (λ t. 1 ≤ owned_of l t) → owned_of (lost l a) u + mine a u ≡ owned_of l u
-  owned-lost None u h = omega arith
-  owned-lost (Some t) u h = at (cases_eq u.0 t.0)
+  pub owned-owning_one_less : (a : Option ThreadId) (u : ThreadId) → MatchOption a (Unit {0}) (λ t. 1 ≤ owned_of l t) → owned_of (owning_one_less l a) u + mine a u ≡ owned_of l u
+  owned-owning_one_less None u h = omega arith
+  owned-owning_one_less (Some t) u h = at (cases_eq u.0 t.0)
     where
-      changed : owned_of (lost l (Some t)) u ≡ (if u.0 == t.0 then owned_of l t - 1 else owned_of l u)
+      changed : owned_of (owning_one_less l (Some t)) u ≡ (if u.0 == t.0 then owned_of l t - 1 else owned_of l u)
       changed = owned-with_owned l t (owned_of l t - 1) (owner_lives t h) u
 
-      at : (u.0 ≡ t.0) ⊎ (u.0 ≡ t.0 → ⊥) → owned_of (lost l (Some t)) u + mine (Some t) u ≡ owned_of l u
+      at : (u.0 ≡ t.0) ⊎ (u.0 ≡ t.0 → ⊥) → owned_of (owning_one_less l (Some t)) u + mine (Some t) u ≡ owned_of l u
       at (inl same) =
-          let less : owned_of (lost l (Some t)) u ≡ owned_of l t - 1 = rw (eq-eqb u.0 t.0 same) at changed in
+          let less : owned_of (owning_one_less l (Some t)) u ≡ owned_of l t - 1 = rw (eq-eqb u.0 t.0 same) at changed in
           let me : mine (Some t) u ≡ 1 = ap (λ (b : Bool). cond b 1 0) (eq-eqb t.0 u.0 (sym same)) in
           let one : owned_of l u ≡ owned_of l t = ap (λ (k : ℕ). owned_in (map.get l k)) same in
           omega (arith, h)
       at (inr other) =
-          let kept : owned_of (lost l (Some t)) u ≡ owned_of l u = rw (ne_eqb u.0 t.0 other) at changed in
+          let kept : owned_of (owning_one_less l (Some t)) u ≡ owned_of l u = rw (ne_eqb u.0 t.0 other) at changed in
           let me : mine (Some t) u ≡ 0 = ap (λ (b : Bool). cond b 1 0) (ne_eqb t.0 u.0 (λ e. other (sym e))) in
           omega arith
 
-  pub owned-gained : (a : Option ThreadId) (u : ThreadId) → MatchOption a (Unit {0}) (λ t. IsSome (live_of l t)) → owned_of (gained l a) u ≡ owned_of l u + mine a u
-  owned-gained None u h = omega arith
-  owned-gained (Some t) u h = at (cases_eq u.0 t.0)
+  pub owned-owning_one_more : (a : Option ThreadId) (u : ThreadId) → MatchOption a (Unit {0}) (λ t. IsSome (live_of l t)) → owned_of (owning_one_more l a) u ≡ owned_of l u + mine a u
+  owned-owning_one_more None u h = omega arith
+  owned-owning_one_more (Some t) u h = at (cases_eq u.0 t.0)
     where
-      changed : owned_of (gained l (Some t)) u ≡ (if u.0 == t.0 then owned_of l t + 1 else owned_of l u)
+      changed : owned_of (owning_one_more l (Some t)) u ≡ (if u.0 == t.0 then owned_of l t + 1 else owned_of l u)
       changed = owned-with_owned l t (owned_of l t + 1) h u
 
-      at : (u.0 ≡ t.0) ⊎ (u.0 ≡ t.0 → ⊥) → owned_of (gained l (Some t)) u ≡ owned_of l u + mine (Some t) u
+      at : (u.0 ≡ t.0) ⊎ (u.0 ≡ t.0 → ⊥) → owned_of (owning_one_more l (Some t)) u ≡ owned_of l u + mine (Some t) u
       at (inl same) =
-          let more : owned_of (gained l (Some t)) u ≡ owned_of l t + 1 = rw (eq-eqb u.0 t.0 same) at changed in
+          let more : owned_of (owning_one_more l (Some t)) u ≡ owned_of l t + 1 = rw (eq-eqb u.0 t.0 same) at changed in
           let me : mine (Some t) u ≡ 1 = ap (λ (b : Bool). cond b 1 0) (eq-eqb t.0 u.0 (sym same)) in
           let one : owned_of l u ≡ owned_of l t = ap (λ (k : ℕ). owned_in (map.get l k)) same in
           omega arith
       at (inr other) =
-          let kept : owned_of (gained l (Some t)) u ≡ owned_of l u = rw (ne_eqb u.0 t.0 other) at changed in
+          let kept : owned_of (owning_one_more l (Some t)) u ≡ owned_of l u = rw (ne_eqb u.0 t.0 other) at changed in
           let me : mine (Some t) u ≡ 0 = ap (λ (b : Bool). cond b 1 0) (ne_eqb t.0 u.0 (λ e. other (sym e))) in
           omega arith
 

@@ -15,7 +15,8 @@ use Rattle.fast_path.specs.declared.calls.Call.TheVariants as call
 use Rattle.step_core.specs.declared.machine.Doing.{Doing}
 use Rattle.step_core.specs.declared.machine.Doing.TheVariants.{Idle, Wants, Waits, Back, Has}
 use Rattle.step_core.specs.declared.machine.Move.TheVariants as move
-use Rattle.step_core.specs.Machine.{State, Thread, Steps, Is, Calls, now_is, with_reply, OwnedBy, NobodyWaits, IsAnswer, waits_on, after_interrupt, yes_or_no}
+use Rattle.fat_monitor.specs.Replies.{yes_or_no}
+use Rattle.step_core.specs.Machine.{State, Thread, Steps, Is, Calls, now_is, with_reply, OwnedBy, NobodyWaits, IsAnswer, waits_on, after_interrupt}
 use Rattle.step_core.proofs.Facts.Moves.{one_object}
 use Rattle.jls_check.specs.declared.threads.Live.{Live}
 use Rattle.jls_check.specs.declared.threads.ThreadRecord.{ThreadRecord}
@@ -23,7 +24,7 @@ use Rattle.jls_check.specs.declared.monitors.ObjectRecord.{ObjectRecord}
 use Rattle.jls_check.specs.LiveThreads.{live_in, live_of, does_wait, some_waits}
 use Rattle.jls_check.specs.Monitors.{untouched, is_owned_by, owns_one}
 use Rattle.jls_check.specs.MachineState.{MachineState, state, put, put_reply, held_at, thread_of, owns, IsSound}
-use Rattle.jls_check.specs.Taking.{wanted, notify_from, notify_at, notify_for, notify, notify_nobody_for, notify_nobody, notify_all_for, notify_all, interrupt_at, interrupt_for, interrupt, ask_at, ask_for, ask, end_for, end, all_left}
+use Rattle.jls_check.specs.Taking.{wanted, notify_from, notify_at, notify_for, notify, notify_nobody_for, notify_nobody, notify_all_for, notify_all, interrupt_at, interrupt_for, interrupt, ask_at, ask_for, ask, end_thread_for, end_thread, all_left}
 use Rattle.jls_check.proofs.Counts.{none_passes, one_passes}
 use Rattle.jls_check.proofs.States.{state-put}
 use Rattle.jls_check.proofs.AllBack.{state-all_left}
@@ -240,18 +241,18 @@ module _ (v : MachineState) (t : ThreadId) where
       by true = refl
       by false = refl
 
-  pub end_right : (w : MachineState) → end v t ≡ Some w → Steps (state v) (move.End t) (state w)
+  pub end_right : (w : MachineState) → end_thread v t ≡ Some w → Steps (state v) (move.End t) (state w)
   end_right w e = by (wanted v t) refl e
     where
-      by : (q : Option (Bool × Call)) → wanted v t ≡ q → end_for v t q ≡ Some w → Steps (state v) (move.End t) (state w)
+      by : (q : Option (Bool × Call)) → wanted v t ≡ q → end_thread_for v t q ≡ Some w → Steps (state v) (move.End t) (state w)
       by None h e = absurd (cc)
       by (Some (flag, call.End)) h e =
           let g = guarded_not (owns_one v.objects t) (put_reply v t flag reply.Ended) w e in
           (flag, calls v t flag call.End h, (λ o own. never (owns_one v.objects t) (owned_one v.objects o.0 (owner_yes (held_at v o).owner t own)) g.0), answer v t flag reply.Ended w g.1)
       by (Some (flag, c)) h e = absurd (cc)
 
-  pub end_only : (s : State) → end v t ≡ None → Steps (state v) (move.End t) s → ⊥
+  pub end_only : (s : State) → end_thread v t ≡ None → Steps (state v) (move.End t) s → ⊥
   end_only s e p =
-      let r = one_owned v.objects (refused_not (owns_one v.objects t) (put_reply v t p.0 reply.Ended) (ap (end_for v t) (sym (wanted_as v t p.0 call.End p.1)) ∙ e)) in
+      let r = one_owned v.objects (refused_not (owns_one v.objects t) (put_reply v t p.0 reply.Ended) (ap (end_thread_for v t) (sym (wanted_as v t p.0 call.End p.1)) ∙ e)) in
       let o : ObjectId = record { 0 = r.0 } in
       p.2 o (owner_is (held_at v o).owner t r.1)

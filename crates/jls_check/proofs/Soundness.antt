@@ -20,11 +20,11 @@ use Rattle.jls_check.specs.declared.threads.Live.{Live}
 use Rattle.jls_check.specs.declared.threads.ThreadRecord.{ThreadRecord}
 use Rattle.jls_check.specs.declared.monitors.Held.{Held}
 use Rattle.jls_check.specs.declared.monitors.ObjectRecord.{ObjectRecord}
-use Rattle.jls_check.specs.LiveThreads.{LiveThreads, live_in, live_of, with_live, owned_in, owned_of, without_live, lost, gained, does_wait, some_waits, waiting_count}
+use Rattle.jls_check.specs.LiveThreads.{LiveThreads, live_in, live_of, with_live, owned_in, owned_of, without_live, owning_one_less, owning_one_more, does_wait, some_waits, waiting_count}
 use Rattle.jls_check.specs.Monitors.{untouched, kept_at, waiting_in, HasWaiter, CanCountOneMore, is_owned_by, has_owner, owns_one, owned_count}
 use Rattle.jls_check.specs.MachineState.{MachineState, put, with_held, held_at, left_by, IsSound, MayOwn}
 use Rattle.jls_check.proofs.Counts.{one, one_in, count-insert, count-remove, count-empty, count-le, count-has, count-none}
-use Rattle.jls_check.proofs.Kept.{live-with_live, owned-with_live, live-lost, waiting-lost, waiting-gained, owned-lost, owned-gained, mine, waiting-with_monitor_held, owned-left, owned-joined, waiting-left, waiting-joined}
+use Rattle.jls_check.proofs.Kept.{live-with_live, owned-with_live, live-owning_one_less, waiting-owning_one_less, waiting-owning_one_more, owned-owning_one_less, owned-owning_one_more, mine, waiting-with_monitor_held, owned-left, owned-joined, waiting-left, waiting-joined}
 use Rattle.jls_check.proofs.States.{live-with_held, length-left_by, length-put, written, live-written, all_untouched}
 
 -- ---- what the counts say
@@ -67,9 +67,9 @@ module _ (v : MachineState) (sound : IsSound v) where
   owner_there_as o there r e =
       subst (λ (x : ObjectRecord). MatchOption x.held.owner (Unit {0}) (λ t. 1 ≤ owned_of v.threads t)) (sym (e ∙ get_or_default v.objects o.0 r untouched there)) (owner_there o there)
 
-  pub few_owned : (a : Option ThreadId) (t : ThreadId) → MatchOption a (Unit {0}) (λ u. 1 ≤ owned_of v.threads u) → owned_of (lost v.threads a) t < 2 ^ 32
+  pub few_owned : (a : Option ThreadId) (t : ThreadId) → MatchOption a (Unit {0}) (λ u. 1 ≤ owned_of v.threads u) → owned_of (owning_one_less v.threads a) t < 2 ^ 32
   few_owned a t h =
-      let less = owned-lost v.threads a t h in
+      let less = owned-owning_one_less v.threads a t h in
       let kept = sound.owned t in
       let le = count_by-le-length (has_owner t) v.objects in
       let few = sound.few in
@@ -245,12 +245,12 @@ without_sound v t flag sound ends = record {
 
 module _ (v : MachineState) (o : ObjectId) (h : Held) (sound : IsSound v) (may : MatchOption h.owner (Unit {0}) (λ t. MayOwn v.threads t)) where
   -- the new owner is live, after the old one has lost the object too
-  new_lives : MatchOption h.owner (Unit {0}) (λ t. IsSome (live_of (lost v.threads (held_at v o).owner) t))
+  new_lives : MatchOption h.owner (Unit {0}) (λ t. IsSome (live_of (owning_one_less v.threads (held_at v o).owner) t))
   new_lives = by h.owner may
     where
-      by : (a : Option ThreadId) → MatchOption a (Unit {0}) (λ t. MayOwn v.threads t) → MatchOption a (Unit {0}) (λ t. IsSome (live_of (lost v.threads (held_at v o).owner) t))
+      by : (a : Option ThreadId) → MatchOption a (Unit {0}) (λ t. MayOwn v.threads t) → MatchOption a (Unit {0}) (λ t. IsSome (live_of (owning_one_less v.threads (held_at v o).owner) t))
       by None m = tt
-      by (Some t) m = rw (live-lost v.threads (held_at v o).owner t, m.1) refl
+      by (Some t) m = rw (live-owning_one_less v.threads (held_at v o).owner t, m.1) refl
 
   -- and has not ended
   not_mine : (u : ThreadId) (f : Bool) → live_of v.threads u ≡ Some (record { flag = f; act = Has Ended }) → mine h.owner u ≡ 0
@@ -268,8 +268,8 @@ module _ (v : MachineState) (o : ObjectId) (h : Held) (sound : IsSound v) (may :
   module _ (there : o.0 < length v.objects) where
     owned_change : (u : ThreadId) → owned_of (written v o h).threads u + mine (held_at v o).owner u ≡ owned_of v.threads u + mine h.owner u
     owned_change u =
-        let less = owned-lost v.threads (held_at v o).owner u (owner_there v sound o there) in
-        let more = owned-gained (lost v.threads (held_at v o).owner) h.owner u new_lives in
+        let less = owned-owning_one_less v.threads (held_at v o).owner u (owner_there v sound o there) in
+        let more = owned-owning_one_more (owning_one_less v.threads (held_at v o).owner) h.owner u new_lives in
         omega arith
 
     ended_written : (u : ThreadId) (f : Bool) → live_of (written v o h).threads u ≡ Some (record { flag = f; act = Has Ended }) → owned_of (written v o h).threads u ≡ 0
@@ -294,7 +294,7 @@ module _ (v : MachineState) (o : ObjectId) (h : Held) (sound : IsSound v) (may :
           few = subst (λ n. n < 2 ^ 32) (sym long) sound.few;
           exist = λ u x e. subst (λ n. ActExists n x.act) (sym long) (sound.exist u x (sym (live-written v o h u) ∙ e));
           ended = ended_written;
-          waiting = λ p. waiting-with_monitor_held v.objects o h p ∙ sound.waiting p ∙ sym (waiting-gained (lost v.threads (held_at v o).owner) h.owner p ∙ waiting-lost v.threads (held_at v o).owner p);
+          waiting = λ p. waiting-with_monitor_held v.objects o h p ∙ sound.waiting p ∙ sym (waiting-owning_one_more (owning_one_less v.threads (held_at v o).owner) h.owner p ∙ waiting-owning_one_less v.threads (held_at v o).owner p);
           owned = owned_written;
         }
 
@@ -307,25 +307,25 @@ module _ (v : MachineState) (o : ObjectId) (h : Held) (sound : IsSound v) (may :
 
 -- the old owner has lost the object, and whoever gains it owns fewer than a number of 32 bits
 pub few_gained : (v : MachineState) (o : ObjectId) (a : Option ThreadId) → IsSound v → o.0 < length v.objects
-    → MatchOption a (Unit {0}) (λ t. owned_of (lost v.threads (held_at v o).owner) t < 2 ^ 32)
+    → MatchOption a (Unit {0}) (λ t. owned_of (owning_one_less v.threads (held_at v o).owner) t < 2 ^ 32)
 few_gained v o None sound there = tt
 few_gained v o (Some t) sound there = few_owned v sound (held_at v o).owner t (owner_there v sound o there)
 
 -- the same, of the records that were read and written
 pub few_gained_as : (v : MachineState) (o : ObjectId) (a : Option ThreadId) → IsSound v → o.0 < length v.objects → (r : ObjectRecord) → r ≡ get_or v.objects o.0 r
-    → (l : LiveThreads) → l ≡ lost v.threads r.held.owner → MatchOption a (Unit {0}) (λ t. owned_of l t < 2 ^ 32)
+    → (l : LiveThreads) → l ≡ owning_one_less v.threads r.held.owner → MatchOption a (Unit {0}) (λ t. owned_of l t < 2 ^ 32)
 few_gained_as v o a sound there r e l k =
     subst (λ (m : LiveThreads). MatchOption a (Unit {0}) (λ t. owned_of m t < 2 ^ 32))
-    (sym (k ∙ ap (λ (x : ObjectRecord). lost v.threads x.held.owner) (e ∙ get_or_default v.objects o.0 r untouched there))) (few_gained v o a sound there)
+    (sym (k ∙ ap (λ (x : ObjectRecord). owning_one_less v.threads x.held.owner) (e ∙ get_or_default v.objects o.0 r untouched there))) (few_gained v o a sound there)
 
 pub written_sound_as : (v : MachineState) (o : ObjectId) (h : Held) → IsSound v → MatchOption h.owner (Unit {0}) (λ t. MayOwn v.threads t) → o.0 < length v.objects
-    → (r q : ObjectRecord) → r ≡ get_or v.objects o.0 r → q ≡ get_or v.objects o.0 q → (l : LiveThreads) → l ≡ gained (lost v.threads r.held.owner) h.owner
+    → (r q : ObjectRecord) → r ≡ get_or v.objects o.0 r → q ≡ get_or v.objects o.0 q → (l : LiveThreads) → l ≡ owning_one_more (owning_one_less v.threads r.held.owner) h.owner
     → IsSound (record v { threads = l; objects = slice_set v.objects o.0 (record { held = h; waiting = q.waiting }) })
 written_sound_as v o h sound may there r q e f l k =
     subst IsSound (λ i. record v { threads = threads i; objects = slice_set v.objects o.0 (record { held = h; waiting = waits_there i }) }) (written_sound v o h sound may there)
   where
-    threads : gained (lost v.threads (held_at v o).owner) h.owner ≡ l
-    threads = sym (k ∙ ap (λ (x : ObjectRecord). gained (lost v.threads x.held.owner) h.owner) (e ∙ get_or_default v.objects o.0 r untouched there))
+    threads : owning_one_more (owning_one_less v.threads (held_at v o).owner) h.owner ≡ l
+    threads = sym (k ∙ ap (λ (x : ObjectRecord). owning_one_more (owning_one_less v.threads x.held.owner) h.owner) (e ∙ get_or_default v.objects o.0 r untouched there))
 
     waits_there : waiting_in v.objects o ≡ q.waiting
     waits_there = sym (ap (λ (x : ObjectRecord). x.waiting) (f ∙ get_or_default v.objects o.0 q untouched there))

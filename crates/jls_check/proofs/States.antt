@@ -17,10 +17,10 @@ use Rattle.jls_check.specs.declared.threads.Live.{Live}
 use Rattle.jls_check.specs.declared.threads.ThreadRecord.{ThreadRecord}
 use Rattle.jls_check.specs.declared.monitors.Held.{Held}
 use Rattle.jls_check.specs.declared.monitors.ObjectRecord.{ObjectRecord}
-use Rattle.jls_check.specs.LiveThreads.{live_in, live_of, without_live, lost, gained}
+use Rattle.jls_check.specs.LiveThreads.{live_in, live_of, without_live, owning_one_less, owning_one_more}
 use Rattle.jls_check.specs.Monitors.{untouched, kept_at, waiting_in, with_monitor_held}
 use Rattle.jls_check.specs.MachineState.{MachineState, state, put, with_held, held_at, left_by, thread_of, monitor_of}
-use Rattle.jls_check.proofs.Kept.{live-with_live, live-lost, live-gained, held-left, held-joined, length-left, length-joined}
+use Rattle.jls_check.proofs.Kept.{live-with_live, live-owning_one_less, live-owning_one_more, held-left, held-joined, length-left, length-joined}
 
 mapped_if : {X Y : Type 0} (f : X → Y) (b : Bool) (x y : Option X) → option_map f (if b then x else y) ≡ (if b then option_map f x else option_map f y)
 mapped_if f true x y = refl
@@ -66,10 +66,10 @@ state-without v t =
 -- ---- a monitor
 
 abbrev pub written : MachineState → ObjectId → Held → MachineState
-written v o h = record v { threads = gained (lost v.threads (held_at v o).owner) h.owner; objects = with_monitor_held v.objects o h }
+written v o h = record v { threads = owning_one_more (owning_one_less v.threads (held_at v o).owner) h.owner; objects = with_monitor_held v.objects o h }
 
 pub live-written : (v : MachineState) (o : ObjectId) (h : Held) (u : ThreadId) → live_of (written v o h).threads u ≡ live_of v.threads u
-live-written v o h u = live-gained (lost v.threads (held_at v o).owner) h.owner u ∙ live-lost v.threads (held_at v o).owner u
+live-written v o h u = live-owning_one_more (owning_one_less v.threads (held_at v o).owner) h.owner u ∙ live-owning_one_less v.threads (held_at v o).owner u
 
 -- the shown state has the monitor that was written
 pub state-with_held : (v : MachineState) (o : ObjectId) (h : Held) → o.0 < length v.objects → state (with_held v o h) ≡ with_monitor (state v) o (monitor_of h)

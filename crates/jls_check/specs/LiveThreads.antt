@@ -44,14 +44,14 @@ abbrev pub with_owned : LiveThreads → ThreadId → ℕ → LiveThreads
 with_owned l t n = with_owned_in l t n (map.get l t.0)
 
 -- the same, where this thread, if there is one, owns one object less
-abbrev pub lost : LiveThreads → Option ThreadId → LiveThreads
-lost l None = l
-lost l (Some t) = with_owned l t (owned_of l t - 1)
+abbrev pub owning_one_less : LiveThreads → Option ThreadId → LiveThreads
+owning_one_less l None = l
+owning_one_less l (Some t) = with_owned l t (owned_of l t - 1)
 
 -- and one more
-abbrev pub gained : LiveThreads → Option ThreadId → LiveThreads
-gained l None = l
-gained l (Some t) = with_owned l t (owned_of l t + 1)
+abbrev pub owning_one_more : LiveThreads → Option ThreadId → LiveThreads
+owning_one_more l None = l
+owning_one_more l (Some t) = with_owned l t (owned_of l t + 1)
 
 abbrev pub does_wait : ObjectId → ThreadRecord → Bool
 does_wait o r = waits_on r.live.act o

@@ -11,7 +11,8 @@ use Rattle.step_core.specs.Machine.{State, Thread, Monitor, ActExists}
 use Rattle.jls_check.specs.declared.threads.Live.{Live}
 use Rattle.jls_check.specs.declared.monitors.Held.{Held}
 use Rattle.jls_check.specs.declared.monitors.ObjectRecord.{ObjectRecord}
-use Rattle.jls_check.specs.LiveThreads.{LiveThreads, live_of, with_live, owned_of, lost, gained, waiting_count}
+use Rattle.jls_check.specs.LiveThreads.{LiveThreads, live_of, with_live, owned_of, owning_one_less, owning_one_more}
+use Rattle.jls_check.specs.LiveThreads.{waiting_count}
 use Rattle.jls_check.specs.Monitors.{kept_at, waiting_in, with_monitor_held, left, joined, is_owned_by, owned_count}
 
 -- the live threads; what is kept of each object, by its number; and the moment, in nanoseconds
@@ -60,7 +61,7 @@ abbrev pub with_held : MachineState → ObjectId → Held → MachineState
 with_held v o h =
     if nat_lt o.0 (length v.objects)
     then record v {
-      threads = gained (lost v.threads (held_at v o).owner) h.owner;
+      threads = owning_one_more (owning_one_less v.threads (held_at v o).owner) h.owner;
       objects = with_monitor_held v.objects o h;
     }
     else v

@@ -15,7 +15,8 @@ use Rattle.step_core.specs.declared.machine.Doing.{Doing}
 use Rattle.step_core.specs.declared.machine.Doing.TheVariants.{Idle, Wants, Waits, Back, Has}
 use Rattle.step_core.specs.declared.machine.Move.{Move}
 use Rattle.step_core.specs.declared.machine.Move.TheVariants as move
-use Rattle.step_core.specs.Machine.{owner_only, over_at, flag_back, reply_of, yes_or_no, after_interrupt}
+use Rattle.fat_monitor.specs.Replies.{yes_or_no}
+use Rattle.step_core.specs.Machine.{owner_only, over_at, flag_back, reply_of, after_interrupt}
 use Rattle.jls_check.specs.declared.threads.Live.{Live}
 use Rattle.jls_check.specs.declared.monitors.Held.{Held}
 use Rattle.jls_check.specs.declared.machine.Wish.{Wish}
@@ -58,9 +59,10 @@ attach_at v t (Some x) = None
 abbrev pub attach : MachineState → ThreadId → Option MachineState
 attach v t = attach_at v t (live_of v.threads t)
 
-abbrev pub attached : Bool → MachineState → ThreadId → AfterMove
-attached true v t = taken v (attach v t)
-attached false v t = record { answer = Err (if is_some (live_of v.threads t) then Broken else Memory); after = v }
+abbrev pub after_attach_move : Bool → MachineState → ThreadId → AfterMove
+after_attach_move true v t = taken v (attach v t)
+after_attach_move false v t =
+    record { answer = Err (if is_some (live_of v.threads t) then Broken else Memory); after = v }
 
 -- the object that a call names, if it names one, exists
 abbrev pub exists_below : ℕ → Option ObjectId → Bool
@@ -83,26 +85,26 @@ abbrev pub make_call : MachineState → ThreadId → Call → Option MachineStat
 make_call v t c = make_call_at v t c (live_of v.threads t)
 
 -- replies have distinct numbers
-abbrev pub reply_number : Reply → ℕ
-reply_number reply.Entered = 0
-reply_number reply.Exited = 1
-reply_number reply.WaitOver = 2
-reply_number reply.Interrupted = 3
-reply_number reply.Notified = 4
-reply_number reply.Yes = 5
-reply_number reply.No = 6
-reply_number reply.Done = 7
-reply_number reply.Ended = 8
-reply_number reply.IllegalMonitorState = 9
-reply_number reply.IllegalArgument = 10
-reply_number (reply.Refused cause.NoMonitor) = 11
-reply_number (reply.Refused cause.Memory) = 12
-reply_number (reply.Refused cause.TooDeep) = 13
-reply_number (reply.Refused cause.StillOwner) = 14
-reply_number (reply.Refused cause.NoThread) = 15
+abbrev pub distinct_number : Reply → ℕ
+distinct_number reply.Entered = 0
+distinct_number reply.Exited = 1
+distinct_number reply.WaitOver = 2
+distinct_number reply.Interrupted = 3
+distinct_number reply.Notified = 4
+distinct_number reply.Yes = 5
+distinct_number reply.No = 6
+distinct_number reply.Done = 7
+distinct_number reply.Ended = 8
+distinct_number reply.IllegalMonitorState = 9
+distinct_number reply.IllegalArgument = 10
+distinct_number (reply.Refused cause.NoMonitor) = 11
+distinct_number (reply.Refused cause.Memory) = 12
+distinct_number (reply.Refused cause.TooDeep) = 13
+distinct_number (reply.Refused cause.StillOwner) = 14
+distinct_number (reply.Refused cause.NoThread) = 15
 
 abbrev pub has_reply : Doing → Reply → Bool
-has_reply (Has q) r = reply_number q == reply_number r
+has_reply (Has q) r = distinct_number q == distinct_number r
 has_reply Idle r = false
 has_reply (Wants c) r = false
 has_reply (Waits o n d) r = false
@@ -358,16 +360,17 @@ refuse_for v t why None = None
 refuse_for v t why (Some (flag, c)) =
     if may_refuse v t c why then Some (put_reply v t flag (reply.Refused why)) else None
 
-abbrev pub refuse : MachineState → ThreadId → Cause → Option MachineState
-refuse v t why = refuse_for v t why (wanted v t)
+abbrev pub refuse_call : MachineState → ThreadId → Cause → Option MachineState
+refuse_call v t why = refuse_for v t why (wanted v t)
 
-abbrev pub end_for : MachineState → ThreadId → Option (Bool × Call) → Option MachineState
-end_for v t None = None
-end_for v t (Some (flag, call.End)) = if owns_one v.objects t then None else Some (put_reply v t flag reply.Ended)
-end_for v t (Some (flag, c)) = None
+abbrev pub end_thread_for : MachineState → ThreadId → Option (Bool × Call) → Option MachineState
+end_thread_for v t None = None
+end_thread_for v t (Some (flag, call.End)) =
+    if owns_one v.objects t then None else Some (put_reply v t flag reply.Ended)
+end_thread_for v t (Some (flag, c)) = None
 
-abbrev pub end : MachineState → ThreadId → Option MachineState
-end v t = end_for v t (wanted v t)
+abbrev pub end_thread : MachineState → ThreadId → Option MachineState
+end_thread v t = end_thread_for v t (wanted v t)
 
 abbrev pub time : MachineState → ℕ → Option MachineState
 time v now = if nat_lt now v.moment then None else Some (record v { moment = now })
@@ -393,11 +396,11 @@ takes v (move.Expire t) = expire v t
 takes v (move.Spurious t) = wake v t
 takes v (move.Relock t) = relock v t
 takes v (move.Ask t) = ask v t
-takes v (move.Refuse t why) = refuse v t why
-takes v (move.End t) = end v t
+takes v (move.Refuse t why) = refuse_call v t why
+takes v (move.End t) = end_thread v t
 takes v (move.Time now) = time v now
 
 -- the answer to a move, where there is room for one more thread, or is none
-abbrev pub answered : Bool → MachineState → Move → AfterMove
-answered room v (move.Attach t) = attached room v t
-answered room v m = taken v (takes v m)
+abbrev pub after_move : Bool → MachineState → Move → AfterMove
+after_move room v (move.Attach t) = after_attach_move room v t
+after_move room v m = taken v (takes v m)

@@ -1,7 +1,8 @@
 //! What the call and the act of a thread say.
 
 ghost use Rattle.std.specs.Prelude.{◌≡◌, ◌↔◌, IsTrue};
-ghost use Rattle.step_core.specs.Machine.{owner_only, after_interrupt, yes_or_no};
+ghost use Rattle.fat_monitor.specs.Replies.{yes_or_no};
+ghost use Rattle.step_core.specs.Machine.{owner_only, after_interrupt};
 ghost use Rattle.jls_check.specs.Taking.{has_reply};
 
 use fast_path::Call;

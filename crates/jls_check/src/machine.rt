@@ -10,7 +10,8 @@ ghost use Rattle.jls_check.specs.MachineState.{state, held_at, owns, IsSound};
 ghost use Rattle.jls_check.specs.Judging.{IsUnlawful, IsAttach};
 ghost use Rattle.jls_check.specs.declared.faults.MoveFault.TheVariants.{Broken, Memory as NoMemory};
 ghost use Rattle.fast_path.specs.Calls.{object_of};
-ghost use Rattle.jls_check.specs.Taking.{answered, wanted, wish, is_good, exists_below, may_refuse};
+ghost use Rattle.jls_check.specs.Taking.{after_move, exists_below, is_good, may_refuse};
+ghost use Rattle.jls_check.specs.Taking.{wanted, wish};
 
 use crate::MoveFault;
 use crate::monitors::{Held, ObjectRecord, UNTOUCHED};
@@ -92,7 +93,7 @@ impl Machine {
     fn advance(&mut self, made: Move) -> Result<(), MoveFault>
         ensures was { IsSound self.old }
         ensures exact { (room : Bool)
-            × (record { answer = result; after = self.new } ≡ answered room self.old made) }
+            × (record { answer = result; after = self.new } ≡ after_move room self.old made) }
     {
         // A use of a field, by which the state is known to be sound.
         let _ = &self.moment;

@@ -2,7 +2,7 @@
 
 ghost use Rattle.std.specs.Prelude.{◌≡◌, Bool};
 ghost use Rattle.jls_check.specs.Taking as rows;
-ghost use Rattle.jls_check.specs.Taking.{taken, attached};
+ghost use Rattle.jls_check.specs.Taking.{taken, after_attach_move};
 
 use crate::MoveFault;
 use crate::acts::{has, owner_only, yes_or_no};
@@ -17,7 +17,8 @@ use step_core::Doing;
 impl Machine {
     pub(crate) fn attach(&mut self, thread: ThreadId) -> Result<(), MoveFault>
         ensures { (room : Bool)
-            × (record { answer = result; after = self.new } ≡ attached room self.old thread) }
+            × (record { answer = result; after = self.new }
+            ≡ after_attach_move room self.old thread) }
     {
         if self.threads.get(thread).is_some() {
             return Err(MoveFault::Broken);
@@ -147,7 +148,7 @@ impl Machine {
 
     pub(crate) fn refuse(&mut self, thread: ThreadId, cause: Cause) -> Result<(), MoveFault>
         ensures { record { answer = result; after = self.new }
-            ≡ taken self.old (rows.refuse self.old thread cause) }
+            ≡ taken self.old (rows.refuse_call self.old thread cause) }
     {
         let Some((flag, call)) = self.wanted(thread) else {
             return Err(MoveFault::Broken);
@@ -161,7 +162,7 @@ impl Machine {
 
     pub(crate) fn end(&mut self, thread: ThreadId) -> Result<(), MoveFault>
         ensures { record { answer = result; after = self.new }
-            ≡ taken self.old (rows.end self.old thread) }
+            ≡ taken self.old (rows.end_thread self.old thread) }
     {
         let Some((flag, Call::End)) = self.wanted(thread) else {
             return Err(MoveFault::Broken);

@@ -4,8 +4,8 @@ ghost use Rattle.std.specs.Prelude.{◌≡◌, ◌+◌, ◌≤◌, ◌<◌, ◌^
 ghost use Rattle.std.specs.Prelude.{MatchOption};
 ghost use Rattle.std.specs.FinMap as map;
 ghost use Rattle.step_core.specs.Machine.{after_notify_all};
-ghost use Rattle.jls_check.specs.LiveThreads.{live_of, owned_of, with_live, without_live, lost};
-ghost use Rattle.jls_check.specs.LiveThreads.{gained, all_back};
+ghost use Rattle.jls_check.specs.LiveThreads.{live_of, owned_of, with_live, without_live};
+ghost use Rattle.jls_check.specs.LiveThreads.{owning_one_less, owning_one_more, all_back};
 
 use fat_monitor::Why;
 use lock_word::{Memory, ObjectId, ThreadId};
@@ -119,7 +119,7 @@ impl Threads {
     /// This thread, if there is one, owns one object less.
     pub(crate) fn lose(&mut self, owner: Option<ThreadId>)
         requires { MatchOption owner (Unit {0}) (λ t. 1 ≤ owned_of self.old t) }
-        ensures { self.new ≡ lost self.old owner }
+        ensures { self.new ≡ owning_one_less self.old owner }
     {
         let Some(thread) = owner else { return };
         let Some(kept) = self.kept(thread) else {
@@ -132,7 +132,7 @@ impl Threads {
     /// This thread, if there is one, owns one object more.
     pub(crate) fn gain(&mut self, owner: Option<ThreadId>)
         requires { MatchOption owner (Unit {0}) (λ t. owned_of self.old t < 2 ^ 32) }
-        ensures { self.new ≡ gained self.old owner }
+        ensures { self.new ≡ owning_one_more self.old owner }
     {
         let Some(thread) = owner else { return };
         let Some(kept) = self.kept(thread) else {
