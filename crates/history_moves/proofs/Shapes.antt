@@ -11,7 +11,8 @@ use Rattle.fast_path.specs.declared.calls.Call.{Call as CallData}
 use Rattle.fast_path.specs.declared.calls.Call.TheVariants as call
 use Rattle.step_core.specs.declared.machine.Move.{Move}
 use Rattle.step_core.specs.declared.machine.Move.TheVariants as move
-use Rattle.history_moves.specs.Moves.{data_of, members_of_move, of_number, of_signed, cause_name, plain_members, bare_members, object_members, target_members, wait_members, reply_members, refused_members, notify_members, refuse_members, Fits}
+use Rattle.fat_monitor.specs.Names.{cause_name}
+use Rattle.history_moves.specs.Moves.{data_of, members_of_move, of_number, of_signed, plain_members, bare_members, object_members, target_members, wait_members, reply_members, refused_members, notify_members, refuse_members, Fits}
 use Rattle.history_moves.specs.Members.{count, AreInOrder, text_at, signed_at, small_signed, millis_at, nanos_at, thread_number, object_at, chosen_at}
 use Rattle.history_moves.specs.Words.{among, plain_moves, object_calls, target_calls, bare_calls, short_replies, plain_from}
 use Rattle.history_moves.specs.Reading.{object_call, target_call, wait_call, is_targeted, call_of, call_from, reply_from, cause_at, refused_from, notify_from, refuse_from, thread_move}

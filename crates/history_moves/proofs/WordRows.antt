@@ -10,7 +10,8 @@ use Rattle.fat_monitor.specs.declared.actions.Reply.{Reply}
 use Rattle.fast_path.specs.declared.calls.Call.{Call as CallData}
 use Rattle.step_core.specs.declared.machine.Move.{Move}
 use Rattle.step_core.specs.declared.machine.Move.TheVariants as move
-use Rattle.history_moves.specs.Moves.{members_of_move, cause_name, plain_members, bare_members, object_members, target_members, reply_members, call_members, Fits, CallFits}
+use Rattle.fat_monitor.specs.Names.{cause_name}
+use Rattle.history_moves.specs.Moves.{members_of_move, plain_members, bare_members, object_members, target_members, reply_members, call_members, Fits, CallFits}
 use Rattle.history_moves.specs.Members.{text_at}
 use Rattle.history_moves.specs.Words.{Row, among, plain_moves, object_calls, target_calls, bare_calls, short_replies, causes}
 use Rattle.history_moves.specs.Reading.{cause_at}

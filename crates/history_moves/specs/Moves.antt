@@ -4,8 +4,7 @@ use Rattle.serde_json.specs.Data.{Data, Num, null, number, unsigned, negative, s
 use Rattle.serde_json.specs.Data.{no_members}
 use Rattle.lock_word.specs.declared.ThreadId.{ThreadId}
 use Rattle.lock_word.specs.declared.ObjectId.{ObjectId}
-use Rattle.fat_monitor.specs.declared.actions.Cause.{Cause}
-use Rattle.fat_monitor.specs.declared.actions.Cause.TheVariants as cause
+use Rattle.fat_monitor.specs.Names.{cause_name}
 use Rattle.fat_monitor.specs.declared.actions.Reply.TheVariants as reply
 use Rattle.fast_path.specs.declared.calls.Call.{Call as CallData}
 use Rattle.fast_path.specs.declared.calls.Call.TheVariants as call
@@ -25,13 +24,6 @@ of_signed z = number (num_of_signed z)
 abbrev pub of_chosen : Option ThreadId → Data
 of_chosen None = null
 of_chosen (Some u) = of_number u.0
-
-abbrev pub cause_name : Cause → List ℕ
-cause_name cause.NoMonitor = codes "NoMonitor"
-cause_name cause.Memory = codes "Memory"
-cause_name cause.TooDeep = codes "TooDeep"
-cause_name cause.StillOwner = codes "StillOwner"
-cause_name cause.NoThread = codes "NoThread"
 
 -- ---- the shapes of a move, keys in order
 

@@ -1,7 +1,7 @@
 //! What the words stand for that name moves, calls, replies and causes.
 
 ghost use Rattle.std.specs.Prelude.{◌≡◌, option_map};
-ghost use Rattle.history_moves.specs.Moves.{cause_name};
+ghost use Rattle.fat_monitor.specs.Names.{cause_name};
 ghost use Rattle.history_moves.specs.Words.{among, object_calls, target_calls, bare_calls};
 ghost use Rattle.history_moves.specs.Words.{short_replies, causes, plain_from};
 
