@@ -2,11 +2,10 @@
 use Rattle.std.specs.declared.option.Option.TheVariants.{None}
 use mathlib.Core.Path.{refl, sym, subst}
 use mathlib.Core.List.{List, [], ◌∷◌, ◌++◌}
-use lib.Dec.{T}
 use seplogic.Ra.Ura.{Ura}
 use mir.Syntax.{Fn}
 use mir.MapTy.{inst_fn}
-use mir.Val.{Val, vstruct, vcons, vnil, has_ty, WT}
+use mir.Val.{Val}
 use base.Logic.{SProp, ent}
 use base.Fml.{ftrue, fsep, flft}
 use contract.BorrowLft.{◌⊑◌}
@@ -24,33 +23,25 @@ use types.ByLocal.{alloc_all, pass_all, free_all, look_at, get, sets}
 use denote.Exit.{no}
 use denote.RattleType.{RattleType, Valss}
 use denote.Builtin.{RawPtr}
-use denote.RawPtr.{Ptr, block_ptr, null_ptr, ptr_val}
+use denote.RawPtr.{Ptr, null_ptr, ptr_val}
 use denote.Signature.{plain}
 use denote.Steps.{nothing}
 use denote.Struct.Struct.{within}
 use denote.Struct.Owning.{shape, to}
-use Rattle.std.proofs.Common.{arith}
 use denote.Triple.Clauses.{Ended, Clauses}
 use denote.Triple.Spec.{triple_of}
 use denote.Triple.Table.{entered}
 use denote.Triple.Walked.{says, Stays, stay_dropped, walk_of, ends_at, walk_Meets}
-use Rattle.core.proofs.alloc.Calls.{α, Fits, handle_tells, Goes-blank}
-use Rattle.std_alloc.proofs.ResultValues.{and_tt}
-use Rattle.std_alloc.proofs.BoxSteps.Form.{Bx, R, P, args, box_ty}
+use Rattle.core.proofs.alloc.Calls.{handle_tells, Goes-blank}
+use Rattle.std_alloc.proofs.BoxSteps.Form.{Bx, R, P, args}
+use Rattle.c_slots.proofs.Erased.{both, both_typed}
 use Rattle.c_slots.specs.contracts.maybe.MaybeParts as maybe
 use Rattle.c_slots.specs.contracts.maybe.MaybeParts.none as F
 use Rattle.c_slots.specs.contracts.maybe.MaybeParts.none.Key.{name as #self}
 use Rattle.c_slots.proofs.maybe.MaybeParts.none.Statement as stated
 use Rattle.c_slots.proofs.maybe.MaybeParts.none.Code as code
 
-abbrev both : Ptr → Val → Val
-both p h = vstruct (vcons (ptr_val p) (vcons h vnil))
-
 module _ (E : Bx) where
-  made_good : (p : Ptr) (h : Val) → Fits E.al h → T (has_ty (box_ty E) (both p h)) × WT (both p h)
-  made_good (block_ptr b o) h fa = (and_tt (has_ty (α E.al) h) fa.0, (tt, (fa.1, tt)))
-  made_good null_ptr h fa = (and_tt (has_ty (α E.al) h) fa.0, (record { fits = omega arith }, (fa.1, tt)))
-
   abbrev fn' : Fn
   fn' = inst_fn (args E) code.function
 
@@ -82,7 +73,7 @@ module _ (E : Bx) where
         let Γ : List (Item 𝓤) = ‵ ((P E).own_val a (h ∷ [])) ∷ ts ∷ [] in
         by ! (subst (λ (us : List Val). ent 𝓤 (types.Kit.⋆ 𝓛 Γ) (WpFn 𝓤 H 𝓣.C 𝓣.Λ fn' us Post)) (sym (λ i. ea i ++ []))
         (qed 𝓛 Γ ∵ enter ! 𝓣.C 𝓣.Λ fn' (h ∷ []) _ $ alloc_all ! (λ ls. pass_all ! refl (fa, tt) $
-        sets ! (of_opd ! (get ! refl)) refl fa $ sets ! (agg ! (and_then ! (lit ! tt) (and_then ! (get ! refl) (no_more !)))) refl (made_good p h fa) $ returns ! (look_at ! 0 refl) $ free_all ! refl $
+        sets ! (of_opd ! (get ! refl)) refl fa $ sets ! (agg ! (and_then ! (lit ! tt) (and_then ! (get ! refl) (no_more !)))) refl (both_typed E p h fa) $ returns ! (look_at ! 0 refl) $ free_all ! refl $
         nothing ! $ nothing ! $ move ! (2 ∷ 0 ∷ []) $ fjoin ! $ feq_i ! (List Val) (ptr_val p ∷ []) (ptr_val p ∷ []) refl $ fjoin ! $ feq_i ! (List Val) (w ∷ []) (w ∷ []) refl $ fjoin ! $
         fpack ! (Valss (RawPtr ∷ P E ∷ [])) (within (shape (maybe.the_type (R E) (P E) E.al.g)) (to (maybe.the_type (R E) (P E) E.al.g) made) (w ∷ [])) (ptr_val p ∷ [], (h ∷ [], tt)) $ fjoin ! $
         suffices ! _ (ends_at 𝓛 ended stayed held z w made (tt, tt) (tt, tt)) $ says ! refl $
