@@ -16,7 +16,7 @@ use Rattle.fat_monitor.proofs.MonitorEffects.{length-outcome_of, limit-outcome_o
 use Rattle.live_turns.specs.declared.deeds.Deed.TheVariants.{Bound, Acted, Ticked}
 use Rattle.live_turns.specs.Log.{IsForBook, IsThreadOf, Replays, with_threads, nothing_bound}
 use Rattle.live_turns.specs.Places.{kept_by, kept_by_threads, kept_of, need, gained, freed}
-use Rattle.live_turns.specs.Book.{BookState, IsBook, opening, free_of, with_deed, after_bind, after_act, after_tick}
+use Rattle.live_turns.specs.Book.{BookState, IsBook, opening_book, free_of, with_deed, after_bind, after_act, after_tick}
 use Rattle.live_turns.proofs.Weights.{kept-bound_with}
 use Rattle.live_turns.proofs.Keeping.{KeepsWith, keeps_with}
 use Rattle.live_turns.proofs.Refusals.{done_after, done_answer}
@@ -37,8 +37,8 @@ kept-nothing_bound passes limit =
     let monitors : (with_threads passes (opened limit)).monitors ≡ [] = monitors-with_threads passes (opened limit) in
     rw monitors (omega arith)
 
-pub IsBook-opening : (monitors passes places : ℕ) → IsSound (nothing_bound passes monitors) → IsBook (opening monitors passes places)
-IsBook-opening monitors passes places sound = record {
+pub IsBook-opening_book : (monitors passes places : ℕ) → IsSound (nothing_bound passes monitors) → IsBook (opening_book monitors passes places)
+IsBook-opening_book monitors passes places sound = record {
   replays = ap (λ (n : ℕ). nothing_bound passes n) (limit-with_threads passes (opened monitors));
   fits = let none = kept-nothing_bound passes monitors in omega arith;
   attached = attached-with_threads passes monitors;

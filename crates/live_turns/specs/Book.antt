@@ -28,8 +28,8 @@ pub record BookState : Type 0 where
   pub places : ℕ
 
 -- the book at the start
-abbrev pub opening : ℕ → ℕ → ℕ → BookState
-opening monitors passes places =
+abbrev pub opening_book : ℕ → ℕ → ℕ → BookState
+opening_book monitors passes places =
     record { fats = nothing_bound passes monitors; log = []; passes = passes; places = places }
 
 -- the objects of the bound monitors, by number

@@ -6,7 +6,7 @@ ghost use Rattle.fat_monitor.specs.FatState.{IsSound, object_at, post_of};
 ghost use Rattle.fat_monitor.specs.Acting.{MayAct, NamesBound};
 ghost use Rattle.live_turns.specs.Log.{IsThreadOf, IsForBook, Replays, nothing_bound};
 ghost use Rattle.live_turns.specs.Places.{kept_of, need};
-ghost use Rattle.live_turns.specs.Book.{opening, bindings, free_of, after_bind, after_act, after_tick, bind_answer, act_answer, tick_answer, is_torn};
+ghost use Rattle.live_turns.specs.Book.{bindings, free_of, opening_book, after_bind, after_act, after_tick, bind_answer, act_answer, tick_answer, is_torn};
 
 use crate::places::{freed, gained};
 use crate::{BookFault, Deed, LiveFault, Logged};
@@ -92,7 +92,7 @@ impl Book {
     pub fn new(alloc: Global, monitors: u32, passes: u16, places: u32) -> Result<Book, Memory>
         requires monitors { monitors ≤ 8388608 }
         requires passes { passes ≤ 64 }
-        ensures { IfOk result (λ b. b ≡ opening monitors passes places) }
+        ensures { IfOk result (λ b. b ≡ opening_book monitors passes places) }
     {
         Ok(Book {
             fats: new_fats(alloc, monitors, passes)?,
