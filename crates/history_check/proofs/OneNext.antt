@@ -12,7 +12,8 @@ use Rattle.step_core.specs.declared.machine.Doing.{Doing}
 use Rattle.step_core.specs.declared.machine.Doing.TheVariants.{Idle, Wants, Waits, Back}
 use Rattle.step_core.specs.declared.machine.Move.{Move}
 use Rattle.step_core.specs.declared.machine.Move.TheVariants as move
-use Rattle.step_core.specs.Machine.{State, Thread, Monitor, Steps, Is, Calls, with_reply, now_is, with_thread, with_monitor, free, held, over_at, all_notified, with_interrupt, yes_or_no, flag_back, reply_of, IsAnswer}
+use Rattle.fat_monitor.specs.Replies.{yes_or_no}
+use Rattle.step_core.specs.Machine.{State, Thread, Monitor, Steps, Is, Calls, with_reply, now_is, with_thread, with_monitor, free, held, over_at, all_notified, with_interrupt, flag_back, reply_of, IsAnswer}
 
 abbrev some_thread : Bool → Doing → Option Thread
 some_thread f a = Some (record { flag = f; act = a })

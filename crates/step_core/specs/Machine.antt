@@ -11,6 +11,7 @@ use Rattle.fat_monitor.specs.declared.actions.Reply.{Reply}
 use Rattle.fat_monitor.specs.declared.actions.Reply.TheVariants as reply
 use Rattle.fat_monitor.specs.declared.actions.Why.{Why}
 use Rattle.fat_monitor.specs.declared.actions.Why.TheVariants as why
+use Rattle.fat_monitor.specs.Replies.{yes_or_no}
 use Rattle.fast_path.specs.declared.calls.Call.{Call}
 use Rattle.fast_path.specs.declared.calls.Call.TheVariants as call
 use Rattle.fast_path.specs.Calls.{object_of}
@@ -78,10 +79,6 @@ Calls s t flag c = Is s t flag (Wants c)
 -- the same state, but t has this reply
 abbrev pub with_reply : State → ThreadId → Bool → Reply → State
 with_reply s t flag r = now_is s t flag (Has r)
-
-abbrev pub yes_or_no : Bool → Reply
-yes_or_no true = reply.Yes
-yes_or_no false = reply.No
 
 -- the arguments of a wait are in their ranges (JLS 17.2.1)
 abbrev pub AreGood : ℤ → ℤ → Type 0

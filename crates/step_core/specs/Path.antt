@@ -20,7 +20,6 @@ use Rattle.fast_path.specs.declared.Next.TheVariants as next
 use Rattle.fast_path.specs.Table.{next_of}
 use Rattle.step_core.specs.declared.places.Place.{Place}
 use Rattle.step_core.specs.declared.places.Place.TheVariants.{Idle, InCall, Ending, AtPost}
-use Rattle.step_core.specs.declared.places.Stage.{Stage}
 use Rattle.step_core.specs.declared.places.Stage.TheVariants.{Begun, Taking, Storing, Binding, Acting, Won, Bound}
 use Rattle.step_core.specs.declared.places.Stage.TheVariants.{Inflated, Direct}
 use Rattle.step_core.specs.declared.steps.Atomic.{Atomic}

@@ -35,8 +35,8 @@ use Rattle.step_core.specs.declared.places.Place.{Place}
 use Rattle.step_core.specs.World.{WorldState, is_own, place_at, lock_at}
 use Rattle.step_core.specs.Sound.{IsSound, FittingStage}
 use Rattle.step_core.specs.Ready.{IsOwnAction}
-use Rattle.step_core.specs.Did.{is_wait, did_action}
-use Rattle.step_core.specs.Go.{AfterGo, with_go, after_load, after_take, after_store, after_bind, after_publish, after_told, after_act, after_look_as, after_stage, action_on, action_about, entering, bind_cause, fats_changed}
+use Rattle.step_core.specs.Did.{is_wait}
+use Rattle.step_core.specs.Go.{AfterGo, with_go, after_load, after_take, after_bind, after_publish, after_told, after_act, after_look_as, after_stage, action_on, action_about, entering, bind_cause, fats_changed}
 use Rattle.step_core.specs.Step.{AfterStep, accept, after_go, after_look, step_of}
 use Rattle.step_core.specs.Path.{IsBindCause, IsTold, IsAct, Follows, point_acted, point_after, point_of, StepsOnPath}
 use Rattle.step_core.proofs.Facts.Cases.{ended_as, did_return, go_cases}

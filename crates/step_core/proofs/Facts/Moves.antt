@@ -17,7 +17,8 @@ use Rattle.step_core.specs.declared.machine.Doing.{Doing}
 use Rattle.step_core.specs.declared.machine.Doing.TheVariants.{Idle, Wants, Waits, Back, Has}
 use Rattle.step_core.specs.declared.machine.Move.{Move}
 use Rattle.step_core.specs.declared.machine.Move.TheVariants as move
-use Rattle.step_core.specs.Machine.{State, Thread, Monitor, Steps, Run, free, held, with_thread, with_monitor, Is, now_is, with_reply, OwnedBy, Unowned, Calls, MayRefuse, AreGood, NobodyWaits, all_notified, after_notify_all, with_interrupt, yes_or_no, reply_of, flag_back, owner_only}
+use Rattle.fat_monitor.specs.Replies.{yes_or_no}
+use Rattle.step_core.specs.Machine.{State, Thread, Monitor, Steps, Run, free, held, with_thread, with_monitor, Is, now_is, with_reply, OwnedBy, Unowned, Calls, MayRefuse, AreGood, NobodyWaits, all_notified, after_notify_all, with_interrupt, reply_of, flag_back, owner_only}
 
 -- objects with one number are one object
 pub one_object : (p o : ObjectId) → p.0 ≡ o.0 → p ≡ o

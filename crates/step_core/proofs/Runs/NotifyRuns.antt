@@ -21,7 +21,7 @@ use Rattle.fat_monitor.specs.declared.actions.Action.TheVariants as action
 use Rattle.fat_monitor.specs.declared.actions.Post.{Post}
 use Rattle.fat_monitor.specs.declared.actions.Post.TheVariants.{Out, Entering, Waiting, Back, Granted}
 use Rattle.fat_monitor.specs.FatState.{FatState, monitor_at, is_owned_by, IsFair, IsProper, post_of, post_at, flag_at, first_of, line_of, with_post}
-use Rattle.fat_monitor.specs.Acting.{answers, after_grant, after_sending_back, after_removals}
+use Rattle.fat_monitor.specs.Acting.{answers, after_sending_back, after_removals}
 use Rattle.fat_monitor.proofs.Effects.{post-with_post_same, post-with_post_other, first_waiting, nobody_waiting, called_back, post-after_removals, monitors-after_removals, moment-after_removals}
 use Rattle.fat_monitor.proofs.Flags.{flags-after_removals}
 use Rattle.fast_path.specs.declared.calls.Operation.{Operation}
