@@ -7,7 +7,7 @@ use Rattle.std.specs.Str.{bytes_eq}
 use Rattle.std.proofs.lemmas.Bool.{ltb-false}
 use Rattle.std.proofs.lemmas.List.Sums.{prefix_len-le-length}
 use Rattle.std.proofs.lemmas.Option.{cond_some}
-use Rattle.history.specs.NameLists.{is_named, number_of, with_name}
+use Rattle.history_text.specs.Names.{is_named, position_of, with_name}
 
 -- the test by which a set finds a name
 abbrev pub is_text : List ℕ → String Global → Bool
@@ -17,12 +17,12 @@ pub any_named : (name : List ℕ) (texts : List (String Global)) → list_any (i
 any_named name [] = refl
 any_named name (x ∷ xs) = ap (λ (b : Bool). bytes_eq name (string_bytes x) || b) (any_named name xs)
 
-pub position_named : (name : List ℕ) (texts : List (String Global)) → position_or_len (is_text name) texts ≡ number_of (map string_bytes texts) name
+pub position_named : (name : List ℕ) (texts : List (String Global)) → position_or_len (is_text name) texts ≡ position_of (map string_bytes texts) name
 position_named name [] = refl
 position_named name (x ∷ xs) = ap (λ (n : ℕ). cond (not (bytes_eq name (string_bytes x))) (1 + n) 0) (position_named name xs)
 
 -- where a set finds a name, that is its number
-pub found_number : (name : List ℕ) (texts : List (String Global)) (n : ℕ) → Some n ≡ position (is_text name) texts → n ≡ number_of (map string_bytes texts) name
+pub found_number : (name : List ℕ) (texts : List (String Global)) (n : ℕ) → Some n ≡ position (is_text name) texts → n ≡ position_of (map string_bytes texts) name
 found_number name texts n e = sym (cond_some _ _ _ (sym e)).1 ∙ position_named name texts
 
 past_end : (b : Bool) (m n : ℕ) → nat_lt m n ≡ b → m ≤ n → None ≡ cond b (Some m) None → n ≡ m
@@ -30,7 +30,7 @@ past_end true m n is fits e = absurd (cc)
 past_end false m n is fits e = let above : n ≤ m = ltb-false m n is in omega (arith, above, fits)
 
 -- where it finds none, the number is that of the next one
-pub absent_number : (name : List ℕ) (texts : List (String Global)) → None ≡ position (is_text name) texts → length texts ≡ number_of (map string_bytes texts) name
+pub absent_number : (name : List ℕ) (texts : List (String Global)) → None ≡ position (is_text name) texts → length texts ≡ position_of (map string_bytes texts) name
 absent_number name texts e = past_end (nat_lt (position_or_len (is_text name) texts) (length texts)) _ _ refl (prefix_len-le-length (λ text. not (is_text name text)) texts) e ∙ position_named name texts
 
 pub names_stay : (names : List (List ℕ)) (name : List ℕ) → is_named names name ≡ true → names ≡ with_name names name

@@ -7,13 +7,14 @@ use Rattle.fast_path.specs.declared.calls.Call.TheVariants.{Enter, Exit, Wait, N
 use Rattle.fast_path.specs.declared.calls.Call.TheVariants.{Interrupted, IsInterrupted, End}
 use Rattle.history_text.specs.declared.lines.Call.{Call as CallLine}
 use Rattle.history_text.specs.declared.lines.Call.TheVariants as line
-use Rattle.history.specs.NameLists.{NameLists, number_of, with_name}
+use Rattle.history_text.specs.Names.{position_of, with_name}
+use Rattle.history.specs.NameLists.{NameLists}
 
 abbrev object_in : NameLists → List ℕ → ObjectId
-object_in names name = record { 0 = number_of names.objects name }
+object_in names name = record { 0 = position_of names.objects name }
 
 abbrev pub thread_in : NameLists → List ℕ → ThreadId
-thread_in names name = record { 0 = number_of names.threads name }
+thread_in names name = record { 0 = position_of names.threads name }
 
 -- the call that a line has, where these names were there before
 abbrev pub call_in : NameLists → CallLine → Call

@@ -10,7 +10,8 @@ use Rattle.step_core.specs.declared.steps.Request.{Request}
 use Rattle.step_core.specs.declared.steps.Request.TheVariants as request
 use Rattle.step_core.specs.declared.steps.Step.TheVariants as step
 use Rattle.history.specs.Calls.{call_in, names_with, thread_in, with_thread}
-use Rattle.history.specs.NameLists.{NameLists, is_named, with_name}
+use Rattle.history_text.specs.Names.{is_named, with_name}
+use Rattle.history.specs.NameLists.{NameLists}
 
 -- an object has a new name, and there is room for it
 abbrev pub MayTake : List (List ℕ) → Line → Type 0

@@ -2,7 +2,8 @@
 
 ghost use Rattle.std.specs.Prelude.{◌≡◌, ◌≤◌, ◌++◌, ◌∷◌, [], false, length, map, string_bytes};
 ghost use Rattle.std.specs.Prelude.{IfOk, OnErr, OnOk};
-ghost use Rattle.history.specs.NameLists.{is_named, name_at, number_of, with_name};
+ghost use Rattle.history_text.specs.Names.{is_named, position_of, with_name};
+ghost use Rattle.history.specs.NameLists.{name_at};
 
 use history_text::Name;
 use indexmap::IndexSet;
@@ -53,7 +54,7 @@ impl Names {
     /// The thread with a name, which gets the next number where the name is new.
     pub(crate) fn thread(&mut self, name: &Name<'_>) -> Result<ThreadId, Memory>
         ensures found { IfOk result (λ thread.
-            thread ≡ record { 0 = number_of self.old.threads name.now }) }
+            thread ≡ record { 0 = position_of self.old.threads name.now }) }
         ensures noted { OnOk result (self.new
             ≡ record self.old { threads = with_name self.old.threads name.now }) }
         ensures err { OnErr result (self.new ≡ self.old) }
@@ -76,7 +77,7 @@ impl Names {
     /// The object with a name. A name that was not declared stands for the number of the objects,
     /// which no object has.
     pub(crate) fn object(&self, name: &Name<'_>) -> ObjectId
-        ensures { result ≡ record { 0 = number_of self.now.objects name.now } }
+        ensures { result ≡ record { 0 = position_of self.now.objects name.now } }
     {
         ObjectId(position_of(&self.objects, name.as_str()))
     }
@@ -108,7 +109,7 @@ fn number_of_name(alloc: Global, names: &mut IndexSet<String>, word: &str) -> Re
     requires { length names.old.keys ≤ MOST_NAMES }
     ensures fits { length names.new.keys ≤ MOST_NAMES }
     ensures number { IfOk result (λ number.
-        number ≡ number_of (map string_bytes names.old.keys) word.now) }
+        number ≡ position_of (map string_bytes names.old.keys) word.now) }
     ensures names { OnOk result (map string_bytes names.new.keys
         ≡ with_name (map string_bytes names.old.keys) word.now) }
     ensures err { OnErr result (map string_bytes names.new.keys ≡ map string_bytes names.old.keys) }
@@ -127,7 +128,7 @@ fn number_of_name(alloc: Global, names: &mut IndexSet<String>, word: &str) -> Re
 /// The number of a name among some: for one that is not there, how many there are.
 fn position_of(names: &IndexSet<String>, word: &str) -> u32
     requires { length names.now.keys ≤ MOST_NAMES }
-    ensures { result ≡ number_of (map string_bytes names.now.keys) word.now }
+    ensures { result ≡ position_of (map string_bytes names.now.keys) word.now }
 {
     match names.get_index_of(word) {
         Some(number) => number as u32,

@@ -6,7 +6,7 @@ ghost use Rattle.lock_word.specs.Layout.{greatest_index};
 ghost use Rattle.history_text.specs.Lines.{IsScript};
 ghost use Rattle.history_text.specs.Noted.{object_names, with_object};
 ghost use Rattle.history.specs.Calls.{call_in, names_with};
-ghost use Rattle.history.specs.NameLists.{is_named};
+ghost use Rattle.history_text.specs.Names.{is_named};
 ghost use Rattle.history.specs.Numbering.{FollowsWorld, IsWorldWith, MayTake, low_bytes};
 ghost use Rattle.history.specs.Numbering.{names_in_step, names_of, names_then, no_names};
 ghost use Rattle.history.specs.Numbering.{request_in, requests_of, requests_then, with_low};

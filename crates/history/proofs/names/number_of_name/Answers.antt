@@ -1,5 +1,5 @@
 use Rattle.std.proofs.Common.{◌∙◌, sym, ap, map, string_bytes}
-use Rattle.history.specs.NameLists.{number_of}
+use Rattle.history_text.specs.Names.{position_of}
 use Rattle.history.proofs.Namings.{any_named, found_number, names_kept, names_stay, position_named}
 use Rattle.history.proofs.names.number_of_name.Goals as goal
 
@@ -12,7 +12,7 @@ returns-in-Some-clause-names c =
 
 pub returns-clause-number : goal.returns-clause-number
 returns-clause-number c =
-    c.in_ok-number.ensures.index ∙ position_named (string_bytes c.in_ok-name.name) c.args.names.now.keys ∙ ap (number_of (map string_bytes c.args.names.now.keys)) c.in_ok-name.ensures.ok
+    c.in_ok-number.ensures.index ∙ position_named (string_bytes c.in_ok-name.name) c.args.names.now.keys ∙ ap (position_of (map string_bytes c.args.names.now.keys)) c.in_ok-name.ensures.ok
 
 pub returns-clause-names : goal.returns-clause-names
 returns-clause-names c =
