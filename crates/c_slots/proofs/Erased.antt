@@ -1,4 +1,4 @@
--- What a static library needs for a struct of its own that is stored as a box is: an erased pointer, and the allocator.
+-- The functions of a struct that is stored as a box is, but with an erased pointer, such as C may keep.
 --     moved     a function that takes one such value apart, and makes another of its two fields, which owns the same
 --     emptied   a function that makes one of the null pointer, which owns nothing
 use mathlib.Core.Path.{◌≡◌, refl, sym, subst}
@@ -105,7 +105,7 @@ module _ (E : Bx) where
     abbrev stayed : Stays ended.signature.params ended.kept
     stayed = (stay_dropped (plain (λ _. Old)) yes, tt)
 
-    -- what the new value is: it owns what a box does, and so did the old one
+    -- a box that owns what the old value does, and a new value that owns the same
     pub record Moves (told : Old.Denot → New.Denot → Type 0) (d : Old.Denot) : Type 1 where
       pub box : D E
       pub made : New.Denot
