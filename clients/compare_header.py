@@ -20,7 +20,7 @@ TABLES = {
     "call_kind": ("plain_call", "Writing"),
     "doing_kind": ("plain_doing", "Showing"),
     "why": ("why_number", "Showing"),
-    "step_kind": ("step_of", "Reading"),
+    "step_kind": ("step_from_numbers", "Reading"),
     "standing": ("standing_number", "Live"),
     "deed_kind": ("deed_by", "Ends"),
 }
@@ -59,7 +59,7 @@ def constant(name):
 # In a definition by tests: the number that is tested, and what it names.
 TEST = re.compile(r"(?:p\.kind|\bn) == (\d+) then (?:Some )?\(?(?:step\.)?(\w+)")
 # In a definition by cases: the number that a case has.
-NUMBER = re.compile(r"\bkind = (\d+)|\b(?:of_thread|call_about|on_word) (\d+)|^ (\d+)$")
+NUMBER = re.compile(r"\bkind = (\d+)|\b(?:of_thread|plain_call_about|on_word) (\d+)|^ (\d+)$")
 
 
 def spec_numbers(function, module):

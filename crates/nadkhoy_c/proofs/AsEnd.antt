@@ -1,31 +1,22 @@
--- The seal and its parts own what a box at the same types owns.
-use mir.Syntax.{impl, tnil, dnil}
-use mathlib.Core.List.{[]}
-use denote.Signature.{Slot, plain}
+-- The end of a service in a box, its parts, and the struct that C may keep in their place.
 use denote.RattleType.{RattleType}
 use Rattle.std_alloc.proofs.BoxSteps.Form.{Bx}
 use Rattle.std_heap.specs.contracts.Global as Heap
-use Rattle.std_heap.specs.contracts.GlobalAllocator.TheImpl.{ghosts, dict}
-use Rattle.std_heap.proofs.Global.TheLaws as heap
+use Rattle.std_heap.specs.contracts.GlobalAllocator.TheImpl.{ghosts}
 use Rattle.live_seats.specs.contracts.ending.ServiceEnd as Home
 use Rattle.live_seats.proofs.ending.ServiceEnd.TheLaws as home
 use Rattle.c_slots.specs.contracts.parts.Parts as Parts
-use Rattle.nadkhoy_c.specs.contracts.ends.raw.RawEnd as Sealed
-
-abbrev pub E : Bx
-E = record { row = Home.the_row; laws = home.the_row_laws; al = record { row = Heap.the_row; laws = heap.the_row_laws; g = ghosts; d = dict; drops = impl [] tnil dnil } }
-
-abbrev pub FromParts : Slot 0
-FromParts = plain (λ _. Parts.the_row Home.the_row Heap.the_row ghosts)
-
-abbrev pub FromSeal : Slot 0
-FromSeal = plain (λ _. Sealed.the_row)
-
-abbrev pub Seal : RattleType
-Seal = Sealed.the_row
+use Rattle.c_slots.proofs.Erased.{on_heap}
+use Rattle.nadkhoy_c.specs.contracts.ends.raw.RawEnd as Raw
 
 abbrev pub Value : Type 0
 Value = Home.the_row.Denot
 
-abbrev pub FromHeap : Slot 0
-FromHeap = plain (λ _. Heap.the_row)
+abbrev pub E : Bx
+E = on_heap Home.the_row home.the_row_laws
+
+abbrev pub Open : RattleType
+Open = Parts.the_row Home.the_row Heap.the_row ghosts
+
+abbrev pub Sealed : RattleType
+Sealed = Raw.the_row

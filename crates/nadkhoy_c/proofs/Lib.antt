@@ -1,4 +1,4 @@
-mod AsBox
+mod AsWorld
 mod AsEnd
 mod Options
 mod Steps

@@ -1,4 +1,4 @@
--- The names of the logic that the walks of a seat use.
+-- What the walks of a seat share: the names of the logic that they use, and the laws of a crew's marker type.
 pub use Rattle.std.proofs.Common.{◌≡◌, ℕ, List, [], ◌∷◌, refl, sym, ap}
 pub use Rattle.std.proofs.raw_atomic.Walks.{proved}
 pub use Rattle.std_alloc.proofs.Pairs.{pair_Typed}
@@ -26,3 +26,12 @@ pub use types.Kit.{‵, raw, ◌⊛◌, some, later, ◌$◌, ◌∵◌, !, qed,
 pub use types.Part.{agg, whole, sub}
 pub use types.Run.{enter, of_opd, stop, fld, no_more, and_then, returns}
 pub use types.Tokens.{lft_new, lft_end}
+pub use Rattle.c_slots.proofs.Erased.{some_is}
+use denote.Param.Laws.{Laws, arg_laws}
+use mir.Syntax.{ty_struct, tnil}
+use Rattle.core.proofs.marker.Brand.TheLaws as Brand
+use Rattle.core.specs.contracts.marker.Brand as brand
+use Rattle.nadkhoy_c.specs.RawSeat.{marker}
+
+abbrev pub marker_laws : Laws marker
+marker_laws = arg_laws (ty_struct [] tnil) no brand.the_row Brand.the_row_laws refl

@@ -12,7 +12,7 @@ use Rattle.nadkhoy_c.specs.declared.plain.PlainDid.{PlainDid}
 use Rattle.nadkhoy_c.specs.declared.status.Status.{Status}
 use Rattle.nadkhoy_c.specs.declared.status.Status.TheVariants as status
 use Rattle.nadkhoy_c.specs.Statuses.{status_number}
-use Rattle.nadkhoy_c.specs.Reading.{step_of, split_of}
+use Rattle.nadkhoy_c.specs.Reading.{step_from_numbers, split_of}
 use Rattle.nadkhoy_c.specs.Writing.{plain_did}
 
 -- the status, the world in the slot, and what stands where the call writes
@@ -26,30 +26,30 @@ abbrev pub refused : {X : Type 0} → Status → Option WorldState → X → Aft
 refused s w x = record { answer = status_number s; world = w; out = x }
 
 -- an accepted step writes what it did, and a refused one writes nothing
-abbrev pub answered : PlainDid → core.AfterStep → AfterCall PlainDid
-answered x a = elim a.answer [
+abbrev pub call_after_step : PlainDid → core.AfterStep → AfterCall PlainDid
+call_after_step x a = elim a.answer [
   | Ok d ↦ record { answer = 0; world = Some a.after; out = plain_did d }
   | Err f ↦ record { answer = fault_number f; world = Some a.after; out = x }
 ]
 
 abbrev pub step_as : Bool → WorldState → Option Step → PlainDid → AfterCall PlainDid
 step_as room w None x = refused status.NoStep (Some w) x
-step_as room w (Some s) x = answered x (core.step_of room w s)
+step_as room w (Some s) x = call_after_step x (core.step_of room w s)
 
 -- a step of the world in the slot; room is whether memory is granted
 abbrev pub after_step : Bool → Option WorldState → PlainStep → PlainDid → AfterCall PlainDid
 after_step room None p x = refused status.Closed None x
-after_step room (Some w) p x = step_as room w (step_of p) x
+after_step room (Some w) p x = step_as room w (step_from_numbers p) x
 
-abbrev pub relaid : ℕ → AfterRelayout → AfterCall ℕ
-relaid x a = elim a.answer [
+abbrev pub call_after_relayout : ℕ → AfterRelayout → AfterCall ℕ
+call_after_relayout x a = elim a.answer [
   | Ok n ↦ record { answer = 0; world = Some a.after; out = n }
   | Err f ↦ record { answer = relayout_fault_number f; world = Some a.after; out = x }
 ]
 
 abbrev pub relayout_as : Bool → WorldState → Option Split → ℕ → AfterCall ℕ
 relayout_as room w None x = refused status.NoSplit (Some w) x
-relayout_as room w (Some s) x = relaid x (after_relayout room w s)
+relayout_as room w (Some s) x = call_after_relayout x (after_relayout room w s)
 
 -- a relayout of the world in the slot
 abbrev pub after_relayout_call : Bool → Option WorldState → ℕ → ℕ → AfterCall ℕ

@@ -100,20 +100,20 @@ plain_action t a x = record (no_deed t) {
   cause = cause_told x;
 }
 
-abbrev pub on_monitor : PlainDeed → ℕ → PlainDeed
-on_monitor d m = record d { monitor = m }
+abbrev pub deed_on_monitor : PlainDeed → ℕ → PlainDeed
+deed_on_monitor d m = record d { monitor = m }
 
 abbrev pub about_thread : PlainDeed → ThreadId → PlainDeed
 about_thread d u = record d { target = u.0 }
 
 -- with the monitor that the action is on, the thread that it asks about, and the time of a wait
 abbrev pub with_numbers : PlainDeed → Action → PlainDeed
-with_numbers d (action.Enter m) = on_monitor d m
-with_numbers d (action.Exit m) = on_monitor d m
+with_numbers d (action.Enter m) = deed_on_monitor d m
+with_numbers d (action.Exit m) = deed_on_monitor d m
 with_numbers d (action.Wait m millis nanos) = record d { monitor = m; millis = millis; nanos = nanos }
-with_numbers d (action.Notify m) = on_monitor d m
-with_numbers d (action.NotifyAll m) = on_monitor d m
-with_numbers d (action.Holds m) = on_monitor d m
+with_numbers d (action.Notify m) = deed_on_monitor d m
+with_numbers d (action.NotifyAll m) = deed_on_monitor d m
+with_numbers d (action.Holds m) = deed_on_monitor d m
 with_numbers d (action.Interrupt u) = about_thread d u
 with_numbers d action.Interrupted = d
 with_numbers d (action.IsInterrupted u) = about_thread d u

@@ -17,7 +17,7 @@ use Rattle.nadkhoy_c.specs.declared.plain.PlainCall.{PlainCall}
 use Rattle.nadkhoy_c.specs.declared.plain.PlainTurned.{PlainTurned}
 use Rattle.nadkhoy_c.specs.declared.status.Status.TheVariants as status
 use Rattle.nadkhoy_c.specs.RawSeat.{HasServed}
-use Rattle.nadkhoy_c.specs.Reading.{call_of}
+use Rattle.nadkhoy_c.specs.Reading.{call_from_numbers}
 use Rattle.nadkhoy_c.specs.Statuses.{status_number}
 use Rattle.nadkhoy_c.specs.Writing.{reply_number, cause_of}
 
@@ -31,8 +31,8 @@ abbrev pub order_for : Option Call → Option Order
 order_for None = None
 order_for (Some c) = order_on (subject_of c)
 
-abbrev pub order_of : PlainCall → Option Order
-order_of p = order_for (call_of p)
+abbrev pub order_from_numbers : PlainCall → Option Order
+order_from_numbers p = order_for (call_from_numbers p)
 
 abbrev pub standing_number : Standing → ℕ
 standing_number (standing.Said r) = 1

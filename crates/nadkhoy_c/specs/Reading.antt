@@ -17,8 +17,8 @@ object n = record { 0 = n }
 abbrev pub thread : ℕ → ThreadId
 thread n = record { 0 = n }
 
-abbrev pub call_of : PlainCall → Option Call
-call_of p =
+abbrev pub call_from_numbers : PlainCall → Option Call
+call_from_numbers p =
     if p.kind == 1 then Some (call.Enter (object p.target))
     else (if p.kind == 2 then Some (call.Exit (object p.target))
     else (if p.kind == 3 then Some (call.Wait (object p.target) p.millis p.nanos)
@@ -36,10 +36,10 @@ abbrev pub begin_of : ThreadId → Option Call → Option Step
 begin_of t None = None
 begin_of t (Some c) = Some (step.Begin t c)
 
-abbrev pub step_of : PlainStep → Option Step
-step_of p =
+abbrev pub step_from_numbers : PlainStep → Option Step
+step_from_numbers p =
     if p.kind == 1 then Some (step.Attach (thread p.thread))
-    else (if p.kind == 2 then begin_of (thread p.thread) (call_of p.call)
+    else (if p.kind == 2 then begin_of (thread p.thread) (call_from_numbers p.call)
     else (if p.kind == 3 then Some (step.Go (thread p.thread))
     else (if p.kind == 4 then Some (step.Expire (thread p.thread))
     else (if p.kind == 5 then Some (step.Spurious (thread p.thread))

@@ -18,7 +18,7 @@ use Rattle.nadkhoy_c.specs.declared.status.Status.{Status}
 use Rattle.nadkhoy_c.specs.declared.status.Status.TheVariants as status
 use Rattle.nadkhoy_c.specs.Statuses.{status_number}
 use Rattle.nadkhoy_c.specs.Reading.{object, thread}
-use Rattle.nadkhoy_c.specs.Writing.{plain_call, call_about, reply_number, cause_of}
+use Rattle.nadkhoy_c.specs.Writing.{plain_call, plain_call_about, reply_number, cause_of}
 
 abbrev pub one_if : Bool → ℕ
 one_if b = if b then 1 else 0
@@ -29,8 +29,8 @@ why_number why.Interrupted = 2
 why_number why.Elapsed = 3
 why_number why.Spurious = 4
 
-abbrev pub nothing : PlainDoing
-nothing =
+abbrev pub no_doing : PlainDoing
+no_doing =
     record {
       kind = 0;
       object = 0;
@@ -41,13 +41,13 @@ nothing =
       has_deadline = 0;
       deadline_high = 0;
       deadline_low = 0;
-      call = call_about 0 0;
+      call = plain_call_about 0 0;
     }
 
 abbrev pub waits_until : ObjectId → ℕ → Option ℕ → PlainDoing
-waits_until o n None = record nothing { kind = 3; object = o.0; holds = n }
+waits_until o n None = record no_doing { kind = 3; object = o.0; holds = n }
 waits_until o n (Some d) =
-    record nothing {
+    record no_doing {
       kind = 3;
       object = o.0;
       holds = n;
@@ -57,12 +57,12 @@ waits_until o n (Some d) =
     }
 
 abbrev pub plain_doing : Doing → PlainDoing
-plain_doing doing.Idle = record nothing { kind = 1 }
-plain_doing (doing.Wants c) = record nothing { kind = 2; call = plain_call c }
+plain_doing doing.Idle = record no_doing { kind = 1 }
+plain_doing (doing.Wants c) = record no_doing { kind = 2; call = plain_call c }
 plain_doing (doing.Waits o n d) = waits_until o n d
 plain_doing (doing.Back o n w) =
-    record nothing { kind = 4; object = o.0; holds = n; why = why_number w }
-plain_doing (doing.Has r) = record nothing { kind = 5; reply = reply_number r; cause = cause_of r }
+    record no_doing { kind = 4; object = o.0; holds = n; why = why_number w }
+plain_doing (doing.Has r) = record no_doing { kind = 5; reply = reply_number r; cause = cause_of r }
 
 -- the status, and what stands where the call writes
 pub record Reading (X : Type 0) : Type 0 where

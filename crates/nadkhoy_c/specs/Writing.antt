@@ -22,21 +22,21 @@ use Rattle.nadkhoy_c.specs.declared.plain.PlainMove.{PlainMove}
 use Rattle.nadkhoy_c.specs.declared.plain.PlainAtomic.{PlainAtomic}
 use Rattle.nadkhoy_c.specs.declared.plain.PlainDid.{PlainDid}
 
-abbrev pub call_about : ℕ → ℕ → PlainCall
-call_about n target = record { millis = pos 0; nanos = pos 0; kind = n; target = target }
+abbrev pub plain_call_about : ℕ → ℕ → PlainCall
+plain_call_about n target = record { millis = pos 0; nanos = pos 0; kind = n; target = target }
 
 abbrev pub plain_call : Call → PlainCall
-plain_call (call.Enter o) = call_about 1 o.0
-plain_call (call.Exit o) = call_about 2 o.0
+plain_call (call.Enter o) = plain_call_about 1 o.0
+plain_call (call.Exit o) = plain_call_about 2 o.0
 plain_call (call.Wait o millis nanos) =
     record { millis = millis; nanos = nanos; kind = 3; target = o.0 }
-plain_call (call.Notify o) = call_about 4 o.0
-plain_call (call.NotifyAll o) = call_about 5 o.0
-plain_call (call.Holds o) = call_about 6 o.0
-plain_call (call.Interrupt u) = call_about 7 u.0
-plain_call call.Interrupted = call_about 8 0
-plain_call (call.IsInterrupted u) = call_about 9 u.0
-plain_call call.End = call_about 10 0
+plain_call (call.Notify o) = plain_call_about 4 o.0
+plain_call (call.NotifyAll o) = plain_call_about 5 o.0
+plain_call (call.Holds o) = plain_call_about 6 o.0
+plain_call (call.Interrupt u) = plain_call_about 7 u.0
+plain_call call.Interrupted = plain_call_about 8 0
+plain_call (call.IsInterrupted u) = plain_call_about 9 u.0
+plain_call call.End = plain_call_about 10 0
 
 abbrev pub reply_number : Reply → ℕ
 reply_number reply.Entered = 1
@@ -67,8 +67,8 @@ cause_of reply.IllegalMonitorState = 0
 cause_of reply.IllegalArgument = 0
 cause_of (reply.Refused c) = cause_number c
 
-abbrev pub no_move : PlainMove
-no_move =
+abbrev pub no_plain_move : PlainMove
+no_plain_move =
     record {
       kind = 0;
       thread = 0;
@@ -77,11 +77,11 @@ no_move =
       has_chosen = 0;
       chosen = 0;
       moment = 0;
-      call = call_about 0 0;
+      call = plain_call_about 0 0;
     }
 
 abbrev pub of_thread : ℕ → ThreadId → PlainMove
-of_thread n t = record no_move { kind = n; thread = t.0 }
+of_thread n t = record no_plain_move { kind = n; thread = t.0 }
 
 abbrev pub plain_move : Move → PlainMove
 plain_move (move.Attach t) = of_thread 1 t
@@ -104,10 +104,10 @@ plain_move (move.Relock t) = of_thread 16 t
 plain_move (move.Ask t) = of_thread 17 t
 plain_move (move.Refuse t c) = record (of_thread 18 t) { cause = cause_number c }
 plain_move (move.End t) = of_thread 19 t
-plain_move (move.Time n) = record no_move { kind = 20; moment = n }
+plain_move (move.Time n) = record no_plain_move { kind = 20; moment = n }
 
 abbrev pub plain_move_or_none : Option Move → PlainMove
-plain_move_or_none None = no_move
+plain_move_or_none None = no_plain_move
 plain_move_or_none (Some m) = plain_move m
 
 abbrev pub action_number : Action → ℕ

@@ -2,7 +2,7 @@
 
 ghost use Rattle.std.specs.Prelude.{◌≡◌, Option, Some, None, IsSome};
 ghost use Rattle.std.specs.Coded.{coded_option};
-ghost use Rattle.nadkhoy_c.specs.Raw.{raw_owns, Value};
+ghost use Rattle.nadkhoy_c.specs.Raw.{world_owns, Value};
 ghost use Rattle.step_core.specs.contracts.worlds.World.{the_row};
 
 use c_slots::Parts;
@@ -21,7 +21,7 @@ pub struct RawWorld {
 }
 
 impl Model for RawWorld {
-    ghost also_owns = { λ r. raw_owns the_row r.alloc r.at r.value };
+    ghost also_owns = { λ r. world_owns r.alloc r.at r.value };
 }
 
 impl RawWorld {

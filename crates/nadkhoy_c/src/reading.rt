@@ -1,14 +1,14 @@
 //! Reading steps and splits from numbers.
 
 ghost use Rattle.std.specs.Prelude.{◌≡◌};
-ghost use Rattle.nadkhoy_c.specs.Reading.{call_of, step_of, split_of};
+ghost use Rattle.nadkhoy_c.specs.Reading.{call_from_numbers, step_from_numbers, split_of};
 
 use crate::plain::{PlainCall, PlainStep};
 use step_core::{Call, ObjectId, Split, Step, ThreadId};
 
 /// The call that the numbers name; None where its kind is none.
 pub(crate) fn call_of(plain: &PlainCall) -> Option<Call>
-    ensures { result ≡ call_of plain.now }
+    ensures { result ≡ call_from_numbers plain.now }
 {
     let object = ObjectId(plain.target);
     let target = ThreadId(plain.target);
@@ -33,7 +33,7 @@ pub(crate) fn call_of(plain: &PlainCall) -> Option<Call>
 
 /// The step that the numbers name; None where its kind or the kind of its call is none.
 pub(crate) fn step_of(plain: &PlainStep) -> Option<Step>
-    ensures { result ≡ step_of plain.now }
+    ensures { result ≡ step_from_numbers plain.now }
 {
     let thread = ThreadId(plain.thread);
     match plain.kind {

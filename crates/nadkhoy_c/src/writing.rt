@@ -1,7 +1,7 @@
 //! Writing what a step did as numbers.
 
 ghost use Rattle.std.specs.Prelude.{◌≡◌};
-ghost use Rattle.nadkhoy_c.specs.Writing.{plain_call, plain_did, plain_move, plain_move_or_none, plain_atomic, reply_number, cause_of, action_number, answer_number, of_thread, on_word, call_about};
+ghost use Rattle.nadkhoy_c.specs.Writing.{plain_call, plain_did, plain_move, plain_move_or_none, plain_atomic, reply_number, cause_of, action_number, answer_number, of_thread, on_word, plain_call_about};
 
 use crate::plain::{PlainAtomic, PlainCall, PlainDid, PlainMove};
 use step_core::{Action, Answer, Atomic, Call, Cause, Did, Move, ObjectId, Reply, ThreadId, Word};
@@ -36,7 +36,7 @@ pub(crate) const NO_CHANGE: PlainAtomic = PlainAtomic {
 };
 
 fn call_about(kind: u32, target: u32) -> PlainCall
-    ensures { result ≡ call_about kind target }
+    ensures { result ≡ plain_call_about kind target }
 {
     PlainCall {
         kind,

@@ -1,7 +1,7 @@
 //! What is read of the end of a service, as numbers.
 
 ghost use Rattle.std.specs.Prelude.{◌≡◌};
-ghost use Rattle.nadkhoy_c.specs.Ends.{about_thread, cause_told, closing_status, deed_by, deed_shown, end_sizes, no_deed, on_monitor, pass_shown, plain_action, reply_told, with_numbers, word_shown};
+ghost use Rattle.nadkhoy_c.specs.Ends.{about_thread, cause_told, closing_status, deed_by, deed_shown, end_sizes, no_deed, deed_on_monitor, pass_shown, plain_action, reply_told, with_numbers, word_shown};
 
 use crate::plain::{PlainDeed, PlainEnd, PlainPass};
 use crate::status::Status;
@@ -98,7 +98,7 @@ fn plain_action(thread: ThreadId, action: Action, answer: Answer) -> PlainDeed
 }
 
 fn on_monitor(deed: PlainDeed, monitor: u32) -> PlainDeed
-    ensures { result ≡ on_monitor deed monitor }
+    ensures { result ≡ deed_on_monitor deed monitor }
 {
     PlainDeed { monitor, ..deed }
 }

@@ -3,7 +3,7 @@
 ghost use Rattle.std.specs.Prelude.{◌≡◌, None, IsSome};
 ghost use Rattle.live_seats.specs.Seats.{IsOfPass};
 ghost use Rattle.live_seats.specs.declared.orders.Order.TheVariants as order;
-ghost use Rattle.nadkhoy_c.specs.Live.{Answers, HasAnswered, order_of, turned_out};
+ghost use Rattle.nadkhoy_c.specs.Live.{Answers, HasAnswered, order_from_numbers, turned_out};
 
 use super::raw::{RawSeat, StartedSeat};
 use super::slot::LiveSlot;
@@ -59,7 +59,7 @@ pub(crate) fn begin_other(
     turned: &mut PlainTurned,
 ) -> u32
     requires seat { IsSome seat.value }
-    ensures { Answers turned_out (order_of call.now) seat.value turned.old result
+    ensures { Answers turned_out (order_from_numbers call.now) seat.value turned.old result
         slot.new.raw.value turned.new }
 {
     let Some(order) = order_of(call) else {

@@ -4,7 +4,7 @@ ghost use Rattle.std.specs.Prelude.{◌≡◌, IfSome, Some, None};
 ghost use Rattle.live_seats.specs.Seats.{told_of};
 ghost use Rattle.live_seats.specs.declared.orders.Order.TheVariants.{BeginOn};
 ghost use Rattle.live_turns.specs.declared.turned.Standing.TheVariants.{Said};
-ghost use Rattle.nadkhoy_c.specs.Live.{plain_turned, told_status, turned_out, number_out, order_of, standing_number, granted_number};
+ghost use Rattle.nadkhoy_c.specs.Live.{plain_turned, told_status, turned_out, number_out, order_from_numbers, standing_number, granted_number};
 
 use crate::plain::{PlainCall, PlainTurned};
 use crate::reading::call_of;
@@ -19,7 +19,7 @@ use step_core::{ObjectId, ThreadId};
 /// The order that begins the call that the numbers name; None where they name none, or the end of a
 /// thread, which a live service does not have.
 pub(crate) fn order_of(plain: &PlainCall) -> Option<Order>
-    ensures { result ≡ order_of plain.now }
+    ensures { result ≡ order_from_numbers plain.now }
 {
     match call_of(plain)?.subject() {
         Subject::Monitor(call) => Some(Order::BeginOn(call)),
@@ -31,7 +31,7 @@ pub(crate) fn order_of(plain: &PlainCall) -> Option<Order>
 /// The call that the numbers name, if it enters or exits.
 #[inline(always)]
 pub(crate) fn lock_call(plain: &PlainCall) -> Option<MonitorCall>
-    ensures { IfSome result (λ c. order_of plain.now ≡ Some (BeginOn c)) }
+    ensures { IfSome result (λ c. order_from_numbers plain.now ≡ Some (BeginOn c)) }
 {
     let operation = match plain.kind {
         1 => Operation::Enter,

@@ -1,9 +1,9 @@
 -- `close` calls the function of the crew whose numbers the seat has.
-use Rattle.nadkhoy_c.proofs.Steps.{◌≡◌, List, [], ◌∷◌, refl, sym, ap, proved, full_share, id⊢, ftrue, flft, Val, tables, fact, ‵, raw, ◌⊛◌, some, later, ◌$◌, ◌∵◌, !, qed, done, drop, move, use0, use1, split, join, fjoin, pick, await, rewrite, suffices, enter, of_opd, no_more, and_then, returns, alloc_all, pass_all, free_all, look_at, get, get_in, fld, stop, sub, whole, agg, sets, lands_as, yes, no, plain, nothing, heard, only, calls_at, lasts, Lasts, triple_of, Stays, says, stay_dropped, Goes-dropped, ends_at, framed, peeks, shows, lft_new, lft_end, walk_of, pair_Typed, ⊑_static, rawptr_Lawful, fact_i, emp, type_at, T, has_ty, WT, subst, Typed}
+use Rattle.nadkhoy_c.proofs.Steps.{marker_laws, some_is, ◌≡◌, List, [], ◌∷◌, refl, ap, proved, full_share, id⊢, ftrue, flft, Val, tables, fact, ‵, raw, ◌⊛◌, some, later, ◌$◌, ◌∵◌, !, qed, done, drop, move, use0, use1, split, join, fjoin, pick, await, rewrite, suffices, enter, of_opd, no_more, and_then, returns, alloc_all, pass_all, free_all, look_at, get, get_in, fld, stop, sub, whole, agg, sets, lands_as, yes, plain, nothing, heard, only, calls_at, lasts, Lasts, triple_of, Stays, says, stay_dropped, Goes-dropped, ends_at, framed, peeks, shows, lft_new, lft_end, walk_of, pair_Typed, ⊑_static, rawptr_Lawful, fact_i, emp, type_at, T, has_ty, WT, subst, Typed}
 use Rattle.std.specs.Prelude.{IsSome}
 use Rattle.std.specs.declared.option.Option.{Option}
-use Rattle.std.specs.declared.option.Option.TheVariants.{None, Some}
-use Rattle.std.proofs.Common.{◌∙◌, true≢false}
+use Rattle.std.specs.declared.option.Option.TheVariants.{Some}
+use Rattle.std.proofs.Common.{◌∙◌}
 use Rattle.nadkhoy_c.specs.contracts.live.raw.RawSeat as Sealed
 use Rattle.nadkhoy_c.specs.contracts.ends.raw.RawEnd as Made
 use Rattle.nadkhoy_c.specs.contracts.live.raw.Finished as Result
@@ -14,31 +14,20 @@ use Rattle.live_seats.proofs.ending.Closing.TheLaws as said
 use Rattle.live_seats.specs.Seats.{SeatState}
 use Rattle.live_seats.specs.Unclosed.{ClosesKept}
 use Rattle.nadkhoy_c.specs.RawSeat.{Numbers, marker, crew_of, ledger_of, seat_row}
-use Rattle.core.proofs.marker.Brand.TheLaws as Brand
-use Rattle.core.specs.contracts.marker.Brand as brand
 use Rattle.live_turns.specs.contracts.desks.BrandCrew.TheImpl as crew
 use Rattle.core.specs.contracts.ledger.BrandLedger.TheImpl as ledger
 use Rattle.std_heap.proofs.Global.TheLaws as heap
 use Rattle.std_heap.specs.contracts.Global as Heap
 use denote.Param.{layout}
-use denote.Param.Laws.{Laws, arg_laws}
-use mir.Syntax.{ty_struct, ty_ptr, tnil}
+use mir.Syntax.{ty_ptr}
 use Rattle.live_seats.specs.contracts.seat.Seat.close as g
 use Rattle.live_seats.proofs.seat.Seat.close.Met.{met}
 use Rattle.nadkhoy_c.specs.contracts.live.raw.RawSeat.close as f
 use Rattle.nadkhoy_c.proofs.live.raw.RawSeat.close.Statement.{statement}
 use Rattle.nadkhoy_c.proofs.live.raw.RawSeat.close.Code as code
 
--- the value of a full seat
-some_is : {X : Type 0} (o : Option X) → IsSome o → (x : X) × (o ≡ Some x)
-some_is None p = absurd (true≢false (sym p))
-some_is (Some x) p = (x, refl)
-
 abbrev stayed : Stays f.ended.signature.params f.ended.kept
 stayed = (stay_dropped _ yes, (stay_dropped _ yes, tt))
-
-abbrev marker_laws : Laws marker
-marker_laws = arg_laws (ty_struct [] tnil) no brand.the_row Brand.the_row_laws refl
 
 pub close_spec : {M : Type 1} → statement M
 close_spec 𝓤 𝓛 𝓜 𝓡 wired =

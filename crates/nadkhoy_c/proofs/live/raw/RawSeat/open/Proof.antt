@@ -1,5 +1,5 @@
 -- `open` calls the function of the crew whose numbers it picks.
-use Rattle.nadkhoy_c.proofs.Steps.{◌≡◌, List, [], ◌∷◌, refl, ap, proved, full_share, id⊢, ftrue, flft, Val, tables, fact, ‵, raw, ◌⊛◌, some, later, ◌$◌, ◌∵◌, !, qed, done, drop, move, use0, use1, split, join, fjoin, pick, await, rewrite, suffices, enter, of_opd, no_more, and_then, returns, alloc_all, pass_all, free_all, look_at, get, get_in, fld, stop, sub, whole, agg, sets, lands_as, yes, no, plain, nothing, heard, only, calls_at, lasts, Lasts, triple_of, Stays, says, stay_dropped, Goes-dropped, ends_at, framed, peeks, shows, lft_new, lft_end, walk_of, pair_Typed, ⊑_static, rawptr_Lawful, fact_i, emp, type_at, T, has_ty, WT, subst}
+use Rattle.nadkhoy_c.proofs.Steps.{marker_laws, ◌≡◌, List, [], ◌∷◌, refl, ap, proved, full_share, id⊢, ftrue, flft, Val, tables, fact, ‵, raw, ◌⊛◌, some, later, ◌$◌, ◌∵◌, !, qed, done, drop, move, use0, use1, split, join, fjoin, pick, await, rewrite, suffices, enter, of_opd, no_more, and_then, returns, alloc_all, pass_all, free_all, look_at, get, get_in, fld, stop, sub, whole, agg, sets, lands_as, yes, plain, nothing, heard, only, calls_at, lasts, Lasts, triple_of, Stays, says, stay_dropped, Goes-dropped, ends_at, framed, peeks, shows, lft_new, lft_end, walk_of, pair_Typed, ⊑_static, rawptr_Lawful, fact_i, emp, type_at, T, has_ty, WT, subst}
 use Rattle.std.specs.Prelude.{◌≤◌, length}
 use Rattle.nadkhoy_c.specs.contracts.live.raw.RawSeat as Sealed
 use Rattle.nadkhoy_c.specs.contracts.live.raw.OpenedSeat as Result
@@ -11,16 +11,13 @@ use Rattle.core.proofs.ledger.Blank.TheLaws as blank
 use Rattle.std.specs.declared.option.Option.{Option}
 use Rattle.live_seats.specs.Kept.{HasOpenedKept}
 use Rattle.nadkhoy_c.specs.RawSeat.{Numbers, marker, crew_of, ledger_of, seat_row}
-use Rattle.core.proofs.marker.Brand.TheLaws as Brand
-use Rattle.core.specs.contracts.marker.Brand as brand
 use Rattle.live_turns.specs.contracts.desks.BrandCrew.TheImpl as crew
 use Rattle.core.specs.contracts.ledger.BrandLedger.TheImpl as ledger
 use Rattle.std_heap.proofs.Global.TheLaws as heap
 use Rattle.std_heap.specs.contracts.Global as Heap
 use denote.Param.{layout}
 use Rattle.core.proofs.alloc.Calls.{Goes-blank}
-use denote.Param.Laws.{Laws, arg_laws}
-use mir.Syntax.{ty_struct, ty_ptr, tnil}
+use mir.Syntax.{ty_ptr}
 use Rattle.live_seats.specs.contracts.seat.Seat.open as g
 use Rattle.live_seats.proofs.seat.Seat.open.Met.{met}
 use Rattle.nadkhoy_c.specs.contracts.live.raw.RawSeat.open as f
@@ -29,9 +26,6 @@ use Rattle.nadkhoy_c.proofs.live.raw.RawSeat.open.Code as code
 
 abbrev stayed : Stays f.ended.signature.params f.ended.kept
 stayed = (stay_dropped _ yes, (stay_dropped _ yes, (stay_dropped _ yes, tt)))
-
-abbrev marker_laws : Laws marker
-marker_laws = arg_laws (ty_struct [] tnil) no brand.the_row Brand.the_row_laws refl
 
 pub open_spec : {M : Type 1} → statement M
 open_spec 𝓤 𝓛 𝓜 𝓡 wired =
