@@ -65,11 +65,13 @@ enum nadkhoy_status {
     NADKHOY_BACKWARDS = 10,      /* tick, live tick: the moment would fall */
     NADKHOY_NO_MONITOR = 11,     /* relayout: too few monitors are left */
     NADKHOY_RECORD_FULL = 16,    /* live begin, turn, tick: too few places are free in the record */
-    NADKHOY_TORN = 18,           /* live begin, turn, tick, close: not as the book has it */
+    /* live begin, turn, tick: the pass is not where the book has it, or its own list of deeds is
+     * full and the record is not; close: a pass has other deeds than the record under its number */
+    NADKHOY_TORN = 18,
     NADKHOY_LIVE_NO_OBJECT = 19, /* live begin: the service has no such object */
     NADKHOY_LIVE_NO_THREAD = 20, /* live begin: the service has no such thread */
     NADKHOY_NOT_WAITING = 28,    /* spurious: the thread does not wait */
-    NADKHOY_NOT_AT_REST = 29,    /* relayout: a live thread is in a call, and does not wait */
+    NADKHOY_NOT_AT_REST = 29,    /* relayout: a thread is in a call, neither waiting nor back */
     NADKHOY_INDEX_TOO_WIDE = 30, /* relayout: more indices than the split can write */
     NADKHOY_CLOSED = 101,        /* the slot is empty */
     NADKHOY_IN_USE = 102,        /* open, live open, share, close: the slot is full already */
@@ -313,12 +315,12 @@ typedef struct nadkhoy_object_shown {
 
 /* What a thread is doing. What one of its kind does not have is 0. */
 typedef struct nadkhoy_doing {
-    uint32_t kind;   /* enum nadkhoy_doing_kind */
-    uint32_t object; /* of WAITS and BACK */
-    uint32_t holds;
-    uint32_t why;   /* enum nadkhoy_why, of BACK */
-    uint32_t reply; /* of HAS */
-    uint32_t cause;
+    uint32_t kind;          /* enum nadkhoy_doing_kind */
+    uint32_t object;        /* of WAITS and BACK */
+    uint32_t holds;         /* the same: how many locks it gave up */
+    uint32_t why;           /* enum nadkhoy_why, of BACK */
+    uint32_t reply;         /* enum nadkhoy_reply, of HAS */
+    uint32_t cause;         /* enum nadkhoy_cause, of a REFUSED */
     uint32_t has_deadline;  /* of WAITS */
     uint64_t deadline_high; /* the deadline in nanoseconds is this times 2 to the power of 64, */
     uint64_t deadline_low;  /* and this */
