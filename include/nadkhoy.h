@@ -225,7 +225,7 @@ enum nadkhoy_deed_kind {
 /* Where the call of a seat stands after a turn: what its thread does before the next turn. */
 enum nadkhoy_standing {
     NADKHOY_STANDING_SAID = 1,       /* the call is over, with its reply: no turn is left */
-    NADKHOY_STANDING_CONTENDED = 2,  /* another thread owns the object: back off, and turn again */
+    NADKHOY_STANDING_CONTENDED = 2,  /* met another thread at the word: back off, and turn again */
     NADKHOY_STANDING_GATE_TAKEN = 3, /* another seat acts on a monitor, for a few steps: the same */
     NADKHOY_STANDING_PARKED = 4      /* sleep until a turn has `granted` this thread, or a tick */
 };
