@@ -167,7 +167,7 @@ pub struct Done {
 pub enum ActFault {
     /// The thread has no granted reply to collect.
     Parked,
-    /// The thread does not wait, or has no deadline, or the moment is before it.
+    /// The thread does not wait, or its wait has no deadline, or the moment is before that.
     NotDue,
     /// The thread does not wait.
     NotWaiting,

@@ -194,8 +194,8 @@ impl Fats {
         Ok(())
     }
 
-    /// Binds the next monitor to an object that its owner holds this often. It asks for memory only
-    /// where no bind has its room already.
+    /// Binds the next monitor to an object that its owner holds this often, 1 to 4,096 times. It
+    /// asks for memory only where no bind has its room already.
     pub fn bind(&mut self, object: ObjectId, owner: ThreadId, holds: u16) -> Result<Receipt, Cause>
         requires attached { IsAttached self.old owner }
         requires low { 1 ≤ holds }

@@ -1,5 +1,5 @@
 //! The checker of moves: it judges a list of moves of the abstract machine of `docs/MACHINE.md`
-//! (JLS SE 8, 17.1 and 17.2), and says yes exactly to those that are a run.
+//! (JLS SE 8, 17.1 and 17.2), and says yes exactly to those that are a run, want of memory apart.
 //!
 //! It knows no header word, no thread index and no fat monitor, and takes any lawful choice: any
 //! waiting thread may be notified, any thread may lock an object that is free.

@@ -1,4 +1,6 @@
 //! Running live scripts: each of their threads on a thread of the system.
+//!
+//! `docs/FORMATS.md` has the form of a live script and of what came of it.
 #![tactic(auto)]
 
 mod faults;

@@ -1,5 +1,6 @@
 //! The calls of the live service that wait: each is a loop over the turns of `live_turns`, which
-//! backs off between two turns and adds nothing to what they did.
+//! backs off between two turns and adds nothing to what they did. The opening and the close never
+//! wait.
 #![tactic(auto)]
 
 mod bells;

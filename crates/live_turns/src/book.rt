@@ -103,8 +103,8 @@ impl Book {
         })
     }
 
-    /// Binds the next monitor to an object that the thread holds this often. It needs 1 free place,
-    /// and 1 for each hold.
+    /// Binds the next monitor to an object that the thread holds this often, 1 to 256 times. It
+    /// needs 1 free place, and 1 for each hold.
     pub fn bind(
         &mut self,
         thread: ThreadId,

@@ -32,7 +32,7 @@ impl<L: Crew> Turns<L> {
     /// says.
     ///
     /// A fault ends the call: [`NoObject`](LiveFault::NoObject) before anything was done,
-    /// [`RecordFull`](LiveFault::RecordFull) before its action at the book, and
+    /// [`RecordFull`](LiveFault::RecordFull) before its bind or its action at the book, and
     /// [`Torn`](LiveFault::Torn) where the pass is not where the book has it, or its own list of
     /// deeds is full and the record is not.
     #[inline(always)]

@@ -12,7 +12,7 @@ pub enum BookFault {
     RecordFull,
     /// Every monitor is bound.
     NoMonitor,
-    /// The thread does not wait, or has no deadline, or the moment is before it.
+    /// The thread does not wait, or its wait has no deadline, or the moment is before that.
     NotDue,
     /// The thread has no granted reply to collect.
     Parked,

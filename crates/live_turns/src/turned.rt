@@ -25,7 +25,8 @@ pub struct Turned {
 pub enum Standing {
     /// The call is over, with this reply.
     Said(Reply),
-    /// Another thread owns the object, and no monitor is bound to it: back off, and turn again.
+    /// The call met another thread at the word: by its thin word, or by an exchange that was lost.
+    /// Back off, and turn again.
     Contended,
     /// Another pass has the gate, which it gives back soon: turn again.
     GateTaken,

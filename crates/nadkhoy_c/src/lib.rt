@@ -181,7 +181,7 @@ pub extern "C" fn nadkhoy_thread(
     status
 }
 
-/// Writes 1 where a thread is in the wait set of an object, and 0 where it is not.
+/// Writes 1 where a thread is in the wait set of an object, and 0 where it is not, or is not live.
 ///
 /// Answers Closed, NoObject or Done, and writes only then.
 #[unsafe(no_mangle)]

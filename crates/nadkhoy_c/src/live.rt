@@ -137,8 +137,8 @@ pub extern "C" fn nadkhoy_live_share(
 /// Begins a call and takes its first turn. It does at once all that can be done at once, and never
 /// waits.
 ///
-/// Answers Closed, NoStep where the numbers name no call or an end, 6 where the seat is in a call,
-/// the fault of the live service that ended the call, or Done, and writes only then.
+/// Answers Closed, NoStep where the numbers name no call or an end, 6 (InCall) where the seat is in
+/// a call, the fault of the live service that ended the call, or Done, and writes only then.
 #[unsafe(no_mangle)]
 pub extern "C" fn nadkhoy_live_begin(
     alloc: Global,
@@ -160,8 +160,8 @@ pub extern "C" fn nadkhoy_live_begin(
 
 /// Takes one more turn of the call that the seat is in.
 ///
-/// Answers Closed, 7 where it is in none, the fault that ended the call, or Done, and writes only
-/// then.
+/// Answers Closed, 7 (NotCalling) where it is in none, the fault that ended the call, or Done, and
+/// writes only then.
 #[unsafe(no_mangle)]
 pub extern "C" fn nadkhoy_live_turn(
     alloc: Global,
@@ -180,8 +180,8 @@ pub extern "C" fn nadkhoy_live_turn(
 /// Tells the moment, in nanoseconds, and writes 1; or 0 where another seat has the gate, and
 /// nothing was done.
 ///
-/// Answers Closed, 6 where the seat is in a call, the fault for which the moment was not told, or
-/// Done, and writes only then.
+/// Answers Closed, 6 (InCall) where the seat is in a call, the fault for which the moment was not
+/// told, or Done, and writes only then.
 #[unsafe(no_mangle)]
 pub extern "C" fn nadkhoy_live_tick(
     alloc: Global,
@@ -263,9 +263,9 @@ fn put_end(slot: &mut EndSlot, told: Closing, end: RawEnd)
 /// its counts into `end`, which is empty; the slot of the seat is empty then.
 ///
 /// Answers Closed, InUse where `end` is full, OtherSeats where there are other seats, WrongPass
-/// where passes are missing, Memory, 18 where a pass is torn, or Done. Where it answers 18 the seat
-/// is gone. After WrongPass and Memory it may have more passes left to it, and after the other
-/// refusals it is as it was.
+/// where passes are missing, Memory, 18 (Torn) where a pass is torn, or Done. Where it answers 18
+/// the seat is gone. After WrongPass and Memory it may have more passes left to it, and after the
+/// other refusals it is as it was.
 #[unsafe(no_mangle)]
 pub extern "C" fn nadkhoy_live_close(alloc: Global, slot: &mut LiveSlot, end: &mut EndSlot) -> u32
     ensures { ClosesSeat slot.old.raw.value end.old.raw.value result

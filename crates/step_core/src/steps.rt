@@ -116,7 +116,7 @@ pub enum Fault {
     NotCalling = 7,
     /// The thread stands in an entry line or a wait set.
     Parked = 8,
-    /// The thread does not wait, or has no deadline, or the moment is before it.
+    /// The thread does not wait, or its wait has no deadline, or the moment is before that.
     NotDue = 9,
     /// The moment would fall.
     Backwards = 10,
