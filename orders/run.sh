@@ -1,0 +1,106 @@
+#!/usr/bin/env bash
+# Runs `thinmon`, as `rt ci` has just left it by each of its two compilers, and compares what the gate
+# does not: what it writes on standard error, and how it ends on more than one order.
+#
+# A folder here is an order: `args` has the words behind the program's name, one a line, `stdin` what it
+# reads there, `stdout` and `stderr` what it has to write (nothing, where there is no such file), and
+# `status` its exit status (0, where there is none). Its other files lie where the program runs.
+#
+# A line of `words` is an order without files: the status, the words, and texts that have to be in what
+# is written, which is on standard output for status 0, and else on standard error.
+set -euo pipefail
+cd "$(dirname "$0")"
+made=$(mktemp -d)
+trap 'rm -rf "$made"' EXIT
+: >"$made/nothing"
+failed=0
+passed=0
+
+# Runs the program on some words, in a folder: the status is in `status`, and what it writes in the files
+# written and told.
+order() {
+    local room=$1 input=$2
+    shift 2
+    status=0
+    (cd "$room" && timeout 60 "$program" "$@" >"$made/written" 2>"$made/told") <"$input" || status=$?
+}
+
+# Tells whether an order went well, and counts it.
+judge() {
+    if [ "$1" = well ]; then
+        passed=$((passed + 1))
+    else
+        failed=$((failed + 1))
+        echo "orders: $2 of ${program##*/}: status $status"
+        cat "$made/written" "$made/told"
+    fi
+}
+
+file_or() {
+    if [ -f "$1" ]; then echo "$1"; else echo "$2"; fi
+}
+
+run_folders() {
+    local folder words wanted
+    for folder in */; do
+        folder=${folder%/}
+        mapfile -t words <"$folder/args"
+        wanted=$(cat "$(file_or "$folder/status" /dev/null)")
+        order "$folder" "$(file_or "$folder/stdin" /dev/null)" "${words[@]}"
+        if [ "$status" = "${wanted:-0}" ] &&
+            cmp -s "$made/written" "$(file_or "$folder/stdout" "$made/nothing")" &&
+            cmp -s "$made/told" "$(file_or "$folder/stderr" "$made/nothing")"; then
+            judge well
+        else
+            judge wrong "the order $folder"
+        fi
+    done
+}
+
+# Whether each text is in a file.
+has_all() {
+    local file=$1 text
+    shift
+    for text in "$@"; do
+        grep -qF -- "$text" "$file" || return 1
+    done
+}
+
+run_words() {
+    local wanted line parts words texts other
+    while IFS='|' read -r wanted line parts; do
+        read -ra words <<<"$line"
+        IFS='|' read -ra parts <<<"$parts"
+        order "$made" /dev/null "${words[@]}"
+        texts=written other=told
+        if [ "$wanted" != 0 ]; then texts=told other=written; fi
+        if [ "$status" = "$wanted" ] && has_all "$made/$texts" "${parts[@]}" &&
+            [ ! -s "$made/$other" ]; then
+            judge well
+        else
+            judge wrong "the words '$line'"
+        fi
+    done <words
+}
+
+# A writer that has no room.
+run_full() {
+    status=0
+    "$program" run <moves/stdin >/dev/full 2>"$made/told" || status=$?
+    : >"$made/written"
+    if [ "$status" = 1 ] && [ "$(cat "$made/told")" = "thinmon: write failed" ]; then
+        judge well
+    else
+        judge wrong "a report without room"
+    fi
+}
+
+for program in ../crates/thinmon/out/thinmon ../crates/thinmon/out/thinmon.by-rattle; do
+    [ -x "$program" ] || { echo "orders: ${program##*/} is not there: run rt ci first"; exit 1; }
+    program=$(realpath "$program")
+    run_folders
+    run_words
+    run_full
+done
+echo "orders: $passed as wanted, $failed not"
+[ "$failed" = 0 ]
