@@ -77,9 +77,12 @@ static void mistakes(void) {
     WANT(nadkhoy_object(&slot, 1, &shown), NADKHOY_NO_OBJECT);
     WANT(nadkhoy_thread(&slot, 1, &thread), NADKHOY_NO_THREAD);
     WANT(nadkhoy_holder(&slot, 1, &number), NADKHOY_NO_THREAD);
+    WANT(nadkhoy_waiting(&slot, 1, 1, &number), NADKHOY_NO_OBJECT);
+    WANT(step(NADKHOY_STEP_GO, 1), NADKHOY_NOT_LIVE);
     WANT(nadkhoy_relayout(&slot, 0, &number), NADKHOY_NO_SPLIT);
     WANT(number, 77);
     WANT(nadkhoy_sizes(&slot, &sizes), NADKHOY_DONE);
+    WANT(sizes.moment, 0);
     WANT(sizes.objects, 1);
     WANT(sizes.indices, 2);
 }
@@ -95,6 +98,16 @@ static void contend(void) {
     WANT(step(NADKHOY_STEP_ATTACH, 30), NADKHOY_NO_INDEX);
     WANT(nadkhoy_holder(&slot, 2, &answer), NADKHOY_DONE);
     WANT(answer, 20);
+    WANT(nadkhoy_object(&slot, 0, &shown), NADKHOY_DONE);
+    WANT(shown.word, 0x000000A5);
+    WANT(shown.is_owned, 0);
+    WANT(shown.holds, 0);
+    WANT(nadkhoy_waiting(&slot, 0, 10, &answer), NADKHOY_DONE);
+    WANT(answer, 0);
+    WANT(nadkhoy_thread(&slot, 10, &thread), NADKHOY_DONE);
+    WANT(thread.index, 1);
+    WANT(thread.is_interrupted, 0);
+    WANT(thread.doing.kind, NADKHOY_DOING_IDLE);
     WANT(begin(10, NADKHOY_CALL_ENTER, 1), NADKHOY_MISSING_OBJECT);
     WANT(call(10, NADKHOY_CALL_ENTER, 0), NADKHOY_REPLY_ENTERED);
     WANT(did.atomic.kind, NADKHOY_ATOMIC_WON);

@@ -8,8 +8,6 @@
 
 mod maybe;
 mod parts;
-#[cfg(test)]
-mod tests;
 
 pub use maybe::MaybeParts;
 pub use parts::Parts;

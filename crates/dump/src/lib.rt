@@ -7,8 +7,6 @@ mod dumping;
 mod owners;
 mod reports;
 mod rows;
-#[cfg(test)]
-mod tests;
 mod waits;
 
 pub use dumping::dump_script;

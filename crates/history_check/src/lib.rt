@@ -9,8 +9,6 @@
 
 mod checks;
 mod replaying;
-#[cfg(test)]
-mod tests;
 
 pub use history_streams::{FileFault, ReaderSource, Sink, Source, WriterSink};
 pub use replaying::{MOST_BYTES, one_answer, replay};

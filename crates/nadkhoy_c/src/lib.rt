@@ -16,8 +16,6 @@ mod reading;
 mod showing;
 mod slot;
 mod status;
-#[cfg(test)]
-mod tests;
 mod writing;
 
 pub use ends::{EndSlot, RawEnd};

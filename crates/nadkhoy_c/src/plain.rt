@@ -4,7 +4,7 @@
 /// A call: which one, the object or the thread that it names, and the time of a wait. What a call
 /// of its kind does not use is not read.
 #[repr(C)]
-#[derive(Clone, Copy, PartialEq, Eq, Debug)]
+#[derive(Clone, Copy)]
 pub struct PlainCall {
     /// Milliseconds.
     pub millis: i64,
@@ -17,7 +17,7 @@ pub struct PlainCall {
 
 /// A step. What a step of its kind does not use is not read.
 #[repr(C)]
-#[derive(Clone, Copy, PartialEq, Eq, Debug)]
+#[derive(Clone, Copy)]
 pub struct PlainStep {
     /// 1 to 6, in the order of [`Step`](step_core::Step).
     pub kind: u32,
@@ -30,7 +30,7 @@ pub struct PlainStep {
 
 /// The one change that a step made. What a change of its kind does not have is 0.
 #[repr(C)]
-#[derive(Clone, Copy, PartialEq, Eq, Debug)]
+#[derive(Clone, Copy)]
 pub struct PlainAtomic {
     /// 0 to 7, in the order of [`Atomic`](step_core::Atomic).
     pub kind: u32,
@@ -51,7 +51,7 @@ pub struct PlainAtomic {
 
 /// A move of the abstract machine. What a move of its kind does not have is 0.
 #[repr(C)]
-#[derive(Clone, Copy, PartialEq, Eq, Debug)]
+#[derive(Clone, Copy)]
 pub struct PlainMove {
     /// 1 to 20, in the order of [`Move`](step_core::Move); 0 is no move.
     pub kind: u32,
@@ -68,7 +68,7 @@ pub struct PlainMove {
 
 /// What a step did.
 #[repr(C)]
-#[derive(Clone, Copy, PartialEq, Eq, Debug)]
+#[derive(Clone, Copy)]
 pub struct PlainDid {
     pub atomic: PlainAtomic,
     /// 1 to 12, in the order of [`Reply`](step_core::Reply); 0 where the call has none yet.
@@ -80,7 +80,7 @@ pub struct PlainDid {
 
 /// The sizes of a world, and its moment.
 #[repr(C)]
-#[derive(Clone, Copy, PartialEq, Eq, Debug)]
+#[derive(Clone, Copy)]
 pub struct PlainSizes {
     /// The moment that was told last, in nanoseconds.
     pub moment: u64,
@@ -91,7 +91,7 @@ pub struct PlainSizes {
 
 /// What a world shows of an object.
 #[repr(C)]
-#[derive(Clone, Copy, PartialEq, Eq, Debug)]
+#[derive(Clone, Copy)]
 pub struct PlainObject {
     pub word: u32,
     /// 1 where it has an owner.
@@ -104,7 +104,7 @@ pub struct PlainObject {
 
 /// What a thread is doing. What is not said of its kind is 0.
 #[repr(C)]
-#[derive(Clone, Copy, PartialEq, Eq, Debug)]
+#[derive(Clone, Copy)]
 pub struct PlainDoing {
     /// 1 to 5, in the order of [`Doing`](step_core::Doing).
     pub kind: u32,
@@ -129,7 +129,7 @@ pub struct PlainDoing {
 
 /// What a world shows of a live thread.
 #[repr(C)]
-#[derive(Clone, Copy, PartialEq, Eq, Debug)]
+#[derive(Clone, Copy)]
 pub struct PlainThread {
     pub index: u32,
     /// 1 where it is interrupted.
@@ -139,7 +139,7 @@ pub struct PlainThread {
 
 /// What a turn of a call of the live service came to.
 #[repr(C)]
-#[derive(Clone, Copy, PartialEq, Eq, Debug)]
+#[derive(Clone, Copy)]
 pub struct PlainTurned {
     /// 1 the call is over, 2 another thread owns the object, 3 another seat has the gate, 4 parked.
     pub standing: u32,
@@ -153,7 +153,7 @@ pub struct PlainTurned {
 
 /// The sizes of the end of a live service.
 #[repr(C)]
-#[derive(Clone, Copy, PartialEq, Eq, Debug)]
+#[derive(Clone, Copy)]
 pub struct PlainEnd {
     pub objects: u64,
     /// How many deeds the record has.
@@ -163,7 +163,7 @@ pub struct PlainEnd {
 
 /// A deed of the record of a live service. What a deed of its kind does not have is 0.
 #[repr(C)]
-#[derive(Clone, Copy, PartialEq, Eq, Debug)]
+#[derive(Clone, Copy)]
 pub struct PlainDeed {
     /// The moment that was told, in nanoseconds.
     pub moment: u64,
@@ -193,7 +193,7 @@ pub struct PlainDeed {
 
 /// A pass of a live service in the end.
 #[repr(C)]
-#[derive(Clone, Copy, PartialEq, Eq, Debug)]
+#[derive(Clone, Copy)]
 pub struct PlainPass {
     /// How many deeds it did.
     pub deeds: u64,

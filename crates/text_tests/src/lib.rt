@@ -1,5 +1,9 @@
-//! Tests of the crates of histories, a module for each crate.
+//! Tests of the crates of histories and dumps, a module for each crate.
 #![tactic(auto)]
 
+#[cfg(test)]
+mod checks;
+#[cfg(test)]
+mod dumps;
 #[cfg(test)]
 mod moves;

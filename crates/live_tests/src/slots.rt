@@ -1,6 +1,6 @@
 //! A box taken apart and put together.
 
-use crate::Parts;
+use c_slots::Parts;
 
 #[test]
 fn a_box_comes_back(rt: HostRuntime) -> Result<(), &'static str> {

@@ -1,6 +1,6 @@
 //! The cycles alone, of a script whose dump the examples have.
 
-use super::cycles;
+use dump::cycles;
 use history::{FileFault, play, read_script};
 use lock_word::ThreadId;
 use std::alloc::Global;

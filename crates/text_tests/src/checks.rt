@@ -1,7 +1,9 @@
+//! Checks of histories: `history_check`.
+
 mod histories;
 mod readers;
 
-use crate::{FileFault, ReaderSource, WriterSink, replay};
+use history_check::{FileFault, ReaderSource, WriterSink, replay};
 use std::alloc::Global;
 use std::io::Read;
 

@@ -1,7 +1,7 @@
 //! Histories, and what is said of them.
 
 use super::{ENTERS, LOCKS_TWICE, check_of, fault_of};
-use crate::FileFault;
+use history_check::FileFault;
 use std::alloc::{AllocError, Global};
 use std::test::Fail;
 

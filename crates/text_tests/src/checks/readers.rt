@@ -1,7 +1,7 @@
 //! Readers that give a little at a time, and readers that fail.
 
 use super::{ENTERS, LOCKS_TWICE, check_of, fault_of};
-use crate::FileFault;
+use history_check::FileFault;
 use std::io;
 use std::io::{ErrorKind, Read};
 use std::test::Fail;
