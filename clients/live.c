@@ -334,6 +334,41 @@ static void an_interrupt_ends_a_wait(void) {
     leave_both();
 }
 
+/* A wait that inflates and parks, and a notify that ends it. Then the word, and the deeds of each
+ * pass: a bind, a wait, a collect and an exit, and an enter, a notify and an exit. */
+static void a_notify_ends_a_wait(void) {
+    nadkhoy_call wait = call_of(NADKHOY_CALL_WAIT, 0);
+    nadkhoy_end_slot end = NADKHOY_EMPTY;
+    nadkhoy_end_shown sizes;
+    nadkhoy_pass pass;
+    uint32_t word;
+    open_both(20);
+    says(&waiter, NADKHOY_CALL_ENTER, 0, NADKHOY_REPLY_ENTERED);
+    WANT(begin(&other, NADKHOY_CALL_ENTER, 0), NADKHOY_DONE);
+    WANT(turned.standing, NADKHOY_STANDING_CONTENDED);
+    turns_to(&other, NADKHOY_STANDING_CONTENDED, 0, 0);
+    parks(&waiter, &wait);
+    turns_to(&other, NADKHOY_STANDING_SAID, NADKHOY_REPLY_ENTERED, 0);
+    turns_to(&waiter, NADKHOY_STANDING_PARKED, 0, 0);
+    says(&other, NADKHOY_CALL_NOTIFY, 0, NADKHOY_REPLY_NOTIFIED);
+    turns_to(&waiter, NADKHOY_STANDING_PARKED, 0, 0);
+    says(&other, NADKHOY_CALL_EXIT, 0, NADKHOY_REPLY_EXITED);
+    WANT(turned.granted, 2);
+    turns_to(&waiter, NADKHOY_STANDING_SAID, NADKHOY_REPLY_WAIT_OVER, 0);
+    says(&waiter, NADKHOY_CALL_EXIT, 0, NADKHOY_REPLY_EXITED);
+    WANT(nadkhoy_live_leave(&other), NADKHOY_DONE);
+    WANT(nadkhoy_live_close(&waiter, &end), NADKHOY_DONE);
+    WANT(nadkhoy_end_word(&end, 0, &word), NADKHOY_DONE);
+    WANT(word, 0x800000A5);
+    WANT(nadkhoy_end_sizes(&end, &sizes), NADKHOY_DONE);
+    WANT(sizes.deeds, 7);
+    for (uint32_t i = 0; i < 2; i++) {
+        WANT(nadkhoy_end_pass(&end, i, &pass), NADKHOY_DONE);
+        WANT(pass.deeds, pass.thread == 2 ? 4 : 3);
+    }
+    WANT(nadkhoy_end_free(&end), NADKHOY_DONE);
+}
+
 /* A thin word that another thread owns, and the inflation by the one that met it. */
 static void a_thread_meets_another(void) {
     open_both(32);
@@ -624,6 +659,7 @@ int main(int count, char **arguments) {
     calls_that_are_refused();
     a_small_record();
     a_thread_meets_another();
+    a_notify_ends_a_wait();
     a_tick_ends_a_wait();
     an_interrupt_ends_a_wait();
     make_bells();

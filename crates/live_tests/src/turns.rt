@@ -5,7 +5,6 @@ ghost use Rattle.fat_monitor.specs.FatState.{FatState};
 ghost use Rattle.fat_monitor.specs.Acting.{NamesBound};
 ghost use Rattle.live_turns.specs.Log.{IsThreadOf, IsForBook};
 
-mod calls;
 mod limits;
 
 use fat_monitor::{Action, Answer, Done, Post, Reply};

@@ -1,8 +1,0 @@
-use Rattle.std.proofs.Common.{◌≡◌}
-use Rattle.live_tests.proofs.turns.calls.a_full_record_is_told_and_an_owner_leaves.Given as goal
-
-abbrev pub ghosts-a_small_record-L-Ledger : goal.ghosts-a_small_record-L-Ledger
-ghosts-a_small_record-L-Ledger g a = record { name = a.blank.name; parts = a.blank.parts }
-
-abbrev pub ghosts-a_small_record-L-Crew : goal.ghosts-a_small_record-L-Crew
-ghosts-a_small_record-L-Crew g a = record { monitors = 1; passes = 1; places = 2 }
