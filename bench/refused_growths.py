@@ -39,8 +39,8 @@ TESTS = {
         "headers::memory": ["what_was_refused_comes_back_and_succeeds_again"],
         "threads::memory": ["what_was_refused_comes_back_and_succeeds_again"],
     },
-    "thinmon": {
-        "tests::memory": [
+    "text_tests": {
+        "memory": [
             "a_refused_run_succeeds_when_tried_again",
             "a_refused_history_succeeds_when_tried_again",
             "a_refused_dump_succeeds_when_tried_again",

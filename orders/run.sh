@@ -6,8 +6,8 @@
 # reads there, `stdout` and `stderr` what it has to write (nothing, where there is no such file), and
 # `status` its exit status (0, where there is none). Its other files lie where the program runs.
 #
-# A line of `words` is an order without files: the status, the words, and texts that have to be in what
-# is written, which is on standard output for status 0, and else on standard error.
+# A line of `words` is an order that finds no file: the status, the words, and texts that have to be in
+# what is written, which is on standard output for status 0, and else on standard error.
 set -euo pipefail
 cd "$(dirname "$0")"
 made=$(mktemp -d)

@@ -13,13 +13,9 @@ mod dumps;
 mod files;
 mod limits;
 mod long_runs;
-mod words;
 
 use std::process::ExitCode;
 use std::rt::{Env, Files};
-use std::sync::Wait;
-use std::thread::Threads;
-use std::time::Clock;
 use std::{env, io};
 
 fn main(rt: HostRuntime) -> ExitCode {
@@ -36,18 +32,7 @@ fn main(rt: HostRuntime) -> ExitCode {
 /// Plays all examples, and answers whether each came out as expected.
 fn play_all<R>(rt: &R) -> io::Result<bool>
 where
-    R: Env
-        + Files
-        + Input
-        + Print
-        + Eprint
-        + AllocGlobal
-        + Threads
-        + Wait
-        + Clock
-        + Sync
-        + Clone
-        + Drop,
+    R: Env + Files + Print + AllocGlobal + Clone + Drop,
 {
     let folder = match env::args(rt)?.nth(1) {
         Some(word) => word,
@@ -58,6 +43,5 @@ where
     let bad_scripts = bad_scripts::play(rt, &folder)?;
     let long_runs = long_runs::play(rt)?;
     let limits = limits::play(rt)?;
-    let words = words::play(rt, &folder)?;
-    Ok(files && dumps && bad_scripts && long_runs && limits && words)
+    Ok(files && dumps && bad_scripts && long_runs && limits)
 }

@@ -1,4 +1,6 @@
-//! Tests of the crates of histories and dumps, a module for each crate.
+//! Tests of what reads and writes texts: the moves of histories (`moves`), their checks (`checks`), dumps
+//! (`dumps`), the words of the command line (`words`); readers and writers that fail (`streams`,
+//! `histories`), and want of memory (`memory`).
 #![tactic(auto)]
 
 #[cfg(test)]
@@ -6,4 +8,12 @@ mod checks;
 #[cfg(test)]
 mod dumps;
 #[cfg(test)]
+mod histories;
+#[cfg(test)]
+mod memory;
+#[cfg(test)]
 mod moves;
+#[cfg(test)]
+mod streams;
+#[cfg(test)]
+mod words;

@@ -5,9 +5,6 @@
 //! `docs/FORMATS.md` has the forms of scripts, reports, dumps, histories and live scripts.
 #![tactic(auto)]
 
-#[cfg(test)]
-mod tests;
-
 use command_line::serve;
 use std::process::ExitCode;
 
