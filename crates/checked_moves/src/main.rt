@@ -13,6 +13,7 @@ mod random_worlds;
 mod trouble;
 
 use std::process::ExitCode;
+use std::rt::Files;
 use trouble::Trouble;
 
 fn main(rt: HostRuntime) -> ExitCode {
@@ -26,7 +27,10 @@ fn main(rt: HostRuntime) -> ExitCode {
 }
 
 /// Has both checkers judge all moves.
-fn play<R: Print + AllocGlobal>(rt: &R) -> Result<(), Trouble> {
+fn play<R>(rt: &R) -> Result<(), Trouble>
+where
+    R: Files + Print + AllocGlobal + Clone + Drop,
+{
     cells::play(rt)?;
     random_moves::play(rt)?;
     random_worlds::play(rt)

@@ -15,16 +15,23 @@ pub enum Trouble {
         proved: bool,
         plain: bool,
     },
+    /// A line of the table of cells cannot be read.
+    #[error("cells.txt, line {line}: {fault}")]
+    BadLine {
+        line: usize,
+        fault: LineFault,
+    },
     /// Both checkers say otherwise of a move than the table of cells.
-    #[error("{made:?}, {why}: both checkers say lawful={found}")]
+    #[error("cells.txt, line {line}: both checkers say lawful={found} of {made:?}")]
     WrongCell {
+        line: usize,
         made: Move,
-        why: &'static str,
         found: bool,
     },
     /// The moves that lead to a cell are not lawful themselves.
-    #[error("{made:?} on the way to a cell is not lawful")]
+    #[error("cells.txt, line {line}: {made:?} on the way to the cell is not lawful")]
     NoWay {
+        line: usize,
         made: Move,
     },
     /// A world handed out a move that both checkers refuse.
@@ -44,4 +51,21 @@ pub enum Trouble {
     NotAllocated(#[from] AllocError),
     #[error("the system: {0}")]
     System(#[from] io::Error),
+}
+
+/// Why a line of the table of cells cannot be read.
+#[derive(Debug, Drop, Error)]
+pub enum LineFault {
+    #[error("it begins with none of '#', '[', 'lawful' and 'unlawful'")]
+    Verdict,
+    #[error("a heading ends with ']'")]
+    Bracket,
+    #[error("a cell has a heading above it")]
+    Heading,
+    #[error("a cell has a reason, and ':' behind it")]
+    Reason,
+    #[error("a deed cannot be read")]
+    Deed,
+    #[error("its last part is no single move")]
+    Judged,
 }

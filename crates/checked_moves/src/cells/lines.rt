@@ -1,0 +1,100 @@
+//! The lines of the table of cells, and the deeds in them.
+
+use super::deeds::Deed;
+use super::words::{read_call, read_move, read_object, read_thread, read_wait, thread_named};
+use crate::trouble::LineFault;
+use std::str::SplitWhitespace;
+use step_core::{Move, ThreadId};
+
+/// A line of the table.
+#[derive(Clone, Copy)]
+pub enum Line<'a> {
+    /// It is empty, or a comment.
+    Blank,
+    /// The cells below are of this kind of move.
+    Heading(&'a str),
+    Cell(Cell<'a>),
+}
+
+/// A move that is judged.
+#[derive(Clone, Copy)]
+pub struct Cell<'a> {
+    pub lawful: bool,
+    /// The deeds before it, if there are any; they are not read yet.
+    pub before: Option<&'a str>,
+    pub judged: Move,
+}
+
+/// Reads a line.
+pub fn read_line(text: &str) -> Result<Line<'_>, LineFault> {
+    if text.is_empty() || text.starts_with('#') {
+        return Ok(Line::Blank);
+    }
+    if let Some(rest) = text.strip_prefix('[') {
+        let kind = rest.strip_suffix(']').ok_or(LineFault::Bracket)?;
+        return Ok(Line::Heading(kind));
+    }
+    if let Some(rest) = text.strip_prefix("lawful ") {
+        return read_cell(true, rest);
+    }
+    if let Some(rest) = text.strip_prefix("unlawful ") {
+        return read_cell(false, rest);
+    }
+    Err(LineFault::Verdict)
+}
+
+/// Reads a cell behind its verdict.
+fn read_cell(lawful: bool, text: &str) -> Result<Line<'_>, LineFault> {
+    let (why, moves) = text.split_once(':').ok_or(LineFault::Reason)?;
+    if why.trim().is_empty() {
+        return Err(LineFault::Reason);
+    }
+    let mut parts = moves.rsplitn(2, ';');
+    let judged = parts.next().and_then(read_deed);
+    let Some(Deed::Makes(judged)) = judged else {
+        return Err(LineFault::Judged);
+    };
+    let before = parts.next();
+    Ok(Line::Cell(Cell {
+        lawful,
+        before,
+        judged,
+    }))
+}
+
+/// Reads a deed, and how often it is done.
+pub fn read_deeds(text: &str) -> Option<(u32, Deed)> {
+    match text.split_once(" times ") {
+        Some((times, deed)) => Some((times.trim().parse::<u32>().ok()?, read_deed(deed)?)),
+        None => Some((1, read_deed(text)?)),
+    }
+}
+
+/// Reads a deed that is done once.
+fn read_deed(text: &str) -> Option<Deed> {
+    let mut words = text.split_whitespace();
+    let first = words.next()?;
+    let deed = match thread_named(first) {
+        Some(thread) => read_act(thread, &mut words)?,
+        None => Deed::Makes(read_move(first, &mut words)?),
+    };
+    match words.next() {
+        Some(_) => None,
+        None => Some(deed),
+    }
+}
+
+/// Reads what a thread does.
+fn read_act(thread: ThreadId, words: &mut SplitWhitespace<'_>) -> Option<Deed> {
+    match words.next()? {
+        "enters" => Some(Deed::Enters(thread, read_object(words)?)),
+        "exits" => Some(Deed::Exits(thread, read_object(words)?)),
+        "interrupts" => Some(Deed::Interrupts(thread, read_thread(words)?)),
+        "waits" => Some(Deed::Waits(thread, read_wait(words)?)),
+        "calls" => {
+            let call = read_call(words)?;
+            Some(Deed::Makes(Move::Call { thread, call }))
+        }
+        _ => None,
+    }
+}
