@@ -67,7 +67,11 @@ abbrev pub arrivals_of : Chart → List Arrival
 arrivals_of c = arrivals_in (threads_of c) (keys_of c) (tail_of (rows_of c))
 
 abbrev pub shown_lines : Chart → LinesState
-shown_lines c = record { lines = lines_of (arrivals_of c); nodes = nodes_of (arrivals_of c); reservations = length c.spots }
+shown_lines c = record {
+  lines = lines_of (arrivals_of c);
+  nodes = nodes_of (arrivals_of c);
+  reservations = length c.spots;
+}
 
 -- each line has one record
 abbrev pub HaveOne : List Key → List (List ℕ) → Type 0
