@@ -54,6 +54,7 @@ where
 {
     let table = fs::read_to_string(rt, TABLE)?;
     let mut judged: Option<Judged> = None;
+    let mut both = Both::new(rt.alloc(), OBJECTS)?;
     for (above, text) in table.lines().enumerate() {
         let line = above.saturating_add(1);
         match read_line(text) {
@@ -67,7 +68,10 @@ where
                     let fault = LineFault::Heading;
                     return Err(Trouble::BadLine { line, fault });
                 };
-                judge(rt.alloc(), line, cell)?;
+                if !cell.goes_on {
+                    both = opening(rt.alloc(), line)?;
+                }
+                judge(&mut both, line, cell)?;
                 judged.count(cell.lawful);
             }
             Err(fault) => return Err(Trouble::BadLine { line, fault }),
@@ -109,13 +113,18 @@ fn print<R: Print>(rt: &R, judged: Option<Judged<'_>>) -> Result<(), Trouble> {
     Ok(())
 }
 
-/// Both checkers are to judge the move of a cell as it says.
-fn judge(alloc: Global, line: usize, cell: Cell<'_>) -> Result<(), Trouble> {
+/// Both checkers, where T and U are live.
+fn opening(alloc: Global, line: usize) -> Result<Both, Trouble> {
     let mut both = Both::new(alloc, OBJECTS)?;
     way(&mut both, line, Move::Attach { thread: T })?;
     way(&mut both, line, Move::Attach { thread: U })?;
+    Ok(both)
+}
+
+/// Both checkers are to judge the move of a cell as it says.
+fn judge(both: &mut Both, line: usize, cell: Cell<'_>) -> Result<(), Trouble> {
     if let Some(before) = cell.before {
-        follow(&mut both, line, before)?;
+        follow(both, line, before)?;
     }
     let made = cell.judged;
     let found = both.judge(made)?;

@@ -56,7 +56,7 @@ pub enum Trouble {
 /// Why a line of the table of cells cannot be read.
 #[derive(Debug, Drop, Error)]
 pub enum LineFault {
-    #[error("it begins with none of '#', '[', 'lawful' and 'unlawful'")]
+    #[error("it begins with none of '#', '[', 'lawful', 'unlawful' and 'then'")]
     Verdict,
     #[error("a heading ends with ']'")]
     Bracket,

@@ -19,6 +19,8 @@ pub enum Line<'a> {
 /// A move that is judged.
 #[derive(Clone, Copy)]
 pub struct Cell<'a> {
+    /// It goes on where the cell above it ended.
+    pub goes_on: bool,
     pub lawful: bool,
     /// The deeds before it, if there are any; they are not read yet.
     pub before: Option<&'a str>,
@@ -34,17 +36,25 @@ pub fn read_line(text: &str) -> Result<Line<'_>, LineFault> {
         let kind = rest.strip_suffix(']').ok_or(LineFault::Bracket)?;
         return Ok(Line::Heading(kind));
     }
+    match text.strip_prefix("then ") {
+        Some(rest) => read_verdict(true, rest),
+        None => read_verdict(false, text),
+    }
+}
+
+/// Reads a cell from its verdict on.
+fn read_verdict(goes_on: bool, text: &str) -> Result<Line<'_>, LineFault> {
     if let Some(rest) = text.strip_prefix("lawful ") {
-        return read_cell(true, rest);
+        return read_cell(goes_on, true, rest);
     }
     if let Some(rest) = text.strip_prefix("unlawful ") {
-        return read_cell(false, rest);
+        return read_cell(goes_on, false, rest);
     }
     Err(LineFault::Verdict)
 }
 
 /// Reads a cell behind its verdict.
-fn read_cell(lawful: bool, text: &str) -> Result<Line<'_>, LineFault> {
+fn read_cell(goes_on: bool, lawful: bool, text: &str) -> Result<Line<'_>, LineFault> {
     let (why, moves) = text.split_once(':').ok_or(LineFault::Reason)?;
     if why.trim().is_empty() {
         return Err(LineFault::Reason);
@@ -56,6 +66,7 @@ fn read_cell(lawful: bool, text: &str) -> Result<Line<'_>, LineFault> {
     };
     let before = parts.next();
     Ok(Line::Cell(Cell {
+        goes_on,
         lawful,
         before,
         judged,
