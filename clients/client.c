@@ -169,6 +169,9 @@ static void hold_often(void) {
     WANT(nadkhoy_relayout(&slot, NADKHOY_SPLIT_DEEP, &inflated), NADKHOY_DONE);
     WANT(inflated, 0);
     WANT(begin(1, NADKHOY_CALL_HOLDS, 1), NADKHOY_DONE);
+    WANT(did.moves[0].kind, NADKHOY_MOVE_CALL);
+    WANT(did.moves[0].call.kind, NADKHOY_CALL_HOLDS);
+    WANT(did.moves[0].call.target, 1);
     WANT(nadkhoy_relayout(&slot, NADKHOY_SPLIT_WIDE, &inflated), NADKHOY_NOT_AT_REST);
     WANT(turn(1), NADKHOY_REPLY_YES);
 }

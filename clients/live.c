@@ -329,6 +329,10 @@ static void an_interrupt_ends_a_wait(void) {
     WANT(turned.granted, 2);
     turns_to(&waiter, NADKHOY_STANDING_SAID, NADKHOY_REPLY_INTERRUPTED, 0);
     says(&other, NADKHOY_CALL_IS_INTERRUPTED, 2, NADKHOY_REPLY_NO);
+    /* A flag that nobody has taken is told, and cleared, by its own thread. */
+    says(&other, NADKHOY_CALL_INTERRUPT, 2, NADKHOY_REPLY_DONE);
+    says(&waiter, NADKHOY_CALL_INTERRUPTED, 0, NADKHOY_REPLY_YES);
+    says(&waiter, NADKHOY_CALL_INTERRUPTED, 0, NADKHOY_REPLY_NO);
     says(&waiter, NADKHOY_CALL_EXIT, 0, NADKHOY_REPLY_EXITED);
     says(&waiter, NADKHOY_CALL_EXIT, 0, NADKHOY_REPLY_ILLEGAL_MONITOR_STATE);
     leave_both();
@@ -482,6 +486,9 @@ static void a_close(void) {
     WANT(nadkhoy_end_deed(&end, 0, &deed), NADKHOY_DONE);
     WANT(deed.kind, NADKHOY_DEED_TICKED);
     WANT(deed.thread, 63);
+    WANT(deed.moment, 7);
+    WANT(nadkhoy_end_deed(&end, 1, &deed), NADKHOY_NO_DEED);
+    WANT(deed.kind, NADKHOY_DEED_TICKED);
     WANT(deed.moment, 7);
     WANT(nadkhoy_end_word(&end, 0, &word), NADKHOY_DONE);
     WANT(word, 0x3F00A5); /* held once by the thread 63 */
