@@ -10,7 +10,7 @@ use Rattle.header_words.specs.Passes.{Opening, new_passes}
 use Rattle.live_scripts.specs.Rules.{IsLiveScript, attached}
 use Rattle.live_scripts.specs.Plans.{calls_of, lows_of, monitors_in, objects_of}
 use Rattle.live_turns.specs.declared.closed.Closed.{Closed}
-use Rattle.live_turns.specs.declared.faults.LiveFault.{LiveFault}
+use Rattle.live_book.specs.declared.faults.LiveFault.{LiveFault}
 use Rattle.live_turns.specs.Ends.{IsEnd}
 use Rattle.live_turns.specs.Ways.{Holding, new_holding}
 use Rattle.live_threads.specs.declared.driving.Worked.{Worked}

@@ -1,7 +1,7 @@
 -- What comes of a close.
 use Rattle.std.specs.Prelude.{◌≡◌, ◌++◌, List, [], ◌∷◌, map, Option, Some, None}
 use Rattle.lock_word.specs.declared.ThreadId.{ThreadId}
-use Rattle.live_turns.specs.Log.{thread_numbered}
+use Rattle.live_book.specs.Log.{thread_numbered}
 use Rattle.live_turns.specs.Numbers.{HasEach}
 use Rattle.live_turns.specs.Ends.{IsEnd, Disagrees, numbers_of}
 use Rattle.live_turns.specs.Ways.{PassState}

@@ -6,13 +6,13 @@ use Rattle.step_core.specs.declared.places.Stage.TheVariants.{Begun, Direct}
 use Rattle.step_core.specs.declared.paths.Point.{Point}
 use Rattle.step_core.specs.declared.paths.Point.TheVariants.{At}
 use Rattle.live_turns.specs.Asked.{IsTickFault}
-use Rattle.live_turns.specs.Log.{thread_numbered}
+use Rattle.live_book.specs.Log.{thread_numbered}
 use Rattle.live_turns.specs.Points.{resting, standing_of, GivenUpOn, GivenUpAbout}
 use Rattle.live_turns.specs.Ways.{PassState, Went, Halted, AddsNoEvent, ticked_by, new_state}
 use Rattle.fast_path.specs.declared.calls.MonitorCall.{MonitorCall}
 use Rattle.live_turns.specs.declared.turned.Standing.TheVariants as standing
 use Rattle.live_turns.specs.declared.turned.Turned.{Turned}
-use Rattle.live_turns.specs.declared.faults.LiveFault.{LiveFault}
+use Rattle.live_book.specs.declared.faults.LiveFault.{LiveFault}
 use Rattle.live_seats.specs.declared.opening.Draft.{Draft}
 use Rattle.live_seats.specs.declared.orders.Order.{Order}
 use Rattle.live_seats.specs.declared.orders.Order.TheVariants.{BeginOn, BeginAbout, Turn, Tick, Thread, Share, Leave}

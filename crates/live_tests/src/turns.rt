@@ -3,7 +3,7 @@
 ghost use Rattle.std.specs.Prelude.{◌≡◌, ◌≤◌, ◌<◌, length};
 ghost use Rattle.fat_monitor.specs.FatState.{FatState};
 ghost use Rattle.fat_monitor.specs.Acting.{NamesBound};
-ghost use Rattle.live_turns.specs.Log.{IsThreadOf, IsForBook};
+ghost use Rattle.live_book.specs.Log.{IsThreadOf, IsForBook};
 
 mod limits;
 

@@ -9,8 +9,8 @@ use Rattle.history_text.specs.declared.lines.Line.{Line}
 use Rattle.live_scripts.specs.Rules.{attached}
 use Rattle.live_scripts.specs.Plans.{objects_of}
 use Rattle.live_turns.specs.declared.closed.Closed.{Closed}
-use Rattle.live_turns.specs.declared.faults.LiveFault.{LiveFault}
-use Rattle.live_turns.specs.Names.{live_fault_name, live_fault_number}
+use Rattle.live_book.specs.declared.faults.LiveFault.{LiveFault}
+use Rattle.live_book.specs.Names.{live_fault_name, live_fault_number}
 
 -- a reply is one word
 abbrev pub reply_word : Reply → List ℕ

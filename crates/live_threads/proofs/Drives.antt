@@ -15,8 +15,8 @@ use Rattle.fast_path.specs.declared.calls.MonitorCall.{MonitorCall}
 use Rattle.fast_path.specs.declared.calls.InterruptCall.{InterruptCall}
 use Rattle.header_words.specs.Passes.{Opening}
 use Rattle.header_words.proofs.Opens.{all_last, all_front}
-use Rattle.live_turns.specs.declared.faults.LiveFault.{LiveFault}
-use Rattle.live_turns.specs.declared.faults.LiveFault.TheVariants as fault
+use Rattle.live_book.specs.declared.faults.LiveFault.{LiveFault}
+use Rattle.live_book.specs.declared.faults.LiveFault.TheVariants as fault
 use Rattle.live_turns.specs.Points.{GivenUpOn, GivenUpAbout}
 use Rattle.live_turns.specs.Ways.{Holding}
 use Rattle.live_threads.specs.declared.driving.Work.{Work}

@@ -7,7 +7,7 @@ use Rattle.header_words.specs.Passes.{Opening}
 use Rattle.step_core.specs.declared.places.Place.TheVariants.{Idle, InCall}
 use Rattle.step_core.specs.declared.places.Stage.TheVariants.{Begun, Direct}
 use Rattle.step_core.specs.declared.paths.Point.TheVariants.{At, Said}
-use Rattle.live_turns.specs.declared.faults.LiveFault.{LiveFault}
+use Rattle.live_book.specs.declared.faults.LiveFault.{LiveFault}
 use Rattle.live_turns.specs.Points.{GivenUpOn, GivenUpAbout, names_stranger}
 use Rattle.live_turns.specs.Ways.{Holding, PassState, Went}
 

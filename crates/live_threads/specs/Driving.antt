@@ -8,7 +8,7 @@ use Rattle.fast_path.specs.declared.calls.Call.TheVariants as call
 use Rattle.fast_path.specs.declared.calls.Subject.{Subject}
 use Rattle.fast_path.specs.declared.calls.Subject.TheVariants.{Monitor, Interrupt, End}
 use Rattle.header_words.specs.Passes.{Opening}
-use Rattle.live_turns.specs.declared.faults.LiveFault.{LiveFault}
+use Rattle.live_book.specs.declared.faults.LiveFault.{LiveFault}
 use Rattle.live_turns.specs.Ways.{Holding}
 use Rattle.live_threads.specs.Calls.{CalledOn, CalledAbout}
 use Rattle.live_threads.specs.declared.driving.Work.{Work}

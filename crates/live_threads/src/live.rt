@@ -1,7 +1,7 @@
 //! The service, and the passes to it.
 
 ghost use Rattle.std.specs.Prelude.{◌≡◌, false};
-ghost use Rattle.live_turns.specs.Log.{thread_numbered};
+ghost use Rattle.live_book.specs.Log.{thread_numbered};
 
 use crate::bells::Bell;
 use crossbeam_utils::sync::Parker;

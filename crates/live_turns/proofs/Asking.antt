@@ -25,7 +25,7 @@ use Rattle.step_core.specs.Go.{action_on, action_about}
 use Rattle.step_core.specs.Ready.{IsOwnAction}
 use Rattle.step_core.specs.Path.{IsTold}
 use Rattle.step_core.proofs.Clauses.Patient.{done, own_on, own_about}
-use Rattle.live_turns.specs.Log.{IsForBook}
+use Rattle.live_book.specs.Log.{IsForBook}
 use Rattle.live_turns.specs.Asked.{own_action, IsAwake}
 
 pub on_for_book : (p : Operation) (m : ℕ) → IsForBook (action_on p m)

@@ -13,8 +13,8 @@ use Rattle.fat_monitor.specs.FatState.{objects_of}
 use Rattle.live_turns.specs.declared.closed.Closed.{Closed}
 use Rattle.live_turns.specs.declared.closed.TurnsClose.{TurnsClose}
 use Rattle.live_turns.specs.declared.closed.TurnsClose.TheVariants.{WrongPass, Memory, Torn}
-use Rattle.live_turns.specs.Book.{BookState}
-use Rattle.live_turns.specs.Log.{Replays, nothing_bound}
+use Rattle.live_book.specs.Book.{BookState}
+use Rattle.live_book.specs.Log.{Replays, nothing_bound}
 use Rattle.live_turns.specs.Numbers.{HasEach}
 use Rattle.live_turns.specs.Ways.{PassState, Belongs}
 use Rattle.live_turns.specs.Ends.{HasOwn, IsEnd, IsHandedBack, IsTorn, IsTornFrom, TellsEnd, count_of, numbers_of, words_of}

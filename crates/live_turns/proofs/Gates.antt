@@ -10,8 +10,8 @@ use Rattle.step_core.specs.declared.places.Place.TheVariants.{InCall}
 use Rattle.step_core.specs.declared.places.Stage.{Stage}
 use Rattle.step_core.specs.declared.paths.Point.{Point}
 use Rattle.step_core.specs.declared.paths.Point.TheVariants.{At}
-use Rattle.live_turns.specs.declared.faults.LiveFault.{LiveFault}
-use Rattle.live_turns.specs.declared.faults.LiveFault.TheVariants as fault
+use Rattle.live_book.specs.declared.faults.LiveFault.{LiveFault}
+use Rattle.live_book.specs.declared.faults.LiveFault.TheVariants as fault
 use Rattle.live_turns.specs.declared.turned.Turned.{Turned}
 use Rattle.live_turns.specs.Asked.{IsDeskFault}
 use Rattle.live_turns.specs.Ways.{Holding, Went, Halted, MayHalt, NeedsBook, Took, Gave, parked}

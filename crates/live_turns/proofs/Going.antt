@@ -27,10 +27,10 @@ use Rattle.step_core.specs.declared.steps.Atomic.{Atomic}
 use Rattle.step_core.specs.declared.steps.Atomic.TheVariants as atomic
 use Rattle.step_core.specs.Go.{action_on, action_about, entering}
 use Rattle.step_core.specs.Path.{IsBindCause, IsTold, Follows, Leads, point_after, point_published, point_told, point_waited}
-use Rattle.live_turns.specs.declared.deeds.Deed.TheVariants as deed
-use Rattle.live_turns.specs.declared.faults.LiveFault.{LiveFault}
-use Rattle.live_turns.specs.declared.faults.LiveFault.TheVariants as fault
-use Rattle.live_turns.specs.Log.{thread_numbered}
+use Rattle.live_book.specs.declared.deeds.Deed.TheVariants as deed
+use Rattle.live_book.specs.declared.faults.LiveFault.{LiveFault}
+use Rattle.live_book.specs.declared.faults.LiveFault.TheVariants as fault
+use Rattle.live_book.specs.Log.{thread_numbered}
 use Rattle.live_turns.specs.Asked.{own_action, IsAwake}
 use Rattle.live_turns.specs.Points.{GivenUpOn, GivenUpAbout, names_stranger}
 use Rattle.live_turns.specs.Ways.{by, Holding, stored_deed, event_of, events_of, deed_of, deeds_of, Went, Halted, MayHalt, Took, Gave, parked}

@@ -1,9 +1,3 @@
-pub mod Weights
-pub mod Removing
-pub mod Keeping
-pub mod Replaying
-pub mod Books
-pub mod Refusals
 pub mod Asking
 pub mod Going
 pub mod Gates

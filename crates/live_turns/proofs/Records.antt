@@ -5,7 +5,7 @@ use Rattle.std.proofs.Math.Seq.{get_or-append_seam}
 use Rattle.std.proofs.lemmas.Bool.{eq-eqb}
 use Rattle.std.proofs.lemmas.List.{get_or_append_left, get_or_default, length-take-le, take-append-drop}
 use Rattle.std.proofs.lemmas.List.Elements.{filter-append, filter_more}
-use Rattle.live_turns.specs.declared.deeds.Logged.{Logged}
+use Rattle.live_book.specs.declared.deeds.Logged.{Logged}
 use Rattle.live_turns.specs.Ends.{own_of}
 
 -- where n of the deeds stand in what is before this entry of the number, the next of them is this entry

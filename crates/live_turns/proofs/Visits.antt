@@ -20,7 +20,7 @@ use Rattle.header_words.specs.Passes.{PassValue, MakesEvent}
 use Rattle.step_core.specs.declared.places.Place.TheVariants.{Idle, InCall, Ending, AtPost}
 use Rattle.step_core.specs.declared.paths.Point.{Point}
 use Rattle.step_core.specs.declared.paths.Point.TheVariants.{At, Expired, Said}
-use Rattle.live_turns.specs.declared.faults.LiveFault.{LiveFault}
+use Rattle.live_book.specs.declared.faults.LiveFault.{LiveFault}
 use Rattle.live_turns.specs.declared.turned.Turned.{Turned}
 use Rattle.live_turns.specs.Points.{Visited, Loaded, RefusesThere, RestsAtPost, is_at_book}
 use Rattle.live_turns.specs.Ways.{Holding, Took, Gave, VisitsBook, parked}

@@ -7,8 +7,8 @@ use Rattle.fat_monitor.specs.declared.actions.Answer.TheVariants as answer
 use Rattle.fat_monitor.specs.declared.actions.Cause.TheVariants as cause
 use Rattle.live_turns.specs.declared.desks.Refusal.{Refusal}
 use Rattle.live_turns.specs.declared.desks.Refusal.TheVariants as refusal
-use Rattle.live_turns.specs.declared.faults.LiveFault.{LiveFault}
-use Rattle.live_turns.specs.declared.faults.LiveFault.TheVariants as fault
+use Rattle.live_book.specs.declared.faults.LiveFault.{LiveFault}
+use Rattle.live_book.specs.declared.faults.LiveFault.TheVariants as fault
 
 -- the faults for which a desk does nothing
 abbrev pub IsDeskFault : LiveFault → Type 0

@@ -2,12 +2,12 @@
 use Rattle.std.specs.Prelude.{◌≡◌, ℕ, ◌==◌, List, All, filter, length, map, sum}
 use Rattle.header_words.specs.Passes.{Opening, PassValue, IsClosed}
 use Rattle.fat_monitor.specs.FatState.{FatState, objects_of}
-use Rattle.live_turns.specs.declared.deeds.Logged.{Logged}
+use Rattle.live_book.specs.declared.deeds.Logged.{Logged}
 use Rattle.live_turns.specs.declared.closed.Closed.{Closed}
 use Rattle.live_turns.specs.declared.closed.TurnsClose.{TurnsClose}
 use Rattle.live_turns.specs.declared.closed.TurnsClose.TheVariants.{WrongPass, Memory, Torn}
-use Rattle.live_turns.specs.Book.{BookState}
-use Rattle.live_turns.specs.Log.{Replays, nothing_bound}
+use Rattle.live_book.specs.Book.{BookState}
+use Rattle.live_book.specs.Log.{Replays, nothing_bound}
 use Rattle.live_turns.specs.Numbers.{HasEach}
 use Rattle.live_turns.specs.Ways.{PassState}
 

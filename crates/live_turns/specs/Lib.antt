@@ -1,7 +1,3 @@
-pub mod Log
-pub mod Places
-pub mod Book
-pub mod Names
 pub mod Asked
 pub mod Ways
 pub mod Points

@@ -16,8 +16,8 @@ use Rattle.step_core.specs.declared.paths.Point.TheVariants.{At, Expired, Said}
 use Rattle.live_turns.specs.declared.turned.Turned.{Turned}
 use Rattle.live_turns.specs.declared.turned.Standing.{Standing}
 use Rattle.live_turns.specs.declared.turned.Standing.TheVariants as standing
-use Rattle.live_turns.specs.declared.faults.LiveFault.{LiveFault}
-use Rattle.live_turns.specs.declared.faults.LiveFault.TheVariants as fault
+use Rattle.live_book.specs.declared.faults.LiveFault.{LiveFault}
+use Rattle.live_book.specs.declared.faults.LiveFault.TheVariants as fault
 use Rattle.live_turns.specs.Ways.{Holding, Halted, VisitsBook}
 
 -- where a call stands that has no reply yet, for whoever drives it

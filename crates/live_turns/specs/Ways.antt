@@ -20,12 +20,12 @@ use Rattle.step_core.specs.declared.paths.Point.TheVariants.{At, Expired}
 use Rattle.step_core.specs.declared.steps.Atomic.{Atomic}
 use Rattle.step_core.specs.declared.steps.Atomic.TheVariants as atomic
 use Rattle.step_core.specs.Path.{Leads, point_after}
-use Rattle.live_turns.specs.declared.deeds.Deed.{Deed}
-use Rattle.live_turns.specs.declared.deeds.Deed.TheVariants as deed
-use Rattle.live_turns.specs.declared.deeds.Logged.{Logged}
-use Rattle.live_turns.specs.declared.faults.LiveFault.{LiveFault}
-use Rattle.live_turns.specs.declared.faults.LiveFault.TheVariants as fault
-use Rattle.live_turns.specs.Log.{thread_numbered}
+use Rattle.live_book.specs.declared.deeds.Deed.{Deed}
+use Rattle.live_book.specs.declared.deeds.Deed.TheVariants as deed
+use Rattle.live_book.specs.declared.deeds.Logged.{Logged}
+use Rattle.live_book.specs.declared.faults.LiveFault.{LiveFault}
+use Rattle.live_book.specs.declared.faults.LiveFault.TheVariants as fault
+use Rattle.live_book.specs.Log.{thread_numbered}
 
 -- a deed and who did it
 abbrev pub by : ThreadId → Deed → Logged

@@ -5,7 +5,7 @@ ghost use Rattle.step_core.specs.declared.places.Place.TheVariants.{Idle, InCall
 ghost use Rattle.step_core.specs.declared.places.Stage.TheVariants.{Begun, Direct};
 ghost use Rattle.step_core.specs.declared.paths.Point.TheVariants.{At};
 ghost use Rattle.live_turns.specs.Asked.{IsTickFault};
-ghost use Rattle.live_turns.specs.declared.faults.LiveFault.{LiveFault};
+ghost use Rattle.live_book.specs.declared.faults.LiveFault.{LiveFault};
 ghost use Rattle.live_turns.specs.Points.{Knows, KnowsStage, resting, GivenUpOn, GivenUpAbout, Loaded, TurnedFrom, TurnedStage, Visited, names_stranger};
 ghost use Rattle.live_turns.specs.Ways.{AddsNoEvent, Belongs, Went, Halted, VisitsBook, ticked_by};
 

@@ -1,7 +1,7 @@
 //! The end of a service: the shares of its passes in one, and their own deeds beside the record.
 
 ghost use Rattle.std.specs.Prelude.{◌≡◌, ◌≤◌, ◌<◌, ◌+◌, IfOk, IfErr, OnErr, All, length, map, sum, true, false, vec_capacity, []};
-ghost use Rattle.live_turns.specs.Log.{Replays, nothing_bound};
+ghost use Rattle.live_book.specs.Log.{Replays, nothing_bound};
 ghost use Rattle.live_turns.specs.Ways.{Belongs};
 ghost use Rattle.live_turns.specs.Numbers.{HasEach};
 ghost use Rattle.live_turns.specs.Ends.{HasOwn, IsEnd, IsHandedBack, IsTorn, IsTornFrom, TellsEnd, count_of, numbers_of, words_of};

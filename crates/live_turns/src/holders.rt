@@ -6,10 +6,10 @@ ghost use Rattle.step_core.specs.declared.places.Place.TheVariants.{InCall};
 ghost use Rattle.step_core.specs.declared.places.Stage.TheVariants.{Acting, Inflated, Direct};
 ghost use Rattle.step_core.specs.declared.paths.Point.TheVariants.{At};
 ghost use Rattle.step_core.specs.Path.{point_told, point_waited};
-ghost use Rattle.live_turns.specs.Log.{thread_numbered};
-ghost use Rattle.live_turns.specs.Book.{bindings};
+ghost use Rattle.live_book.specs.Log.{thread_numbered};
+ghost use Rattle.live_book.specs.Book.{bindings};
 ghost use Rattle.live_turns.specs.Asked.{IsDeskFault, IsTickFault};
-ghost use Rattle.live_turns.specs.declared.faults.LiveFault.{LiveFault};
+ghost use Rattle.live_book.specs.declared.faults.LiveFault.{LiveFault};
 ghost use Rattle.live_turns.specs.Points.{RestsAtPost};
 ghost use Rattle.live_turns.specs.Ways.{Went, parked, ticked_by};
 

@@ -1,6 +1,6 @@
 //! The live service, turn by turn: the calls that several threads make at once on header words that
-//! they share, and behind the gate of these words the book, which is the fat monitors and the
-//! record of all that was done to them.
+//! they share, and behind the gate of these words the book of `live_book`, which is the fat monitors
+//! and the record of all that was done to them.
 //!
 //! Each thread has a [`TurnPass`], and drives its calls on the shared [`Turns`] by turns, each of
 //! which does at once all that can be done at once. Nothing here needs a handle: no turn waits,
@@ -9,29 +9,23 @@
 #![tactic(auto)]
 
 mod agreeing;
-mod book;
 mod closed;
-mod deeds;
 mod desks;
 mod driving;
 mod ending;
-mod faults;
 mod holders;
 mod looking;
 mod numbered;
 mod opening;
 mod pass;
-mod places;
 mod starting;
 mod turned;
 mod turning;
 mod turns;
 
-pub use book::Book;
 pub use closed::{Closed, TurnsClose};
-pub use deeds::{Deed, Logged};
 pub use desks::Crew;
-pub use faults::{BookFault, LiveFault};
+pub use live_book::{Book, BookFault, Deed, LiveFault, Logged};
 pub use numbered::{Numbered, has_each};
 pub use pass::TurnPass;
 pub use turned::{Standing, Turned};

@@ -1,7 +1,7 @@
 //! The pass of a thread to the turns of its calls.
 
 ghost use Rattle.std.specs.Prelude.{◌≡◌};
-ghost use Rattle.live_turns.specs.Log.{thread_numbered};
+ghost use Rattle.live_book.specs.Log.{thread_numbered};
 
 use crate::desks::Crew;
 use crate::holders::Holder;

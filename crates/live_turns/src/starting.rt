@@ -8,7 +8,7 @@ ghost use Rattle.step_core.specs.declared.places.Place.TheVariants.{Idle, InCall
 ghost use Rattle.step_core.specs.declared.places.Stage.TheVariants.{Begun, Taking, Binding, Acting, Direct};
 ghost use Rattle.step_core.specs.declared.paths.Point.TheVariants.{At, Said};
 ghost use Rattle.step_core.specs.Go.{entering};
-ghost use Rattle.live_turns.specs.declared.faults.LiveFault.{LiveFault};
+ghost use Rattle.live_book.specs.declared.faults.LiveFault.{LiveFault};
 ghost use Rattle.live_turns.specs.Points.{RestsStarted, started, names_stranger};
 ghost use Rattle.live_turns.specs.Ways.{Belongs, Went, VisitsBook};
 

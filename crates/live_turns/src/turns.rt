@@ -9,8 +9,8 @@ ghost use Rattle.step_core.specs.declared.places.Place.TheVariants.{InCall};
 ghost use Rattle.step_core.specs.declared.places.Stage.TheVariants.{Binding, Acting, Won, Bound, Direct};
 ghost use Rattle.step_core.specs.declared.paths.Point.TheVariants.{At, Said};
 ghost use Rattle.step_core.specs.Path.{point_published};
-ghost use Rattle.live_turns.specs.Log.{thread_numbered};
-ghost use Rattle.live_turns.specs.Book.{bindings};
+ghost use Rattle.live_book.specs.Log.{thread_numbered};
+ghost use Rattle.live_book.specs.Book.{bindings};
 ghost use Rattle.live_turns.specs.Points.{Knows, RestsAtPost, Visited};
 ghost use Rattle.live_turns.specs.Ways.{Belongs, Took, Gave, Went, Halted, VisitsBook, parked};
 

@@ -6,9 +6,9 @@ use Rattle.fat_monitor.specs.declared.actions.Action.{Action}
 use Rattle.fat_monitor.specs.declared.actions.Action.TheVariants as action
 use Rattle.fat_monitor.specs.declared.actions.Answer.{Answer}
 use Rattle.fat_monitor.specs.declared.actions.Answer.TheVariants as answer
-use Rattle.live_turns.specs.declared.deeds.Deed.{Deed}
-use Rattle.live_turns.specs.declared.deeds.Deed.TheVariants as deed
-use Rattle.live_turns.specs.declared.deeds.Logged.{Logged}
+use Rattle.live_book.specs.declared.deeds.Deed.{Deed}
+use Rattle.live_book.specs.declared.deeds.Deed.TheVariants as deed
+use Rattle.live_book.specs.declared.deeds.Logged.{Logged}
 use Rattle.live_seats.specs.Seats.{SeatState}
 use Rattle.live_seats.specs.Ends.{Closes}
 use Rattle.live_seats.specs.declared.ending.ServiceEnd.{ServiceEnd}

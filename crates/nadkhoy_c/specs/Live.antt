@@ -5,7 +5,7 @@ use Rattle.fast_path.specs.declared.calls.Call.{Call}
 use Rattle.fast_path.specs.declared.calls.Subject.{Subject}
 use Rattle.fast_path.specs.declared.calls.Subject.TheVariants as subject
 use Rattle.fast_path.specs.Calls.{subject_of}
-use Rattle.live_turns.specs.Names.{live_fault_number}
+use Rattle.live_book.specs.Names.{live_fault_number}
 use Rattle.live_turns.specs.declared.turned.Standing.{Standing}
 use Rattle.live_turns.specs.declared.turned.Standing.TheVariants as standing
 use Rattle.live_seats.specs.Seats.{SeatState, IsOpenedWith}

@@ -1,6 +1,6 @@
 use Rattle.std.specs.Prelude.{◌≡◌}
 use Rattle.std.proofs.Common.{refl, ◌∙◌, ap, sym}
-use Rattle.live_turns.specs.Log.{thread_numbered}
+use Rattle.live_book.specs.Log.{thread_numbered}
 use Rattle.live_turns.specs.Ways.{Holding}
 use Rattle.live_turns.proofs.Going.{direct_way}
 use Rattle.live_turns.proofs.holders.Holder.act_about.Goals as goal

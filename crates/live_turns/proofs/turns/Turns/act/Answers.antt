@@ -1,7 +1,7 @@
 use Rattle.step_core.specs.declared.places.Place.TheVariants.{InCall}
 use Rattle.step_core.specs.declared.places.Stage.TheVariants.{Acting}
 use Rattle.step_core.specs.declared.paths.Point.TheVariants.{At}
-use Rattle.live_turns.specs.Book.{bindings}
+use Rattle.live_book.specs.Book.{bindings}
 use Rattle.live_turns.proofs.Gates.{published_still, covers_kept, gave_up, held_err}
 use Rattle.std.proofs.Common.{refl}
 use Rattle.live_turns.proofs.Visits.{taken_away, visited_at, held_same, err_always}

@@ -1,4 +1,4 @@
-use Rattle.live_turns.specs.Book.{bindings}
+use Rattle.live_book.specs.Book.{bindings}
 use Rattle.live_turns.specs.Ways.{parked}
 use Rattle.live_turns.proofs.Gates.{covers_kept, gave_up_parked, held_err}
 use Rattle.live_turns.proofs.Visits.{taken_parked, visited_at, held_same, err_always}

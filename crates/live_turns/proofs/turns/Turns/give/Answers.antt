@@ -1,6 +1,6 @@
 use Rattle.std.proofs.Common.{sym, subst}
 use Rattle.header_words.specs.Bindings.{Covers}
-use Rattle.live_turns.specs.Book.{bindings}
+use Rattle.live_book.specs.Book.{bindings}
 use Rattle.live_turns.specs.Ways.{Holding}
 use Rattle.live_turns.proofs.turns.Turns.give.Goals as goal
 

@@ -7,8 +7,8 @@ use Rattle.step_core.specs.Path.{IsBindCause}
 use Rattle.step_core.specs.declared.paths.Point.{Point}
 use Rattle.step_core.specs.declared.paths.Point.TheVariants.{At}
 use Rattle.live_turns.specs.declared.turned.Turned.{Turned}
-use Rattle.live_turns.specs.Log.{thread_numbered}
-use Rattle.live_turns.specs.Book.{bindings}
+use Rattle.live_book.specs.Log.{thread_numbered}
+use Rattle.live_book.specs.Book.{bindings}
 use Rattle.live_turns.specs.Ways.{Holding, Went}
 use Rattle.live_turns.proofs.Going.{inflated_way, refused_way, halted_here}
 use Rattle.live_turns.proofs.Gates.{covers_kept, covers_bound, binds_bound, may_halt, gave_up_after, ok_after}

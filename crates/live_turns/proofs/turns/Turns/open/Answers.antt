@@ -2,8 +2,8 @@ use Rattle.std.specs.Prelude.{List, length}
 use Rattle.std.proofs.Common.{arith, ap, sym, ◌∙◌}
 use Rattle.fat_monitor.specs.FatState.{opened}
 use Rattle.header_words.specs.Passes.{PassValue}
-use Rattle.live_turns.specs.Book.{BookState}
-use Rattle.live_turns.proofs.Replaying.{limit-with_threads}
+use Rattle.live_book.specs.Book.{BookState}
+use Rattle.live_book.proofs.Replaying.{limit-with_threads}
 use Rattle.live_turns.proofs.Rows.{length-new_passes}
 use Rattle.live_turns.proofs.turns.Turns.open.Goals as goal
 

@@ -2,8 +2,8 @@ use Rattle.std.specs.Prelude.{◌≡◌, length, true}
 use Rattle.std.proofs.Common.{refl, ap, sym, ◌∙◌}
 use Rattle.fat_monitor.specs.Binding.{Binding as Receipt}
 use Rattle.fat_monitor.specs.declared.actions.Cause.TheVariants as cause
-use Rattle.live_turns.specs.Log.{thread_numbered}
-use Rattle.live_turns.specs.Book.{bindings}
+use Rattle.live_book.specs.Log.{thread_numbered}
+use Rattle.live_book.specs.Book.{bindings}
 use Rattle.live_turns.specs.Ways.{Holding}
 use Rattle.live_turns.proofs.Going.{settled_way, dropped_way}
 use Rattle.live_turns.proofs.Gates.{covers_kept, covers_bound, binds_bound}

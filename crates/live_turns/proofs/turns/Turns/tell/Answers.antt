@@ -1,4 +1,4 @@
-use Rattle.live_turns.specs.Book.{bindings}
+use Rattle.live_book.specs.Book.{bindings}
 use Rattle.live_turns.proofs.Gates.{covers_kept}
 use Rattle.live_turns.proofs.Visits.{held_same}
 use Rattle.live_turns.proofs.turns.Turns.tell.Goals as goal

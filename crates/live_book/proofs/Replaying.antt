@@ -10,8 +10,8 @@ use Rattle.lock_word.specs.declared.ThreadId.{ThreadId}
 use Rattle.fat_monitor.specs.FatState.{FatState, IsAttached, opened, with_thread, post_of, thread_count}
 use Rattle.fat_monitor.specs.declared.actions.Post.TheVariants.{Out}
 use Rattle.fat_monitor.proofs.Effects.{count-with_thread}
-use Rattle.live_turns.specs.declared.deeds.Logged.{Logged}
-use Rattle.live_turns.specs.Log.{IsLegal, IsThreadOf, Replays, after_deed, thread_numbered, with_threads}
+use Rattle.live_book.specs.declared.deeds.Logged.{Logged}
+use Rattle.live_book.specs.Log.{IsLegal, IsThreadOf, Replays, after_deed, thread_numbered, with_threads}
 
 -- one legal deed more
 pub replays_more : (passes : ℕ) (f : FatState) (es : List Logged) (g : FatState) (e : Logged) → Replays passes f es g → IsThreadOf passes e.thread → IsLegal g e.thread e.deed

@@ -1,9 +1,9 @@
 -- What is written for faults, and the numbers of the faults of live calls.
 use Rattle.std.specs.Prelude.{ℕ, List, codes}
-use Rattle.live_turns.specs.declared.faults.BookFault.{BookFault}
-use Rattle.live_turns.specs.declared.faults.BookFault.TheVariants as book
-use Rattle.live_turns.specs.declared.faults.LiveFault.{LiveFault}
-use Rattle.live_turns.specs.declared.faults.LiveFault.TheVariants as live
+use Rattle.live_book.specs.declared.faults.BookFault.{BookFault}
+use Rattle.live_book.specs.declared.faults.BookFault.TheVariants as book
+use Rattle.live_book.specs.declared.faults.LiveFault.{LiveFault}
+use Rattle.live_book.specs.declared.faults.LiveFault.TheVariants as live
 
 abbrev pub book_fault_text : BookFault → List ℕ
 book_fault_text book.RecordFull = codes "the record has too few free places"

@@ -1,11 +1,11 @@
 use Rattle.std.proofs.Common.{◌≡◌, ◌≤◌, ◌∙◌, ap, arith, sym, subst}
 use Rattle.fat_monitor.specs.FatState.{FatState, IsSound, with_moment}
 use Rattle.fat_monitor.proofs.Steps.{of_ok}
-use Rattle.live_turns.specs.Log.{IsThreadOf}
-use Rattle.live_turns.specs.Places.{kept_of}
-use Rattle.live_turns.specs.Book.{BookState, free_of}
-use Rattle.live_turns.proofs.Books.{IsBook-tick}
-use Rattle.live_turns.proofs.book.Book.tick.Goals as goal
+use Rattle.live_book.specs.Log.{IsThreadOf}
+use Rattle.live_book.specs.Places.{kept_of}
+use Rattle.live_book.specs.Book.{BookState, free_of}
+use Rattle.live_book.proofs.Books.{IsBook-tick}
+use Rattle.live_book.proofs.book.Book.tick.Goals as goal
 
 pub invariant_of-self-2 : goal.invariant_of-self-2
 invariant_of-self-2 c =

@@ -21,10 +21,10 @@ use Rattle.fat_monitor.specs.Acting.{Outcome, answers, replies, after_parking, a
 use Rattle.fat_monitor.proofs.Soundness.{owner_is}
 use Rattle.fat_monitor.proofs.SoundGrants.{out-after_hand_on}
 use Rattle.fat_monitor.proofs.SoundSteps.{IsSound-flags}
-use Rattle.live_turns.specs.Log.{IsForBook}
-use Rattle.live_turns.specs.Places.{kept_of, need, gained, freed}
-use Rattle.live_turns.proofs.Weights.{kept-with_post, kept-with_owner, kept-after_hand_on}
-use Rattle.live_turns.proofs.Removing.{Removes, removes_none, after_removal-one, after_removal-some, after_removals-some}
+use Rattle.live_book.specs.Log.{IsForBook}
+use Rattle.live_book.specs.Places.{kept_of, need, gained, freed}
+use Rattle.live_book.proofs.Weights.{kept-with_post, kept-with_owner, kept-after_hand_on}
+use Rattle.live_book.proofs.Removing.{Removes, removes_none, after_removal-one, after_removal-some, after_removals-some}
 
 -- After an action with this answer as many places are kept as its gains and what it frees say, and with its deed no more
 -- are used or kept than it needed free before.

@@ -7,9 +7,9 @@ use Rattle.fat_monitor.specs.declared.actions.Done.{Done}
 use Rattle.fat_monitor.specs.FatState.{FatState, opened, with_thread, with_moment, with_spare, bound_with}
 use Rattle.fat_monitor.specs.Acting.{outcome_of, MayAct, NamesBound}
 use Rattle.std.specs.Prelude.{length}
-use Rattle.live_turns.specs.declared.deeds.Deed.{Deed}
-use Rattle.live_turns.specs.declared.deeds.Deed.TheVariants.{Bound, Acted, Ticked}
-use Rattle.live_turns.specs.declared.deeds.Logged.{Logged}
+use Rattle.live_book.specs.declared.deeds.Deed.{Deed}
+use Rattle.live_book.specs.declared.deeds.Deed.TheVariants.{Bound, Acted, Ticked}
+use Rattle.live_book.specs.declared.deeds.Logged.{Logged}
 
 abbrev pub thread_numbered : ℕ → ThreadId
 thread_numbered n = record { 0 = n }

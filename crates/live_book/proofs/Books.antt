@@ -13,14 +13,14 @@ use Rattle.fat_monitor.specs.Acting.{outcome_of, MayAct, NamesBound}
 use Rattle.fat_monitor.proofs.Counts.{sum-insert, sum-empty}
 use Rattle.fat_monitor.proofs.Effects.{attached-outcome_of}
 use Rattle.fat_monitor.proofs.MonitorEffects.{length-outcome_of, limit-outcome_of, spare-outcome_of}
-use Rattle.live_turns.specs.declared.deeds.Deed.TheVariants.{Bound, Acted, Ticked}
-use Rattle.live_turns.specs.Log.{IsForBook, IsThreadOf, Replays, with_threads, nothing_bound}
-use Rattle.live_turns.specs.Places.{kept_by, kept_by_threads, kept_of, need, gained, freed}
-use Rattle.live_turns.specs.Book.{BookState, IsBook, opening_book, free_of, with_deed, after_bind, after_act, after_tick}
-use Rattle.live_turns.proofs.Weights.{kept-bound_with}
-use Rattle.live_turns.proofs.Keeping.{KeepsWith, keeps_with}
-use Rattle.live_turns.proofs.Refusals.{done_after, done_answer}
-use Rattle.live_turns.proofs.Replaying.{replays_more, limit-with_threads, monitors-with_threads, attached-with_threads}
+use Rattle.live_book.specs.declared.deeds.Deed.TheVariants.{Bound, Acted, Ticked}
+use Rattle.live_book.specs.Log.{IsForBook, IsThreadOf, Replays, with_threads, nothing_bound}
+use Rattle.live_book.specs.Places.{kept_by, kept_by_threads, kept_of, need, gained, freed}
+use Rattle.live_book.specs.Book.{BookState, IsBook, opening_book, free_of, with_deed, after_bind, after_act, after_tick}
+use Rattle.live_book.proofs.Weights.{kept-bound_with}
+use Rattle.live_book.proofs.Keeping.{KeepsWith, keeps_with}
+use Rattle.live_book.proofs.Refusals.{done_after, done_answer}
+use Rattle.live_book.proofs.Replaying.{replays_more, limit-with_threads, monitors-with_threads, attached-with_threads}
 
 -- ---- the start
 

@@ -1,10 +1,10 @@
 use Rattle.std.proofs.Common.{◌≡◌, ◌+◌, ◌≤◌, ◌∙◌, ap, arith, sym, subst}
 use Rattle.fat_monitor.specs.FatState.{FatState, IsSound, bound_with}
-use Rattle.live_turns.specs.Log.{IsThreadOf}
-use Rattle.live_turns.specs.Book.{BookState, free_of}
-use Rattle.live_turns.proofs.Weights.{kept-bound_with}
-use Rattle.live_turns.proofs.Books.{IsBook-bind}
-use Rattle.live_turns.proofs.book.Book.bind.Goals as goal
+use Rattle.live_book.specs.Log.{IsThreadOf}
+use Rattle.live_book.specs.Book.{BookState, free_of}
+use Rattle.live_book.proofs.Weights.{kept-bound_with}
+use Rattle.live_book.proofs.Books.{IsBook-bind}
+use Rattle.live_book.proofs.book.Book.bind.Goals as goal
 
 pub invariant_of-self-2 : goal.invariant_of-self-2
 invariant_of-self-2 c =

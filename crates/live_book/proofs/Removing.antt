@@ -15,8 +15,8 @@ use Rattle.fat_monitor.specs.Acting.{after_removal, after_sending_back, after_se
 use Rattle.fat_monitor.proofs.SoundGrants.{after_settling-is}
 use Rattle.fat_monitor.proofs.Soundness.{IsSound-after_removal}
 use Rattle.fat_monitor.proofs.WaitCounts.{wait_count-insert}
-use Rattle.live_turns.specs.Places.{kept_of}
-use Rattle.live_turns.proofs.Weights.{kept-with_post, kept-after_grant}
+use Rattle.live_book.specs.Places.{kept_of}
+use Rattle.live_book.proofs.Weights.{kept-with_post, kept-after_grant}
 
 -- so many threads left their wait sets, and as many places less are kept
 abbrev pub Removes : FatState → FatState → ℕ → Type 0

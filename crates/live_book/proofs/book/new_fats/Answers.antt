@@ -1,5 +1,5 @@
-use Rattle.live_turns.proofs.Replaying.{next_thread}
-use Rattle.live_turns.proofs.book.new_fats.Goals as goal
+use Rattle.live_book.proofs.Replaying.{next_thread}
+use Rattle.live_book.proofs.book.new_fats.Goals as goal
 
 pub loop-done-preserved : goal.loop-done-preserved
 loop-done-preserved c =

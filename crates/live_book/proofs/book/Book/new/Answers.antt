@@ -1,9 +1,9 @@
 use Rattle.std.proofs.Common.{◌∙◌, ap, sym, subst}
 use Rattle.fat_monitor.specs.FatState.{FatState, IsSound}
-use Rattle.live_turns.specs.Log.{nothing_bound}
-use Rattle.live_turns.specs.Places.{kept_of}
-use Rattle.live_turns.proofs.Books.{IsBook-opening_book, kept-nothing_bound}
-use Rattle.live_turns.proofs.book.Book.new.Goals as goal
+use Rattle.live_book.specs.Log.{nothing_bound}
+use Rattle.live_book.specs.Places.{kept_of}
+use Rattle.live_book.proofs.Books.{IsBook-opening_book, kept-nothing_bound}
+use Rattle.live_book.proofs.book.Book.new.Goals as goal
 
 pub invariant_of-result : goal.invariant_of-result
 invariant_of-result c =

@@ -12,13 +12,13 @@ use Rattle.fat_monitor.specs.declared.actions.Post.TheVariants.{Out, Entering, W
 use Rattle.fat_monitor.specs.Binding.{Binding}
 use Rattle.fat_monitor.specs.FatState.{FatState, IsSound, IsAttached, post_of, objects_of, with_moment, bound_with}
 use Rattle.fat_monitor.specs.Acting.{outcome_of}
-use Rattle.live_turns.specs.declared.deeds.Deed.{Deed}
-use Rattle.live_turns.specs.declared.deeds.Deed.TheVariants.{Bound, Acted, Ticked}
-use Rattle.live_turns.specs.declared.deeds.Logged.{Logged}
-use Rattle.live_turns.specs.declared.faults.BookFault.{BookFault}
-use Rattle.live_turns.specs.declared.faults.BookFault.TheVariants as fault
-use Rattle.live_turns.specs.Log.{IsThreadOf, Replays, nothing_bound}
-use Rattle.live_turns.specs.Places.{kept_of, need}
+use Rattle.live_book.specs.declared.deeds.Deed.{Deed}
+use Rattle.live_book.specs.declared.deeds.Deed.TheVariants.{Bound, Acted, Ticked}
+use Rattle.live_book.specs.declared.deeds.Logged.{Logged}
+use Rattle.live_book.specs.declared.faults.BookFault.{BookFault}
+use Rattle.live_book.specs.declared.faults.BookFault.TheVariants as fault
+use Rattle.live_book.specs.Log.{IsThreadOf, Replays, nothing_bound}
+use Rattle.live_book.specs.Places.{kept_of, need}
 
 -- the fat state, the log, how many passes there are, and how many places the record has
 pub record BookState : Type 0 where

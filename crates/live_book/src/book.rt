@@ -1,12 +1,12 @@
 //! The book: the fat monitors, and the record of all that was done to them.
 
 ghost use Rattle.std.specs.Prelude.{◌≡◌, ◌<◌, ◌≤◌, ◌+◌, ◌↔◌, IfOk, OnErr, OnOk, IsErrOf, IsOk, length, [], ◌∷◌, ◌++◌, IsSome, true, false};
-ghost use Rattle.live_turns.specs.declared.faults.LiveFault.{LiveFault};
+ghost use Rattle.live_book.specs.declared.faults.LiveFault.{LiveFault};
 ghost use Rattle.fat_monitor.specs.FatState.{IsSound, object_at, post_of};
 ghost use Rattle.fat_monitor.specs.Acting.{MayAct, NamesBound};
-ghost use Rattle.live_turns.specs.Log.{IsThreadOf, IsForBook, Replays, nothing_bound};
-ghost use Rattle.live_turns.specs.Places.{kept_of, need};
-ghost use Rattle.live_turns.specs.Book.{bindings, free_of, opening_book, after_bind, after_act, after_tick, bind_answer, act_answer, tick_answer, is_torn};
+ghost use Rattle.live_book.specs.Log.{IsThreadOf, IsForBook, Replays, nothing_bound};
+ghost use Rattle.live_book.specs.Places.{kept_of, need};
+ghost use Rattle.live_book.specs.Book.{bindings, free_of, opening_book, after_bind, after_act, after_tick, bind_answer, act_answer, tick_answer, is_torn};
 
 use crate::places::{freed, gained};
 use crate::{BookFault, Deed, LiveFault, Logged};
@@ -43,8 +43,8 @@ impl Model for Book {
     ghost use Rattle.std.specs.Coded.{codes};
     ghost use Rattle.std.specs.FinMap as map;
     ghost use Rattle.std.specs.Prelude.{◌≡◌, ◌≤◌, vec_capacity};
-    ghost use Rattle.live_turns.specs.Places.{kept_of};
-    ghost use Rattle.live_turns.specs.Book.{BookState, IsBook};
+    ghost use Rattle.live_book.specs.Places.{kept_of};
+    ghost use Rattle.live_book.specs.Book.{BookState, IsBook};
 
     ghost Value = { BookState };
 
@@ -76,7 +76,7 @@ fn new_fats(alloc: Global, monitors: u32, passes: u16) -> Result<Fats, Memory>
 }
 
 impl Kept for Book {
-    ghost use Rattle.live_turns.specs.Book.{bindings};
+    ghost use Rattle.live_book.specs.Book.{bindings};
 
     ghost bound = { bindings };
 
@@ -239,7 +239,7 @@ impl Book {
     }
 
     /// How many places the record has.
-    pub(crate) fn places(&self) -> u32
+    pub fn places(&self) -> u32
         ensures { result ≡ self.now.places }
     {
         self.places

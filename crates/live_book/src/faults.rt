@@ -6,7 +6,7 @@ use std::error::Error;
 use std::fmt;
 
 /// Why the book did nothing.
-#[derive(Clone, Copy, PartialEq, Eq, Hash, Debug)]
+#[derive(Clone, Copy, PartialEq, Eq, Debug)]
 pub enum BookFault {
     /// The record has too few free places. This is looked at first.
     RecordFull,
@@ -22,7 +22,7 @@ pub enum BookFault {
 
 impl fmt::Display for BookFault {
     ghost use Rattle.std.specs.Prelude.{Some};
-    ghost use Rattle.live_turns.specs.Names.{book_fault_text};
+    ghost use Rattle.live_book.specs.Names.{book_fault_text};
 
     ghost output = { λ x. Some (book_fault_text x) };
 
@@ -40,7 +40,7 @@ impl fmt::Display for BookFault {
 impl Error for BookFault {}
 
 /// Why a live call has no reply.
-#[derive(Clone, Copy, PartialEq, Eq, Hash, Debug)]
+#[derive(Clone, Copy, PartialEq, Eq, Debug)]
 pub enum LiveFault {
     /// The moment would fall.
     Backwards = 10,
@@ -56,7 +56,7 @@ pub enum LiveFault {
 }
 
 impl LiveFault {
-    ghost use Rattle.live_turns.specs.Names.{live_fault_number};
+    ghost use Rattle.live_book.specs.Names.{live_fault_number};
 
     /// The number of the fault.
     pub fn number(self) -> u8
@@ -69,7 +69,7 @@ impl LiveFault {
 /// A fault is written by its name.
 impl fmt::Display for LiveFault {
     ghost use Rattle.std.specs.Prelude.{Some};
-    ghost use Rattle.live_turns.specs.Names.{live_fault_name};
+    ghost use Rattle.live_book.specs.Names.{live_fault_name};
 
     ghost output = { λ x. Some (live_fault_name x) };
 

@@ -17,7 +17,7 @@ use Rattle.fat_monitor.specs.Acting.{after_grant, after_hand_on, after_settling,
 use Rattle.fat_monitor.proofs.Counts.{sum-insert, weight_in}
 use Rattle.fat_monitor.proofs.LineEffects.{first_entering}
 use Rattle.fat_monitor.proofs.SoundGrants.{after_settling-is}
-use Rattle.live_turns.specs.Places.{kept_by, kept_of}
+use Rattle.live_book.specs.Places.{kept_by, kept_of}
 
 -- another post of an attached thread
 pub kept-with_post : (f : FatState) (t : ThreadId) (p q : Post) → post_of f t ≡ Some q → kept_of (with_post f t p) + kept_by q ≡ kept_of f + kept_by p

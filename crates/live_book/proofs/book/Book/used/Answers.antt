@@ -1,5 +1,5 @@
 use Rattle.std.proofs.Common.{arith}
-use Rattle.live_turns.proofs.book.Book.used.Goals as goal
+use Rattle.live_book.proofs.book.Book.used.Goals as goal
 
 pub overflow_cast-result : goal.overflow_cast-result
 overflow_cast-result c = let fits = c.self.invariant.0.fits in let len = c.len.ensures in omega arith

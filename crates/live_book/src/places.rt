@@ -1,7 +1,7 @@
 //! What an action changes of the kept places of the record.
 
 ghost use Rattle.std.specs.Prelude.{◌≡◌};
-ghost use Rattle.live_turns.specs.Places.{gained, freed};
+ghost use Rattle.live_book.specs.Places.{gained, freed};
 
 use fat_monitor::{Action, Answer, Reply};
 

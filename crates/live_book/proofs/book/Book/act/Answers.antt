@@ -2,10 +2,10 @@ use Rattle.std.specs.Prelude.{◌<◌, length, Ok}
 use Rattle.std.proofs.Common.{arith, ap, ◌∙◌, subst}
 use Rattle.fat_monitor.specs.FatState.{FatState}
 use Rattle.fat_monitor.proofs.MonitorEffects.{limit-outcome_of}
-use Rattle.live_turns.specs.Book.{BookState}
-use Rattle.live_turns.proofs.Refusals.{refused_after, done_after}
-use Rattle.live_turns.proofs.Books.{acts_on}
-use Rattle.live_turns.proofs.book.Book.act.Goals as goal
+use Rattle.live_book.specs.Book.{BookState}
+use Rattle.live_book.proofs.Refusals.{refused_after, done_after}
+use Rattle.live_book.proofs.Books.{acts_on}
+use Rattle.live_book.proofs.book.Book.act.Goals as goal
 
 pub overflow_sub-self : goal.overflow_sub-self
 overflow_sub-self c =
