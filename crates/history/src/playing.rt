@@ -1,6 +1,6 @@
 //! Playing a script, for the world that it leads to.
 
-ghost use Rattle.std.specs.Prelude.{◌≡◌, Err, IfErr, IfOk, OnOk};
+ghost use Rattle.std.specs.Prelude.{◌≡◌, IfErr, IfOk, OnOk, Some};
 ghost use Rattle.history_streams.specs.declared.faults.FileFault.TheVariants.{Memory as WantOfMemory};
 ghost use Rattle.step_core.specs.declared.steps.Fault.TheVariants.{Memory as OutOfMemory};
 ghost use Rattle.history.specs.Plays.{PlaysOne, IsPlayOf, Plays};
@@ -11,7 +11,7 @@ use history_streams::FileFault;
 use history_text::Script;
 use lock_word::Memory;
 use std::alloc::Global;
-use step_core::{Did, Fault, RelayoutFault, Request, World};
+use step_core::{Fault, RelayoutFault, Request, World};
 
 /// Plays a script: the world behind its last step, with the names of its threads and objects.
 ///
@@ -47,10 +47,7 @@ fn do_request(world: &mut World, request: Request) -> Result<(), Memory>
     ensures { OnOk result (PlaysOne world.old request world.new) }
 {
     match request {
-        Request::Step(step) => {
-            let answer = world.step(step);
-            unless_memory(&answer)
-        }
+        Request::Step(step) => { unless_memory(world.step(step).err()) }
         Request::Relayout(split) => match world.relayout(split) {
             Err(RelayoutFault::Memory) => Err(Memory),
             Ok(_) | Err(_) => Ok(()),
@@ -59,11 +56,11 @@ fn do_request(world: &mut World, request: Request) -> Result<(), Memory>
 }
 
 /// Whether an answer is another than want of memory.
-fn unless_memory(answer: &Result<Did, Fault>) -> Result<(), Memory>
-    ensures { OnOk result (answer.now ≡ Err OutOfMemory → ⊥) }
+fn unless_memory(fault: Option<Fault>) -> Result<(), Memory>
+    ensures { OnOk result (fault ≡ Some OutOfMemory → ⊥) }
 {
-    match answer {
-        Err(Fault::Memory) => Err(Memory),
-        Ok(_) | Err(_) => Ok(()),
+    match fault {
+        Some(Fault::Memory) => Err(Memory),
+        _ => Ok(()),
     }
 }
