@@ -6,7 +6,7 @@ ghost use Rattle.fast_path.specs.Calls.{object_of, subject_of, call_of, call_abo
 use lock_word::{ObjectId, ThreadId};
 
 /// What a thread asks of the service.
-#[derive(Clone, Copy, PartialEq, Eq, Hash, Debug)]
+#[derive(Clone, Copy, PartialEq, Eq, Debug)]
 pub enum Call {
     /// Lock the object (`monitorenter`; JLS SE 8, 17.1).
     Enter(ObjectId),
@@ -37,7 +37,7 @@ pub enum Call {
 }
 
 /// What a call asks of the monitor of an object.
-#[derive(Clone, Copy, PartialEq, Eq, Hash, Debug)]
+#[derive(Clone, Copy, Debug)]
 pub enum Operation {
     Enter,
     Exit,
@@ -48,14 +48,14 @@ pub enum Operation {
 }
 
 /// A call on the monitor of an object.
-#[derive(Clone, Copy, PartialEq, Eq, Hash, Debug)]
+#[derive(Clone, Copy, Debug)]
 pub struct MonitorCall {
     pub object: ObjectId,
     pub operation: Operation,
 }
 
 /// A call about the interrupts of threads.
-#[derive(Clone, Copy, PartialEq, Eq, Hash, Debug)]
+#[derive(Clone, Copy, Debug)]
 pub enum InterruptCall {
     Interrupt(ThreadId),
     Interrupted,
@@ -63,7 +63,7 @@ pub enum InterruptCall {
 }
 
 /// A call, by what it is about.
-#[derive(Clone, Copy, PartialEq, Eq, Hash, Debug)]
+#[derive(Clone, Copy, Debug)]
 pub enum Subject {
     /// The monitor of an object.
     Monitor(MonitorCall),

@@ -7,7 +7,7 @@ use std::error::Error;
 use std::fmt;
 
 /// Why a call was refused.
-#[derive(Clone, Copy, PartialEq, Eq, Hash, Debug)]
+#[derive(Clone, Copy, PartialEq, Eq, Debug)]
 pub enum Cause {
     /// Every fat monitor is bound.
     NoMonitor = 11,
@@ -22,7 +22,7 @@ pub enum Cause {
 }
 
 /// What a call answers.
-#[derive(Clone, Copy, PartialEq, Eq, Hash, Debug)]
+#[derive(Clone, Copy, PartialEq, Eq, Debug)]
 pub enum Reply {
     /// The thread owns the object, once more than before.
     Entered,
@@ -52,7 +52,7 @@ pub enum Reply {
 }
 
 /// Why a thread left a wait set.
-#[derive(Clone, Copy, PartialEq, Eq, Hash, Debug)]
+#[derive(Clone, Copy, PartialEq, Eq, Debug)]
 pub enum Why {
     /// It was notified.
     Notified,
@@ -65,7 +65,7 @@ pub enum Why {
 }
 
 /// Where an attached thread stands towards the fat monitors.
-#[derive(Clone, Copy, PartialEq, Eq, Hash, Debug)]
+#[derive(Clone, Copy, PartialEq, Eq, Debug)]
 pub enum Post {
     /// In no action.
     Out,
@@ -91,7 +91,7 @@ pub enum Post {
 }
 
 /// One action on the fat monitors.
-#[derive(Clone, Copy, PartialEq, Eq, Hash, Debug)]
+#[derive(Clone, Copy, PartialEq, Eq, Debug)]
 pub enum Action {
     /// Own the monitor, or hold it once more, or stand in its entry line behind another owner.
     Enter {
@@ -141,7 +141,7 @@ pub enum Action {
 }
 
 /// What an action answers.
-#[derive(Clone, Copy, PartialEq, Eq, Hash, Debug)]
+#[derive(Clone, Copy, PartialEq, Eq, Debug)]
 pub enum Answer {
     /// The call that made the action has this reply.
     Reply(Reply),
@@ -152,7 +152,7 @@ pub enum Answer {
 }
 
 /// What an action did.
-#[derive(Clone, Copy, PartialEq, Eq, Hash, Debug)]
+#[derive(Clone, Copy, PartialEq, Eq, Debug)]
 pub struct Done {
     /// What the thread is told.
     pub answer: Answer,
@@ -163,7 +163,7 @@ pub struct Done {
 }
 
 /// Why an action was not made. Nothing was changed then.
-#[derive(Clone, Copy, PartialEq, Eq, Hash, Debug)]
+#[derive(Clone, Copy, PartialEq, Eq, Debug)]
 pub enum ActFault {
     /// The thread has no granted reply to collect.
     Parked,

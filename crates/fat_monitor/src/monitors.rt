@@ -27,7 +27,7 @@ use std::marker::Model;
 use wait_lines::Lines;
 
 /// Why a thread was not attached.
-#[derive(Clone, Copy, PartialEq, Eq, Hash, Debug)]
+#[derive(Clone, Copy, PartialEq, Eq, Debug)]
 pub enum AttachFault {
     /// The thread is attached already.
     Known,
@@ -52,7 +52,7 @@ impl fmt::Display for AttachFault {
 impl Error for AttachFault {}
 
 /// The moment that was told is before the one that was told last.
-#[derive(Clone, Copy, PartialEq, Eq, Hash, Debug)]
+#[derive(Clone, Copy, PartialEq, Eq, Debug)]
 pub struct Backwards;
 
 impl fmt::Display for Backwards {
@@ -69,7 +69,7 @@ impl fmt::Display for Backwards {
 impl Error for Backwards {}
 
 /// A bound monitor.
-#[derive(Clone, Copy, PartialEq, Eq, Debug)]
+#[derive(Clone, Copy)]
 pub struct Monitor {
     object: ObjectId,
     owner: Option<ThreadId>,

@@ -21,7 +21,7 @@ use std::marker::Model;
 use wait_lines::Node;
 
 /// What is kept of an attached thread.
-#[derive(Clone, Copy, PartialEq, Eq, Debug)]
+#[derive(Clone, Copy)]
 struct Record {
     thread: ThreadId,
     post: Post,

@@ -4,7 +4,7 @@ use std::fmt;
 use thiserror::Error;
 
 /// Why a move was not taken. The state is then as it was.
-#[derive(Clone, Copy, PartialEq, Eq, Hash, Debug, Error)]
+#[derive(Clone, Copy, PartialEq, Eq, Debug, Error)]
 pub enum MoveFault {
     /// The move is not lawful now.
     Broken,

@@ -24,7 +24,7 @@ use std::marker::Model;
 use step_core::{Doing, Move, every_move_keeps_what_lasts};
 
 /// What a thread wants that wants to wait on an object of its own.
-#[derive(Clone, Copy, PartialEq, Eq, Debug)]
+#[derive(Clone, Copy)]
 pub(crate) struct Wish {
     pub(crate) flag: bool,
     pub(crate) object: ObjectId,

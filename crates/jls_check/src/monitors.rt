@@ -10,14 +10,14 @@ use lock_word::ThreadId;
 use step_core::Doing;
 
 /// The monitor of an object: who owns it, and how many times it is locked (JLS SE 8, 17.1).
-#[derive(Clone, Copy, PartialEq, Eq, Debug)]
+#[derive(Clone, Copy)]
 pub(crate) struct Held {
     pub(crate) owner: Option<ThreadId>,
     pub(crate) count: u16,
 }
 
 /// What is kept of an object.
-#[derive(Clone, Copy, PartialEq, Eq, Debug)]
+#[derive(Clone, Copy)]
 pub(crate) struct ObjectRecord {
     pub(crate) held: Held,
     // How many threads are in its wait set (JLS SE 8, 17.2).

@@ -15,14 +15,14 @@ use std::marker::Model;
 use step_core::Doing;
 
 /// A live thread: its interrupt flag (JLS SE 8, 17.2.3), and what it is doing.
-#[derive(Clone, Copy, PartialEq, Eq, Debug)]
+#[derive(Clone, Copy)]
 pub(crate) struct Live {
     pub(crate) flag: bool,
     pub(crate) act: Doing,
 }
 
 /// What is kept of a live thread.
-#[derive(Clone, Copy, PartialEq, Eq, Debug)]
+#[derive(Clone, Copy)]
 pub(crate) struct ThreadRecord {
     pub(crate) live: Live,
     // How many objects it owns.

@@ -6,7 +6,7 @@ use live_turns::{LiveFault, Standing};
 use lock_word::ThreadId;
 
 /// What a seat is asked to do.
-#[derive(Clone, Copy, PartialEq, Eq, Debug)]
+#[derive(Clone, Copy, Debug)]
 pub enum Order {
     /// The first turn of a call on an object.
     BeginOn(MonitorCall),

@@ -8,11 +8,11 @@ ghost use Rattle.header_words.specs.Bindings.{Binds};
 ghost use Rattle.step_core.specs.Path.{IsTold};
 ghost use Rattle.step_core.specs.Go.{action_on, action_about};
 ghost use Rattle.live_turns.specs.Asked.{IsDeskFault, IsTickFault, MayRefuse, own_action, IsAwake};
-ghost use Rattle.live_turns.specs.declared.faults.LiveFault.{LiveFault};
-ghost use Rattle.live_turns.specs.Log.{IsThreadOf, IsForBook};
-ghost use Rattle.live_turns.specs.Book.{bindings};
+ghost use Rattle.live_book.specs.declared.faults.LiveFault.{LiveFault};
+ghost use Rattle.live_book.specs.Log.{IsThreadOf, IsForBook};
+ghost use Rattle.live_book.specs.Book.{bindings};
 ghost use Rattle.live_turns.specs.Ways.{by};
-ghost use Rattle.live_turns.specs.declared.deeds.Deed.TheVariants.{Bound, Acted, Ticked};
+ghost use Rattle.live_book.specs.declared.deeds.Deed.TheVariants.{Bound, Acted, Ticked};
 
 use crate::{Book, BookFault, Deed, LiveFault, Logged};
 use fast_path::{InterruptCall, MonitorCall};
@@ -66,7 +66,7 @@ pub(crate) struct Desk<L: Crew> {
 }
 
 impl<L: Crew> Kept for Desk<L> {
-    ghost use Rattle.live_turns.specs.Book.{bindings};
+    ghost use Rattle.live_book.specs.Book.{bindings};
 
     ghost bound = { λ d. bindings d.book };
 
@@ -76,7 +76,7 @@ impl<L: Crew> Kept for Desk<L> {
 }
 
 /// Why no monitor was bound.
-#[derive(Clone, Copy, PartialEq, Eq, Debug)]
+#[derive(Clone, Copy)]
 pub(crate) enum Refusal {
     /// The call is given up.
     Fault(LiveFault),

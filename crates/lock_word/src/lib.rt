@@ -64,7 +64,7 @@ fn hex_digit(digit: u32) -> u8
 
 /// How a thin lock divides bits 30 to 8 of its word between the index of its owner and its count.
 /// The other locks have the same words in both splits.
-#[derive(Clone, Copy, PartialEq, Eq, Hash, Debug)]
+#[derive(Clone, Copy, PartialEq, Eq, Debug)]
 pub enum Split {
     /// 15 bits of index, 1 to 32,767, and 8 bits of count, 0 to 255: for many threads.
     Wide,
@@ -95,7 +95,7 @@ impl Split {
 }
 
 /// What bits 31 to 8 of a header word say of the object's monitor.
-#[derive(Clone, Copy, PartialEq, Eq, Hash, Debug)]
+#[derive(Clone, Copy, PartialEq, Eq, Debug)]
 pub enum Lock {
     /// Nobody owns the monitor.
     Free,
@@ -107,7 +107,7 @@ pub enum Lock {
 }
 
 /// Want of memory: the system refused a growth. Whatever was asked to grow is unchanged.
-#[derive(Clone, Copy, PartialEq, Eq, Hash, Debug)]
+#[derive(Clone, Copy, PartialEq, Eq, Debug)]
 pub struct Memory;
 
 impl fmt::Display for Memory {

@@ -5,7 +5,7 @@ use fat_monitor::{Cause, Reply, Why};
 use lock_word::{ObjectId, ThreadId};
 
 /// What a live thread is doing.
-#[derive(Clone, Copy, PartialEq, Eq, Hash, Debug)]
+#[derive(Clone, Copy, PartialEq, Eq, Debug)]
 pub enum Doing {
     /// It is in no call.
     Idle,
@@ -29,7 +29,7 @@ pub enum Doing {
 }
 
 /// A move of the abstract machine.
-#[derive(Clone, Copy, PartialEq, Eq, Hash, Debug)]
+#[derive(Clone, Copy, PartialEq, Eq, Debug)]
 pub enum Move {
     /// The thread becomes live.
     Attach {

@@ -13,7 +13,7 @@ use std::error::Error;
 use std::fmt;
 
 /// One step of a world.
-#[derive(Clone, Copy, PartialEq, Eq, Hash, Debug)]
+#[derive(Clone, Copy, PartialEq, Eq, Debug)]
 pub enum Step {
     /// The thread becomes live and takes the lowest free index.
     Attach { thread: ThreadId },
@@ -31,7 +31,7 @@ pub enum Step {
 }
 
 /// What is asked of a world.
-#[derive(Clone, Copy, PartialEq, Eq, Hash, Debug)]
+#[derive(Clone, Copy, Debug)]
 pub enum Request {
     /// A step of it.
     Step(Step),
@@ -40,7 +40,7 @@ pub enum Request {
 }
 
 /// The one thing that a step did to the words or the fat monitors.
-#[derive(Clone, Copy, PartialEq, Eq, Hash, Debug)]
+#[derive(Clone, Copy, PartialEq, Eq, Debug)]
 pub enum Atomic {
     /// Nothing: a thread was attached, a call began, or the moment was told.
     Label,
@@ -84,7 +84,7 @@ pub enum Atomic {
 }
 
 /// What an accepted step did.
-#[derive(Clone, Copy, PartialEq, Eq, Hash, Debug)]
+#[derive(Clone, Copy, PartialEq, Eq, Debug)]
 pub struct Did {
     pub atomic: Atomic,
     /// The moves of the abstract machine, in order: those that are there come first.
@@ -98,7 +98,7 @@ pub struct Did {
 /// Attach answers the first of Known, NoIndex and Memory whose cause holds; Begin of NoThread,
 /// NoObject and InCall; Go of NoThread, NotCalling and Parked; Expire of NoThread and NotDue;
 /// Spurious of NoThread and NotWaiting; Tick Backwards.
-#[derive(Clone, Copy, PartialEq, Eq, Hash, Debug)]
+#[derive(Clone, Copy, PartialEq, Eq, Debug)]
 pub enum Fault {
     /// Every index belongs to a live thread.
     NoIndex = 1,

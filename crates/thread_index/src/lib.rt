@@ -25,7 +25,7 @@ use std::fmt;
 use std::marker::Model;
 
 /// Why a thread got no index.
-#[derive(Clone, Copy, PartialEq, Eq, Hash, Debug)]
+#[derive(Clone, Copy, PartialEq, Eq, Debug)]
 pub enum TakeFault {
     /// The thread has an index already.
     Known,

@@ -27,7 +27,7 @@ use std::marker::Model;
 use table::Table;
 
 /// Which of a monitor's two lines.
-#[derive(Clone, Copy, PartialEq, Eq, Hash, Debug)]
+#[derive(Clone, Copy, PartialEq, Eq, Debug)]
 pub enum Role {
     /// The threads that ask for the monitor, or ask for it again after a wait.
     Entry,

@@ -29,7 +29,7 @@ use thread_index::Indices;
 
 /// Why a relayout was refused: the first of NotAtRest, IndexTooWide, NoMonitor and Memory whose
 /// cause holds. The world is then unchanged.
-#[derive(Clone, Copy, PartialEq, Eq, Hash, Debug)]
+#[derive(Clone, Copy, PartialEq, Eq, Debug)]
 pub enum RelayoutFault {
     /// The system has no memory for the monitors to be bound.
     Memory = 2,
