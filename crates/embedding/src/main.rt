@@ -42,6 +42,17 @@ struct Runtime {
 }
 
 impl Runtime {
+    /// Goes on until no thread can, and no wait ends by its time.
+    fn run<R: Print>(&mut self, rt: &R) -> Result<(), Trouble> {
+        for _ in 0..u64::MAX {
+            self.round(rt)?;
+            if self.threads.iter().all(|t| t.next.is_none()) && !self.pass_time(rt)? {
+                break;
+            }
+        }
+        Ok(())
+    }
+
     /// Does the next step of each thread that has one.
     fn round<R: Print>(&mut self, rt: &R) -> Result<(), Trouble> {
         for at in 0..self.threads.len() {
@@ -84,14 +95,7 @@ impl Runtime {
     /// its second move says, that thread has a Go next.
     fn step<R: Print>(&mut self, rt: &R, step: Step) -> Result<Did, Trouble> {
         let did = self.world.step(step)?;
-        match did.atomic {
-            Atomic::Load { word, .. } => println!(rt; "{step:?}: load {word}")?,
-            Atomic::Won { old, new, .. } => println!(rt; "{step:?}: won {old} {new}")?,
-            Atomic::Lost { word, .. } => println!(rt; "{step:?}: lost {word}")?,
-            Atomic::Stored { old, new, .. } => println!(rt; "{step:?}: stored {old} {new}")?,
-            Atomic::Acted { action, answer } => println!(rt; "{step:?}: {action} {answer:?}")?,
-            other => println!(rt; "{step:?}: {other:?}")?,
-        }
+        print_atomic(rt, step, did.atomic)?;
         for made in did.moves.iter().flatten() {
             println!(rt; "    {made:?}")?;
         }
@@ -101,6 +105,18 @@ impl Runtime {
             }
         }
         Ok(did)
+    }
+}
+
+/// Prints a step with what it did to the words and the fat monitors.
+fn print_atomic<R: Print>(rt: &R, step: Step, atomic: Atomic) -> io::Result<()> {
+    match atomic {
+        Atomic::Load { word, .. } => println!(rt; "{step:?}: load {word}"),
+        Atomic::Won { old, new, .. } => println!(rt; "{step:?}: won {old} {new}"),
+        Atomic::Lost { word, .. } => println!(rt; "{step:?}: lost {word}"),
+        Atomic::Stored { old, new, .. } => println!(rt; "{step:?}: stored {old} {new}"),
+        Atomic::Acted { action, answer } => println!(rt; "{step:?}: {action} {answer:?}"),
+        other => println!(rt; "{step:?}: {other:?}"),
     }
 }
 
@@ -116,15 +132,9 @@ fn main(rt: HostRuntime) -> Result<(), Trouble> {
     // The three waits of thread one end by the notify, by their time, and by the interrupt.
     let one_calls = [enter, enter, wait(5), wait(5), wait(0), exit, exit, end];
     let two_calls = [enter, notify, exit, enter, wait(8), interrupt, exit, end];
+    let threads = [new_thread(one, one_calls), new_thread(two, two_calls)];
     // One object with the low byte A5, one fat monitor, two indices.
     let world = World::new(rt.alloc(), &[0xA5], 1, 2, Split::Wide)?;
-    let threads = [new_thread(one, one_calls), new_thread(two, two_calls)];
     let mut runtime = Runtime { world, threads };
-    for _ in 0..u64::MAX {
-        runtime.round(&rt)?;
-        if runtime.threads.iter().all(|t| t.next.is_none()) && !runtime.pass_time(&rt)? {
-            break;
-        }
-    }
-    Ok(())
+    runtime.run(&rt)
 }
