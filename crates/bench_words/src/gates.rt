@@ -1,12 +1,13 @@
 //! What the threads of the benchmark do with the book behind the gate.
-ghost use Rattle.std.specs.Prelude.{◌≡◌, ◌<◌, length, true, false, IsOk};
+ghost use Rattle.std.specs.Prelude.{◌≡◌, ◌<◌, length, true, false, IfOk, IsOk};
+ghost use Rattle.std.specs.List.{All};
 ghost use Rattle.header_words.specs.Bindings.{Covers};
 ghost use Rattle.header_words.specs.Passes.{depth_at};
 
 use crate::BenchFault;
 use crate::book::Book;
 use crate::lanes::{Measure, Setup};
-use fat_monitor::Fats;
+use fat_monitor::{Fats, Receipt};
 use header_words::{Headers, Pass};
 use lock_word::{Memory, ObjectId, ThreadId};
 use std::alloc::Global;
@@ -21,6 +22,20 @@ const TRIES: u32 = 1_000_000_000;
 
 const OBJECT: ObjectId = ObjectId(0);
 
+// The receipt of a monitor that this thread holds once, for the first object.
+fn new_receipt(alloc: Global, owner: ThreadId) -> Result<Receipt, BenchFault>
+    ensures object { IfOk result (λ r. r.object.0 ≡ 0) }
+    ensures owner { IfOk result (λ r. r.owner ≡ owner) }
+    ensures holds { IfOk result (λ r. r.holds ≡ 1) }
+{
+    let mut fats = Fats::new(alloc, 1);
+    let Ok(()) = fats.attach(owner) else {
+        return Err(BenchFault::Memory(Memory));
+    };
+    fats.bind(OBJECT, owner, 1)
+        .map_err(|_| BenchFault::Memory(Memory))
+}
+
 // Inflates the first object, while nobody else uses it or the book.
 fn inflate(headers: &Headers<Book>, pass: &mut Pass<Book>, alloc: Global) -> Result<(), BenchFault>
     requires belongs { pass.old.opening ≡ headers.now }
@@ -30,14 +45,7 @@ fn inflate(headers: &Headers<Book>, pass: &mut Pass<Book>, alloc: Global) -> Res
     ensures belongs { pass.new.opening ≡ headers.now }
     ensures without { pass.new.has_gate ≡ false }
 {
-    let owner = ThreadId(u32::from(pass.index()));
-    let mut fats = Fats::new(alloc, 1);
-    let Ok(()) = fats.attach(owner) else {
-        return Err(BenchFault::Memory(Memory));
-    };
-    let Ok(receipt) = fats.bind(OBJECT, owner, 1) else {
-        return Err(BenchFault::Memory(Memory));
-    };
+    let receipt = new_receipt(alloc, ThreadId(u32::from(pass.index())))?;
     if !headers.acquire(pass, OBJECT) {
         return Err(BenchFault::Taken);
     }
@@ -127,6 +135,21 @@ fn bare_hold(word: &AtomicU64, rounds: u32) -> u32 {
     done
 }
 
+// How many takings the book has counted, once all passes are back.
+fn count_takings(
+    alloc: Global,
+    headers: Headers<Book>,
+    passes: Vec<Pass<Book>>,
+) -> Result<u32, BenchFault>
+    requires belong { All (λ p. p.opening ≡ headers) passes.items }
+    requires without { All (λ p. p.has_gate ≡ false) passes.items }
+{
+    let Ok((_, book)) = headers.close(alloc, passes) else {
+        return Err(BenchFault::Passes);
+    };
+    Ok(book.takings())
+}
+
 /// Times a take and a give by one pass.
 pub fn take_in_one<R: Clock + Threads + Sync>(
     setup: &Setup<'_, R>,
@@ -134,10 +157,7 @@ pub fn take_in_one<R: Clock + Threads + Sync>(
 ) -> Result<Measure, BenchFault>
     requires { length setup.now.lows.now ≡ 256 }
 {
-    let book = Book::new(alloc)?;
-    let Ok((headers, mut passes)) = Headers::open(alloc, setup.lows, 1, book) else {
-        return Err(BenchFault::Memory(Memory));
-    };
+    let (headers, mut passes) = setup.open(alloc, 1)?;
     let Some(mut pass) = passes.pop() else {
         return Err(BenchFault::Passes);
     };
@@ -148,13 +168,8 @@ pub fn take_in_one<R: Clock + Threads + Sync>(
     let Ok(()) = passes.push(pass) else {
         return Err(BenchFault::Memory(Memory));
     };
-    let Ok((_, book)) = headers.close(alloc, passes) else {
-        return Err(BenchFault::Passes);
-    };
-    Ok(Measure {
-        done: book.takings(),
-        time,
-    })
+    let done = count_takings(alloc, headers, passes)?;
+    Ok(Measure { done, time })
 }
 
 /// Times takes and gives by two passes, each in a thread of its own, that fight for the gate.
@@ -164,10 +179,7 @@ pub fn take_in_two<R: Clock + Threads + Sync>(
 ) -> Result<Measure, BenchFault>
     requires { length setup.now.lows.now ≡ 256 }
 {
-    let book = Book::new(alloc)?;
-    let Ok((headers, mut passes)) = Headers::open(alloc, setup.lows, 2, book) else {
-        return Err(BenchFault::Memory(Memory));
-    };
+    let (headers, mut passes) = setup.open(alloc, 2)?;
     let (Some(second), Some(mut first)) = (passes.pop(), passes.pop()) else {
         return Err(BenchFault::Passes);
     };
@@ -179,13 +191,8 @@ pub fn take_in_two<R: Clock + Threads + Sync>(
     let (Ok(()), Ok(())) = (passes.push(first), passes.push(second)) else {
         return Err(BenchFault::Memory(Memory));
     };
-    let Ok((_, book)) = headers.close(alloc, passes) else {
-        return Err(BenchFault::Passes);
-    };
-    Ok(Measure {
-        done: book.takings(),
-        time,
-    })
+    let done = count_takings(alloc, headers, passes)?;
+    Ok(Measure { done, time })
 }
 
 /// Times the bare operations in one thread.

@@ -1,6 +1,7 @@
 //! What the threads of the benchmark do.
-ghost use Rattle.std.specs.Prelude.{◌≡◌, ◌+◌, ◌<◌, [], length};
+ghost use Rattle.std.specs.Prelude.{◌≡◌, ◌+◌, ◌<◌, ◌≤◌, [], length, IfOk};
 ghost use Rattle.header_words.specs.Events.{depth};
+ghost use Rattle.header_words.specs.Passes.{new_passes};
 
 use crate::BenchFault;
 use crate::book::Book;
@@ -13,7 +14,7 @@ use std::thread::Threads;
 use std::time::{Clock, Instant};
 
 /// What a thread does in each round, on its own object or bare word.
-#[derive(Clone, Copy, PartialEq, Eq, Debug)]
+#[derive(Clone, Copy)]
 pub enum Work {
     /// It acquires and releases the object.
     Lock,
@@ -156,7 +157,7 @@ fn run_four<R: Threads + Sync>(
 }
 
 /// What a run of some threads did, and how long it took.
-#[derive(Clone, Copy, Debug)]
+#[derive(Clone, Copy)]
 pub struct Measure {
     /// The rounds that succeeded, of all threads.
     pub done: u32,
@@ -173,6 +174,25 @@ pub struct Setup<'a, R> {
     pub rounds: u32,
 }
 
+impl<R> Setup<'_, R> {
+    /// Opens the words of the objects, with so many passes and a book that has bound no object.
+    pub fn open(
+        &self,
+        alloc: Global,
+        passes: u16,
+    ) -> Result<(Headers<Book>, Vec<Pass<Book>>), BenchFault>
+        requires lows { length self.now.lows.now ≡ 256 }
+        requires some { 1 ≤ passes }
+        requires few { passes ≤ 64 }
+        ensures opening { IfOk result (λ r.
+            (r.0.lows ≡ self.now.lows.now) × (r.0.count ≡ passes)) }
+        ensures passes { IfOk result (λ r. r.1.items ≡ new_passes r.0 1 passes) }
+    {
+        let book = Book::new(alloc)?;
+        Headers::open(alloc, self.lows, passes, book).map_err(|_| BenchFault::Memory(Memory))
+    }
+}
+
 /// Times the work in one thread.
 pub fn in_one<R: Clock + Threads + Sync>(
     setup: &Setup<'_, R>,
@@ -181,10 +201,7 @@ pub fn in_one<R: Clock + Threads + Sync>(
 ) -> Result<Measure, BenchFault>
     requires { length setup.now.lows.now ≡ 256 }
 {
-    let book = Book::new(alloc)?;
-    let Ok((headers, mut passes)) = Headers::open(alloc, setup.lows, 1, book) else {
-        return Err(BenchFault::Memory(Memory));
-    };
+    let (headers, mut passes) = setup.open(alloc, 1)?;
     let Some(pass) = passes.pop() else {
         return Err(BenchFault::Passes);
     };
@@ -206,10 +223,7 @@ pub fn in_two<R: Clock + Threads + Sync>(
 ) -> Result<Measure, BenchFault>
     requires { length setup.now.lows.now ≡ 256 }
 {
-    let book = Book::new(alloc)?;
-    let Ok((headers, mut passes)) = Headers::open(alloc, setup.lows, 2, book) else {
-        return Err(BenchFault::Memory(Memory));
-    };
+    let (headers, mut passes) = setup.open(alloc, 2)?;
     let (Some(second), Some(first)) = (passes.pop(), passes.pop()) else {
         return Err(BenchFault::Passes);
     };
@@ -231,10 +245,7 @@ pub fn in_four<R: Clock + Threads + Sync>(
 ) -> Result<Measure, BenchFault>
     requires { length setup.now.lows.now ≡ 256 }
 {
-    let book = Book::new(alloc)?;
-    let Ok((headers, mut passes)) = Headers::open(alloc, setup.lows, 4, book) else {
-        return Err(BenchFault::Memory(Memory));
-    };
+    let (headers, mut passes) = setup.open(alloc, 4)?;
     let (Some(fourth), Some(third)) = (passes.pop(), passes.pop()) else {
         return Err(BenchFault::Passes);
     };
