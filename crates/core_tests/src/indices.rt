@@ -5,28 +5,48 @@ use plain::PlainIndices;
 use std::test::Fail;
 use thread_index::{Indices, TakeFault};
 
+/// Whether a take is answered so.
+fn takes(indices: &mut Indices, thread: ThreadId, answer: Result<u16, TakeFault>) -> bool {
+    indices.take(thread) == answer
+}
+
+/// Whether a give is answered so.
+fn gives(indices: &mut Indices, thread: ThreadId, answer: Option<u16>) -> bool {
+    indices.give(thread) == answer
+}
+
+/// Whether the thread has this index; None: it has none.
+fn has(indices: &Indices, thread: ThreadId, index: Option<u16>) -> bool {
+    indices.index_of(thread) == index
+}
+
+/// Whether the index is this thread's; None: nobody's.
+fn is_held(indices: &Indices, index: u16, holder: Option<ThreadId>) -> bool {
+    indices.id_of(index) == holder
+}
+
 #[test]
 fn two_indices_and_three_threads(rt: HostRuntime) -> Result<(), Fail> {
     let (seven, eight, nine) = (ThreadId(7), ThreadId(8), ThreadId(9));
     let mut indices = Indices::new(rt.alloc(), 2)?;
-    assert!(rt; indices.index_of(seven) == None);
-    assert!(rt; indices.id_of(1) == None);
+    assert!(rt; has(&indices, seven, None));
+    assert!(rt; is_held(&indices, 1, None));
 
-    assert!(rt; indices.take(seven) == Ok(1));
-    assert!(rt; indices.take(nine) == Ok(2));
-    assert!(rt; indices.take(seven) == Err(TakeFault::Known));
-    assert!(rt; indices.take(eight) == Err(TakeFault::NoIndex));
-    assert!(rt; indices.give(eight) == None);
+    assert!(rt; takes(&mut indices, seven, Ok(1)));
+    assert!(rt; takes(&mut indices, nine, Ok(2)));
+    assert!(rt; takes(&mut indices, seven, Err(TakeFault::Known)));
+    assert!(rt; takes(&mut indices, eight, Err(TakeFault::NoIndex)));
+    assert!(rt; gives(&mut indices, eight, None));
     for (index, holder) in [(0, None), (1, Some(seven)), (2, Some(nine)), (3, None)] {
-        assert!(rt; indices.id_of(index) == holder, "{index}");
+        assert!(rt; is_held(&indices, index, holder), "{index}");
     }
 
-    assert!(rt; indices.give(seven) == Some(1));
-    assert!(rt; indices.index_of(seven) == None);
-    assert!(rt; indices.id_of(1) == None);
-    assert!(rt; indices.take(eight) == Ok(1));
+    assert!(rt; gives(&mut indices, seven, Some(1)));
+    assert!(rt; has(&indices, seven, None));
+    assert!(rt; is_held(&indices, 1, None));
+    assert!(rt; takes(&mut indices, eight, Ok(1)));
     for (id, index) in [(seven, None), (eight, Some(1)), (nine, Some(2))] {
-        assert!(rt; indices.index_of(id) == index, "{}", id.0);
+        assert!(rt; has(&indices, id, index), "{}", id.0);
     }
     Ok(())
 }
@@ -35,18 +55,18 @@ fn two_indices_and_three_threads(rt: HostRuntime) -> Result<(), Fail> {
 fn every_index_is_taken(rt: HostRuntime) -> Result<(), Fail> {
     let mut indices = Indices::new(rt.alloc(), 32_767)?;
     for number in 0..32_767u16 {
-        assert!(rt; indices.take(ThreadId(u32::from(number))) == Ok(number + 1));
+        assert!(rt; takes(&mut indices, ThreadId(u32::from(number)), Ok(number + 1)));
     }
     let late = ThreadId(40_000);
-    assert!(rt; indices.take(late) == Err(TakeFault::NoIndex));
+    assert!(rt; takes(&mut indices, late, Err(TakeFault::NoIndex)));
     for index in [64, 32_767] {
         let holder = indices.id_of(index).ok_or("nobody")?;
-        assert!(rt; indices.give(holder) == Some(index));
-        assert!(rt; indices.index_of(holder) == None);
-        assert!(rt; indices.take(late) == Ok(index));
-        assert!(rt; indices.take(holder) == Err(TakeFault::NoIndex));
-        assert!(rt; indices.give(late) == Some(index));
-        assert!(rt; indices.take(holder) == Ok(index));
+        assert!(rt; gives(&mut indices, holder, Some(index)));
+        assert!(rt; has(&indices, holder, None));
+        assert!(rt; takes(&mut indices, late, Ok(index)));
+        assert!(rt; takes(&mut indices, holder, Err(TakeFault::NoIndex)));
+        assert!(rt; gives(&mut indices, late, Some(index)));
+        assert!(rt; takes(&mut indices, holder, Ok(index)));
     }
     Ok(())
 }
@@ -88,9 +108,9 @@ fn what_was_refused_succeeds_when_tried_again(rt: HostRuntime) -> Result<(), Fai
     for (thread, index) in [(ThreadId(7), 1), (ThreadId(8), 2), (ThreadId(9), 3)] {
         let first = indices.take(thread);
         if first == Err(TakeFault::Memory) {
-            assert!(rt; indices.index_of(thread) == None);
-            assert!(rt; indices.id_of(index) == None);
-            assert!(rt; indices.take(thread) == Ok(index));
+            assert!(rt; has(&indices, thread, None));
+            assert!(rt; is_held(&indices, index, None));
+            assert!(rt; takes(&mut indices, thread, Ok(index)));
         } else {
             assert!(rt; first == Ok(index));
         }

@@ -12,6 +12,8 @@ mod machines;
 #[cfg(test)]
 mod monitors;
 #[cfg(test)]
+mod texts;
+#[cfg(test)]
 mod words;
 #[cfg(test)]
 mod worlds;

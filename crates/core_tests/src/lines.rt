@@ -1,4 +1,4 @@
-ghost use Rattle.std.specs.Prelude.{◌≡◌, ◌+◌, ◌<◌, OnOk};
+ghost use Rattle.std.specs.Prelude.{◌<◌};
 
 mod plain;
 
@@ -8,16 +8,42 @@ use std::alloc::{AllocError, Global};
 use std::test::Fail;
 use wait_lines::{Lines, Role};
 
-/// Makes room for one more thread, and moves this one to the end of a line.
-fn add(lines: &mut Lines, thread: u32, monitor: u32, role: Role) -> Result<(), Memory>
-    requires { lines.old.reservations < 32767 }
-    ensures { OnOk result (lines.new.reservations ≡ lines.old.reservations + 1) }
-{
+/// Makes room for one more thread, where there is not room for all, and moves this one to the end
+/// of a line.
+fn add(lines: &mut Lines, thread: u32, monitor: u32, role: Role) -> Result<(), Memory> {
+    if lines.reservations() == 32_767 {
+        return Err(Memory);
+    }
     let thread = ThreadId(thread);
     let _stood = lines.leave(thread);
     lines.reserve_one()?;
     lines.join(thread, monitor, role);
     Ok(())
+}
+
+/// Whether just these threads stand in a line, in this order.
+fn stand(
+    alloc: Global,
+    lines: &Lines,
+    monitor: u32,
+    role: Role,
+    threads: &[u32],
+) -> Result<bool, AllocError> {
+    let line: Vec<u32> = lines
+        .all(monitor, role)
+        .map(|thread| thread.0)
+        .collect(alloc)?;
+    Ok(line.as_slice() == threads)
+}
+
+/// Whether this thread is the first of a line; None: nobody stands there.
+fn is_first(lines: &Lines, monitor: u32, role: Role, thread: Option<ThreadId>) -> bool {
+    lines.first(monitor, role) == thread
+}
+
+/// Whether the thread stood in a line, which it leaves.
+fn leaves(lines: &mut Lines, thread: ThreadId) -> bool {
+    lines.leave(thread)
 }
 
 /// Whether a line has the threads of the plain one in their order, and its first as first.
@@ -50,13 +76,11 @@ fn two_wait_and_one_leaves(rt: HostRuntime) -> Result<(), Fail> {
     let mut lines = Lines::new(rt.alloc());
     add(&mut lines, 5, 0, Role::Waiting)?;
     add(&mut lines, 6, 0, Role::Waiting)?;
-    assert!(rt; lines.first(0, Role::Waiting) == Some(five));
-    assert!(rt; lines.leave(five));
-    assert!(rt; lines.first(0, Role::Waiting) == Some(six));
-    let mut waiting = lines.all(0, Role::Waiting);
-    assert!(rt; waiting.next() == Some(six));
-    assert!(rt; waiting.next() == None);
-    assert!(rt; !lines.leave(five));
+    assert!(rt; is_first(&lines, 0, Role::Waiting, Some(five)));
+    assert!(rt; leaves(&mut lines, five));
+    assert!(rt; is_first(&lines, 0, Role::Waiting, Some(six)));
+    assert!(rt; stand(rt.alloc(), &lines, 0, Role::Waiting, &[6])?);
+    assert!(rt; !leaves(&mut lines, five));
     Ok(())
 }
 
@@ -66,14 +90,14 @@ fn lines_are_apart(rt: HostRuntime) -> Result<(), Fail> {
     add(&mut lines, 7, 0, Role::Entry)?;
     add(&mut lines, 8, 1, Role::Waiting)?;
     let rows = [
-        (0, Role::Entry, Some(7)),
+        (0, Role::Entry, Some(ThreadId(7))),
         (0, Role::Waiting, None),
         (1, Role::Entry, None),
-        (1, Role::Waiting, Some(8)),
+        (1, Role::Waiting, Some(ThreadId(8))),
     ];
     for (monitor, role, first) in rows {
         assert!(rt;
-            lines.first(monitor, role) == first.map(ThreadId),
+            is_first(&lines, monitor, role, first),
             "{monitor} {role:?}"
         );
     }
@@ -86,12 +110,8 @@ fn the_middle_one_leaves(rt: HostRuntime) -> Result<(), Fail> {
     add(&mut lines, 3, 9, Role::Entry)?;
     add(&mut lines, 1, 9, Role::Entry)?;
     add(&mut lines, 2, 9, Role::Entry)?;
-    assert!(rt; lines.leave(ThreadId(1)));
-    let line: Vec<u32> = lines
-        .all(9, Role::Entry)
-        .map(|thread| thread.0)
-        .collect(rt.alloc())?;
-    assert!(rt; line.as_slice() == [3, 2].as_slice());
+    assert!(rt; leaves(&mut lines, ThreadId(1)));
+    assert!(rt; stand(rt.alloc(), &lines, 9, Role::Entry, &[3, 2])?);
     Ok(())
 }
 
@@ -112,7 +132,7 @@ fn a_long_line_is_emptied_from_the_middle_outwards(rt: HostRuntime) -> Result<()
         let is_same = is_as_plain(rt.alloc(), &lines, &plain, 3, Role::Waiting)?;
         assert!(rt; is_same, "{turn}");
     }
-    assert!(rt; lines.first(3, Role::Waiting) == None);
+    assert!(rt; is_first(&lines, 3, Role::Waiting, None));
     Ok(())
 }
 
@@ -132,7 +152,7 @@ fn threads_join_and_leave_in_no_order(rt: HostRuntime) -> Result<(), Fail> {
         };
         plain.leave(thread);
         if (state >> 24) % 4 == 0 {
-            let _stood = lines.leave(thread);
+            leaves(&mut lines, thread);
         } else {
             add(&mut lines, thread.0, monitor, role)?;
             plain.join(thread, monitor, role)?;

@@ -10,17 +10,22 @@ use step_core::Move;
 
 const OBJECT: ObjectId = ObjectId(0);
 
+/// Whether the machine answers the move so.
+fn answers(machine: &mut Machine, made: Move, answer: Result<(), MoveFault>) -> bool {
+    machine.take(made) == answer
+}
+
 /// Takes these moves, each of which has to be lawful.
 fn take_all(rt: &impl Abort, machine: &mut Machine, moves: &[Move]) {
     for made in moves {
-        assert!(rt; machine.take(*made) == Ok(()));
+        assert!(rt; answers(machine, *made, Ok(())));
     }
 }
 
 /// Refuses each of these moves.
 fn refuse_all(rt: &impl Abort, machine: &mut Machine, moves: &[Move]) {
     for made in moves {
-        assert!(rt; machine.take(*made) == Err(MoveFault::Broken));
+        assert!(rt; answers(machine, *made, Err(MoveFault::Broken)));
     }
 }
 

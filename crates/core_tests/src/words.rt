@@ -1,3 +1,4 @@
+use crate::texts::is_written;
 use lock_word::{Lock, Memory, Split, Word, decode, encode, lock_of, with_lock};
 use std::test::Fail;
 
@@ -100,7 +101,7 @@ fn index_0_with_a_count_is_no_word(rt: HostRuntime) {
 #[test]
 fn texts(rt: HostRuntime) -> Result<(), Fail> {
     let word = Word(0x0001_00A5);
-    assert!(rt; format!(in rt.alloc(); "{word}")?.as_str() == "000100A5");
-    assert!(rt; format!(in rt.alloc(); "{Memory}")?.as_str() == "out of memory");
+    assert!(rt; is_written(rt.alloc(), &word, "000100A5")?);
+    assert!(rt; is_written(rt.alloc(), &Memory, "out of memory")?);
     Ok(())
 }

@@ -2,7 +2,8 @@
 //! and how faults are named.
 
 use fast_path::Call;
-use lock_word::{ObjectId, ThreadId, Word};
+use lock_word::{Memory, ObjectId, Split, ThreadId, Word};
+use std::alloc::Global;
 use std::process::Abort;
 use step_core::{Step, World};
 
@@ -37,10 +38,15 @@ fn enters(rt: &impl Abort, world: &mut World, times: u32) {
     }
 }
 
-/// What the word of the object shows where x owns it.
-fn shows(rt: &impl Abort, world: &World, word: u32, holds: u16) {
-    assert!(rt; A.0 < world.objects());
-    assert!(rt; world.word(A) == Word(word));
-    assert!(rt; world.owner(A) == Some(X));
-    assert!(rt; world.holds(A) == holds);
+/// Whether the word of the object is this, and it is owned by the thread, which holds it so often.
+fn shows(world: &World, word: u32, owner: ThreadId, holds: u16) -> bool {
+    A.0 < world.objects()
+        && world.word(A) == Word(word)
+        && world.owner(A) == Some(owner)
+        && world.holds(A) == holds
+}
+
+/// A world with one object, low byte A5, and no threads.
+fn opening(alloc: Global, split: Split) -> Result<World, Memory> {
+    World::new(alloc, &[0xA5], 4, 4, split)
 }

@@ -3,34 +3,40 @@
 
 use super::*;
 use fat_monitor::{Cause, Reply};
-use lock_word::Split;
-use std::alloc::Global;
 use std::test::Fail;
 use step_core::{Did, Fault, RelayoutFault};
+
+/// What one more step of the thread in its call comes to.
+fn go(world: &mut World, thread: ThreadId) -> Result<Did, Fault> {
+    world.step(Step::Go { thread })
+}
+
+/// Whether the world knows nothing of the thread.
+fn is_unknown(world: &World, thread: ThreadId) -> bool {
+    world.index(thread) == None && world.doing(thread) == None
+}
 
 /// An attach, tried again where memory was refused.
 fn attaches(rt: &impl Abort, world: &mut World, thread: ThreadId) {
     let step = Step::Attach { thread };
     if let Err(fault) = world.step(step) {
         assert!(rt; fault == Fault::Memory);
-        assert!(rt; world.index(thread) == None);
-        assert!(rt; world.doing(thread) == None);
+        assert!(rt; is_unknown(world, thread));
         does(rt, world, step);
     }
 }
 
 /// The bind of a 257th enter of x, and the enter up to it once more where memory was refused.
 fn binds(rt: &impl Abort, world: &mut World) {
-    let did = world.step(Step::Go { thread: X });
     if let Ok(
         Did {
             reply: Some(reply),
             ..
         },
-    ) = did
+    ) = go(world, X)
     {
         assert!(rt; reply == Reply::Refused(Cause::Memory));
-        shows(rt, world, 0x0001_FFA5, 256);
+        assert!(rt; shows(world, 0x0001_FFA5, X, 256));
         let call = Call::Enter(A);
         does(rt, world, Step::Begin { thread: X, call });
         goes(rt, world, 2);
@@ -39,9 +45,9 @@ fn binds(rt: &impl Abort, world: &mut World) {
 
 /// A world with one object, low byte A5, made anew where memory was refused.
 fn opened(alloc: Global, split: Split) -> Result<World, Fail> {
-    match World::new(alloc, &[0xA5], 4, 4, split) {
+    match opening(alloc, split) {
         Ok(world) => Ok(world),
-        Err(_) => Ok(World::new(alloc, &[0xA5], 4, 4, split)?),
+        Err(_) => Ok(opening(alloc, split)?),
     }
 }
 
@@ -56,15 +62,14 @@ fn what_was_refused_succeeds_when_tried_again(rt: HostRuntime) -> Result<(), Fai
     goes(&rt, &mut world, 1);
     binds(&rt, &mut world);
     goes(&rt, &mut world, 2);
-    shows(&rt, &world, 0x8000_00A5, 257);
+    assert!(rt; shows(&world, 0x8000_00A5, X, 257));
     Ok(())
 }
 
 /// The Go steps of y in its call, up to its reply, of which there are so many at most.
 fn replies(rt: &impl Abort, world: &mut World, most: u32) -> Option<Reply> {
     for _ in 0..most {
-        let did = world.step(Step::Go { thread: Y });
-        let Ok(did) = did else {
+        let Ok(did) = go(world, Y) else {
             panic!(rt; "the step is accepted");
         };
         if did.reply.is_some() {
@@ -87,12 +92,7 @@ fn an_enter_that_won_stays_though_its_bind_is_refused(rt: HostRuntime) -> Result
     does(&rt, &mut world, Step::Begin { thread: X, call });
     goes(&rt, &mut world, 2);
     assert!(rt; replies(&rt, &mut world, 4) == Some(Reply::Entered));
-    // `shows` does the same: without it nothing says that the world still has the object.
-    assert!(rt; A.0 < world.objects());
-    let word = world.word(A);
-    assert!(rt; word == Word(0x8000_00A5) || word == Word(0x0002_00A5));
-    assert!(rt; world.owner(A) == Some(Y));
-    assert!(rt; world.holds(A) == 1);
+    assert!(rt; shows(&world, 0x8000_00A5, Y, 1) || shows(&world, 0x0002_00A5, Y, 1));
     Ok(())
 }
 
@@ -103,11 +103,11 @@ fn a_refused_relayout_succeeds_when_tried_again(rt: HostRuntime) -> Result<(), F
     enters(&rt, &mut world, 257);
     let first = world.relayout(Split::Wide);
     if first == Err(RelayoutFault::Memory) {
-        shows(&rt, &world, 0x0011_00A5, 257);
+        assert!(rt; shows(&world, 0x0011_00A5, X, 257));
         assert!(rt; world.relayout(Split::Wide) == Ok(1));
     } else {
         assert!(rt; first == Ok(1));
     }
-    shows(&rt, &world, 0x8000_00A5, 257);
+    assert!(rt; shows(&world, 0x8000_00A5, X, 257));
     Ok(())
 }

@@ -1,5 +1,6 @@
 //! How a report names a fault.
 
+use crate::texts::is_written;
 use std::test::Fail;
 use step_core::{Fault, RelayoutFault};
 
@@ -20,7 +21,7 @@ fn faults_have_numbers_and_names(rt: HostRuntime) -> Result<(), Fail> {
     ];
     for (fault, number, name) in faults {
         assert!(rt; fault.number() == number);
-        assert!(rt; format!(in rt.alloc(); "{fault}")?.as_str() == name);
+        assert!(rt; is_written(rt.alloc(), &fault, name)?);
     }
     Ok(())
 }
@@ -35,7 +36,7 @@ fn faults_of_a_relayout_have_numbers_and_names(rt: HostRuntime) -> Result<(), Fa
     ];
     for (fault, number, name) in faults {
         assert!(rt; fault.number() == number);
-        assert!(rt; format!(in rt.alloc(); "{fault}")?.as_str() == name);
+        assert!(rt; is_written(rt.alloc(), &fault, name)?);
     }
     Ok(())
 }

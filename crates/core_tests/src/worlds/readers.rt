@@ -2,14 +2,12 @@
 
 use super::*;
 use fat_monitor::Why;
-use lock_word::Split;
-use std::alloc::Global;
 use std::test::Fail;
 use step_core::Doing;
 
 /// A world with one object, low byte A5, and two threads, of which x owns the object once.
 fn owned(rt: &impl Abort, alloc: Global) -> Result<World, Fail> {
-    let mut world = World::new(alloc, &[0xA5], 4, 4, Split::Wide)?;
+    let mut world = opening(alloc, Split::Wide)?;
     does(rt, &mut world, Step::Attach { thread: X });
     does(rt, &mut world, Step::Attach { thread: Y });
     enters(rt, &mut world, 1);
@@ -28,14 +26,37 @@ fn waits(rt: &impl Abort, world: &mut World) {
     goes(rt, world, 4);
 }
 
+/// Whether the thread has this index; None: it has none.
+fn has_index(world: &World, thread: ThreadId, index: Option<u16>) -> bool {
+    world.index(thread) == index
+}
+
+/// Whether the index is this thread's; None: nobody's.
+fn is_held(world: &World, index: u16, thread: Option<ThreadId>) -> bool {
+    world.thread_at(index) == thread
+}
+
+/// Whether the thread does this; None: it is not attached.
+fn does_now(world: &World, thread: ThreadId, doing: Option<Doing>) -> bool {
+    world.doing(thread) == doing
+}
+
+/// Whether the thread waits on the object; None: the world does not have it.
+fn waits_on(world: &World, object: ObjectId, thread: ThreadId) -> Option<bool> {
+    if object.0 >= world.objects() {
+        return None;
+    }
+    Some(world.waiting(object, thread))
+}
+
 #[test]
 fn an_index_leads_to_its_thread(rt: HostRuntime) -> Result<(), Fail> {
     let world = owned(&rt, rt.alloc())?;
     assert!(rt; world.indices() == 4);
-    assert!(rt; world.index(Y) == Some(2));
-    assert!(rt; world.thread_at(2) == Some(Y));
-    assert!(rt; world.thread_at(0) == None);
-    assert!(rt; world.index(ThreadId(2)) == None);
+    assert!(rt; has_index(&world, Y, Some(2)));
+    assert!(rt; is_held(&world, 2, Some(Y)));
+    assert!(rt; is_held(&world, 0, None));
+    assert!(rt; has_index(&world, ThreadId(2), None));
     Ok(())
 }
 
@@ -43,8 +64,8 @@ fn an_index_leads_to_its_thread(rt: HostRuntime) -> Result<(), Fail> {
 fn a_thin_word_shows_owner_and_holds(rt: HostRuntime) -> Result<(), Fail> {
     let world = owned(&rt, rt.alloc())?;
     assert!(rt; world.objects() == 1);
-    shows(&rt, &world, 0x0001_00A5, 1);
-    assert!(rt; world.doing(X) == Some(Doing::Idle));
+    assert!(rt; shows(&world, 0x0001_00A5, X, 1));
+    assert!(rt; does_now(&world, X, Some(Doing::Idle)));
     assert!(rt; world.flag(X) == Some(false));
     assert!(rt; world.flag(ThreadId(2)) == None);
     Ok(())
@@ -60,10 +81,9 @@ fn a_waiter_shows_its_holds_and_its_deadline(rt: HostRuntime) -> Result<(), Fail
         holds: 1,
         deadline: Some(9_223_390_483_598_849_517_551_614),
     };
-    assert!(rt; world.doing(X) == Some(waiting));
-    assert!(rt; A.0 < world.objects());
-    assert!(rt; world.waiting(A, X));
-    assert!(rt; !world.waiting(A, Y));
+    assert!(rt; does_now(&world, X, Some(waiting)));
+    assert!(rt; waits_on(&world, A, X) == Some(true));
+    assert!(rt; waits_on(&world, A, Y) == Some(false));
     Ok(())
 }
 
@@ -81,6 +101,6 @@ fn a_thread_that_is_back_shows_why(rt: HostRuntime) -> Result<(), Fail> {
         holds: 1,
         why: Why::Spurious,
     };
-    assert!(rt; world.doing(X) == Some(back));
+    assert!(rt; does_now(&world, X, Some(back)));
     Ok(())
 }
