@@ -6,7 +6,7 @@ mod lines;
 mod words;
 
 use crate::both::Both;
-use crate::trouble::{LineFault, Trouble};
+use crate::trouble::{LineFault, ReadFault, Trouble};
 use deeds::Deed;
 use lines::{Cell, Line, read_deeds, read_line};
 use std::alloc::Global;
@@ -53,31 +53,40 @@ where
     R: Files + Print + AllocGlobal + Clone + Drop,
 {
     let table = fs::read_to_string(rt, TABLE)?;
-    let mut judged: Option<Judged> = None;
     let mut both = Both::new(rt.alloc(), OBJECTS)?;
+    play_table(rt, &table, &mut both)
+}
+
+/// The same, of a table that was read, by these checkers.
+fn play_table<R>(rt: &R, table: &str, both: &mut Both) -> Result<(), Trouble>
+where
+    R: Print + AllocGlobal,
+{
+    let mut judged: Option<Judged> = None;
     for (above, text) in table.lines().enumerate() {
         let line = above.saturating_add(1);
-        match read_line(text) {
-            Ok(Line::Blank) => {}
-            Ok(Line::Heading(kind)) => {
+        match read_line(text).map_err(|fault| unread(line, fault))? {
+            Line::Blank => {}
+            Line::Heading(kind) => {
                 print(rt, judged)?;
                 judged = Some(Judged::of(kind));
             }
-            Ok(Line::Cell(cell)) => {
+            Line::Cell(cell) => {
                 let Some(judged) = &mut judged else {
-                    let fault = LineFault::Heading;
-                    return Err(Trouble::BadLine { line, fault });
+                    return Err(unread(line, ReadFault::Heading));
                 };
-                if !cell.goes_on {
-                    both = opening(rt.alloc(), line)?;
-                }
-                judge(&mut both, line, cell)?;
+                judge(rt.alloc(), both, line, cell)?;
                 judged.count(cell.lawful);
             }
-            Err(fault) => return Err(Trouble::BadLine { line, fault }),
         }
     }
     print(rt, judged)
+}
+
+/// This line cannot be read.
+fn unread(line: usize, fault: ReadFault) -> Trouble {
+    let fault = LineFault::Unread(fault);
+    Trouble::Line { line, fault }
 }
 
 impl Judged<'_> {
@@ -121,15 +130,20 @@ fn opening(alloc: Global, line: usize) -> Result<Both, Trouble> {
     Ok(both)
 }
 
-/// Both checkers are to judge the move of a cell as it says.
-fn judge(both: &mut Both, line: usize, cell: Cell<'_>) -> Result<(), Trouble> {
+/// Both checkers are to judge the move of a cell as it says. They begin anew for it, unless it goes
+/// on where the cell above it ended.
+fn judge(alloc: Global, both: &mut Both, line: usize, cell: Cell<'_>) -> Result<(), Trouble> {
+    if !cell.goes_on {
+        *both = opening(alloc, line)?;
+    }
     if let Some(before) = cell.before {
         follow(both, line, before)?;
     }
     let made = cell.judged;
     let found = both.judge(made)?;
     if found != cell.lawful {
-        return Err(Trouble::WrongCell { line, made, found });
+        let fault = LineFault::OtherVerdict { made, found };
+        return Err(Trouble::Line { line, fault });
     }
     Ok(())
 }
@@ -138,8 +152,7 @@ fn judge(both: &mut Both, line: usize, cell: Cell<'_>) -> Result<(), Trouble> {
 fn follow(both: &mut Both, line: usize, before: &str) -> Result<(), Trouble> {
     for text in before.split(';') {
         let Some((times, deed)) = read_deeds(text) else {
-            let fault = LineFault::Deed;
-            return Err(Trouble::BadLine { line, fault });
+            return Err(unread(line, ReadFault::Deed));
         };
         repeat(both, line, times, deed)?;
     }
@@ -167,7 +180,8 @@ fn enact(both: &mut Both, line: usize, deed: Deed) -> Result<(), Trouble> {
 /// Makes a move on the way to a cell, which is lawful.
 fn way(both: &mut Both, line: usize, made: Move) -> Result<(), Trouble> {
     if !both.judge(made)? {
-        return Err(Trouble::NoWay { line, made });
+        let fault = LineFault::NoWay { made };
+        return Err(Trouble::Line { line, fault });
     }
     Ok(())
 }

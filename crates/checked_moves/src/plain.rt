@@ -8,7 +8,7 @@ use std::alloc::{AllocError, Global};
 use step_core::{Call, Cause, Doing, Move, ObjectId, Reply, ThreadId, Why};
 
 /// A live thread.
-#[derive(Clone, Copy, PartialEq, Eq, Debug)]
+#[derive(Clone, Copy)]
 pub struct Live {
     pub thread: ThreadId,
     pub flag: bool,
@@ -16,7 +16,7 @@ pub struct Live {
 }
 
 /// The monitor of an object.
-#[derive(Clone, Copy, PartialEq, Eq, Debug)]
+#[derive(Clone, Copy)]
 pub struct Held {
     pub owner: Option<ThreadId>,
     pub count: u16,

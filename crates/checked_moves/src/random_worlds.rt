@@ -7,6 +7,7 @@ use crate::random::Random;
 use crate::random_moves::{draw_call, draw_owner_call};
 use crate::trouble::Trouble;
 use std::alloc::Global;
+use std::io;
 use std::io::Print;
 use step_core::{Atomic, Did, Doing, ObjectId, Split, Step, ThreadId, World};
 
@@ -55,7 +56,7 @@ const NOTHING: Tally = Tally {
 
 impl Tally {
     /// A step was accepted.
-    fn count(&mut self, step: Step, did: Did) {
+    fn count(&mut self, step: Step, did: &Did) {
         let count = match step {
             Step::Attach { .. } => &mut self.attach,
             Step::Begin { .. } => &mut self.begin,
@@ -81,6 +82,23 @@ pub fn play<R: Print + AllocGlobal>(rt: &R) -> Result<(), Trouble> {
     for number in 0..WORLDS {
         play_world(rt.alloc(), &mut random, number, &mut tally)?;
     }
+    print(rt, tally)?;
+    Ok(())
+}
+
+/// Plays one world.
+fn play_world(
+    alloc: Global,
+    random: &mut Random,
+    number: u32,
+    tally: &mut Tally,
+) -> Result<(), Trouble> {
+    let mut watched = Watched::new(alloc, random, number)?;
+    watched.play(random, tally)
+}
+
+/// Prints how much was done.
+fn print<R: Print>(rt: &R, tally: Tally) -> io::Result<()> {
     let Tally {
         attach,
         begin,
@@ -97,52 +115,73 @@ pub fn play<R: Print + AllocGlobal>(rt: &R) -> Result<(), Trouble> {
     println!(rt;
         "Attach {attach}, Begin {begin}, Go {go}, Expire {expire}, Spurious {spurious}, Tick {tick}"
     )?;
-    println!(rt; "moves {moves}, all lawful; replies {replies}; monitors bound {bound}")?;
-    Ok(())
+    println!(rt; "moves {moves}, all lawful; replies {replies}; monitors bound {bound}")
 }
 
-/// Plays one world; every other one is deep.
-fn play_world(
-    alloc: Global,
-    random: &mut Random,
+/// A world, and both checkers, which take its moves.
+#[derive(Drop)]
+struct Watched {
     number: u32,
-    tally: &mut Tally,
-) -> Result<(), Trouble> {
-    let split = if number % 2 == 0 {
-        Split::Wide
-    } else {
-        Split::Deep
-    };
-    let monitors = random.below(4);
-    let indices = 1 + random.below(5) as u16;
-    let mut world = World::new(alloc, &LOWS, monitors, indices, split)?;
-    let mut both = Both::new(alloc, world.objects())?;
-    for _ in 0..STEPS {
-        let step = draw_step(random, &world);
-        match world.step(step) {
+    world: World,
+    both: Both,
+}
+
+impl Watched {
+    /// A world in which nothing was done yet; every other one is deep.
+    fn new(alloc: Global, random: &mut Random, number: u32) -> Result<Watched, Trouble> {
+        let split = if number % 2 == 0 {
+            Split::Wide
+        } else {
+            Split::Deep
+        };
+        let monitors = random.below(4);
+        let indices = 1 + random.below(5) as u16;
+        let world = World::new(alloc, &LOWS, monitors, indices, split)?;
+        let both = Both::new(alloc, world.objects())?;
+        Ok(Watched {
+            number,
+            world,
+            both,
+        })
+    }
+
+    /// Does steps at random.
+    fn play(&mut self, random: &mut Random, tally: &mut Tally) -> Result<(), Trouble> {
+        for _ in 0..STEPS {
+            let step = draw_step(random, &self.world);
+            self.step(step, tally)?;
+        }
+        Ok(())
+    }
+
+    /// Does a step. Both checkers take its moves, and the world shows the state that they lead to.
+    fn step(&mut self, step: Step, tally: &mut Tally) -> Result<(), Trouble> {
+        match self.world.step(step) {
             Ok(did) => {
-                tally.count(step, did);
-                follow(&mut both, number, did, tally)?;
+                tally.count(step, &did);
+                self.follow(&did, tally)?;
             }
             Err(_) => tally.refused = tally.refused.saturating_add(1),
         }
-        if !agrees(&world, &both.plain) {
-            return Err(Trouble::OtherState { world: number });
+        let world = self.number;
+        if !agrees(&self.world, &self.both.plain) {
+            return Err(Trouble::OtherState { world });
         }
+        Ok(())
     }
-    Ok(())
-}
 
-/// Both checkers take the moves of a step.
-fn follow(both: &mut Both, world: u32, did: Did, tally: &mut Tally) -> Result<(), Trouble> {
-    for made in did.moves {
-        let Some(made) = made else { continue };
-        if !both.judge(made)? {
-            return Err(Trouble::UnlawfulStep { world, made });
+    /// Both checkers take the moves of a step.
+    fn follow(&mut self, did: &Did, tally: &mut Tally) -> Result<(), Trouble> {
+        let world = self.number;
+        for made in did.moves {
+            let Some(made) = made else { continue };
+            if !self.both.judge(made)? {
+                return Err(Trouble::UnlawfulStep { world, made });
+            }
+            tally.moves = tally.moves.saturating_add(1);
         }
-        tally.moves = tally.moves.saturating_add(1);
+        Ok(())
     }
-    Ok(())
 }
 
 /// A step that fits what its thread is doing, for the most part.

@@ -1,12 +1,12 @@
 //! Why the program stopped.
 
 use std::alloc::AllocError;
-use std::io;
+use std::{fmt, io};
 use step_core::{Memory, Move};
 use thiserror::Error;
 
 /// Why the program stopped.
-#[derive(Debug, Drop, Error)]
+#[derive(Drop, Error)]
 pub enum Trouble {
     /// The checkers say different things of a move.
     #[error("{made:?}: jls_check says lawful={proved}, the plain checker lawful={plain}")]
@@ -15,24 +15,11 @@ pub enum Trouble {
         proved: bool,
         plain: bool,
     },
-    /// A line of the table of cells cannot be read.
+    /// A line of the table of cells is at fault.
     #[error("cells.txt, line {line}: {fault}")]
-    BadLine {
+    Line {
         line: usize,
         fault: LineFault,
-    },
-    /// Both checkers say otherwise of a move than the table of cells.
-    #[error("cells.txt, line {line}: both checkers say lawful={found} of {made:?}")]
-    WrongCell {
-        line: usize,
-        made: Move,
-        found: bool,
-    },
-    /// The moves that lead to a cell are not lawful themselves.
-    #[error("cells.txt, line {line}: {made:?} on the way to the cell is not lawful")]
-    NoWay {
-        line: usize,
-        made: Move,
     },
     /// A world handed out a move that both checkers refuse.
     #[error("world {world} handed out {made:?}, which is not lawful")]
@@ -45,27 +32,68 @@ pub enum Trouble {
     OtherState {
         world: u32,
     },
-    #[error("{0}")]
+    #[error(transparent)]
     Memory(#[from] Memory),
-    #[error("{0}")]
+    #[error(transparent)]
     NotAllocated(#[from] AllocError),
     #[error("the system: {0}")]
     System(#[from] io::Error),
 }
 
-/// Why a line of the table of cells cannot be read.
-#[derive(Debug, Drop, Error)]
+/// Its text, which has all that it says.
+impl fmt::Debug for Trouble {
+    fn fmt<W: fmt::Write>(&self, f: &mut fmt::Formatter<W>) -> fmt::Result {
+        fmt::Display::fmt(self, f)
+    }
+}
+
+/// What is wrong with a line of the table of cells.
+#[derive(Clone, Copy)]
 pub enum LineFault {
-    #[error("it begins with none of '#', '[', 'lawful', 'unlawful' and 'then'")]
+    /// Both checkers say otherwise of the move than the line.
+    OtherVerdict { made: Move, found: bool },
+    /// A move that leads to the cell is not lawful itself.
+    NoWay { made: Move },
+    /// The line cannot be read.
+    Unread(ReadFault),
+}
+
+impl fmt::Display for LineFault {
+    fn fmt<W: fmt::Write>(&self, f: &mut fmt::Formatter<W>) -> fmt::Result {
+        match self {
+            LineFault::OtherVerdict { made, found } => {
+                write!(f, "both checkers say lawful={found} of {made:?}")
+            }
+            LineFault::NoWay { made } => {
+                write!(f, "{made:?} on the way to the cell is not lawful")
+            }
+            LineFault::Unread(fault) => f.write_str(fault.text()),
+        }
+    }
+}
+
+/// Why a line of the table of cells cannot be read.
+#[derive(Clone, Copy)]
+pub enum ReadFault {
     Verdict,
-    #[error("a heading ends with ']'")]
     Bracket,
-    #[error("a cell has a heading above it")]
     Heading,
-    #[error("a cell has a reason, and ':' behind it")]
     Reason,
-    #[error("a deed cannot be read")]
     Deed,
-    #[error("its last part is no single move")]
     Judged,
+}
+
+impl ReadFault {
+    fn text(self) -> &'static str {
+        match self {
+            ReadFault::Verdict => {
+                "it begins with none of '#', '[', 'lawful', 'unlawful' and 'then'"
+            }
+            ReadFault::Bracket => "a heading ends with ']'",
+            ReadFault::Heading => "a cell has a heading above it",
+            ReadFault::Reason => "a cell has a reason, and ':' behind it",
+            ReadFault::Deed => "a deed cannot be read",
+            ReadFault::Judged => "its last part is no single move",
+        }
+    }
 }

@@ -2,7 +2,7 @@
 
 use super::deeds::Deed;
 use super::words::{read_call, read_move, read_object, read_thread, read_wait, thread_named};
-use crate::trouble::LineFault;
+use crate::trouble::ReadFault;
 use std::str::SplitWhitespace;
 use step_core::{Move, ThreadId};
 
@@ -28,12 +28,12 @@ pub struct Cell<'a> {
 }
 
 /// Reads a line.
-pub fn read_line(text: &str) -> Result<Line<'_>, LineFault> {
+pub fn read_line(text: &str) -> Result<Line<'_>, ReadFault> {
     if text.is_empty() || text.starts_with('#') {
         return Ok(Line::Blank);
     }
     if let Some(rest) = text.strip_prefix('[') {
-        let kind = rest.strip_suffix(']').ok_or(LineFault::Bracket)?;
+        let kind = rest.strip_suffix(']').ok_or(ReadFault::Bracket)?;
         return Ok(Line::Heading(kind));
     }
     match text.strip_prefix("then ") {
@@ -43,26 +43,26 @@ pub fn read_line(text: &str) -> Result<Line<'_>, LineFault> {
 }
 
 /// Reads a cell from its verdict on.
-fn read_verdict(goes_on: bool, text: &str) -> Result<Line<'_>, LineFault> {
+fn read_verdict(goes_on: bool, text: &str) -> Result<Line<'_>, ReadFault> {
     if let Some(rest) = text.strip_prefix("lawful ") {
         return read_cell(goes_on, true, rest);
     }
     if let Some(rest) = text.strip_prefix("unlawful ") {
         return read_cell(goes_on, false, rest);
     }
-    Err(LineFault::Verdict)
+    Err(ReadFault::Verdict)
 }
 
 /// Reads a cell behind its verdict.
-fn read_cell(goes_on: bool, lawful: bool, text: &str) -> Result<Line<'_>, LineFault> {
-    let (why, moves) = text.split_once(':').ok_or(LineFault::Reason)?;
+fn read_cell(goes_on: bool, lawful: bool, text: &str) -> Result<Line<'_>, ReadFault> {
+    let (why, moves) = text.split_once(':').ok_or(ReadFault::Reason)?;
     if why.trim().is_empty() {
-        return Err(LineFault::Reason);
+        return Err(ReadFault::Reason);
     }
     let mut parts = moves.rsplitn(2, ';');
     let judged = parts.next().and_then(read_deed);
     let Some(Deed::Makes(judged)) = judged else {
-        return Err(LineFault::Judged);
+        return Err(ReadFault::Judged);
     };
     let before = parts.next();
     Ok(Line::Cell(Cell {
