@@ -135,6 +135,25 @@ fn bare_hold(word: &AtomicU64, rounds: u32) -> u32 {
     done
 }
 
+// How many takings the book has counted, once these two passes are back beside all others.
+fn count_takings_of_two(
+    alloc: Global,
+    headers: Headers<Book>,
+    mut passes: Vec<Pass<Book>>,
+    back: (Pass<Book>, Pass<Book>),
+) -> Result<u32, BenchFault>
+    requires belong { All (λ p. p.opening ≡ headers) passes.items }
+    requires without { All (λ p. p.has_gate ≡ false) passes.items }
+    requires left { (back.0.opening ≡ headers) × (back.0.has_gate ≡ false) }
+    requires right { (back.1.opening ≡ headers) × (back.1.has_gate ≡ false) }
+{
+    let (left, right) = headers.meet(back.0, back.1);
+    let (Ok(()), Ok(())) = (passes.push(left), passes.push(right)) else {
+        return Err(BenchFault::Memory(Memory));
+    };
+    count_takings(alloc, headers, passes)
+}
+
 // How many takings the book has counted, once all passes are back.
 fn count_takings(
     alloc: Global,
@@ -185,13 +204,9 @@ pub fn take_in_two<R: Clock + Threads + Sync>(
     };
     inflate(&headers, &mut first, alloc)?;
     let start = Instant::now(setup.rt)?;
-    let (one, two) = hold_in_two(setup.rt, &headers, (first, second), setup.rounds);
+    let back = hold_in_two(setup.rt, &headers, (first, second), setup.rounds);
     let time = start.elapsed(setup.rt)?.as_nanos();
-    let (first, second) = headers.meet(one, two);
-    let (Ok(()), Ok(())) = (passes.push(first), passes.push(second)) else {
-        return Err(BenchFault::Memory(Memory));
-    };
-    let done = count_takings(alloc, headers, passes)?;
+    let done = count_takings_of_two(alloc, headers, passes, back)?;
     Ok(Measure { done, time })
 }
 
