@@ -12,6 +12,12 @@ use std::{fs, io};
 
 /// Plays the table `bad_scripts` of a folder, and the front of a script up to each of its bytes.
 pub fn play<R: Files + Print + AllocGlobal>(rt: &R, folder: &str) -> io::Result<bool> {
+    let rows = play_rows(rt, folder)?;
+    let cuts = play_cuts(rt, folder)?;
+    Ok(rows && cuts)
+}
+
+fn play_rows<R: Files + Print + AllocGlobal>(rt: &R, folder: &str) -> io::Result<bool> {
     let table = fs::read_to_string(rt, format!(in rt.alloc(); "{folder}/bad_scripts")?)?;
     let mut played = 0u64;
     let mut right = 0u64;
@@ -24,10 +30,14 @@ pub fn play<R: Files + Print + AllocGlobal>(rt: &R, folder: &str) -> io::Result<
         }
     }
     println!(rt; "bad_scripts: {right} of {played} have their first bad line")?;
+    Ok(right == played)
+}
+
+fn play_cuts<R: Files + Print + AllocGlobal>(rt: &R, folder: &str) -> io::Result<bool> {
     let script = fs::read(rt, format!(in rt.alloc(); "{folder}/one_enter.script")?)?;
-    let cut = wrong_cuts(rt.alloc(), &script);
-    println!(rt; "one_enter, cut after each byte: {cut} wrong")?;
-    Ok(right == played && cut == 0)
+    let wrong = wrong_cuts(rt.alloc(), &script);
+    println!(rt; "one_enter, cut after each byte: {wrong} wrong")?;
+    Ok(wrong == 0)
 }
 
 /// Whether the script of a row has the first bad line that the row says.

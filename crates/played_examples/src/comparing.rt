@@ -143,13 +143,27 @@ where
 {
     let played = play(rt.alloc(), script);
     let told = history_of(rt.alloc(), script);
-    let (report, history) = match (&played, &told) {
-        (Ok(report), Ok(history)) => (report, history),
+    match (&played, &told) {
+        (Ok(report), Ok(history)) => is_as_wanted(rt, name, script, report, history, wanted),
         (Err(fault), _) | (_, Err(fault)) => {
             println!(rt; "{name}: {fault}")?;
-            return Ok(false);
+            Ok(false)
         }
-    };
+    }
+}
+
+/// The same, of a script that has this report and this history.
+fn is_as_wanted<R>(
+    rt: &R,
+    name: &str,
+    script: &[u8],
+    report: &[u8],
+    history: &[u8],
+    wanted: Wanted<'_>,
+) -> io::Result<bool>
+where
+    R: Print + AllocGlobal,
+{
     let (Ok(report), Ok(history)) = (str::from_utf8(report), str::from_utf8(history)) else {
         println!(rt; "{name}: its report or its history is no text")?;
         return Ok(false);

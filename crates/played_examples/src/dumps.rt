@@ -14,11 +14,19 @@ where
 {
     let mut all_right = true;
     for name in &names_in(rt, folder)? {
-        let script = fs::read(rt, format!(in rt.alloc(); "{folder}/{name}.script")?)?;
-        let dump = fs::read_to_string(rt, format!(in rt.alloc(); "{folder}/{name}.dump")?)?;
-        all_right &= compare(rt, name, &script, &dump)?;
+        all_right &= play_one(rt, folder, name)?;
     }
     Ok(all_right)
+}
+
+/// Plays the script of this name, which has a dump beside it.
+fn play_one<R>(rt: &R, folder: &str, name: &str) -> io::Result<bool>
+where
+    R: Files + Print + AllocGlobal,
+{
+    let script = fs::read(rt, format!(in rt.alloc(); "{folder}/{name}.script")?)?;
+    let dump = fs::read_to_string(rt, format!(in rt.alloc(); "{folder}/{name}.dump")?)?;
+    compare(rt, name, &script, &dump)
 }
 
 /// The names of the dumps in a folder, in order.

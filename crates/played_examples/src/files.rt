@@ -12,18 +12,26 @@ where
 {
     let mut all_right = true;
     for name in &names_in(rt, folder)? {
-        let script = fs::read(rt, format!(in rt.alloc(); "{folder}/{name}.script")?)?;
-        let report = fs::read_to_string(rt, format!(in rt.alloc(); "{folder}/{name}.report")?)?;
-        let history = fs::read_to_string(rt, format!(in rt.alloc(); "{folder}/{name}.history")?)?;
-        let wanted = Wanted {
-            report: &report,
-            history: Some(&history),
-            // Behind the first line, which tells how many objects there are, each line is a move.
-            moves: history.lines().skip(1).count() as u64,
-        };
-        all_right &= compare(rt, name, &script, wanted)?;
+        all_right &= play_example(rt, folder, name)?;
     }
     Ok(all_right)
+}
+
+/// Plays the example of this name.
+fn play_example<R>(rt: &R, folder: &str, name: &str) -> io::Result<bool>
+where
+    R: Files + Print + AllocGlobal,
+{
+    let script = fs::read(rt, format!(in rt.alloc(); "{folder}/{name}.script")?)?;
+    let report = fs::read_to_string(rt, format!(in rt.alloc(); "{folder}/{name}.report")?)?;
+    let history = fs::read_to_string(rt, format!(in rt.alloc(); "{folder}/{name}.history")?)?;
+    let wanted = Wanted {
+        report: &report,
+        history: Some(&history),
+        // Behind the first line, which tells how many objects there are, each line is a move.
+        moves: history.lines().skip(1).count() as u64,
+    };
+    compare(rt, name, &script, wanted)
 }
 
 /// The names of the scripts in a folder, in order.

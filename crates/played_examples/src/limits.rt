@@ -14,9 +14,16 @@ const MOST_THREADS: u32 = 32_767;
 
 /// Plays scripts at the limits, and such as go beyond them by one.
 pub fn play<R: Print + AllocGlobal>(rt: &R) -> io::Result<bool> {
-    let alloc = rt.alloc();
-    let (mut script, report) = many_objects(alloc)?;
-    let objects = compare(
+    let objects = play_objects(rt)?;
+    let threads = play_threads(rt)?;
+    let bytes = play_bytes(rt)?;
+    Ok(objects && threads && bytes)
+}
+
+/// As many objects as a script may declare, and one more.
+fn play_objects<R: Print + AllocGlobal>(rt: &R) -> io::Result<bool> {
+    let (mut script, report) = many_objects(rt.alloc())?;
+    let most = compare(
         rt,
         "objects_65535",
         script.as_bytes(),
@@ -25,11 +32,20 @@ pub fn play<R: Print + AllocGlobal>(rt: &R) -> io::Result<bool> {
     script.push_str("object one_more A5\n")?;
     let bad_line = FileFault::BadLine(65_537);
     let too_many = compare_fault(rt, "objects_65536", script.as_bytes(), bad_line)?;
-    let (script, report) = many_threads(alloc)?;
+    Ok(most && too_many)
+}
+
+/// As many threads as there are indices, and one more in the same script.
+fn play_threads<R: Print + AllocGlobal>(rt: &R) -> io::Result<bool> {
+    let (script, report) = many_threads(rt.alloc())?;
     let wanted = with_moves(&report, MOST_THREADS as u64);
-    let threads = compare(rt, "threads_32767", script.as_bytes(), wanted)?;
-    let (mut script, report) = many_bytes(alloc)?;
-    let bytes = compare(
+    compare(rt, "threads_32767", script.as_bytes(), wanted)
+}
+
+/// As many bytes as a script may have, and one more.
+fn play_bytes<R: Print + AllocGlobal>(rt: &R) -> io::Result<bool> {
+    let (mut script, report) = many_bytes(rt.alloc())?;
+    let most = compare(
         rt,
         "bytes_16777216",
         script.as_bytes(),
@@ -37,7 +53,7 @@ pub fn play<R: Print + AllocGlobal>(rt: &R) -> io::Result<bool> {
     )?;
     script.push('\n')?;
     let too_long = compare_fault(rt, "bytes_16777217", script.as_bytes(), FileFault::Read)?;
-    Ok(objects && too_many && threads && bytes && too_long)
+    Ok(most && too_long)
 }
 
 /// This report, and a history of so many moves.

@@ -33,39 +33,34 @@ const FAT_EXIT: [(&str, &str); 3] = [
 pub fn play<R: Print + AllocGlobal>(rt: &R) -> io::Result<bool> {
     let alloc = rt.alloc();
     let mut all_right = true;
-    let drafts = [
-        ("enter_256", enter_256(alloc)?, 769),
-        ("enter_257", enter_257(alloc)?, 772),
-        ("enter_257_and_exits", enter_257_and_exits(alloc)?, 1_543),
-        (
-            "enter_257_without_monitors",
-            enter_257_without_monitors(alloc)?,
-            772,
-        ),
-        ("enter_65536", enter_65536(alloc)?, 196_609),
-        ("enter_4096_deep", enter_4096_deep(alloc)?, 12_289),
-        ("enter_4097_deep", enter_4097_deep(alloc)?, 12_292),
-        ("relayout_257", relayout_257(alloc)?, 772),
-        (
-            "relayout_257_without_monitors",
-            relayout_257_without_monitors(alloc)?,
-            772,
-        ),
-        (
-            "interrupt_while_inflating",
-            interrupt_while_inflating(alloc)?,
-            616,
-        ),
-    ];
-    for (name, draft, moves) in &drafts {
-        let wanted = Wanted {
-            report: &draft.report,
-            history: None,
-            moves: *moves,
-        };
-        all_right &= compare(rt, name, draft.script.as_bytes(), wanted)?;
-    }
+    all_right &= is_as_drafted(rt, "enter_256", enter_256(alloc)?, 769)?;
+    all_right &= is_as_drafted(rt, "enter_257", enter_257(alloc)?, 772)?;
+    let draft = enter_257_and_exits(alloc)?;
+    all_right &= is_as_drafted(rt, "enter_257_and_exits", draft, 1_543)?;
+    let draft = enter_257_without_monitors(alloc)?;
+    all_right &= is_as_drafted(rt, "enter_257_without_monitors", draft, 772)?;
+    all_right &= is_as_drafted(rt, "enter_65536", enter_65536(alloc)?, 196_609)?;
+    all_right &= is_as_drafted(rt, "enter_4096_deep", enter_4096_deep(alloc)?, 12_289)?;
+    all_right &= is_as_drafted(rt, "enter_4097_deep", enter_4097_deep(alloc)?, 12_292)?;
+    all_right &= is_as_drafted(rt, "relayout_257", relayout_257(alloc)?, 772)?;
+    let draft = relayout_257_without_monitors(alloc)?;
+    all_right &= is_as_drafted(rt, "relayout_257_without_monitors", draft, 772)?;
+    let draft = interrupt_while_inflating(alloc)?;
+    all_right &= is_as_drafted(rt, "interrupt_while_inflating", draft, 616)?;
     Ok(all_right)
+}
+
+/// Plays a draft, whose history has so many moves.
+fn is_as_drafted<R>(rt: &R, name: &str, draft: Draft, moves: u64) -> io::Result<bool>
+where
+    R: Print + AllocGlobal,
+{
+    let wanted = Wanted {
+        report: &draft.report,
+        history: None,
+        moves,
+    };
+    compare(rt, name, draft.script.as_bytes(), wanted)
 }
 
 /// As many enters as a thin word counts.
