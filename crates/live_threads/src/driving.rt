@@ -179,20 +179,16 @@ fn start_all<'s, E, L: Crew + Send + Sync, G: Gate + Sync, R: Threads + Wait + C
         promise,
         move || work_through(rt, live, gate, worker, halted, job),
     );
-    match started {
-        Ok(child) => {
-            let mut done = start_all(rt, scope, live, gate, flags, jobs, done);
-            done.push_reserved(child.join(rt));
-            done
-        }
-        Err(refused) => {
-            halted.store(true);
-            let worked = (refused.value)();
-            let mut done = start_all(rt, scope, live, gate, flags, jobs, done);
-            done.push_reserved(worked);
-            done
-        }
+    if started.is_err() {
+        halted.store(true);
     }
+    let mut done = start_all(rt, scope, live, gate, flags, jobs, done);
+    let worked = match started {
+        Ok(child) => child.join(rt),
+        Err(refused) => (refused.value)(),
+    };
+    done.push_reserved(worked);
+    done
 }
 
 // As many flags, none of which is set.
