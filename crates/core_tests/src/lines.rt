@@ -21,19 +21,24 @@ fn add(lines: &mut Lines, thread: u32, monitor: u32, role: Role) -> Result<(), M
     Ok(())
 }
 
+/// Lines in which these threads stand, that have come in this order: each with its monitor and role.
+fn lines_of(alloc: Global, arrivals: &[(u32, u32, Role)]) -> Result<Lines, Memory> {
+    let mut lines = Lines::new(alloc);
+    for (thread, monitor, role) in arrivals {
+        add(&mut lines, *thread, *monitor, *role)?;
+    }
+    Ok(lines)
+}
+
 /// Whether just these threads stand in a line, in this order.
-fn stand(
-    alloc: Global,
-    lines: &Lines,
-    monitor: u32,
-    role: Role,
-    threads: &[u32],
-) -> Result<bool, AllocError> {
-    let line: Vec<u32> = lines
-        .all(monitor, role)
-        .map(|thread| thread.0)
-        .collect(alloc)?;
-    Ok(line.as_slice() == threads)
+fn stand(lines: &Lines, monitor: u32, role: Role, threads: &[u32]) -> bool {
+    let mut line = lines.all(monitor, role);
+    for thread in threads {
+        if line.next() != Some(ThreadId(*thread)) {
+            return false;
+        }
+    }
+    line.next() == None
 }
 
 /// Whether this thread is the first of a line; None: nobody stands there.
@@ -73,22 +78,18 @@ fn outwards(turn: u32) -> ThreadId
 #[test]
 fn two_wait_and_one_leaves(rt: HostRuntime) -> Result<(), Fail> {
     let (five, six) = (ThreadId(5), ThreadId(6));
-    let mut lines = Lines::new(rt.alloc());
-    add(&mut lines, 5, 0, Role::Waiting)?;
-    add(&mut lines, 6, 0, Role::Waiting)?;
+    let mut lines = lines_of(rt.alloc(), &[(5, 0, Role::Waiting), (6, 0, Role::Waiting)])?;
     assert!(rt; is_first(&lines, 0, Role::Waiting, Some(five)));
     assert!(rt; leaves(&mut lines, five));
     assert!(rt; is_first(&lines, 0, Role::Waiting, Some(six)));
-    assert!(rt; stand(rt.alloc(), &lines, 0, Role::Waiting, &[6])?);
+    assert!(rt; stand(&lines, 0, Role::Waiting, &[6]));
     assert!(rt; !leaves(&mut lines, five));
     Ok(())
 }
 
 #[test]
 fn lines_are_apart(rt: HostRuntime) -> Result<(), Fail> {
-    let mut lines = Lines::new(rt.alloc());
-    add(&mut lines, 7, 0, Role::Entry)?;
-    add(&mut lines, 8, 1, Role::Waiting)?;
+    let lines = lines_of(rt.alloc(), &[(7, 0, Role::Entry), (8, 1, Role::Waiting)])?;
     let rows = [
         (0, Role::Entry, Some(ThreadId(7))),
         (0, Role::Waiting, None),
@@ -106,12 +107,14 @@ fn lines_are_apart(rt: HostRuntime) -> Result<(), Fail> {
 
 #[test]
 fn the_middle_one_leaves(rt: HostRuntime) -> Result<(), Fail> {
-    let mut lines = Lines::new(rt.alloc());
-    add(&mut lines, 3, 9, Role::Entry)?;
-    add(&mut lines, 1, 9, Role::Entry)?;
-    add(&mut lines, 2, 9, Role::Entry)?;
+    let arrivals = [
+        (3, 9, Role::Entry),
+        (1, 9, Role::Entry),
+        (2, 9, Role::Entry),
+    ];
+    let mut lines = lines_of(rt.alloc(), &arrivals)?;
     assert!(rt; leaves(&mut lines, ThreadId(1)));
-    assert!(rt; stand(rt.alloc(), &lines, 9, Role::Entry, &[3, 2])?);
+    assert!(rt; stand(&lines, 9, Role::Entry, &[3, 2]));
     Ok(())
 }
 
@@ -136,6 +139,31 @@ fn a_long_line_is_emptied_from_the_middle_outwards(rt: HostRuntime) -> Result<()
     Ok(())
 }
 
+/// A thread joins a line, or leaves the one in which it stands, as this number says. Whether the line
+/// that the number names is then as the plain one.
+fn joins_or_leaves(
+    alloc: Global,
+    lines: &mut Lines,
+    plain: &mut PlainLines,
+    number: u32,
+) -> Result<bool, Fail> {
+    let thread = ThreadId((number >> 8) % 60);
+    let monitor = (number >> 16) % 90;
+    let role = if number >> 31 == 0 {
+        Role::Entry
+    } else {
+        Role::Waiting
+    };
+    plain.leave(thread);
+    if (number >> 24) % 4 == 0 {
+        leaves(lines, thread);
+    } else {
+        add(lines, thread.0, monitor, role)?;
+        plain.join(thread, monitor, role)?;
+    }
+    Ok(is_as_plain(alloc, lines, plain, monitor, role)?)
+}
+
 #[test]
 fn threads_join_and_leave_in_no_order(rt: HostRuntime) -> Result<(), Fail> {
     let mut lines = Lines::new(rt.alloc());
@@ -143,21 +171,7 @@ fn threads_join_and_leave_in_no_order(rt: HostRuntime) -> Result<(), Fail> {
     let mut state = 1u32;
     for round in 0..600u32 {
         state = state.wrapping_mul(1_664_525).wrapping_add(1_013_904_223);
-        let thread = ThreadId((state >> 8) % 60);
-        let monitor = (state >> 16) % 90;
-        let role = if state >> 31 == 0 {
-            Role::Entry
-        } else {
-            Role::Waiting
-        };
-        plain.leave(thread);
-        if (state >> 24) % 4 == 0 {
-            leaves(&mut lines, thread);
-        } else {
-            add(&mut lines, thread.0, monitor, role)?;
-            plain.join(thread, monitor, role)?;
-        }
-        let is_same = is_as_plain(rt.alloc(), &lines, &plain, monitor, role)?;
+        let is_same = joins_or_leaves(rt.alloc(), &mut lines, &mut plain, state)?;
         assert!(rt; is_same, "{round}");
     }
     Ok(())

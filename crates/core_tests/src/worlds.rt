@@ -22,6 +22,13 @@ fn does(rt: &impl Abort, world: &mut World, step: Step) {
     assert!(rt; world.step(step).is_ok());
 }
 
+/// Does these steps, which are accepted.
+fn does_all(rt: &impl Abort, world: &mut World, steps: &[Step]) {
+    for step in steps {
+        does(rt, world, *step);
+    }
+}
+
 /// So many accepted steps of x in its call.
 fn goes(rt: &impl Abort, world: &mut World, times: u32) {
     for _ in 0..times {

@@ -51,17 +51,22 @@ fn opened(alloc: Global, split: Split) -> Result<World, Fail> {
     }
 }
 
+/// The 257th enter of x, by which a monitor is bound.
+fn enters_deeper(rt: &impl Abort, world: &mut World) {
+    let call = Call::Enter(A);
+    does(rt, world, Step::Begin { thread: X, call });
+    goes(rt, world, 1);
+    binds(rt, world);
+    goes(rt, world, 2);
+}
+
 #[test]
 fn what_was_refused_succeeds_when_tried_again(rt: HostRuntime) -> Result<(), Fail> {
     let mut world = opened(rt.alloc(), Split::Wide)?;
     attaches(&rt, &mut world, X);
     attaches(&rt, &mut world, Y);
     enters(&rt, &mut world, 256);
-    let call = Call::Enter(A);
-    does(&rt, &mut world, Step::Begin { thread: X, call });
-    goes(&rt, &mut world, 1);
-    binds(&rt, &mut world);
-    goes(&rt, &mut world, 2);
+    enters_deeper(&rt, &mut world);
     assert!(rt; shows(&world, 0x8000_00A5, X, 257));
     Ok(())
 }

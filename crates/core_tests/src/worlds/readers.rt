@@ -6,23 +6,31 @@ use std::test::Fail;
 use step_core::Doing;
 
 /// A world with one object, low byte A5, and two threads, of which x owns the object once.
-fn owned(rt: &impl Abort, alloc: Global) -> Result<World, Fail> {
+fn owned(rt: &impl Abort, alloc: Global) -> Result<World, Memory> {
     let mut world = opening(alloc, Split::Wide)?;
-    does(rt, &mut world, Step::Attach { thread: X });
-    does(rt, &mut world, Step::Attach { thread: Y });
-    enters(rt, &mut world, 1);
+    let steps = [
+        Step::Attach { thread: X },
+        Step::Attach { thread: Y },
+        Step::Begin {
+            thread: X,
+            call: Call::Enter(A),
+        },
+        Step::Go { thread: X },
+        Step::Go { thread: X },
+    ];
+    does_all(rt, &mut world, &steps);
     Ok(world)
 }
 
 /// The longest wait of x, begun at the last moment that there is.
 fn waits(rt: &impl Abort, world: &mut World) {
-    does(rt, world, Step::Tick { now: u64::MAX });
     let call = Call::Wait {
         object: A,
         millis: i64::MAX,
         nanos: 999_999,
     };
-    does(rt, world, Step::Begin { thread: X, call });
+    let begin = Step::Begin { thread: X, call };
+    does_all(rt, world, &[Step::Tick { now: u64::MAX }, begin]);
     goes(rt, world, 4);
 }
 
@@ -91,11 +99,16 @@ fn a_waiter_shows_its_holds_and_its_deadline(rt: HostRuntime) -> Result<(), Fail
 fn a_thread_that_is_back_shows_why(rt: HostRuntime) -> Result<(), Fail> {
     let mut world = owned(&rt, rt.alloc())?;
     waits(&rt, &mut world);
-    let call = Call::Enter(A);
-    does(&rt, &mut world, Step::Begin { thread: Y, call });
-    does(&rt, &mut world, Step::Go { thread: Y });
-    does(&rt, &mut world, Step::Go { thread: Y });
-    does(&rt, &mut world, Step::Spurious { thread: X });
+    let steps = [
+        Step::Begin {
+            thread: Y,
+            call: Call::Enter(A),
+        },
+        Step::Go { thread: Y },
+        Step::Go { thread: Y },
+        Step::Spurious { thread: X },
+    ];
+    does_all(&rt, &mut world, &steps);
     let back = Doing::Back {
         object: A,
         holds: 1,
