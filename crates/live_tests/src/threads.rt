@@ -1,15 +1,17 @@
 //! Calls of one thread that does not meet others, and moments.
 
-ghost use Rattle.std.specs.Prelude.{◌≡◌, ◌≤◌};
+ghost use Rattle.std.specs.Prelude.{◌≡◌, ◌≤◌, IfOk};
+ghost use Rattle.std.specs.List.{All};
 
 mod meeting;
 mod memory;
 mod works;
 
+use fast_path::Call;
 use fat_monitor::{Cause, Reply};
 use live_threads::{Live, LiveClose, LivePass};
-use live_turns::{Crew, LiveFault};
-use lock_word::{ObjectId, ThreadId, Word};
+use live_turns::{Closed, Crew, LiveFault};
+use lock_word::{Memory, ObjectId, ThreadId, Word};
 use std::alloc::Global;
 use std::marker::Brand;
 use std::process::Abort;
@@ -20,19 +22,130 @@ use std::time::Clock;
 
 pub(crate) const OBJECT: ObjectId = ObjectId(0);
 
+pub(crate) const ENTER: Call = Call::Enter(OBJECT);
+
+pub(crate) const EXIT: Call = Call::Exit(OBJECT);
+
 const ENTERED: Result<Reply, LiveFault> = Ok(Reply::Entered);
 
 const EXITED: Result<Reply, LiveFault> = Ok(Reply::Exited);
+
+/// A wait for object 0 of so many milliseconds; 0: of no limit.
+const fn wait(millis: i64) -> Call {
+    Call::Wait {
+        object: OBJECT,
+        millis,
+        nanos: 0,
+    }
+}
+
+/// Opens a service of one object with this low byte, so many monitors, one pass and so many places.
+pub(crate) fn open_one<L: Crew>(
+    alloc: Global,
+    blank: Blank,
+    low: u8,
+    monitors: u32,
+    places: u32,
+) -> Result<(Live<L>, LivePass<L>), Memory>
+    requires name { blank.name ≡ L.name }
+    requires parts { (blank.parts ≡ L.parts) × (L.parts ≡ 1) }
+    requires crew { (L.passes ≡ 1) × (L.monitors ≡ monitors) × (L.places ≡ places) }
+    requires few { monitors ≤ 8388608 }
+    ensures count { IfOk result (λ r. r.0.count ≡ 1) }
+    ensures here { IfOk result (λ r. r.1.words.opening ≡ r.0) }
+{
+    let (live, mut passes) = Live::<L>::open(alloc, blank, &[low], monitors, 1, places)?;
+    let Some(pass) = passes.pop() else {
+        unreachable!()
+    };
+    Ok((live, pass))
+}
+
+/// Opens a service of one object with low byte A5, one monitor, two passes and so many places.
+pub(crate) fn open_two<L: Crew>(
+    alloc: Global,
+    blank: Blank,
+    places: u32,
+) -> Result<(Live<L>, LivePass<L>, LivePass<L>), Memory>
+    requires name { blank.name ≡ L.name }
+    requires parts { (blank.parts ≡ L.parts) × (L.parts ≡ 2) }
+    requires crew { (L.passes ≡ 2) × (L.monitors ≡ 1) × (L.places ≡ places) }
+    ensures count { IfOk result (λ r. r.0.count ≡ 2) }
+    ensures first { IfOk result (λ r. r.1.words.opening ≡ r.0) }
+    ensures second { IfOk result (λ r. r.2.words.opening ≡ r.0) }
+{
+    let (live, mut passes) = Live::<L>::open(alloc, blank, &[0xa5], 1, 2, places)?;
+    let Some(second) = passes.pop() else {
+        unreachable!()
+    };
+    let Some(first) = passes.pop() else {
+        unreachable!()
+    };
+    Ok((live, first, second))
+}
+
+/// Whether a call is answered so.
+pub(crate) fn is_answered<L: Crew, R: Wait + Clock>(
+    rt: &R,
+    live: &Live<L>,
+    pass: &mut LivePass<L>,
+    call: Call,
+    answer: Result<Reply, LiveFault>,
+) -> bool
+    requires here { pass.old.words.opening ≡ live.now }
+    ensures here { pass.new.words.opening ≡ live.now }
+{
+    let told = match call {
+        Call::Enter(object) => live.enter(rt, pass, object),
+        Call::Exit(object) => live.exit(rt, pass, object),
+        Call::Wait {
+            object,
+            millis,
+            nanos,
+        } => live.wait_on(rt, pass, object, millis, nanos),
+        Call::Notify(object) => live.notify(rt, pass, object),
+        Call::NotifyAll(object) => live.notify_all(rt, pass, object),
+        Call::Holds(object) => live.holds(rt, pass, object),
+        Call::Interrupt(thread) => live.interrupt(rt, pass, thread),
+        Call::Interrupted => live.interrupted(rt, pass),
+        Call::IsInterrupted(thread) => live.is_interrupted(rt, pass, thread),
+        // The live service has no such call.
+        Call::End => return false,
+    };
+    told == answer
+}
+
+/// Whether a moment is answered so.
+fn is_told<L: Crew, R: Wait + Clock>(
+    rt: &R,
+    live: &Live<L>,
+    pass: &mut LivePass<L>,
+    now: u64,
+    answer: Result<(), LiveFault>,
+) -> bool
+    requires here { pass.old.words.opening ≡ live.now }
+    ensures here { pass.new.words.opening ≡ live.now }
+{
+    live.tick(rt, pass, now) == answer
+}
+
+/// Closes a service with all its passes.
+fn close<L: Crew>(alloc: Global, live: Live<L>, passes: Vec<LivePass<L>>) -> Result<Closed, Fail>
+    requires belong { All (λ p. p.words.opening ≡ live) passes.items }
+    requires crew { (L.parts ≡ live.count) × (L.passes ≡ live.count) }
+{
+    match live.close(alloc, passes) {
+        Ok(closed) => Ok(closed),
+        Err(_) => Err(Fail::from("not closed")),
+    }
+}
 
 /// Closes a service of one pass, and tells the word of its one object and the deeds of its pass.
 fn close_one<L: Crew>(alloc: Global, live: Live<L>, pass: LivePass<L>) -> Result<(Word, u64), Fail>
     requires here { pass.words.opening ≡ live }
     requires crew { (L.parts ≡ live.count) × (L.passes ≡ live.count) }
 {
-    let passes = vec![in alloc; pass]?;
-    let Ok(closed) = live.close(alloc, passes) else {
-        return Err(Fail::from("not closed"));
-    };
+    let closed = close(alloc, live, vec![in alloc; pass]?)?;
     let word = closed.words.first().ok_or("one object")?;
     let count = closed.counts.first().ok_or("one pass")?;
     Ok((*word, *count))
@@ -49,10 +162,7 @@ pub(crate) fn close_both<L: Crew>(
     requires second { second.words.opening ≡ live }
     requires crew { (L.parts ≡ live.count) × (L.passes ≡ live.count) }
 {
-    let passes = vec![in alloc; first, second]?;
-    let Ok(closed) = live.close(alloc, passes) else {
-        return Err(Fail::from("not closed"));
-    };
+    let closed = close(alloc, live, vec![in alloc; first, second]?)?;
     let word = closed.words.first().ok_or("one object")?;
     let one = closed.counts.first().ok_or("two passes")?;
     let other = closed.counts.last().ok_or("two passes")?;
@@ -71,15 +181,14 @@ fn a_small_record<L: Crew, R: Abort + Wait + Clock>(
     requires parts { (blank.parts ≡ L.parts) × (L.parts ≡ 1) }
     requires crew { (L.passes ≡ 1) × (L.monitors ≡ 1) × (L.places ≡ places) }
 {
-    let (live, mut passes) = Live::<L>::open(alloc, blank, &[0xa5], 1, 1, places)?;
-    let mut pass = passes.pop().ok_or("one pass")?;
+    let (live, mut pass) = open_one::<L>(alloc, blank, 0xa5, 1, places)?;
     assert!(rt; pass.thread() == ThreadId(1));
-    assert!(rt; live.enter(rt, &mut pass, OBJECT) == ENTERED);
+    assert!(rt; is_answered(rt, &live, &mut pass, ENTER, ENTERED));
     let full = Err(LiveFault::RecordFull);
-    assert!(rt; live.wait_on(rt, &mut pass, OBJECT, 0, 0) == full);
+    assert!(rt; is_answered(rt, &live, &mut pass, wait(0), full));
     assert!(rt; live.look(rt, &mut pass, |book| book.used() == 1));
-    assert!(rt; live.holds(rt, &mut pass, OBJECT) == held);
-    assert!(rt; live.exit(rt, &mut pass, OBJECT) == EXITED);
+    assert!(rt; is_answered(rt, &live, &mut pass, Call::Holds(OBJECT), held));
+    assert!(rt; is_answered(rt, &live, &mut pass, EXIT, EXITED));
     close_one(alloc, live, pass)
 }
 
@@ -98,6 +207,27 @@ fn a_record_of_three_places_has_one_to_ask(rt: HostRuntime) -> Result<(), Fail> 
     Ok(())
 }
 
+/// Closes a service with one of its passes alone, which is refused: both come back.
+fn close_too_early<L: Crew>(
+    alloc: Global,
+    live: Live<L>,
+    pass: LivePass<L>,
+) -> Result<(Live<L>, LivePass<L>), Fail>
+    requires here { pass.words.opening ≡ live }
+    requires crew { (L.parts ≡ live.count) × (L.passes ≡ live.count) }
+    ensures live { IfOk result (λ r. r.0 ≡ live) }
+    ensures pass { IfOk result (λ r. r.1.words.opening ≡ live) }
+{
+    let one = vec![in alloc; pass]?;
+    let Err(LiveClose::WrongPass { live, mut passes }) = live.close(alloc, one) else {
+        return Err(Fail::from("a pass is missing"));
+    };
+    match passes.pop() {
+        Some(pass) => Ok((live, pass)),
+        None => Err(Fail::from("the pass comes back")),
+    }
+}
+
 /// Closes a service of two passes, the first time with one of them alone.
 fn close_with_one_and_both<L: Crew>(
     alloc: Global,
@@ -109,11 +239,7 @@ fn close_with_one_and_both<L: Crew>(
     requires second { second.words.opening ≡ live }
     requires crew { (L.parts ≡ live.count) × (L.passes ≡ live.count) }
 {
-    let one = vec![in alloc; first]?;
-    let Err(LiveClose::WrongPass { live, mut passes }) = live.close(alloc, one) else {
-        return Err(Fail::from("a pass is missing"));
-    };
-    let first = passes.pop().ok_or("the pass comes back")?;
+    let (live, first) = close_too_early(alloc, live, first)?;
     close_both(alloc, live, first, second)
 }
 
@@ -128,15 +254,13 @@ fn what_is_not_there<L: Crew, R: Abort + Wait + Clock>(
     requires parts { (blank.parts ≡ L.parts) × (L.parts ≡ 2) }
     requires crew { (L.passes ≡ 2) × (L.monitors ≡ 1) × (L.places ≡ 10) }
 {
-    let (live, mut passes) = Live::<L>::open(alloc, blank, &[0xa5], 1, 2, 10)?;
-    let mut second = passes.pop().ok_or("two passes")?;
-    let mut first = passes.pop().ok_or("two passes")?;
-    let missing = live.enter(rt, &mut first, ObjectId(1));
-    assert!(rt; missing == Err(LiveFault::NoObject));
-    let stranger = live.interrupt(rt, &mut first, ThreadId(3));
-    assert!(rt; stranger == Err(LiveFault::NoThread));
-    assert!(rt; live.tick(rt, &mut first, 5) == Ok(()));
-    assert!(rt; live.tick(rt, &mut second, 4) == Err(LiveFault::Backwards));
+    let (live, mut first, mut second) = open_two::<L>(alloc, blank, 10)?;
+    let missing = Call::Enter(ObjectId(1));
+    assert!(rt; is_answered(rt, &live, &mut first, missing, Err(LiveFault::NoObject)));
+    let stranger = Call::Interrupt(ThreadId(3));
+    assert!(rt; is_answered(rt, &live, &mut first, stranger, Err(LiveFault::NoThread)));
+    assert!(rt; is_told(rt, &live, &mut first, 5, Ok(())));
+    assert!(rt; is_told(rt, &live, &mut second, 4, Err(LiveFault::Backwards)));
     close_with_one_and_both(alloc, live, first, second)
 }
 
@@ -145,28 +269,6 @@ fn what_is_not_there_leaves_one_deed(rt: HostRuntime) -> Result<(), Fail> {
     let closed = what_is_not_there::<Brand, _>(&rt, rt.alloc(), Blank::new(2))?;
     assert!(&rt; closed == (Word(0xa5), 1));
     Ok(())
-}
-
-/// Interrupts thread 1, and asks whether it is interrupted.
-fn interrupt_the_first<L: Crew, R: Abort + Wait + Clock>(
-    rt: &R,
-    live: &Live<L>,
-    second: &mut LivePass<L>,
-)
-    requires here { second.old.words.opening ≡ live.now }
-{
-    assert!(rt; live.interrupt(rt, second, ThreadId(1)) == Ok(Reply::Done));
-    assert!(rt; live.is_interrupted(rt, second, ThreadId(1)) == Ok(Reply::Yes));
-}
-
-/// A wait of an owner that is interrupted, and its exit.
-fn wait_and_leave<L: Crew, R: Abort + Wait + Clock>(rt: &R, live: &Live<L>, first: &mut LivePass<L>)
-    requires here { first.old.words.opening ≡ live.now }
-{
-    let interrupted = live.wait_on(rt, first, OBJECT, 0, 0);
-    assert!(rt; interrupted == Ok(Reply::Interrupted));
-    assert!(rt; live.interrupted(rt, first) == Ok(Reply::No));
-    assert!(rt; live.exit(rt, first, OBJECT) == EXITED);
 }
 
 /// The calls of an owner, whom another thread interrupts.
@@ -179,13 +281,17 @@ fn one_after_another<L: Crew, R: Abort + Wait + Clock>(
     requires parts { (blank.parts ≡ L.parts) × (L.parts ≡ 2) }
     requires crew { (L.passes ≡ 2) × (L.monitors ≡ 1) × (L.places ≡ 10) }
 {
-    let (live, mut passes) = Live::<L>::open(alloc, blank, &[0xa5], 1, 2, 10)?;
-    let mut second = passes.pop().ok_or("two passes")?;
-    let mut first = passes.pop().ok_or("two passes")?;
-    assert!(rt; live.enter(rt, &mut first, OBJECT) == ENTERED);
-    assert!(rt; live.notify_all(rt, &mut first, OBJECT) == Ok(Reply::Notified));
-    interrupt_the_first(rt, &live, &mut second);
-    wait_and_leave(rt, &live, &mut first);
+    let (live, mut first, mut second) = open_two::<L>(alloc, blank, 10)?;
+    assert!(rt; is_answered(rt, &live, &mut first, ENTER, ENTERED));
+    let notify = Call::NotifyAll(OBJECT);
+    assert!(rt; is_answered(rt, &live, &mut first, notify, Ok(Reply::Notified)));
+    let interrupt = Call::Interrupt(ThreadId(1));
+    assert!(rt; is_answered(rt, &live, &mut second, interrupt, Ok(Reply::Done)));
+    let ask = Call::IsInterrupted(ThreadId(1));
+    assert!(rt; is_answered(rt, &live, &mut second, ask, Ok(Reply::Yes)));
+    assert!(rt; is_answered(rt, &live, &mut first, wait(0), Ok(Reply::Interrupted)));
+    assert!(rt; is_answered(rt, &live, &mut first, Call::Interrupted, Ok(Reply::No)));
+    assert!(rt; is_answered(rt, &live, &mut first, EXIT, EXITED));
     Ok(())
 }
 
@@ -205,18 +311,16 @@ fn no_monitor<L: Crew, R: Abort + Wait + Clock>(
     requires parts { (blank.parts ≡ L.parts) × (L.parts ≡ 1) }
     requires crew { (L.passes ≡ 1) × (L.monitors ≡ 0) × (L.places ≡ 300) }
 {
-    let (live, mut passes) = Live::<L>::open(alloc, blank, &[0], 0, 1, 300)?;
-    let mut pass = passes.pop().ok_or("one pass")?;
+    let (live, mut pass) = open_one::<L>(alloc, blank, 0, 0, 300)?;
     for _ in 0..256 {
-        assert!(rt; live.enter(rt, &mut pass, OBJECT) == ENTERED);
+        assert!(rt; is_answered(rt, &live, &mut pass, ENTER, ENTERED));
     }
     let refused = Ok(Reply::Refused(Cause::NoMonitor));
-    assert!(rt; live.enter(rt, &mut pass, OBJECT) == refused);
-    let illegal = live.wait_on(rt, &mut pass, OBJECT, -1, 0);
-    assert!(rt; illegal == Ok(Reply::IllegalArgument));
-    assert!(rt; live.wait_on(rt, &mut pass, OBJECT, 0, 0) == refused);
+    assert!(rt; is_answered(rt, &live, &mut pass, ENTER, refused));
+    assert!(rt; is_answered(rt, &live, &mut pass, wait(-1), Ok(Reply::IllegalArgument)));
+    assert!(rt; is_answered(rt, &live, &mut pass, wait(0), refused));
     for _ in 0..256 {
-        assert!(rt; live.exit(rt, &mut pass, OBJECT) == EXITED);
+        assert!(rt; is_answered(rt, &live, &mut pass, EXIT, EXITED));
     }
     close_one(alloc, live, pass)
 }

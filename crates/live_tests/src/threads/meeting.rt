@@ -2,8 +2,7 @@
 
 ghost use Rattle.std.specs.Prelude.{◌≡◌};
 
-use crate::threads::OBJECT;
-use crossbeam_utils::atomic::AtomicCell;
+use crate::threads::{ENTER, EXIT, OBJECT, is_answered, is_told, open_two};
 use fat_monitor::Reply;
 use live_threads::{Live, LivePass};
 use live_turns::{Crew, LiveFault};
@@ -11,6 +10,7 @@ use std::alloc::Global;
 use std::marker::Brand;
 use std::process::Abort;
 use std::sync::Wait;
+use std::sync::atomic::{AtomicBool, Ordering};
 use std::sync::ledger::Blank;
 use std::test::Fail;
 use std::thread::{Threads, join, yield_now};
@@ -27,18 +27,14 @@ fn wait_a_moment<L: Crew, R: Wait + Clock>(
     live.wait_on(rt, pass, OBJECT, 0, 1)
 }
 
-/// An enter, a tick and an exit.
-fn enter_and_tick<L: Crew, R: Wait + Clock>(
-    rt: &R,
-    live: &Live<L>,
-    pass: &mut LivePass<L>,
-) -> Result<bool, LiveFault>
+/// Whether an enter, a tick and an exit succeed.
+fn enter_and_tick<L: Crew, R: Wait + Clock>(rt: &R, live: &Live<L>, pass: &mut LivePass<L>) -> bool
     requires here { pass.old.words.opening ≡ live.now }
 {
-    let entered = live.enter(rt, pass, OBJECT)?;
-    live.tick(rt, pass, 1)?;
-    let exited = live.exit(rt, pass, OBJECT)?;
-    Ok(entered == Reply::Entered && exited == Reply::Exited)
+    let entered = is_answered(rt, live, pass, ENTER, Ok(Reply::Entered));
+    let ticked = is_told(rt, live, pass, 1, Ok(()));
+    let exited = is_answered(rt, live, pass, EXIT, Ok(Reply::Exited));
+    entered && ticked && exited
 }
 
 fn a_wait_that_ends<L: Crew + Send + Sync, R: Threads + Wait + Clock + Sync + Abort>(
@@ -50,17 +46,15 @@ fn a_wait_that_ends<L: Crew + Send + Sync, R: Threads + Wait + Clock + Sync + Ab
     requires parts { (blank.parts ≡ L.parts) × (L.parts ≡ 2) }
     requires crew { (L.passes ≡ 2) × (L.monitors ≡ 1) × (L.places ≡ 20) }
 {
-    let (live, mut passes) = Live::<L>::open(alloc, blank, &[0xa5], 1, 2, 20)?;
-    let mut second = passes.pop().ok_or("two passes")?;
-    let mut first = passes.pop().ok_or("two passes")?;
-    assert!(rt; live.enter(rt, &mut first, OBJECT) == Ok(Reply::Entered));
+    let (live, mut first, mut second) = open_two::<L>(alloc, blank, 20)?;
+    assert!(rt; is_answered(rt, &live, &mut first, ENTER, Ok(Reply::Entered)));
     let (waited, ticked) = join(
         rt,
         || wait_a_moment(rt, &live, &mut first),
         || enter_and_tick(rt, &live, &mut second),
     );
     assert!(rt; waited == Ok(Reply::WaitOver));
-    assert!(rt; ticked == Ok(true));
+    assert!(rt; ticked);
     Ok(())
 }
 
@@ -72,14 +66,14 @@ fn a_timed_wait_ends_by_a_tick(rt: HostRuntime) -> Result<(), Fail> {
 /// What two threads tell each other while one of them has the book.
 #[derive(Drop)]
 struct Told {
-    lent: AtomicCell<bool>,
-    entered: AtomicCell<bool>,
+    lent: AtomicBool,
+    entered: AtomicBool,
 }
 
 /// Whether the flag is set before so many looks.
-fn is_seen(flag: &AtomicCell<bool>) -> bool {
+fn is_seen(flag: &AtomicBool) -> bool {
     for _ in 0..10_000_000u32 {
-        if flag.load() {
+        if flag.load(Ordering::SeqCst) {
             return true;
         }
         yield_now();
@@ -87,20 +81,21 @@ fn is_seen(flag: &AtomicCell<bool>) -> bool {
     false
 }
 
-/// Enters and exits a free object while the book is lent, and tells so.
+/// Enters and exits a free object while the book is lent, and tells so. Whether the book was lent,
+/// and both succeeded.
 fn enter_while_lent<L: Crew, R: Wait + Clock>(
     rt: &R,
     live: &Live<L>,
     pass: &mut LivePass<L>,
     told: &Told,
-) -> Result<bool, LiveFault>
+) -> bool
     requires here { pass.old.words.opening ≡ live.now }
 {
     let is_lent = is_seen(&told.lent);
-    let entered = live.enter(rt, pass, OBJECT)?;
-    let exited = live.exit(rt, pass, OBJECT)?;
-    told.entered.store(true);
-    Ok(is_lent && entered == Reply::Entered && exited == Reply::Exited)
+    let entered = is_answered(rt, live, pass, ENTER, Ok(Reply::Entered));
+    let exited = is_answered(rt, live, pass, EXIT, Ok(Reply::Exited));
+    told.entered.store(true, Ordering::SeqCst);
+    is_lent && entered && exited
 }
 
 fn a_book_is_lent<L: Crew + Send + Sync, R: Threads + Wait + Clock + Sync + Abort>(
@@ -113,24 +108,22 @@ fn a_book_is_lent<L: Crew + Send + Sync, R: Threads + Wait + Clock + Sync + Abor
     requires crew { (L.passes ≡ 2) × (L.monitors ≡ 1) × (L.places ≡ 20) }
 {
     let told = Told {
-        lent: AtomicCell::new(false),
-        entered: AtomicCell::new(false),
+        lent: AtomicBool::new(false),
+        entered: AtomicBool::new(false),
     };
-    let (live, mut passes) = Live::<L>::open(alloc, blank, &[0xa5], 1, 2, 20)?;
-    let mut second = passes.pop().ok_or("two passes")?;
-    let mut first = passes.pop().ok_or("two passes")?;
+    let (live, mut first, mut second) = open_two::<L>(alloc, blank, 20)?;
     let (looked, entered) = join(
         rt,
         || {
             live.look(rt, &mut first, |_| {
-                told.lent.store(true);
+                told.lent.store(true, Ordering::SeqCst);
                 is_seen(&told.entered)
             })
         },
         || enter_while_lent(rt, &live, &mut second, &told),
     );
     assert!(rt; looked);
-    assert!(rt; entered == Ok(true));
+    assert!(rt; entered);
     Ok(())
 }
 

@@ -6,8 +6,8 @@ ghost use Rattle.std.specs.Prelude.{◌≡◌, IfOk, length, ◌∷◌, []};
 ghost use Rattle.std.specs.List.{All};
 ghost use Rattle.live_threads.specs.Driving.{CanDrive, IsLive};
 
-use crate::threads::OBJECT;
 use crate::threads::works::Open;
+use crate::threads::{OBJECT, open_one};
 use fast_path::Call;
 use fat_monitor::Reply;
 use live_threads::{DriveFault, Live, LiveClose, LivePass, Work, Worked, drive};
@@ -99,6 +99,26 @@ fn close_after<L: Crew, R: Abort>(
     Ok(Some(close_again(rt, alloc, live, passes)?))
 }
 
+/// Drives one work, and closes the service; None where a growth was refused that hands nothing back.
+fn drive_and_close<L: Crew + Send + Sync, R: Threads + Wait + Clock + Sync + Abort>(
+    rt: &R,
+    alloc: Global,
+    live: Live<L>,
+    pass: LivePass<L>,
+) -> Result<Option<Closed>, Fail>
+    requires here { pass.words.opening ≡ live }
+    requires crew { (L.parts ≡ live.count) × (L.passes ≡ live.count) }
+{
+    let Ok(works) = one_work(alloc, &live, pass) else {
+        return Ok(None);
+    };
+    let mut worked = drive_again(rt, alloc, &live, works)?;
+    match worked.pop() {
+        Some(done) => close_after(rt, alloc, live, done),
+        None => Err(Fail::from("one work")),
+    }
+}
+
 /// Opens a service, drives one work, and closes the service; None where a growth was refused that
 /// hands nothing back.
 fn open_drive_and_close<L: Crew + Send + Sync, R: Threads + Wait + Clock + Sync + Abort>(
@@ -110,16 +130,10 @@ fn open_drive_and_close<L: Crew + Send + Sync, R: Threads + Wait + Clock + Sync 
     requires parts { (blank.parts ≡ L.parts) × (L.parts ≡ 1) }
     requires crew { (L.passes ≡ 1) × (L.monitors ≡ 1) × (L.places ≡ 10) }
 {
-    let Ok((live, mut passes)) = Live::<L>::open(alloc, blank, &[0xa5], 1, 1, 10) else {
+    let Ok((live, pass)) = open_one::<L>(alloc, blank, 0xa5, 1, 10) else {
         return Ok(None);
     };
-    let pass = passes.pop().ok_or("one pass")?;
-    let Ok(works) = one_work(alloc, &live, pass) else {
-        return Ok(None);
-    };
-    let mut worked = drive_again(rt, alloc, &live, works)?;
-    let done = worked.pop().ok_or("one work")?;
-    close_after(rt, alloc, live, done)
+    drive_and_close(rt, alloc, live, pass)
 }
 
 #[test]

@@ -4,17 +4,17 @@ ghost use Rattle.std.specs.Prelude.{◌≡◌, ◌≤◌, IfOk, length};
 ghost use Rattle.std.specs.List.{All};
 ghost use Rattle.live_threads.specs.Driving.{IsLive, CanDrive};
 
-use crate::threads::{OBJECT, close_both};
-use crossbeam_utils::atomic::AtomicCell;
+use crate::threads::{OBJECT, close_both, open_two};
 use fast_path::Call;
 use fat_monitor::Reply;
-use live_threads::{Gate, Live, Work, drive};
+use live_threads::{Gate, Live, Work, Worked, drive};
 use live_turns::{Crew, LiveFault};
 use lock_word::{Memory, Word};
 use std::alloc::Global;
 use std::marker::Brand;
 use std::process::Abort;
 use std::sync::Wait;
+use std::sync::atomic::{AtomicBool, Ordering};
 use std::sync::ledger::Blank;
 use std::test::Fail;
 use std::thread::{Threads, yield_now};
@@ -36,40 +36,32 @@ struct Driven {
     deeds: u64,
 }
 
-/// Drives two works, closes the service, and tells what came of them.
-fn both_are_driven<L: Crew + Send + Sync, G: Gate + Sync, R: Threads + Wait + Clock + Sync + Abort>(
+/// Drives two works, and hands out what came of each.
+fn drive_both<L: Crew + Send + Sync, G: Gate + Sync, R: Threads + Wait + Clock + Sync>(
     rt: &R,
     alloc: Global,
-    live: Live<L>,
+    live: &Live<L>,
     gate: &G,
     works: (Work<L>, Work<L>),
-) -> Result<Driven, Fail>
-    requires first { CanDrive live works.0 }
-    requires second { CanDrive live works.1 }
-    requires crew { (L.parts ≡ live.count) × (L.passes ≡ live.count) }
+) -> Result<(Worked<L>, Worked<L>), Fail>
+    requires first { CanDrive live.now works.0 }
+    requires second { CanDrive live.now works.1 }
+    ensures first { IfOk result (λ r. r.0.pass.words.opening ≡ live.entry.now) }
+    ensures second { IfOk result (λ r. r.1.pass.words.opening ≡ live.entry.now) }
 {
     let works = vec![in alloc; works.0, works.1]?;
-    let Ok(mut worked) = drive(rt, alloc, &live, works, gate) else {
+    let Ok(mut worked) = drive(rt, alloc, live, works, gate) else {
         return Err(Fail::from("memory"));
     };
-    let second = worked.pop().ok_or("two works")?;
-    let first = worked.pop().ok_or("two works")?;
-    let (word, deeds) = close_both(alloc, live, first.pass, second.pass)?;
-    Ok(Driven {
-        first: Outcome {
-            answers: first.answers,
-            stopped: first.stopped,
-        },
-        second: Outcome {
-            answers: second.answers,
-            stopped: second.stopped,
-        },
-        word,
-        deeds,
-    })
+    let second = worked.pop();
+    let first = worked.pop();
+    match (first, second) {
+        (Some(first), Some(second)) => Ok((first, second)),
+        _ => Err(Fail::from("two works")),
+    }
 }
 
-/// Drives two works of these calls, on one object, and tells what came of each.
+/// Drives two works of these calls, on one object, closes the service, and tells what came of each.
 fn two_are_driven<L: Crew + Send + Sync, G: Gate + Sync, R: Threads + Wait + Clock + Sync + Abort>(
     rt: &R,
     alloc: Global,
@@ -84,16 +76,29 @@ fn two_are_driven<L: Crew + Send + Sync, G: Gate + Sync, R: Threads + Wait + Clo
     requires first { All IsLive calls.0.items }
     requires second { All IsLive calls.1.items }
 {
-    let (live, mut passes) = Live::<L>::open(alloc, blank, &[0xa5], 1, 2, places)?;
-    let second = Work {
-        pass: passes.pop().ok_or("two passes")?,
-        calls: calls.1,
-    };
+    let (live, first, second) = open_two::<L>(alloc, blank, places)?;
     let first = Work {
-        pass: passes.pop().ok_or("two passes")?,
+        pass: first,
         calls: calls.0,
     };
-    both_are_driven(rt, alloc, live, gate, (first, second))
+    let second = Work {
+        pass: second,
+        calls: calls.1,
+    };
+    let (first, second) = drive_both(rt, alloc, &live, gate, (first, second))?;
+    let (word, deeds) = close_both(alloc, live, first.pass, second.pass)?;
+    Ok(Driven {
+        first: Outcome {
+            answers: first.answers,
+            stopped: first.stopped,
+        },
+        second: Outcome {
+            answers: second.answers,
+            stopped: second.stopped,
+        },
+        word,
+        deeds,
+    })
 }
 
 /// Lets every call be made.
@@ -121,8 +126,8 @@ impl Gate for First {
 /// Lets a call be made once the other worker is about to make one too.
 #[derive(Drop)]
 struct Both {
-    first: AtomicCell<bool>,
-    second: AtomicCell<bool>,
+    first: AtomicBool,
+    second: AtomicBool,
 }
 
 impl Gate for Both {
@@ -132,9 +137,9 @@ impl Gate for Both {
         } else {
             (&self.second, &self.first)
         };
-        mine.store(true);
+        mine.store(true, Ordering::SeqCst);
         for _ in 0..10_000_000u32 {
-            if other.load() {
+            if other.load(Ordering::SeqCst) {
                 return true;
             }
             yield_now();
@@ -221,8 +226,8 @@ fn a_gate_stops_a_worker_before_its_second_call(rt: HostRuntime) -> Result<(), F
 fn workers_run_side_by_side(rt: HostRuntime) -> Result<(), Fail> {
     let alloc = rt.alloc();
     let both = Both {
-        first: AtomicCell::new(false),
-        second: AtomicCell::new(false),
+        first: AtomicBool::new(false),
+        second: AtomicBool::new(false),
     };
     let calls = (holds_once(alloc)?, holds_once(alloc)?);
     let blank = Blank::new(2);
