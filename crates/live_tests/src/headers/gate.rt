@@ -1,18 +1,17 @@
 //! The book behind the gate, and the monitors that are published from it.
-ghost use Rattle.std.specs.Prelude.{◌≡◌, ◌<◌, ◌+◌, length, true, false, IfSome};
+ghost use Rattle.std.specs.Prelude.{◌≡◌, ◌<◌, ◌+◌, length, true, false, IfSome, IfNone};
 ghost use Rattle.std.specs.Bool.{OnTrue};
 ghost use Rattle.header_words.specs.Bindings.{Binds, Covers};
-ghost use Rattle.header_words.specs.Passes.{depth_at, new_passes};
+ghost use Rattle.header_words.specs.Passes.{depth_at};
 
 use super::books::{Ledger, Names};
+use super::{OBJECT, close_two, open_two};
 use fat_monitor::{Fats, Receipt};
-use header_words::{Headers, Kept, OpenFault, Pass};
+use header_words::{Headers, Kept, Pass};
 use lock_word::{Lock, ObjectId, Split, ThreadId, Word, decode};
 use std::alloc::Global;
 use std::test::Fail;
 use std::thread::{Threads, join};
-
-const OBJECT: ObjectId = ObjectId(0);
 
 // A pass that finds a fat word takes the book, which binds the monitor to the object.
 fn monitor_of<B: Kept>(
@@ -27,6 +26,7 @@ fn monitor_of<B: Kept>(
     ensures bound { IfSome result (λ r. Binds (B.bound r.1) r.0 object.0) }
     ensures covers { IfSome result (λ r. Covers (B.bound r.1) pass.new.seen) }
     ensures gate { IfSome result (λ _. pass.new.has_gate ≡ true) }
+    ensures none { IfNone result (pass.new.has_gate ≡ false) }
 {
     let word = headers.load(pass, object);
     let Some((Lock::Fat { monitor }, _low)) = decode(Split::Wide, word) else {
@@ -148,16 +148,55 @@ fn add_often(
     (rounds, pass)
 }
 
-// Opens the words of one object for two passes. Where an allocation is refused, the book comes
-// back, and is opened again.
-fn open_for_two(alloc: Global, names: Names) -> Option<(Headers<Names>, Vec<Pass<Names>>)>
-    ensures objects { IfSome result (λ r. length r.0.lows ≡ 1) }
-    ensures passes { IfSome result (λ r. r.1.items ≡ new_passes r.0 1 2) }
+// Holds the object twice, and publishes the monitor of the receipt for these holds.
+fn publish_two_holds(headers: &Headers<Names>, pass: &mut Pass<Names>, receipt: Receipt) -> bool
+    requires belongs { pass.old.opening ≡ headers.now }
+    requires objects { 0 < length headers.now.lows }
+    requires free { depth_at pass.old 0 ≡ 0 }
+    requires without { pass.old.has_gate ≡ false }
+    requires object { receipt.object.0 ≡ 0 }
+    requires owner { receipt.owner.0 ≡ pass.old.index }
+    requires holds { receipt.holds ≡ 2 }
+    ensures belongs { pass.new.opening ≡ headers.now }
+    ensures without { pass.new.has_gate ≡ false }
 {
-    match Headers::open(alloc, &[0xa5], 2, names) {
-        Ok(opened) => Some(opened),
-        Err(OpenFault::Memory { book }) => Headers::open(alloc, &[0xa5], 2, book).ok(),
+    if !hold_twice(headers, pass, OBJECT) {
+        return false;
     }
+    match headers.take(pass) {
+        Some(names) => inflate(headers, pass, names, receipt),
+        None => false,
+    }
+}
+
+// Whether the object has the fat word of monitor 0, and the pass neither holds it nor can acquire
+// it.
+fn is_fat(headers: &Headers<Names>, pass: &mut Pass<Names>) -> bool
+    requires belongs { pass.old.opening ≡ headers.now }
+    requires objects { 0 < length headers.now.lows }
+    requires without { pass.old.has_gate ≡ false }
+    ensures belongs { pass.new.opening ≡ headers.now }
+    ensures without { pass.new.has_gate ≡ false }
+{
+    headers.load(pass, OBJECT) == Word(0x8000_00a5)
+        && pass.depth(OBJECT) == 0
+        && !headers.acquire(pass, OBJECT)
+}
+
+// Whether the pass is led to monitor 0, which the book has bound to the object.
+fn finds_monitor(headers: &Headers<Names>, pass: &mut Pass<Names>) -> bool
+    requires belongs { pass.old.opening ≡ headers.now }
+    requires objects { 0 < length headers.now.lows }
+    requires without { pass.old.has_gate ≡ false }
+    ensures belongs { pass.new.opening ≡ headers.now }
+    ensures without { pass.new.has_gate ≡ false }
+{
+    let Some((monitor, names)) = monitor_of(headers, pass, OBJECT) else {
+        return false;
+    };
+    let object = names.object(0);
+    headers.give(pass, names);
+    monitor == 0 && object == Some(OBJECT)
 }
 
 // A shared reference to the value may cross threads, and the value itself.
@@ -165,13 +204,10 @@ fn crosses_threads<T: Send + Sync>(_value: &T) {}
 
 #[test]
 fn the_book_is_taken_by_one_pass_at_a_time(rt: HostRuntime) -> Result<(), Fail> {
-    let names = Names::new(rt.alloc());
-    let Some((headers, mut passes)) = open_for_two(rt.alloc(), names) else {
+    let Some((headers, mut first, mut second)) = open_two(rt.alloc()) else {
         panic!(rt; "memory")
     };
     crosses_threads(&headers);
-    let mut second = passes.pop().ok_or("two passes")?;
-    let mut first = passes.pop().ok_or("two passes")?;
     let Some(names) = headers.take(&mut first) else {
         panic!(rt; "the gate was open")
     };
@@ -192,32 +228,31 @@ fn the_book_is_taken_by_one_pass_at_a_time(rt: HostRuntime) -> Result<(), Fail> 
 #[test]
 fn a_receipt_is_published(rt: HostRuntime) -> Result<(), Fail> {
     let receipt = receipt_for_two_holds(rt.alloc()).ok_or("a receipt")?;
-    let names = Names::new(rt.alloc());
-    let Some((headers, mut passes)) = open_for_two(rt.alloc(), names) else {
+    let Some((headers, mut first, mut second)) = open_two(rt.alloc()) else {
         panic!(rt; "memory")
     };
-    let mut second = passes.pop().ok_or("two passes")?;
-    let mut first = passes.pop().ok_or("two passes")?;
-    assert!(rt; hold_twice(&headers, &mut first, OBJECT));
-    let Some(names) = headers.take(&mut first) else {
-        panic!(rt; "the gate was open")
-    };
-    assert!(rt; inflate(&headers, &mut first, names, receipt));
-    assert!(rt; headers.load(&mut first, OBJECT) == Word(0x8000_00a5));
-    assert!(rt; first.depth(OBJECT) == 0);
-    assert!(rt; !headers.acquire(&mut first, OBJECT));
-    let Some((monitor, names)) = monitor_of(&headers, &mut second, OBJECT) else {
-        panic!(rt; "the gate is open, and the word is fat")
-    };
-    assert!(rt; monitor == 0);
-    assert!(rt; names.object(0) == Some(OBJECT));
-    headers.give(&mut second, names);
-    passes.push(first).ok().ok_or("memory")?;
-    passes.push(second).ok().ok_or("memory")?;
-    let (words, names) = headers.close(rt.alloc(), passes).ok().ok_or("closed")?;
+    assert!(rt; publish_two_holds(&headers, &mut first, receipt));
+    assert!(rt; is_fat(&headers, &mut first));
+    assert!(rt; finds_monitor(&headers, &mut second));
+    let (words, names) = close_two(rt.alloc(), headers, first, second)?;
     assert!(rt; words.as_slice() == [Word(0x8000_00a5)].as_slice());
     assert!(rt; names.object(0) == Some(OBJECT));
     Ok(())
+}
+
+// Takes the book and gives it back. Whether it had no objects.
+fn is_empty(headers: &Headers<Ledger>, pass: &mut Pass<Ledger>) -> bool
+    requires belongs { pass.old.opening ≡ headers.now }
+    requires without { pass.old.has_gate ≡ false }
+    ensures belongs { pass.new.opening ≡ headers.now }
+    ensures without { pass.new.has_gate ≡ false }
+{
+    let Some(ledger) = headers.take(pass) else {
+        return false;
+    };
+    let count = ledger.len();
+    headers.give(pass, ledger);
+    count == 0
 }
 
 #[test]
@@ -227,13 +262,11 @@ fn a_type_with_a_model_is_kept(rt: HostRuntime) -> Result<(), Fail> {
         panic!(rt; "memory")
     };
     crosses_threads(&headers);
-    let mut pass = passes.pop().ok_or("one pass")?;
-    let Some(ledger) = headers.take(&mut pass) else {
-        panic!(rt; "the gate was open")
+    let Some(mut pass) = passes.pop() else {
+        panic!(rt; "one pass")
     };
-    assert!(rt; ledger.len() == 0);
-    headers.give(&mut pass, ledger);
-    passes.push(pass).ok().ok_or("memory")?;
+    assert!(rt; is_empty(&headers, &mut pass));
+    let passes = vec![in rt.alloc(); pass]?;
     let (_, ledger) = headers.close(rt.alloc(), passes).ok().ok_or("closed")?;
     assert!(rt; ledger.object(0) == None);
     Ok(())
@@ -241,12 +274,9 @@ fn a_type_with_a_model_is_kept(rt: HostRuntime) -> Result<(), Fail> {
 
 #[test]
 fn two_threads_add_to_the_book(rt: HostRuntime) -> Result<(), Fail> {
-    let names = Names::new(rt.alloc());
-    let Ok((headers, mut passes)) = Headers::open(rt.alloc(), &[0xa5], 2, names) else {
+    let Some((headers, first, second)) = open_two(rt.alloc()) else {
         panic!(rt; "memory")
     };
-    let second = passes.pop().ok_or("two passes")?;
-    let first = passes.pop().ok_or("two passes")?;
     let (one, two) = join(
         &rt,
         || add_often(&headers, first, ObjectId(1), 1_000),
@@ -254,9 +284,7 @@ fn two_threads_add_to_the_book(rt: HostRuntime) -> Result<(), Fail> {
     );
     assert!(rt; (one.0, two.0) == (1_000, 1_000));
     let (first, second) = headers.meet(one.1, two.1);
-    passes.push(first).ok().ok_or("memory")?;
-    passes.push(second).ok().ok_or("memory")?;
-    let (_, names) = headers.close(rt.alloc(), passes).ok().ok_or("closed")?;
+    let (_, names) = close_two(rt.alloc(), headers, first, second)?;
     let objects = names.objects.as_slice();
     assert!(rt; objects.len() == 2_000);
     let ones = objects.iter().filter(|object| object.0 == 1).count();

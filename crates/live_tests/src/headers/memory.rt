@@ -1,7 +1,7 @@
 //! Want of memory, which only a run with refused allocations meets: what was handed in comes back,
 //! and the same succeeds when it is tried again.
 ghost use Rattle.std.specs.Prelude.{◌≡◌, [], length, false, IfOk, All};
-ghost use Rattle.header_words.specs.Passes.{new_passes};
+ghost use Rattle.header_words.specs.Passes.{new_pass, new_passes};
 
 use header_words::{CloseFault, Headers, Kept, OpenFault, Pass};
 use lock_word::{ObjectId, Word};
@@ -42,6 +42,25 @@ fn open_again(rt: &impl Abort, alloc: Global) -> Result<(Headers<Marked>, Vec<Pa
     }
 }
 
+/// The same, with both passes.
+fn open_two(
+    rt: &impl Abort,
+    alloc: Global,
+) -> Result<(Headers<Marked>, Pass<Marked>, Pass<Marked>), Fail>
+    ensures objects { IfOk result (λ r. length r.0.lows ≡ 2) }
+    ensures first { IfOk result (λ r. r.1 ≡ new_pass r.0 1) }
+    ensures second { IfOk result (λ r. r.2 ≡ new_pass r.0 2) }
+{
+    let (headers, mut passes) = open_again(rt, alloc)?;
+    let Some(second) = passes.pop() else {
+        unreachable!()
+    };
+    let Some(first) = passes.pop() else {
+        unreachable!()
+    };
+    Ok((headers, first, second))
+}
+
 /// Closes the words; where memory is refused, they come back with their passes, and are closed
 /// again.
 fn close_again(
@@ -71,12 +90,9 @@ fn close_again(
 
 #[test]
 fn what_was_refused_comes_back_and_succeeds_again(rt: HostRuntime) -> Result<(), Fail> {
-    let (headers, mut passes) = open_again(&rt, rt.alloc())?;
-    let mut second = passes.pop().ok_or("two passes")?;
-    let first = passes.pop().ok_or("two passes")?;
+    let (headers, first, mut second) = open_two(&rt, rt.alloc())?;
     assert!(rt; headers.acquire(&mut second, OBJECT));
-    passes.push(first).ok().ok_or("memory")?;
-    passes.push(second).ok().ok_or("memory")?;
+    let passes = vec![in rt.alloc(); first, second]?;
     let (words, book) = close_again(&rt, rt.alloc(), headers, passes)?;
     assert!(rt; words.as_slice() == [Word(0x0002_00a5), Word(0x0000_005a)].as_slice());
     assert!(rt; book.mark == 7);

@@ -4,12 +4,11 @@ ghost use Rattle.lock_word.specs.declared.Lock.TheVariants.{Thin};
 ghost use Rattle.header_words.specs.Passes.{depth_at, word_at};
 
 use super::books::Names;
-use header_words::{CloseFault, Headers, Kept, Pass};
-use lock_word::{ObjectId, Word};
+use super::{OBJECT, close_too_early, close_two, open_two};
+use header_words::{Headers, Kept, Pass};
+use lock_word::Word;
 use std::test::Fail;
 use std::thread::{Threads, join};
-
-const OBJECT: ObjectId = ObjectId(0);
 
 // Acquires the object, by at most `turns` tries, nests, unnests and releases it.
 fn lock_once(headers: &Headers<Names>, pass: &mut Pass<Names>, turns: u32) -> bool
@@ -65,22 +64,39 @@ fn own_word(headers: &Headers<Names>, pass: &mut Pass<Names>) -> Option<Word>
     None
 }
 
+// Acquires the object, nests, unnests and releases it. Whether the words between were those of pass
+// 1.
+fn locks_and_unlocks(headers: &Headers<Names>, pass: &mut Pass<Names>) -> bool
+    requires belongs { pass.old.opening ≡ headers.now }
+    requires object { 0 < length headers.now.lows }
+    requires free { depth_at pass.old 0 ≡ 0 }
+    ensures belongs { pass.new.opening ≡ headers.now }
+    ensures gate { pass.new.has_gate ≡ pass.old.has_gate }
+{
+    let Some(first) = own_word(headers, pass) else {
+        return false;
+    };
+    headers.nest(pass, OBJECT);
+    let nested = headers.load(pass, OBJECT);
+    let depth = pass.depth(OBJECT);
+    headers.unnest(pass, OBJECT);
+    headers.release(pass, OBJECT);
+    first == Word(0x0001_00a5) && nested == Word(0x0001_01a5) && depth == 2
+}
+
 #[test]
 fn one_pass_locks_an_object(rt: HostRuntime) -> Result<(), Fail> {
     let names = Names::new(rt.alloc());
     let Ok((headers, mut passes)) = Headers::open(rt.alloc(), &[0xa5], 1, names) else {
         panic!(rt; "memory")
     };
-    let mut pass = passes.pop().ok_or("one pass")?;
+    let Some(mut pass) = passes.pop() else {
+        panic!(rt; "one pass")
+    };
     assert!(rt; pass.index() == 1);
-    assert!(rt; own_word(&headers, &mut pass).ok_or("free")? == Word(0x0001_00a5));
-    headers.nest(&mut pass, OBJECT);
-    assert!(rt; headers.load(&mut pass, OBJECT) == Word(0x0001_01a5));
-    assert!(rt; pass.depth(OBJECT) == 2);
-    headers.unnest(&mut pass, OBJECT);
-    headers.release(&mut pass, OBJECT);
+    assert!(rt; locks_and_unlocks(&headers, &mut pass));
     assert!(rt; pass.depth(OBJECT) == 0);
-    passes.push(pass).ok().ok_or("memory")?;
+    let passes = vec![in rt.alloc(); pass]?;
     let (words, names) = headers.close(rt.alloc(), passes).ok().ok_or("closed")?;
     assert!(rt; names.object(0) == None);
     assert!(rt; words.as_slice() == [Word(0x0000_00a5)].as_slice());
@@ -89,12 +105,9 @@ fn one_pass_locks_an_object(rt: HostRuntime) -> Result<(), Fail> {
 
 #[test]
 fn two_threads_take_turns(rt: HostRuntime) -> Result<(), Fail> {
-    let names = Names::new(rt.alloc());
-    let Ok((headers, mut passes)) = Headers::open(rt.alloc(), &[0xa5], 2, names) else {
+    let Some((headers, first, second)) = open_two(rt.alloc()) else {
         panic!(rt; "memory")
     };
-    let second = passes.pop().ok_or("two passes")?;
-    let first = passes.pop().ok_or("two passes")?;
     let (one, two) = join(
         &rt,
         || lock_often(&headers, first, 1_000),
@@ -103,19 +116,8 @@ fn two_threads_take_turns(rt: HostRuntime) -> Result<(), Fail> {
     assert!(rt; (one.0, two.0) == (1_000, 1_000));
     let (first, mut second) = headers.meet(one.1, two.1);
     assert!(rt; headers.load(&mut second, OBJECT) == Word(0x0000_00a5));
-    passes.push(first).ok().ok_or("memory")?;
-    let Err(
-        CloseFault::WrongPass {
-            headers,
-            mut passes,
-        },
-    ) = headers.close(rt.alloc(), passes)
-    else {
-        panic!(rt; "one pass of two")
-    };
-    assert!(rt; passes.len() == 1);
-    passes.push(second).ok().ok_or("memory")?;
-    let (words, names) = headers.close(rt.alloc(), passes).ok().ok_or("closed")?;
+    let (headers, first) = close_too_early(rt.alloc(), headers, first)?;
+    let (words, names) = close_two(rt.alloc(), headers, first, second)?;
     assert!(rt; names.object(0) == None);
     assert!(rt; words.as_slice() == [Word(0x0000_00a5)].as_slice());
     Ok(())
