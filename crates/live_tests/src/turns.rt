@@ -36,36 +36,32 @@ const WAIT: Action = Action::Wait {
     nanos: 1,
 };
 
-/// A bind of object 0 by a thread that is out, which holds it this often.
-fn bind(rt: &impl Abort, book: &mut Book, thread: ThreadId, holds: u16) -> Result<u32, BookFault>
+/// Whether a bind of object 0 by an attached thread, which holds it this often, is answered so.
+fn binds(book: &mut Book, thread: ThreadId, holds: u16, answer: Result<u32, BookFault>) -> bool
     requires low { 1 ≤ holds }
     requires high { holds ≤ 256 }
 {
-    assert!(rt; book.post(thread).is_some());
-    book.bind(thread, OBJECT, holds)
-        .map(|receipt| receipt.monitor())
+    if book.post(thread).is_none() {
+        return false;
+    }
+    let bound = book.bind(thread, OBJECT, holds);
+    bound.map(|receipt| receipt.monitor()) == answer
 }
 
-/// An action of a thread that is out, on monitor 0 where it names one.
-fn act(
-    rt: &impl Abort,
-    book: &mut Book,
-    thread: ThreadId,
-    action: Action,
-) -> Result<Done, BookFault>
+/// Whether an action of a thread that is out, on monitor 0 where it names one, is answered so.
+fn acts(book: &mut Book, thread: ThreadId, action: Action, answer: Result<Done, BookFault>) -> bool
     requires bound { (f : FatState) → 0 < length f.monitors → NamesBound f action }
     requires action { IsForBook action }
 {
-    let Some(Post::Out) = book.post(thread) else {
-        panic!(rt; "the thread is out");
-    };
-    assert!(rt; book.object(0).is_some());
-    book.act(thread, action)
+    if book.post(thread) != Some(Post::Out) || book.object(0).is_none() {
+        return false;
+    }
+    book.act(thread, action) == answer
 }
 
-fn collect(rt: &impl Abort, book: &mut Book, thread: ThreadId) -> Result<Done, BookFault> {
-    assert!(rt; book.post(thread).is_some());
-    book.act(thread, Action::Collect)
+/// Whether an attached thread collects its reply so.
+fn collects(book: &mut Book, thread: ThreadId, answer: Result<Done, BookFault>) -> bool {
+    book.post(thread).is_some() && book.act(thread, Action::Collect) == answer
 }
 
 fn expire(rt: &impl Abort, book: &mut Book, thread: ThreadId) -> Result<Done, BookFault> {
@@ -73,9 +69,9 @@ fn expire(rt: &impl Abort, book: &mut Book, thread: ThreadId) -> Result<Done, Bo
     book.act(thread, Action::Expire)
 }
 
-fn tick(rt: &impl Abort, book: &mut Book, thread: ThreadId, now: u64) -> Result<(), BookFault> {
-    assert!(rt; book.post(thread).is_some());
-    book.tick(thread, now)
+/// Whether a moment that an attached thread tells is answered so.
+fn ticks(book: &mut Book, thread: ThreadId, now: u64, answer: Result<(), BookFault>) -> bool {
+    book.post(thread).is_some() && book.tick(thread, now) == answer
 }
 
 fn told(answer: Answer) -> Result<Done, BookFault> {
@@ -90,9 +86,9 @@ fn replied(reply: Reply) -> Result<Done, BookFault> {
     told(Answer::Reply(reply))
 }
 
-/// How many places are used, and how many are free.
-fn places(book: &Book) -> (u32, u32) {
-    (book.used(), book.free())
+/// Whether so many places are used, and so many free.
+fn has_places(book: &Book, used: u32, free: u32) -> bool {
+    book.used() == used && book.free() == free
 }
 
 #[test]
@@ -100,25 +96,25 @@ fn a_full_record_lets_an_owner_leave_and_a_parked_thread_return(
     rt: HostRuntime,
 ) -> Result<(), Fail> {
     let mut book = Book::new(rt.alloc(), 1, 2, 6)?;
-    assert!(rt; bind(&rt, &mut book, ONE, 1) == Ok(0));
-    assert!(rt; places(&book) == (1, 4));
-    assert!(rt; act(&rt, &mut book, TWO, ENTER) == told(Answer::Parked));
-    assert!(rt; places(&book) == (2, 1));
-    assert!(rt; act(&rt, &mut book, ONE, NOTIFY) == replied(Reply::Notified));
-    assert!(rt; places(&book) == (3, 0));
-    assert!(rt; act(&rt, &mut book, ONE, HOLDS) == Err(BookFault::RecordFull));
-    assert!(rt; tick(&rt, &mut book, ONE, 1) == Err(BookFault::RecordFull));
+    assert!(rt; binds(&mut book, ONE, 1, Ok(0)));
+    assert!(rt; has_places(&book, 1, 4));
+    assert!(rt; acts(&mut book, TWO, ENTER, told(Answer::Parked)));
+    assert!(rt; has_places(&book, 2, 1));
+    assert!(rt; acts(&mut book, ONE, NOTIFY, replied(Reply::Notified)));
+    assert!(rt; has_places(&book, 3, 0));
+    assert!(rt; acts(&mut book, ONE, HOLDS, Err(BookFault::RecordFull)));
+    assert!(rt; ticks(&mut book, ONE, 1, Err(BookFault::RecordFull)));
     let granted = Done {
         answer: Answer::Reply(Reply::Exited),
         granted: Some(TWO),
         chosen: None,
     };
-    assert!(rt; act(&rt, &mut book, ONE, EXIT) == Ok(granted));
-    assert!(rt; places(&book) == (4, 0));
-    assert!(rt; collect(&rt, &mut book, TWO) == replied(Reply::Entered));
-    assert!(rt; places(&book) == (5, 0));
-    assert!(rt; act(&rt, &mut book, TWO, EXIT) == replied(Reply::Exited));
-    assert!(rt; places(&book) == (6, 0));
+    assert!(rt; acts(&mut book, ONE, EXIT, Ok(granted)));
+    assert!(rt; has_places(&book, 4, 0));
+    assert!(rt; collects(&mut book, TWO, replied(Reply::Entered)));
+    assert!(rt; has_places(&book, 5, 0));
+    assert!(rt; acts(&mut book, TWO, EXIT, replied(Reply::Exited)));
+    assert!(rt; has_places(&book, 6, 0));
     assert!(rt; Kept::object(&book, 0) == Some(OBJECT));
     Ok(())
 }
@@ -126,52 +122,52 @@ fn a_full_record_lets_an_owner_leave_and_a_parked_thread_return(
 #[test]
 fn a_bind_that_fits_can_leave_no_place_for_the_wait(rt: HostRuntime) -> Result<(), Fail> {
     let mut book = Book::new(rt.alloc(), 1, 1, 3)?;
-    assert!(rt; bind(&rt, &mut book, ONE, 3) == Err(BookFault::RecordFull));
-    assert!(rt; bind(&rt, &mut book, ONE, 1) == Ok(0));
-    assert!(rt; places(&book) == (1, 1));
-    assert!(rt; bind(&rt, &mut book, ONE, 1) == Err(BookFault::RecordFull));
-    assert!(rt; act(&rt, &mut book, ONE, WAIT) == Err(BookFault::RecordFull));
-    assert!(rt; act(&rt, &mut book, ONE, HOLDS) == replied(Reply::Yes));
-    assert!(rt; act(&rt, &mut book, ONE, EXIT) == replied(Reply::Exited));
-    assert!(rt; places(&book) == (3, 0));
+    assert!(rt; binds(&mut book, ONE, 3, Err(BookFault::RecordFull)));
+    assert!(rt; binds(&mut book, ONE, 1, Ok(0)));
+    assert!(rt; has_places(&book, 1, 1));
+    assert!(rt; binds(&mut book, ONE, 1, Err(BookFault::RecordFull)));
+    assert!(rt; acts(&mut book, ONE, WAIT, Err(BookFault::RecordFull)));
+    assert!(rt; acts(&mut book, ONE, HOLDS, replied(Reply::Yes)));
+    assert!(rt; acts(&mut book, ONE, EXIT, replied(Reply::Exited)));
+    assert!(rt; has_places(&book, 3, 0));
     Ok(())
 }
 
 #[test]
 fn each_thread_that_a_notify_all_removes_frees_a_place(rt: HostRuntime) -> Result<(), Fail> {
     let mut book = Book::new(rt.alloc(), 1, 3, 30)?;
-    assert!(rt; bind(&rt, &mut book, ONE, 5) == Ok(0));
-    assert!(rt; places(&book) == (1, 24));
-    assert!(rt; act(&rt, &mut book, ONE, WAIT) == told(Answer::Parked));
-    assert!(rt; places(&book) == (2, 21));
-    assert!(rt; act(&rt, &mut book, TWO, ENTER) == replied(Reply::Entered));
-    assert!(rt; act(&rt, &mut book, TWO, WAIT) == told(Answer::Parked));
-    assert!(rt; places(&book) == (4, 16));
+    assert!(rt; binds(&mut book, ONE, 5, Ok(0)));
+    assert!(rt; has_places(&book, 1, 24));
+    assert!(rt; acts(&mut book, ONE, WAIT, told(Answer::Parked)));
+    assert!(rt; has_places(&book, 2, 21));
+    assert!(rt; acts(&mut book, TWO, ENTER, replied(Reply::Entered)));
+    assert!(rt; acts(&mut book, TWO, WAIT, told(Answer::Parked)));
+    assert!(rt; has_places(&book, 4, 16));
     let three = ThreadId(3);
-    assert!(rt; act(&rt, &mut book, three, ENTER) == replied(Reply::Entered));
-    assert!(rt; places(&book) == (5, 14));
-    assert!(rt; act(&rt, &mut book, three, NOTIFY_ALL) == replied(Reply::Notified));
-    assert!(rt; places(&book) == (6, 15));
+    assert!(rt; acts(&mut book, three, ENTER, replied(Reply::Entered)));
+    assert!(rt; has_places(&book, 5, 14));
+    assert!(rt; acts(&mut book, three, NOTIFY_ALL, replied(Reply::Notified)));
+    assert!(rt; has_places(&book, 6, 15));
     Ok(())
 }
 
 #[test]
 fn a_wait_that_is_over_frees_the_place_of_its_expiry(rt: HostRuntime) -> Result<(), Fail> {
     let mut book = Book::new(rt.alloc(), 1, 1, 7)?;
-    assert!(rt; bind(&rt, &mut book, ONE, 1) == Ok(0));
-    assert!(rt; act(&rt, &mut book, ONE, WAIT) == told(Answer::Parked));
-    assert!(rt; places(&book) == (2, 2));
+    assert!(rt; binds(&mut book, ONE, 1, Ok(0)));
+    assert!(rt; acts(&mut book, ONE, WAIT, told(Answer::Parked)));
+    assert!(rt; has_places(&book, 2, 2));
     assert!(rt; expire(&rt, &mut book, ONE) == Err(BookFault::NotDue));
-    assert!(rt; collect(&rt, &mut book, ONE) == Err(BookFault::Parked));
-    assert!(rt; tick(&rt, &mut book, ONE, 5) == Ok(()));
-    assert!(rt; tick(&rt, &mut book, ONE, 4) == Err(BookFault::Backwards));
+    assert!(rt; collects(&mut book, ONE, Err(BookFault::Parked)));
+    assert!(rt; ticks(&mut book, ONE, 5, Ok(())));
+    assert!(rt; ticks(&mut book, ONE, 4, Err(BookFault::Backwards)));
     assert!(rt; book.now() == 5);
-    assert!(rt; places(&book) == (3, 1));
-    assert!(rt; tick(&rt, &mut book, ONE, 5) == Ok(()));
+    assert!(rt; has_places(&book, 3, 1));
+    assert!(rt; ticks(&mut book, ONE, 5, Ok(())));
     assert!(rt; expire(&rt, &mut book, ONE).is_ok());
-    assert!(rt; collect(&rt, &mut book, ONE) == replied(Reply::WaitOver));
-    assert!(rt; act(&rt, &mut book, ONE, EXIT) == replied(Reply::Exited));
-    assert!(rt; places(&book) == (7, 0));
+    assert!(rt; collects(&mut book, ONE, replied(Reply::WaitOver)));
+    assert!(rt; acts(&mut book, ONE, EXIT, replied(Reply::Exited)));
+    assert!(rt; has_places(&book, 7, 0));
     let ticked = Logged {
         thread: ONE,
         deed: Deed::Ticked { now: 5 },
