@@ -1,111 +1,141 @@
 //! Lines that are read, and lines that are no move.
 
 use history_moves::{line_first, line_move};
+use std::alloc::Global;
 use step_core::{Call, Cause, Move, ObjectId, ThreadId};
 
 /// The greatest thread.
 const LAST: ThreadId = ThreadId(4_294_967_295);
 
+/// Whether a first line is read as one of so many objects; None: it is no first line.
+fn is_first(alloc: Global, line: &[u8], objects: Option<u16>) -> bool {
+    line_first(alloc, line) == Ok(objects)
+}
+
+/// Whether a line is read as this move; None: it is no move.
+fn is_read(alloc: Global, line: &[u8], made: Option<Move>) -> bool {
+    line_move(alloc, line) == Ok(made)
+}
+
 #[test]
 fn first_lines(rt: HostRuntime) {
     let alloc = rt.alloc();
-    assert!(rt; line_first(alloc, br#"{"objects":0}"#) == Ok(Some(0)));
-    assert!(rt; line_first(alloc, br#" { "objects" : 65535 } "#) == Ok(Some(65_535)));
-    assert!(rt; line_first(alloc, br#"{"objects":65536}"#) == Ok(None));
-    assert!(rt; line_first(alloc, br#"{"objects":1,"threads":1}"#) == Ok(None));
-    assert!(rt; line_first(alloc, br#"{"objects":1} 2"#) == Ok(None));
-    assert!(rt; line_first(alloc, b"") == Ok(None));
+    assert!(rt; is_first(alloc, br#"{"objects":0}"#, Some(0)));
+    assert!(rt; is_first(alloc, br#" { "objects" : 65535 } "#, Some(65_535)));
+    assert!(rt; is_first(alloc, br#"{"objects":65536}"#, None));
+    assert!(rt; is_first(alloc, br#"{"objects":1,"threads":1}"#, None));
+    assert!(rt; is_first(alloc, br#"{"objects":1} 2"#, None));
+    assert!(rt; is_first(alloc, b"", None));
 }
 
 #[test]
 fn other_spellings(rt: HostRuntime) {
     let alloc = rt.alloc();
-    let attach = Ok(Some(Move::Attach { thread: LAST }));
-    let refuse = Ok(Some(Move::Refuse {
+    let attach = Some(Move::Attach { thread: LAST });
+    let refuse = Some(Move::Refuse {
         thread: LAST,
         cause: Cause::TooDeep,
-    }));
-    let nobody = Ok(Some(Move::Notify {
+    });
+    let nobody = Some(Move::Notify {
         thread: LAST,
         chosen: None,
-    }));
-    assert!(rt; line_move(alloc, br#"{"thread":4294967295,"move":"Attach"}"#) == attach);
-    assert!(rt; line_move(alloc, b"{\"move\": \"Attach\", \"thread\":\t4294967295 }\r") == attach);
+    });
+    assert!(rt; is_read(alloc, br#"{"thread":4294967295,"move":"Attach"}"#, attach));
     assert!(rt;
-        line_move(
+        is_read(
             alloc,
-            br#"{"thread":1,"thread":4294967295,"move":"Refuse","cause":"TooDeep"}"#
-        ) == refuse
+            b"{\"move\": \"Attach\", \"thread\":\t4294967295 }\r",
+            attach
+        )
     );
     assert!(rt;
-        line_move(
+        is_read(
             alloc,
-            br#"{"thread":4294967295,"move":"Notify","chosen":null}"#
-        ) == nobody
+            br#"{"thread":1,"thread":4294967295,"move":"Refuse","cause":"TooDeep"}"#,
+            refuse
+        )
+    );
+    assert!(rt;
+        is_read(
+            alloc,
+            br#"{"thread":4294967295,"move":"Notify","chosen":null}"#,
+            nobody
+        )
     );
 }
 
 #[test]
 fn numbers_that_are_none(rt: HostRuntime) {
     let alloc = rt.alloc();
-    assert!(rt; line_move(alloc, br#"{"move":"Attach","thread":4294967296}"#) == Ok(None));
-    assert!(rt; line_move(alloc, br#"{"move":"Attach","thread":"0"}"#) == Ok(None));
-    assert!(rt; line_move(alloc, br#"{"move":"Attach","thread":-0}"#) == Ok(None));
-    assert!(rt; line_move(alloc, br#"{"move":"Attach","thread":1.0}"#) == Ok(None));
-    assert!(rt; line_move(alloc, br#"{"move":"Attach","thread":1e0}"#) == Ok(None));
-    assert!(rt; line_move(alloc, br#"{"move":"Attach","thread":null}"#) == Ok(None));
+    assert!(rt; is_read(alloc, br#"{"move":"Attach","thread":4294967296}"#, None));
+    assert!(rt; is_read(alloc, br#"{"move":"Attach","thread":"0"}"#, None));
+    assert!(rt; is_read(alloc, br#"{"move":"Attach","thread":-0}"#, None));
+    assert!(rt; is_read(alloc, br#"{"move":"Attach","thread":1.0}"#, None));
+    assert!(rt; is_read(alloc, br#"{"move":"Attach","thread":1e0}"#, None));
+    assert!(rt; is_read(alloc, br#"{"move":"Attach","thread":null}"#, None));
 }
 
 #[test]
 fn keys_and_words_that_are_none(rt: HostRuntime) {
     let alloc = rt.alloc();
-    assert!(rt; line_move(alloc, br#"{"move":"Attach"}"#) == Ok(None));
-    assert!(rt; line_move(alloc, br#"{"move":"Attach","object":0,"thread":0}"#) == Ok(None));
-    assert!(rt; line_move(alloc, br#"{"move":"attach","thread":0}"#) == Ok(None));
-    assert!(rt; line_move(alloc, br#"{"move":"Time","now":0,"thread":0}"#) == Ok(None));
-    assert!(rt; line_move(alloc, br#"{"move":"Return","reply":"Refused","thread":0}"#) == Ok(None));
+    assert!(rt; is_read(alloc, br#"{"move":"Attach"}"#, None));
+    assert!(rt; is_read(alloc, br#"{"move":"Attach","object":0,"thread":0}"#, None));
+    assert!(rt; is_read(alloc, br#"{"move":"attach","thread":0}"#, None));
+    assert!(rt; is_read(alloc, br#"{"move":"Time","now":0,"thread":0}"#, None));
     assert!(rt;
-        line_move(
+        is_read(
             alloc,
-            br#"{"cause":"Memory","move":"Return","reply":"Done","thread":0}"#
-        ) == Ok(None)
+            br#"{"move":"Return","reply":"Refused","thread":0}"#,
+            None
+        )
     );
-    assert!(rt; line_move(alloc, b"\xff") == Ok(None));
+    assert!(rt;
+        is_read(
+            alloc,
+            br#"{"cause":"Memory","move":"Return","reply":"Done","thread":0}"#,
+            None
+        )
+    );
+    assert!(rt; is_read(alloc, b"\xff", None));
 }
 
 #[test]
 fn times_of_a_wait(rt: HostRuntime) {
     let alloc = rt.alloc();
-    let least = Ok(Some(Move::Call {
+    let least = Some(Move::Call {
         thread: ThreadId(1),
         call: Call::Wait {
             object: ObjectId(0),
             millis: -9_223_372_036_854_775_808,
             nanos: -2_147_483_648,
         },
-    }));
+    });
     assert!(rt;
-        line_move(
+        is_read(
             alloc,
-            br#"{"call":"Wait","millis":-9223372036854775808,"move":"Call","nanos":-2147483648,"object":0,"thread":1}"#
-        ) == least
+            br#"{"call":"Wait","millis":-9223372036854775808,"move":"Call","nanos":-2147483648,"object":0,"thread":1}"#,
+            least
+        )
     );
     assert!(rt;
-        line_move(
+        is_read(
             alloc,
-            br#"{"call":"Wait","millis":9223372036854775808,"move":"Call","nanos":0,"object":0,"thread":1}"#
-        ) == Ok(None)
+            br#"{"call":"Wait","millis":9223372036854775808,"move":"Call","nanos":0,"object":0,"thread":1}"#,
+            None
+        )
     );
     assert!(rt;
-        line_move(
+        is_read(
             alloc,
-            br#"{"call":"Wait","millis":0,"move":"Call","nanos":2147483648,"object":0,"thread":1}"#
-        ) == Ok(None)
+            br#"{"call":"Wait","millis":0,"move":"Call","nanos":2147483648,"object":0,"thread":1}"#,
+            None
+        )
     );
     assert!(rt;
-        line_move(
+        is_read(
             alloc,
-            br#"{"call":"Wait","millis":-0,"move":"Call","nanos":0,"object":0,"thread":1}"#
-        ) == Ok(None)
+            br#"{"call":"Wait","millis":-0,"move":"Call","nanos":0,"object":0,"thread":1}"#,
+            None
+        )
     );
 }
