@@ -1,7 +1,7 @@
 //! Want of memory, which only a run with refused allocations meets: what was handed in comes back,
 //! and the same succeeds when it is tried again.
 ghost use Rattle.std.specs.Prelude.{◌≡◌, [], length, false, IfOk, All};
-ghost use Rattle.header_words.specs.Passes.{new_pass, new_passes};
+ghost use Rattle.header_words.specs.Passes.{new_passes};
 
 use header_words::{CloseFault, Headers, Kept, OpenFault, Pass};
 use lock_word::{ObjectId, Word};
@@ -42,23 +42,19 @@ fn open_again(rt: &impl Abort, alloc: Global) -> Result<(Headers<Marked>, Vec<Pa
     }
 }
 
-/// The same, with both passes.
-fn open_two(
-    rt: &impl Abort,
-    alloc: Global,
-) -> Result<(Headers<Marked>, Pass<Marked>, Pass<Marked>), Fail>
-    ensures objects { IfOk result (λ r. length r.0.lows ≡ 2) }
-    ensures first { IfOk result (λ r. r.1 ≡ new_pass r.0 1) }
-    ensures second { IfOk result (λ r. r.2 ≡ new_pass r.0 2) }
+/// Acquires the object by the second of both passes, which stay where they are. False where its word
+/// is not free.
+fn acquire_by_second(headers: &Headers<Marked>, passes: &mut Vec<Pass<Marked>>) -> bool
+    requires objects { length headers.now.lows ≡ 2 }
+    requires passes { passes.old.items ≡ new_passes headers.now 1 2 }
+    ensures belong { All (λ p. p.opening ≡ headers.now) passes.new.items }
+    ensures without { All (λ p. p.has_gate ≡ false) passes.new.items }
 {
-    let (headers, mut passes) = open_again(rt, alloc)?;
-    let Some(second) = passes.pop() else {
+    let Some(mut second) = passes.pop() else {
         unreachable!()
     };
-    let Some(first) = passes.pop() else {
-        unreachable!()
-    };
-    Ok((headers, first, second))
+    let acquired = headers.acquire(&mut second, OBJECT);
+    passes.push(second).is_ok() && acquired
 }
 
 /// Closes the words; where memory is refused, they come back with their passes, and are closed
@@ -90,9 +86,8 @@ fn close_again(
 
 #[test]
 fn what_was_refused_comes_back_and_succeeds_again(rt: HostRuntime) -> Result<(), Fail> {
-    let (headers, first, mut second) = open_two(&rt, rt.alloc())?;
-    assert!(rt; headers.acquire(&mut second, OBJECT));
-    let passes = vec![in rt.alloc(); first, second]?;
+    let (headers, mut passes) = open_again(&rt, rt.alloc())?;
+    assert!(rt; acquire_by_second(&headers, &mut passes));
     let (words, book) = close_again(&rt, rt.alloc(), headers, passes)?;
     assert!(rt; words.as_slice() == [Word(0x0002_00a5), Word(0x0000_005a)].as_slice());
     assert!(rt; book.mark == 7);
