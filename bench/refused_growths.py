@@ -35,8 +35,10 @@ TESTS = {
             "an_enter_that_won_stays_though_its_bind_is_refused",
         ],
     },
-    "live_tests": {
+    "word_tests": {
         "headers::memory": ["what_was_refused_comes_back_and_succeeds_again"],
+    },
+    "live_tests": {
         "threads::memory": ["what_was_refused_comes_back_and_succeeds_again"],
     },
     "text_tests": {

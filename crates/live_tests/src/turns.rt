@@ -1,190 +1,78 @@
-//! Places that are used, kept and freed, and passes that are torn from the book.
+//! The most objects, monitors and passes that a service can have, and its longest record.
 
-ghost use Rattle.std.specs.Prelude.{◌≡◌, ◌≤◌, ◌<◌, length};
-ghost use Rattle.fat_monitor.specs.FatState.{FatState};
-ghost use Rattle.fat_monitor.specs.Acting.{NamesBound};
-ghost use Rattle.live_book.specs.Log.{IsThreadOf, IsForBook};
+ghost use Rattle.std.specs.Prelude.{◌≡◌, ◌≤◌};
 
-mod limits;
-
-use fat_monitor::{Action, Answer, Done, Post, Reply};
-use header_words::Kept;
-use live_turns::{Book, BookFault, Deed, LiveFault, Logged};
-use lock_word::{ObjectId, ThreadId};
+use live_turns::{Crew, Turns};
+use lock_word::{ThreadId, Word};
+use std::alloc::Global;
+use std::marker::Brand;
 use std::process::Abort;
+use std::sync::ledger::Blank;
 use std::test::Fail;
 
-const ONE: ThreadId = ThreadId(1);
+/// How large a service is.
+#[derive(Clone, Copy, Debug)]
+struct Size {
+    objects: u16,
+    monitors: u32,
+    passes: u16,
+    places: u32,
+}
 
-const TWO: ThreadId = ThreadId(2);
-
-const OBJECT: ObjectId = ObjectId(0);
-
-const ENTER: Action = Action::Enter { monitor: 0 };
-
-const EXIT: Action = Action::Exit { monitor: 0 };
-
-const NOTIFY: Action = Action::Notify { monitor: 0 };
-
-const NOTIFY_ALL: Action = Action::NotifyAll { monitor: 0 };
-
-const HOLDS: Action = Action::Holds { monitor: 0 };
-
-const WAIT: Action = Action::Wait {
-    monitor: 0,
-    millis: 0,
-    nanos: 1,
-};
-
-/// Whether a bind of object 0 by an attached thread, which holds it this often, is answered so.
-fn binds(book: &mut Book, thread: ThreadId, holds: u16, answer: Result<u32, BookFault>) -> bool
-    requires low { 1 ≤ holds }
-    requires high { holds ≤ 256 }
+/// Opens a service of this size, and closes it again.
+fn opened_and_closed<L: Crew>(
+    rt: &impl Abort,
+    alloc: Global,
+    blank: Blank,
+    size: Size,
+) -> Result<(), Fail>
+    requires name { blank.name ≡ L.name }
+    requires parts { (blank.parts ≡ L.parts) × (L.parts ≡ size.passes) }
+    requires crew { (L.passes ≡ size.passes) × (L.monitors ≡ size.monitors)
+        × (L.places ≡ size.places) }
+    requires some { 1 ≤ size.passes }
+    requires few { size.passes ≤ 64 }
+    requires monitors { size.monitors ≤ 8388608 }
 {
-    if book.post(thread).is_none() {
-        return false;
-    }
-    let bound = book.bind(thread, OBJECT, holds);
-    bound.map(|receipt| receipt.monitor()) == answer
-}
-
-/// Whether an action of a thread that is out, on monitor 0 where it names one, is answered so.
-fn acts(book: &mut Book, thread: ThreadId, action: Action, answer: Result<Done, BookFault>) -> bool
-    requires bound { (f : FatState) → 0 < length f.monitors → NamesBound f action }
-    requires action { IsForBook action }
-{
-    if book.post(thread) != Some(Post::Out) || book.object(0).is_none() {
-        return false;
-    }
-    book.act(thread, action) == answer
-}
-
-/// Whether an attached thread collects its reply so.
-fn collects(book: &mut Book, thread: ThreadId, answer: Result<Done, BookFault>) -> bool {
-    book.post(thread).is_some() && book.act(thread, Action::Collect) == answer
-}
-
-fn expire(rt: &impl Abort, book: &mut Book, thread: ThreadId) -> Result<Done, BookFault> {
-    assert!(rt; book.post(thread).is_some());
-    book.act(thread, Action::Expire)
-}
-
-/// Whether a moment that an attached thread tells is answered so.
-fn ticks(book: &mut Book, thread: ThreadId, now: u64, answer: Result<(), BookFault>) -> bool {
-    book.post(thread).is_some() && book.tick(thread, now) == answer
-}
-
-fn told(answer: Answer) -> Result<Done, BookFault> {
-    Ok(Done {
-        answer,
-        granted: None,
-        chosen: None,
-    })
-}
-
-fn replied(reply: Reply) -> Result<Done, BookFault> {
-    told(Answer::Reply(reply))
-}
-
-/// Whether so many places are used, and so many free.
-fn has_places(book: &Book, used: u32, free: u32) -> bool {
-    book.used() == used && book.free() == free
-}
-
-#[test]
-fn a_full_record_lets_an_owner_leave_and_a_parked_thread_return(
-    rt: HostRuntime,
-) -> Result<(), Fail> {
-    let mut book = Book::new(rt.alloc(), 1, 2, 6)?;
-    assert!(rt; binds(&mut book, ONE, 1, Ok(0)));
-    assert!(rt; has_places(&book, 1, 4));
-    assert!(rt; acts(&mut book, TWO, ENTER, told(Answer::Parked)));
-    assert!(rt; has_places(&book, 2, 1));
-    assert!(rt; acts(&mut book, ONE, NOTIFY, replied(Reply::Notified)));
-    assert!(rt; has_places(&book, 3, 0));
-    assert!(rt; acts(&mut book, ONE, HOLDS, Err(BookFault::RecordFull)));
-    assert!(rt; ticks(&mut book, ONE, 1, Err(BookFault::RecordFull)));
-    let granted = Done {
-        answer: Answer::Reply(Reply::Exited),
-        granted: Some(TWO),
-        chosen: None,
+    let Size {
+        objects,
+        monitors,
+        passes: count,
+        places,
+    } = size;
+    let lows = vec![in alloc; 0xa5u8; usize::from(objects)]?;
+    let (turns, passes) = Turns::<L>::open(alloc, blank, lows.as_slice(), monitors, count, places)?;
+    assert!(rt; passes.len() == usize::from(count));
+    let last = passes.last().map(|pass| pass.thread());
+    assert!(rt; last == Some(ThreadId(u32::from(count))));
+    let Ok(closed) = turns.close(alloc, passes) else {
+        return Err(Fail::from("not closed"));
     };
-    assert!(rt; acts(&mut book, ONE, EXIT, Ok(granted)));
-    assert!(rt; has_places(&book, 4, 0));
-    assert!(rt; collects(&mut book, TWO, replied(Reply::Entered)));
-    assert!(rt; has_places(&book, 5, 0));
-    assert!(rt; acts(&mut book, TWO, EXIT, replied(Reply::Exited)));
-    assert!(rt; has_places(&book, 6, 0));
-    assert!(rt; Kept::object(&book, 0) == Some(OBJECT));
+    assert!(rt; closed.words.len() == usize::from(objects));
+    assert!(rt; closed.words.iter().all(|word| *word == Word(0x0000_00a5)));
+    assert!(rt; closed.logged.is_empty());
+    assert!(rt; closed.counts.len() == usize::from(count));
     Ok(())
 }
 
 #[test]
-fn a_bind_that_fits_can_leave_no_place_for_the_wait(rt: HostRuntime) -> Result<(), Fail> {
-    let mut book = Book::new(rt.alloc(), 1, 1, 3)?;
-    assert!(rt; binds(&mut book, ONE, 3, Err(BookFault::RecordFull)));
-    assert!(rt; binds(&mut book, ONE, 1, Ok(0)));
-    assert!(rt; has_places(&book, 1, 1));
-    assert!(rt; binds(&mut book, ONE, 1, Err(BookFault::RecordFull)));
-    assert!(rt; acts(&mut book, ONE, WAIT, Err(BookFault::RecordFull)));
-    assert!(rt; acts(&mut book, ONE, HOLDS, replied(Reply::Yes)));
-    assert!(rt; acts(&mut book, ONE, EXIT, replied(Reply::Exited)));
-    assert!(rt; has_places(&book, 3, 0));
-    Ok(())
-}
-
-#[test]
-fn each_thread_that_a_notify_all_removes_frees_a_place(rt: HostRuntime) -> Result<(), Fail> {
-    let mut book = Book::new(rt.alloc(), 1, 3, 30)?;
-    assert!(rt; binds(&mut book, ONE, 5, Ok(0)));
-    assert!(rt; has_places(&book, 1, 24));
-    assert!(rt; acts(&mut book, ONE, WAIT, told(Answer::Parked)));
-    assert!(rt; has_places(&book, 2, 21));
-    assert!(rt; acts(&mut book, TWO, ENTER, replied(Reply::Entered)));
-    assert!(rt; acts(&mut book, TWO, WAIT, told(Answer::Parked)));
-    assert!(rt; has_places(&book, 4, 16));
-    let three = ThreadId(3);
-    assert!(rt; acts(&mut book, three, ENTER, replied(Reply::Entered)));
-    assert!(rt; has_places(&book, 5, 14));
-    assert!(rt; acts(&mut book, three, NOTIFY_ALL, replied(Reply::Notified)));
-    assert!(rt; has_places(&book, 6, 15));
-    Ok(())
-}
-
-#[test]
-fn a_wait_that_is_over_frees_the_place_of_its_expiry(rt: HostRuntime) -> Result<(), Fail> {
-    let mut book = Book::new(rt.alloc(), 1, 1, 7)?;
-    assert!(rt; binds(&mut book, ONE, 1, Ok(0)));
-    assert!(rt; acts(&mut book, ONE, WAIT, told(Answer::Parked)));
-    assert!(rt; has_places(&book, 2, 2));
-    assert!(rt; expire(&rt, &mut book, ONE) == Err(BookFault::NotDue));
-    assert!(rt; collects(&mut book, ONE, Err(BookFault::Parked)));
-    assert!(rt; ticks(&mut book, ONE, 5, Ok(())));
-    assert!(rt; ticks(&mut book, ONE, 4, Err(BookFault::Backwards)));
-    assert!(rt; book.now() == 5);
-    assert!(rt; has_places(&book, 3, 1));
-    assert!(rt; ticks(&mut book, ONE, 5, Ok(())));
-    assert!(rt; expire(&rt, &mut book, ONE).is_ok());
-    assert!(rt; collects(&mut book, ONE, replied(Reply::WaitOver)));
-    assert!(rt; acts(&mut book, ONE, EXIT, replied(Reply::Exited)));
-    assert!(rt; has_places(&book, 7, 0));
-    let ticked = Logged {
-        thread: ONE,
-        deed: Deed::Ticked { now: 5 },
+fn the_most_objects_monitors_and_passes(rt: HostRuntime) -> Result<(), Fail> {
+    let size = Size {
+        objects: 65_535,
+        monitors: 8_388_608,
+        passes: 64,
+        places: 1_000,
     };
-    assert!(rt; book.log().get(2).copied() == Some(ticked));
-    Ok(())
+    opened_and_closed::<Brand>(&rt, rt.alloc(), Blank::new(64), size)
 }
 
 #[test]
-fn a_pass_is_torn_where_the_book_has_it_elsewhere(rt: HostRuntime) -> Result<(), Fail> {
-    let book = Book::new(rt.alloc(), 1, 1, 5)?;
-    let (parked, full) = (true, true);
-    assert!(rt; book.passes() == 1);
-    assert!(rt; book.check(ONE, !parked, !full) == Ok(()));
-    assert!(rt; book.check(ONE, parked, !full) == Err(LiveFault::Torn));
-    assert!(rt; book.check(ONE, !parked, full) == Err(LiveFault::Torn));
-    assert!(rt; book.check(TWO, !parked, !full) == Err(LiveFault::Torn));
-    assert!(rt; LiveFault::Torn.number() == 18);
-    Ok(())
+fn the_longest_record(rt: HostRuntime) -> Result<(), Fail> {
+    let size = Size {
+        objects: 1,
+        monitors: 1,
+        passes: 2,
+        places: 1_048_576,
+    };
+    opened_and_closed::<Brand>(&rt, rt.alloc(), Blank::new(2), size)
 }

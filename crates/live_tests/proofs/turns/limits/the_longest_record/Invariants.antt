@@ -1,7 +1,0 @@
-use Rattle.live_tests.proofs.turns.limits.the_longest_record.Given as goal
-
-abbrev pub ghosts-opened_and_closed-L-Ledger : goal.ghosts-opened_and_closed-L-Ledger
-ghosts-opened_and_closed-L-Ledger g a = record { name = a.blank.name; parts = a.blank.parts }
-
-abbrev pub ghosts-opened_and_closed-L-Crew : goal.ghosts-opened_and_closed-L-Crew
-ghosts-opened_and_closed-L-Crew g a = record { monitors = 1; passes = 2; places = 1048576 }
