@@ -21,7 +21,7 @@ fn add(lines: &mut Lines, thread: u32, monitor: u32, role: Role) -> Result<(), M
     Ok(())
 }
 
-/// Lines in which these threads stand, that have come in this order: each with its monitor and role.
+/// Lines in which these threads stand, which came in this order, each with its monitor and role.
 fn lines_of(alloc: Global, arrivals: &[(u32, u32, Role)]) -> Result<Lines, Memory> {
     let mut lines = Lines::new(alloc);
     for (thread, monitor, role) in arrivals {
@@ -139,8 +139,8 @@ fn a_long_line_is_emptied_from_the_middle_outwards(rt: HostRuntime) -> Result<()
     Ok(())
 }
 
-/// A thread joins a line, or leaves the one in which it stands, as this number says. Whether the line
-/// that the number names is then as the plain one.
+/// A thread joins a line, or leaves the one in which it stands, as this number says. Whether the
+/// line that the number names is then as the plain one.
 fn joins_or_leaves(
     alloc: Global,
     lines: &mut Lines,

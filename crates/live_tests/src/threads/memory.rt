@@ -99,7 +99,8 @@ fn close_after<L: Crew, R: Abort>(
     Ok(Some(close_again(rt, alloc, live, passes)?))
 }
 
-/// Drives one work, and closes the service; None where a growth was refused that hands nothing back.
+/// Drives one work, and closes the service; None where a growth was refused that hands nothing
+/// back.
 fn drive_and_close<L: Crew + Send + Sync, R: Threads + Wait + Clock + Sync + Abort>(
     rt: &R,
     alloc: Global,

@@ -42,8 +42,8 @@ fn open_again(rt: &impl Abort, alloc: Global) -> Result<(Headers<Marked>, Vec<Pa
     }
 }
 
-/// Acquires the object by the second of both passes, which stay where they are. False where its word
-/// is not free.
+/// Acquires the object by the second of both passes, which stay where they are. False where its
+/// word is not free.
 fn acquire_by_second(headers: &Headers<Marked>, passes: &mut Vec<Pass<Marked>>) -> bool
     requires objects { length headers.now.lows ≡ 2 }
     requires passes { passes.old.items ≡ new_passes headers.now 1 2 }
