@@ -108,7 +108,7 @@ def numbers_differ():
     fault["MISSING_OBJECT"] = fault.pop("NO_OBJECT")
     fault |= enum_of_source("crates/step_core/src/worlds/relayout.rt", "RelayoutFault")
     fault |= enum_of_source("crates/nadkhoy_c/src/status.rt", "Status")
-    live = enum_of_source("crates/live_turns/src/faults.rt", "LiveFault")
+    live = enum_of_source("crates/live_book/src/faults.rt", "LiveFault")
     for name in ("NO_OBJECT", "NO_THREAD"):
         live[f"LIVE_{name}"] = live.pop(name)
     fault |= live
