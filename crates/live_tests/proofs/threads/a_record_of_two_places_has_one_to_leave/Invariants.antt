@@ -1,4 +1,3 @@
-use Rattle.std.proofs.Common.{◌≡◌}
 use Rattle.live_tests.proofs.threads.a_record_of_two_places_has_one_to_leave.Given as goal
 
 abbrev pub ghosts-a_small_record-L-Ledger : goal.ghosts-a_small_record-L-Ledger

@@ -1,4 +1,3 @@
-use Rattle.std.proofs.Common.{◌≡◌}
 use Rattle.live_tests.proofs.threads.a_service_without_monitors_refuses_them.Given as goal
 
 abbrev pub ghosts-no_monitor-L-Ledger : goal.ghosts-no_monitor-L-Ledger

@@ -1,4 +1,3 @@
-use Rattle.std.proofs.Common.{◌≡◌}
 use Rattle.live_tests.proofs.threads.interrupts_have_their_answers.Given as goal
 
 abbrev pub ghosts-one_after_another-L-Ledger : goal.ghosts-one_after_another-L-Ledger

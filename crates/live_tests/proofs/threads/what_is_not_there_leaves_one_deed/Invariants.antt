@@ -1,4 +1,3 @@
-use Rattle.std.proofs.Common.{◌≡◌}
 use Rattle.live_tests.proofs.threads.what_is_not_there_leaves_one_deed.Given as goal
 
 abbrev pub ghosts-what_is_not_there-L-Ledger : goal.ghosts-what_is_not_there-L-Ledger

@@ -1,4 +1,3 @@
-use Rattle.std.proofs.Common.{◌≡◌}
 use Rattle.live_tests.proofs.threads.meeting.a_timed_wait_ends_by_a_tick.Given as goal
 
 abbrev pub ghosts-a_wait_that_ends-L-Ledger : goal.ghosts-a_wait_that_ends-L-Ledger

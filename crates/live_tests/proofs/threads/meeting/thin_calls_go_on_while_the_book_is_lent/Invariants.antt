@@ -1,4 +1,3 @@
-use Rattle.std.proofs.Common.{◌≡◌}
 use Rattle.live_tests.proofs.threads.meeting.thin_calls_go_on_while_the_book_is_lent.Given as goal
 
 abbrev pub ghosts-a_book_is_lent-L-Ledger : goal.ghosts-a_book_is_lent-L-Ledger

@@ -1,4 +1,3 @@
-use Rattle.std.proofs.Common.{◌≡◌}
 use Rattle.live_tests.proofs.threads.memory.what_was_refused_comes_back_and_succeeds_again.Given as goal
 
 abbrev pub ghosts-open_drive_and_close-L-Ledger : goal.ghosts-open_drive_and_close-L-Ledger

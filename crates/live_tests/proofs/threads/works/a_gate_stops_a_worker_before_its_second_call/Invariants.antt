@@ -1,4 +1,3 @@
-use Rattle.std.proofs.Common.{◌≡◌}
 use Rattle.live_tests.proofs.threads.works.a_gate_stops_a_worker_before_its_second_call.Given as goal
 
 abbrev pub ghosts-two_are_driven-L-Ledger : goal.ghosts-two_are_driven-L-Ledger

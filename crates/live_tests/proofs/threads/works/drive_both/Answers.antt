@@ -1,4 +1,3 @@
-use Rattle.std.proofs.Common.{rules}
 use Rattle.live_threads.specs.Driving.{CanDrive}
 use Rattle.live_threads.proofs.Drives.{all_of_two}
 use Rattle.live_tests.proofs.threads.works.drive_both.Goals as goal

@@ -1,4 +1,3 @@
-use Rattle.std.proofs.Common.{◌≡◌}
 use Rattle.std.specs.List.{All}
 use Rattle.live_threads.specs.Driving.{IsLive}
 use Rattle.live_tests.proofs.threads.works.rounds.Given as goal

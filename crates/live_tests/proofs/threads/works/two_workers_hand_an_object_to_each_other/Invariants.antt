@@ -1,4 +1,3 @@
-use Rattle.std.proofs.Common.{◌≡◌}
 use Rattle.live_tests.proofs.threads.works.two_workers_hand_an_object_to_each_other.Given as goal
 
 abbrev pub ghosts-two_are_driven-L-Ledger : goal.ghosts-two_are_driven-L-Ledger

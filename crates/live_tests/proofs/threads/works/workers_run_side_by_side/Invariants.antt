@@ -1,4 +1,3 @@
-use Rattle.std.proofs.Common.{◌≡◌}
 use Rattle.live_tests.proofs.threads.works.workers_run_side_by_side.Given as goal
 
 abbrev pub ghosts-two_are_driven-L-Ledger : goal.ghosts-two_are_driven-L-Ledger

@@ -1,12 +1,11 @@
 use Rattle.std.specs.Prelude.{◌≡◌, ◌+◌, true, false}
 use Rattle.std.proofs.Common.{rules, refl, ap, sym, ◌∙◌, subst}
-use Rattle.lock_word.specs.Layout.{count_of}
 use Rattle.fast_path.specs.declared.calls.Operation.{Operation}
 use Rattle.fast_path.specs.declared.Next.TheVariants as next
 use Rattle.fat_monitor.specs.declared.actions.Reply.TheVariants as reply
 use Rattle.header_words.specs.Passes.{depth_at}
 use Rattle.step_core.specs.declared.places.Place.TheVariants.{InCall}
-use Rattle.step_core.specs.declared.places.Stage.TheVariants.{Begun, Taking, Storing, Binding, Acting}
+use Rattle.step_core.specs.declared.places.Stage.TheVariants.{Begun, Taking, Storing}
 use Rattle.step_core.specs.declared.paths.Point.{Point}
 use Rattle.step_core.specs.declared.paths.Point.TheVariants.{At, Said}
 use Rattle.step_core.specs.Go.{entering}

@@ -1,4 +1,4 @@
-use Rattle.std.proofs.Common.{◌≡◌, sym, ap, ◌∙◌}
+use Rattle.std.proofs.Common.{sym, ◌∙◌}
 use Rattle.header_words.proofs.Bindings.{publish_prefix}
 use Rattle.word_tests.proofs.headers.gate.monitor_of.Goals as goal
 
