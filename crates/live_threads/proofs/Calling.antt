@@ -12,7 +12,7 @@ use Rattle.step_core.specs.declared.paths.Point.TheVariants.{At, Expired, Said}
 use Rattle.live_turns.specs.declared.turned.Standing.{Standing}
 use Rattle.live_turns.specs.declared.turned.Standing.TheVariants as standing
 use Rattle.live_book.specs.declared.faults.LiveFault.{LiveFault}
-use Rattle.live_turns.specs.Points.{standing_at, resting, GivenUpOn, GivenUpAbout, names_stranger}
+use Rattle.live_turns.specs.Points.{standing_at, resting, names_stranger}
 use Rattle.live_turns.specs.Ways.{Holding, Went, Halted}
 use Rattle.live_turns.proofs.Going.{went_then, given_up_on, given_up_about}
 use Rattle.live_threads.specs.Calls.{CalledOn, CalledAbout}

@@ -1,4 +1,4 @@
-use Rattle.std.proofs.Common.{ap, sym, subst}
+use Rattle.std.proofs.Common.{ap, subst}
 use Rattle.header_words.specs.Passes.{Opening}
 use Rattle.step_core.specs.declared.paths.Point.{Point}
 use Rattle.live_turns.specs.Ways.{Holding, Went}
