@@ -14,7 +14,7 @@ use std::{hint, thread};
 pub const OBJECT: ObjectId = ObjectId(0);
 
 /// What is measured.
-#[derive(Clone, Copy, PartialEq, Eq, Debug)]
+#[derive(Clone, Copy, PartialEq, Eq)]
 pub enum Work {
     /// The bare exchange and store of a first enter and a last exit.
     BareLock,
@@ -58,7 +58,7 @@ impl Work {
 }
 
 /// What a run did, and how long it took.
-#[derive(Clone, Copy, Debug)]
+#[derive(Clone, Copy)]
 pub struct Measure {
     /// The rounds that succeeded, of all threads.
     pub done: u32,
@@ -171,7 +171,7 @@ pub fn inflate<L: Crew, R: Wait + Clock>(rt: &R, live: &Live<L>, pass: &mut Live
 }
 
 /// What a thread did that hands an object on.
-#[derive(Clone, Copy, Debug)]
+#[derive(Clone, Copy)]
 pub struct HandedOn {
     pub done: u32,
     /// How long it slept of its own accord, in nanoseconds.

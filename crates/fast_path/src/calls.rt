@@ -37,7 +37,7 @@ pub enum Call {
 }
 
 /// What a call asks of the monitor of an object.
-#[derive(Clone, Copy, Debug)]
+#[derive(Clone, Copy)]
 pub enum Operation {
     Enter,
     Exit,
@@ -48,14 +48,14 @@ pub enum Operation {
 }
 
 /// A call on the monitor of an object.
-#[derive(Clone, Copy, Debug)]
+#[derive(Clone, Copy)]
 pub struct MonitorCall {
     pub object: ObjectId,
     pub operation: Operation,
 }
 
 /// A call about the interrupts of threads.
-#[derive(Clone, Copy, Debug)]
+#[derive(Clone, Copy)]
 pub enum InterruptCall {
     Interrupt(ThreadId),
     Interrupted,
@@ -63,7 +63,7 @@ pub enum InterruptCall {
 }
 
 /// A call, by what it is about.
-#[derive(Clone, Copy, Debug)]
+#[derive(Clone, Copy)]
 pub enum Subject {
     /// The monitor of an object.
     Monitor(MonitorCall),

@@ -18,7 +18,7 @@ use fat_monitor::{Reply, are_good};
 use lock_word::{Lock, Split};
 
 /// What a loaded word calls for.
-#[derive(Clone, Copy, PartialEq, Eq, Debug)]
+#[derive(Clone, Copy, PartialEq, Eq)]
 pub enum Next {
     /// The call has its reply.
     Reply(Reply),

@@ -65,7 +65,7 @@ pub enum Why {
 }
 
 /// Where an attached thread stands towards the fat monitors.
-#[derive(Clone, Copy, PartialEq, Eq, Debug)]
+#[derive(Clone, Copy, PartialEq, Eq)]
 pub enum Post {
     /// In no action.
     Out,
@@ -152,7 +152,7 @@ pub enum Answer {
 }
 
 /// What an action did.
-#[derive(Clone, Copy, PartialEq, Eq, Debug)]
+#[derive(Clone, Copy, PartialEq, Eq)]
 pub struct Done {
     /// What the thread is told.
     pub answer: Answer,

@@ -7,7 +7,7 @@ use std::marker::Model;
 
 /// What a bind bound. Only [`Fats::bind`](crate::Fats::bind) makes one, so whoever is handed a
 /// receipt knows that the monitor was bound to this object, with this owner and these holds.
-#[derive(PartialEq, Eq, Debug, Drop)]
+#[derive(PartialEq, Eq, Drop)]
 pub struct Receipt {
     object: ObjectId,
     owner: ThreadId,

@@ -4,7 +4,7 @@ use crate::names::Name;
 use lock_word::Split;
 
 /// A call, as a `begin` line has it.
-#[derive(Debug, Drop)]
+#[derive(Drop)]
 pub enum Call<'a> {
     Enter(Name<'a>),
     Exit(Name<'a>),
@@ -25,7 +25,7 @@ pub enum Call<'a> {
 }
 
 /// A line behind those of the objects: a step, or a relayout.
-#[derive(Debug, Drop)]
+#[derive(Drop)]
 pub enum StepLine<'a> {
     Attach(Name<'a>),
     Begin { thread: Name<'a>, call: Call<'a> },
@@ -40,7 +40,7 @@ pub enum StepLine<'a> {
 }
 
 /// A line of a script.
-#[derive(Debug, Drop)]
+#[derive(Drop)]
 pub enum Line<'a> {
     /// The most fat monitors, 0 to 8,388,608; the most live threads, 1 to the greatest index of the
     /// split; and the split of the header words.

@@ -13,7 +13,7 @@ const LONGEST_NAME: usize = 32;
 
 /// The name of a thread or an object: 1 to 32 of the bytes `a` to `z`, `0` to `9` and `_`, the
 /// first a letter.
-#[derive(Debug, Drop)]
+#[derive(Drop)]
 pub struct Name<'a> {
     text: &'a str,
 }

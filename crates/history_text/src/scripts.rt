@@ -29,7 +29,7 @@ pub const MOST_BYTES: usize = 16_777_216;
 const MOST_OBJECTS: usize = 65_535;
 
 /// A script: lines that keep the rules.
-#[derive(Debug, Drop)]
+#[derive(Drop)]
 pub struct Script<'a> {
     lines: Vec<Line<'a>>,
 }

@@ -4,7 +4,7 @@ use fat_monitor::{Action, Answer};
 use lock_word::{ObjectId, ThreadId};
 
 /// One deed on the fat monitors, and what came of it.
-#[derive(Clone, Copy, PartialEq, Eq, Debug)]
+#[derive(Clone, Copy, PartialEq, Eq)]
 pub enum Deed {
     /// The thread held the object so often, and got this monitor for it.
     Bound {
@@ -24,7 +24,7 @@ pub enum Deed {
 }
 
 /// A place of the record that is used: a deed, and who did it.
-#[derive(Clone, Copy, PartialEq, Eq, Debug)]
+#[derive(Clone, Copy, PartialEq, Eq)]
 pub struct Logged {
     pub thread: ThreadId,
     pub deed: Deed,

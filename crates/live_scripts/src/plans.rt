@@ -19,7 +19,7 @@ use std::alloc::Global;
 /// numbered from 0 in the order of their lines, threads from 1 in the order of theirs. An object
 /// that is not declared has the number of the objects, which none has; a thread that is not
 /// attached the number of the threads and 1.
-#[derive(Debug, Drop)]
+#[derive(Drop)]
 pub struct LivePlan<'a> {
     /// The most fat monitors.
     pub monitors: u32,

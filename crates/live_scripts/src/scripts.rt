@@ -13,7 +13,7 @@ use std::alloc::{AllocError, Global};
 use std::marker::Model;
 
 /// A script whose threads may run on threads of the system.
-#[derive(Debug, Drop)]
+#[derive(Drop)]
 pub struct LiveScript<'a> {
     lines: Vec<Line<'a>>,
 }

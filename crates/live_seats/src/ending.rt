@@ -13,7 +13,7 @@ pub struct ServiceEnd {
 }
 
 /// What came of a close.
-#[derive(Clone, Copy, PartialEq, Eq, Debug)]
+#[derive(Clone, Copy, PartialEq, Eq)]
 pub enum Closing {
     /// The service is closed, and the seat is gone.
     Done,

@@ -6,7 +6,7 @@ use live_turns::{LiveFault, Standing};
 use lock_word::ThreadId;
 
 /// What a seat is asked to do.
-#[derive(Clone, Copy, Debug)]
+#[derive(Clone, Copy)]
 pub enum Order {
     /// The first turn of a call on an object.
     BeginOn(MonitorCall),
@@ -25,7 +25,7 @@ pub enum Order {
 }
 
 /// What came of the start of a call on an object, by its steps on the word alone.
-#[derive(Clone, Copy, PartialEq, Eq, Debug)]
+#[derive(Clone, Copy, PartialEq, Eq)]
 pub enum Started {
     /// They are the whole call, and this is its reply.
     Said(Reply),
@@ -38,7 +38,7 @@ pub enum Started {
 }
 
 /// What came of an order.
-#[derive(Clone, Copy, PartialEq, Eq, Debug)]
+#[derive(Clone, Copy, PartialEq, Eq)]
 pub enum Told {
     /// The call was not begun, or the moment not told: the seat is in a call.
     InCall,

@@ -11,7 +11,7 @@ use std::sync::ledger::Blank;
 use std::test::Fail;
 
 /// How large a service is.
-#[derive(Clone, Copy, Debug)]
+#[derive(Clone, Copy)]
 struct Size {
     objects: u16,
     monitors: u32,

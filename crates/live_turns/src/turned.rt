@@ -9,7 +9,7 @@ use lock_word::ThreadId;
 use step_core::{Place, Point, Stage};
 
 /// What one turn of a call came to.
-#[derive(Clone, Copy, Debug)]
+#[derive(Clone, Copy)]
 pub struct Turned {
     /// Where the call stands now.
     pub point: Point,
@@ -21,7 +21,7 @@ pub struct Turned {
 }
 
 /// Where a call stands, for whoever drives it: what to do before the next turn.
-#[derive(Clone, Copy, PartialEq, Eq, Debug)]
+#[derive(Clone, Copy, PartialEq, Eq)]
 pub enum Standing {
     /// The call is over, with this reply.
     Said(Reply),

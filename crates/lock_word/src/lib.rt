@@ -64,7 +64,7 @@ fn hex_digit(digit: u32) -> u8
 
 /// How a thin lock divides bits 30 to 8 of its word between the index of its owner and its count.
 /// The other locks have the same words in both splits.
-#[derive(Clone, Copy, PartialEq, Eq, Debug)]
+#[derive(Clone, Copy, PartialEq, Eq)]
 pub enum Split {
     /// 15 bits of index, 1 to 32,767, and 8 bits of count, 0 to 255: for many threads.
     Wide,

@@ -7,7 +7,7 @@ ghost use Rattle.nadkhoy_c.specs.Statuses.{status_number};
 /// own number, which is below 101. A seat that cannot take an order where its call stands answers
 /// with a number of the core too: 6 (InCall) where it is in a call, 7 (NotCalling) where it is in
 /// none.
-#[derive(Clone, Copy, PartialEq, Eq, Debug)]
+#[derive(Clone, Copy, PartialEq, Eq)]
 pub enum Status {
     /// It is done.
     Done = 0,

@@ -5,7 +5,7 @@ use fat_monitor::{Cause, Reply, Why};
 use lock_word::{ObjectId, ThreadId};
 
 /// What a live thread is doing.
-#[derive(Clone, Copy, PartialEq, Eq, Debug)]
+#[derive(Clone, Copy, PartialEq, Eq)]
 pub enum Doing {
     /// It is in no call.
     Idle,

@@ -4,7 +4,7 @@ use crate::Place;
 use fat_monitor::Reply;
 
 /// Where a call stands on its path: the atomic steps of its thread lead from one point to the next.
-#[derive(Clone, Copy, Debug)]
+#[derive(Clone, Copy)]
 pub enum Point {
     /// At a place that is on its way.
     At(Place),

@@ -4,7 +4,7 @@ use fast_path::{InterruptCall, MonitorCall};
 use lock_word::{Lock, ObjectId};
 
 /// Where a thread stands: what its next Go does.
-#[derive(Clone, Copy, Debug)]
+#[derive(Clone, Copy)]
 pub enum Place {
     /// In no call.
     Idle,
@@ -19,7 +19,7 @@ pub enum Place {
 }
 
 /// A stage of a call on an object, or about interrupts.
-#[derive(Clone, Copy, Debug)]
+#[derive(Clone, Copy)]
 pub enum Stage {
     /// At the load of its object's word. A contended call has met another thread, by a thin word of
     /// that thread's or by an exchange that it lost.

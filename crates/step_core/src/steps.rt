@@ -31,7 +31,7 @@ pub enum Step {
 }
 
 /// What is asked of a world.
-#[derive(Clone, Copy, Debug)]
+#[derive(Clone, Copy)]
 pub enum Request {
     /// A step of it.
     Step(Step),

@@ -8,7 +8,7 @@ use std::alloc::{AllocError, Global};
 
 /// Bits in words of 64: position 0 is the lowest bit of the first word. Past the last word each is
 /// 0.
-#[derive(Debug, Drop)]
+#[derive(Drop)]
 pub(crate) struct BitRow {
     words: Vec<u64>,
 }

@@ -73,7 +73,7 @@ impl From<AllocError> for TakeFault {
 }
 
 /// The indices of the live threads.
-#[derive(Debug, Drop)]
+#[derive(Drop)]
 pub struct Indices {
     /// Who has the seats up to the highest that was ever taken.
     holders: Vec<Option<ThreadId>>,

@@ -11,7 +11,7 @@ use std::alloc::{AllocError, Global};
 /// The second row has a bit for each word of the first, which is 1 where all 64 seats of the word
 /// are taken: so the lowest free seat is found by looking at the few words of the second row and
 /// at one word of the first.
-#[derive(Debug, Drop)]
+#[derive(Drop)]
 pub(crate) struct SeatBits {
     taken: BitRow,
     full: BitRow,

@@ -43,7 +43,7 @@ pub enum Role {
 ///
 /// A thread stands in one line at most, and once. Joining asks for no memory: it uses a
 /// reservation, and leaving makes that free again.
-#[derive(Debug, Drop)]
+#[derive(Drop)]
 pub struct Lines {
     links: Links,
     table: Table,

@@ -17,7 +17,7 @@ use std::marker::Model;
 /// The numbers of the records are linked into rows: those of lines with no thread into the row of
 /// free ones, and each other into the row of its line's bucket. There are as many buckets as
 /// records, or half as many at least, so a row has few records.
-#[derive(Debug, Drop)]
+#[derive(Drop)]
 pub(crate) struct Table {
     rows: Links,
     buckets: u32,
