@@ -156,3 +156,22 @@ room_in words full word was clear = not_full (slice_index words word) (sym (was.
 pub full_below : (words full : List ℕ) (word : ℕ) → AreTwoRows words full → ((k : ℕ) → k < word → bit_of full k ≡ 1)
     → (i : ℕ) → i < word → slice_index words i ≡ 2 ^ 64 - 1
 full_below words full word was lowest i below = is_full (slice_index words i) (sym (was.told i) ∙ lowest i below)
+
+-- the second row has a word for each 64 words of the first, the next one too
+pub word_above : (words full : List ℕ) (word : ℕ) → AreTwoRows words full → word ≤ length words → word / 64 ≤ length full
+word_above words full word was next = omega (arith, was.above)
+
+-- more words of 0 in the second row
+pub AreTwoRows-above : (words full above : List ℕ) (word : ℕ) → AreTwoRows words full → word < 512
+    → ((j : ℕ) → slice_index above j ≡ slice_index full j) → length full ≤ length above → length above ≤ max (length full) (word / 64 + 1) → AreTwoRows words above
+AreTwoRows-above words full above word was low same wider few_above =
+    record {
+      told = λ j. rw (same (j / 64)) (was.told j);
+      above = omega (arith, was.above);
+      few = was.few;
+      few_above = omega (arith, was.few_above);
+    }
+
+-- a seat's word is one of the first 512
+pub seat_word : (seat words : ℕ) → seat < 32768 → (seat / 64 < 512) × (seat / 64 / 64 < words → seat / 64 < 64 * words)
+seat_word seat words low = (omega arith, λ covered. omega arith)

@@ -1,16 +1,14 @@
 -- Seats of which only the first are written down.
-use Rattle.std.specs.Prelude.{◌≡◌, ℕ, ◌+◌, ◌-◌, ◌<◌, ◌≤◌, ◌⊎◌, Bool, true, false, List, [], ◌∷◌, ◌++◌, length, replicate, zero, suc, Option, Some, None, is_none, slice_set, nat_lt}
+use Rattle.std.specs.Prelude.{◌≡◌, ℕ, ◌+◌, ◌-◌, ◌<◌, ◌≤◌, ◌⊎◌, Bool, true, false, List, [], ◌∷◌, ◌++◌, length, replicate, zero, suc, Option, Some, None, is_none, slice_set}
 use Rattle.std.specs.List.{position_from}
-use Rattle.std.specs.Bool.{then_some}
-use Rattle.std.specs.Option.{option_or}
-use Rattle.std.proofs.Common.{arith, refl, ap, sym, ◌∙◌, inl, inr, length-append, append_assoc, zero-add, subst, get_or}
-use Rattle.std.proofs.lemmas.Bool.{cases_lt, ltb-true, ltb-false}
+use Rattle.std.proofs.Common.{arith, refl, ap, sym, ◌∙◌, inl, inr, length-append, zero-add, subst, get_or}
+use Rattle.std.proofs.lemmas.Bool.{cases_lt}
 use Rattle.std.proofs.lemmas.Option.{same_Some}
-use Rattle.std.proofs.lemmas.List.{length-replicate, length-set, set-append_left, set_at, append-nil, same_lists, get_or_default, get_or_append_left, get_or-append_right, get_or_past}
+use Rattle.std.proofs.lemmas.List.{length-replicate, length-set, set-append_left, append-nil, same_lists, get_or_default, get_or_append_left, get_or-append_right, get_or_past}
 use Rattle.lock_word.specs.declared.ThreadId.{ThreadId}
 use Rattle.thread_index.specs.Indices.{is_held_by, seat_of, free_seat, holder_at, IsOneToOne}
 use Rattle.thread_index.specs.Padding.{padded, IsKept}
-use Rattle.thread_index.proofs.Seats.{seat_found, free_found, IsOneToOne-taken, IsOneToOne-given, seat_of-within, free_seat-within, holder_at-replicate}
+use Rattle.thread_index.proofs.Seats.{seat_found, free_found, IsOneToOne-taken, IsOneToOne-given, holder_at-replicate}
 
 found_by_test : (test : Option ThreadId → Bool) (i k : ℕ) (x : Option ThreadId) (xs ys : List (Option ThreadId)) (b : Bool) → test x ≡ b
     → (position_from test (i + 1) xs ≡ Some k → position_from test (i + 1) ys ≡ Some k)
@@ -68,28 +66,10 @@ free_seat-padded_none : (holders : List (Option ThreadId)) (limit : ℕ) → fre
 free_seat-padded_none holders limit e full =
     let none : limit - length holders ≡ 0 = omega arith in rw (none, append-nil holders) e
 
--- the lowest free seat: of those that are written down, else the next, if there is one
-pub free_seat-padded : (holders : List (Option ThreadId)) (limit : ℕ)
-    → option_or (free_seat holders) (then_some (nat_lt (length holders) limit) (length holders)) ≡ free_seat (padded holders limit)
-free_seat-padded holders limit = by_found (free_seat holders) refl
-  where
-    by_next : (room : Bool) → nat_lt (length holders) limit ≡ room → free_seat holders ≡ None → then_some room (length holders) ≡ free_seat (padded holders limit)
-    by_next true room none = sym (free_seat-padded_next holders limit none (ltb-true (length holders) limit room))
-    by_next false full none = sym (free_seat-padded_none holders limit none (ltb-false (length holders) limit full))
-
-    by_found : (found : Option ℕ) → free_seat holders ≡ found → option_or found (then_some (nat_lt (length holders) limit) (length holders)) ≡ free_seat (padded holders limit)
-    by_found None none = by_next (nat_lt (length holders) limit) refl none
-    by_found (Some k) some = sym (free_seat-padded_some holders limit k some)
-
 -- there are as many seats as the limit says
 pub length-padded : (holders : List (Option ThreadId)) (limit : ℕ) → length holders ≤ limit → length (padded holders limit) ≡ limit
 length-padded holders limit within =
     simp (length-append, length-replicate) (omega arith)
-
-at_next : (holders : List (Option ThreadId)) (n m : ℕ) (x : Option ThreadId) → n ≡ suc m
-    → (holders ++ x ∷ []) ++ replicate m None ≡ slice_set (holders ++ replicate n None) (length holders) x
-at_next holders n m x e =
-    rw e (append_assoc holders (x ∷ []) (replicate m None) ∙ sym (set_at holders None (replicate m None) x (length holders) refl))
 
 -- the lowest free seat is one of those that are written down, or the next
 pub free_seat-written : (holders : List (Option ThreadId)) (limit k : ℕ) → length holders ≤ limit → free_seat (padded holders limit) ≡ Some k
@@ -110,26 +90,12 @@ free_seat-written holders limit k within e = by_found (free_seat holders) refl
         let same : j ≡ k = same_Some j k (sym (free_seat-padded_some holders limit j some) ∙ e) in
         let h : j < length holders = (free_found holders j some).0 in (omega arith, below)
 
--- what is found among the seats that are shown
-pub ruleset lookups = (seat_of-padded, free_seat-padded, seat_of-within, free_seat-within)
-
 -- a write at a seat that is written down
 pub padded-slice_set : (holders seats : List (Option ThreadId)) (limit k : ℕ) (x : Option ThreadId) → padded holders limit ≡ seats → k < length holders
     → padded (slice_set holders k x) limit ≡ slice_set seats k x
 padded-slice_set holders seats limit k x shown written =
     rw (length-set holders k x)
     (sym (set-append_left holders (replicate (limit - length holders) None) k x written) ∙ ap (λ (xs : List (Option ThreadId)). slice_set xs k x) shown)
-
--- the lowest free seat, where it is written down next
-pub padded_push : (holders new seats : List (Option ThreadId)) (limit k : ℕ) (x : Option ThreadId) → new ≡ holders ++ x ∷ [] → padded holders limit ≡ seats
-    → IsKept holders limit → length holders ≤ k → free_seat seats ≡ Some k → padded new limit ≡ slice_set seats k x
-padded_push holders new seats limit k x longer shown was beyond free =
-    let position = free_seat-written holders limit k was.within (ap (λ (xs : List (Option ThreadId)). free_seat xs) shown ∙ free) in
-    let last : length holders ≡ k = omega (arith, position.0) in
-    let one_more : length (holders ++ x ∷ []) ≡ length holders + 1 = length-append holders (x ∷ []) in
-    let room : limit - length holders ≡ suc (limit - (length holders + 1)) = omega (arith, position.1) in
-    rw (longer, one_more, ← last)
-    (at_next holders (limit - length holders) (limit - (length holders + 1)) x room ∙ ap (λ (xs : List (Option ThreadId)). slice_set xs (length holders) x) shown)
 
 -- who has a seat has one of those that are written down
 pub seat_of-written : (holders seats : List (Option ThreadId)) (limit k : ℕ) (t : ThreadId) → padded holders limit ≡ seats → seat_of seats t ≡ Some k → k < length holders
@@ -162,19 +128,6 @@ IsKept-taken holders seats limit k t shown was written unknown free =
     still_kept holders (slice_set holders k (Some t)) limit (slice_set seats k (Some t)) was (rw (length-set holders k (Some t)) was.within)
     (padded-slice_set holders seats limit k (Some t) shown written)
     (IsOneToOne-taken seats t k (subst (λ (xs : List (Option ThreadId)). IsOneToOne xs) shown was.one_to_one) unknown free)
-
--- and the next
-pub IsKept_push : (holders new seats : List (Option ThreadId)) (limit k : ℕ) (t : ThreadId) → new ≡ holders ++ Some t ∷ [] → padded holders limit ≡ seats → IsKept holders limit
-    → length holders ≤ k → seat_of seats t ≡ None → free_seat seats ≡ Some k → IsKept new limit
-IsKept_push holders new seats limit k t longer shown was beyond unknown free =
-    let position = free_seat-written holders limit k was.within (ap (λ (xs : List (Option ThreadId)). free_seat xs) shown ∙ free) in
-    let fits : length holders + 1 ≤ limit = omega (arith, position.0, position.1) in
-    still_kept holders new limit (slice_set seats k (Some t)) was (rw (longer, length-append holders (Some t ∷ [])) fits)
-    (padded_push holders new seats limit k (Some t) longer shown was beyond free)
-    (IsOneToOne-taken seats t k (subst (λ (xs : List (Option ThreadId)). IsOneToOne xs) shown was.one_to_one) unknown free)
-
--- the seats that are shown, after each change
-pub ruleset changes = (IsKept-given, IsKept-taken, IsKept_push, padded-slice_set, padded_push, seat_of-written)
 
 -- who has a seat that is shown has it among those that are written down, if it is one of them
 pub holder_at-padded : (holders : List (Option ThreadId)) (limit k : ℕ) → holder_at (padded holders limit) k ≡ holder_at holders k

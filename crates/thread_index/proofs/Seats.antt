@@ -185,6 +185,3 @@ seat_of-within seats t (Some k) e = (seat_found seats t k (sym e)).0
 pub free_seat-within : (seats : List (Option ThreadId)) (found : Option ℕ) → found ≡ free_seat seats → IfSome found (λ k. k < length seats)
 free_seat-within seats None e = tt
 free_seat-within seats (Some k) e = (free_found seats k (sym e)).0
-
--- what a seat that is taken leaves as it was
-pub ruleset taken = (IsOneToOne-taken)

@@ -1,16 +1,16 @@
 -- What holds of the rows and the table of the indices, after each change.
-use Rattle.std.specs.Prelude.{◌≡◌, ℕ, ◌+◌, ◌-◌, ◌*◌, ◌<◌, ◌≤◌, ◌==◌, ◌/◌, ◌%◌, List, [], length, slice_index, max, Option, Some, None, slice_set, if◌then◌else◌, nat_eq, nat_lt}
+use Rattle.std.specs.Prelude.{◌≡◌, ℕ, zero, suc, ◌+◌, ◌-◌, ◌*◌, ◌<◌, ◌≤◌, ◌==◌, ◌/◌, ◌%◌, List, [], length, slice_index, max, Option, Some, None, slice_set, if◌then◌else◌, nat_eq, nat_lt}
 use Rattle.std.specs.Bool.{then_some}
 use Rattle.std.specs.Int.{bit_at}
 use Rattle.std.specs.HashMap.{HashMap, get, Updates}
-use Rattle.std.proofs.Common.{arith, ap, sym, ◌∙◌, subst}
+use Rattle.std.proofs.Common.{arith, refl, ap, sym, ◌∙◌, subst}
 use Rattle.std.proofs.lemmas.List.{length-set, get_or_past}
 use Rattle.std.proofs.lemmas.Nat.Bits.{bit_at-zero}
 use Rattle.lock_word.specs.declared.ThreadId.{ThreadId}
 use Rattle.thread_index.specs.BitRows.{bit_of}
-use Rattle.thread_index.specs.Indices.{seat_of, free_seat, holder_at, given_back, IsOneToOne}
+use Rattle.thread_index.specs.Indices.{seat_of, free_seat, holder_at, holder_of, given_back, IsOneToOne}
 use Rattle.thread_index.specs.Padding.{padded, taken_bit, TellsSeats, IsWhole}
-use Rattle.thread_index.proofs.Paddings.{length-padded, free_seat-written, padded-same, padded-slice_set, seat_of-written, IsKept-taken, IsKept-given}
+use Rattle.thread_index.proofs.Paddings.{length-padded, free_seat-written, padded-same, holder_at-padded, padded-slice_set, seat_of-written, IsKept-taken, IsKept-given}
 use Rattle.thread_index.proofs.Seats.{free_found, IsOneToOne-given, IsOneToOne-replicate, holder_at-replicate, seat_of-replicate}
 use Rattle.thread_index.proofs.Tables.{free_seat-bits, TellsSeats-same, TellsSeats-taken, TellsSeats-given}
 
@@ -119,6 +119,42 @@ free_seat-shown holders seats limit k words table was shown clear lowest =
     ap (λ (n : ℕ). then_some (nat_lt k n) k) (sym (length-padded holders limit was.kept.within))
     ∙ free_seat-bits (padded holders limit) words table k was.told clear lowest
     ∙ ap (λ (xs : List (Option ThreadId)). free_seat xs) shown
+
+-- the seats that are shown are one to one
+pub one_to_one-shown : {S : Type 0} (holders seats : List (Option ThreadId)) (limit : ℕ) (words : List ℕ) (table : HashMap ℕ ℕ S) → IsWhole holders limit words table
+    → padded holders limit ≡ seats → IsOneToOne seats
+one_to_one-shown holders seats limit words table was shown =
+    subst (λ (xs : List (Option ThreadId)). IsOneToOne xs) shown was.kept.one_to_one
+
+-- and there are as many as the limit says
+pub length-shown : {S : Type 0} (holders seats : List (Option ThreadId)) (limit : ℕ) (words : List ℕ) (table : HashMap ℕ ℕ S) → IsWhole holders limit words table
+    → padded holders limit ≡ seats → length seats ≡ limit
+length-shown holders seats limit words table was shown =
+    ap (λ (xs : List (Option ThreadId)). length xs) (sym shown) ∙ length-padded holders limit was.kept.within
+
+-- which are few
+pub few-shown : {S : Type 0} (holders seats : List (Option ThreadId)) (limit : ℕ) (words : List ℕ) (table : HashMap ℕ ℕ S) → IsWhole holders limit words table
+    → padded holders limit ≡ seats → length seats ≤ 32767
+few-shown holders seats limit words table was shown =
+    let long = length-shown holders seats limit words table was shown in omega (arith, long, was.kept.few)
+
+-- who has a seat that is shown
+pub holder-shown : {S : Type 0} (holders seats : List (Option ThreadId)) (limit k : ℕ) (words : List ℕ) (table : HashMap ℕ ℕ S) → IsWhole holders limit words table
+    → padded holders limit ≡ seats → holder_at seats k ≡ holder_at holders k
+holder-shown holders seats limit k words table was shown =
+    ap (λ (xs : List (Option ThreadId)). holder_at xs k) (sym shown) ∙ holder_at-padded holders limit k
+
+-- who has an index has the seat below it
+pub holder_of-shown : {S : Type 0} (holders seats : List (Option ThreadId)) (limit index below k : ℕ) (words : List ℕ) (table : HashMap ℕ ℕ S) → IsWhole holders limit words table
+    → padded holders limit ≡ seats → (1 ≤ index) × (below ≡ index - 1) → k ≡ below → holder_of seats index ≡ holder_at holders k
+holder_of-shown holders seats limit index below k words table was shown less same =
+    let next : index ≡ suc k = omega (arith, less, same) in
+    ap (holder_of seats) next ∙ holder-shown holders seats limit k words table was shown
+
+-- nobody has an index below the first
+pub holder_of-none : (seats : List (Option ThreadId)) (index : ℕ) → (1 ≤ index → ⊥) → holder_of seats index ≡ None
+holder_of-none seats zero none = refl
+holder_of-none seats (suc k) none = absurd (none (omega arith))
 
 -- nobody has a seat at the start
 pub IsWhole-new : {S : Type 0} (limit : ℕ) (holders : List (Option ThreadId)) (words : List ℕ) (table : HashMap ℕ ℕ S) → holders ≡ [] → words ≡ [] → table.entries ≡ []

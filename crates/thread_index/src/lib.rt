@@ -119,7 +119,6 @@ impl Indices {
     /// A thread that has an index, or that finds none free, is told so without asking for memory.
     /// `Err(TakeFault::Memory)` comes only where the system refused a growth: another call may
     /// succeed.
-    #[tactic(auto, using(crate::proofs::Seats::taken))]
     pub fn take(&mut self, id: ThreadId) -> Result<u16, TakeFault>
         ensures low { IfOk result (λ i. 1 ≤ i) }
         ensures high { IfOk result (λ i. i ≤ length self.old) }
@@ -181,7 +180,6 @@ impl Indices {
     }
 
     /// The seat of a thread.
-    #[tactic(auto, using(crate::proofs::Paddings::lookups))]
     fn seat_of(&self, id: ThreadId) -> Option<usize>
         ensures seat { result ≡ seat_of self.now id }
         ensures within { IfSome result (λ k. k < length self.now) }
@@ -192,7 +190,6 @@ impl Indices {
     }
 
     /// The lowest seat that nobody has.
-    #[tactic(auto, using(crate::proofs::Paddings::lookups))]
     fn free_seat(&self) -> Option<usize>
         ensures seat { result ≡ free_seat self.now }
         ensures within { IfSome result (λ k. k < length self.now) }
