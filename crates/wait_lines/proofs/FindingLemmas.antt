@@ -197,6 +197,12 @@ module _ (c : Chart) (t : ThreadId) (h : IsKept c) where
 
 -- ---- one step of the walk
 
+pub threads_from-step : (l : ℕ) (spots : List Spot) (p : Stop) (n : Node) (s : Spot) (left : List ThreadId) → threads_from l spots p ≡ left → p ≡ At n → (l ≡ 0 → ⊥) → slice_get spots n.0 ≡ Some s → left ≡ s.thread ∷ threads_from (l - 1) spots s.behind
+threads_from-step zero spots p n s left seen here some found = absurd (some refl)
+threads_from-step (suc l) spots p n s left seen here some found =
+    sym seen ∙ ap (threads_from (suc l) spots) here ∙ ap (λ o. then_from o (threads_from l spots)) found
+    ∙ ap (λ k. s.thread ∷ threads_from k spots s.behind) (let e : l ≡ suc l - 1 = omega arith in e)
+
 pub node_from-step : (l : ℕ) (spots : List Spot) (t : ThreadId) (n : Node) (s : Spot) → 0 < l → slice_get spots n.0 ≡ Some s → is_thread t s.thread ≡ false → node_from l spots t (At n) ≡ node_from (l - 1) spots t s.behind
 node_from-step zero spots t n s low e other = absurd (omega arith)
 node_from-step (suc l) spots t n s low e other =
