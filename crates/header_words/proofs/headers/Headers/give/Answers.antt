@@ -1,4 +1,4 @@
-use Rattle.std.proofs.Common.{sym, ap, ◌∙◌, subst, arith, List}
+use Rattle.std.proofs.Common.{sym, ap, ◌∙◌, subst, arith, List, rules}
 use Rattle.header_words.specs.declared.event.Event.{Event}
 use Rattle.header_words.specs.Bindings.{Covers}
 use Rattle.header_words.proofs.Passes.{same_table}
@@ -16,3 +16,6 @@ store-requires g c =
           (ap (λ z. z.0.has_gate) e.3 ∙ (ap (λ k. k.has_gate) c.pass.view_is ∙ c.requires.gate))
           (subst (λ (l : List Event). Covers (g.B.Kept.bound c.args.book) l) (sym (ap (λ z. z.0.seen) e.3 ∙ ap (λ k. k.seen) c.pass.view_is)) c.requires.covers),
     )
+
+pub invariant_of-pass : goal.invariant_of-pass
+invariant_of-pass g c = search rules

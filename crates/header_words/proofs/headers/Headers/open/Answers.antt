@@ -48,3 +48,6 @@ invariant_of-result g c =
       slots = c.in_ok-table.ensures.size.1;
       words = c.in_ok-table.ensures.size.0 ∙ (long ∙ sym (add-one (length c.in-Ok.room.layout.lows.items)));
     }
+
+pub loop-done-init : goal.loop-done-init
+loop-done-init g c = search rules

@@ -1,4 +1,4 @@
-use Rattle.std.proofs.Common.{sym, ap, ◌∙◌, arith, subst, Some, ◌∷◌}
+use Rattle.std.proofs.Common.{sym, ap, ◌∙◌, arith, subst, Some, ◌∷◌, rules}
 use Rattle.atomic_table.specs.Table.{rest}
 use Rattle.header_words.specs.Bindings.{Covers}
 use Rattle.header_words.proofs.Passes.{same_table}
@@ -28,3 +28,6 @@ returns g c =
       has_taken c.pass.inside.seat c.compare_exchange-found.new.seat c.exchange.new.seat c.args.pass.now c.pass.view_is c.compare_exchange-found.ensures.0 e.0 view t.0,
       subst (λ v. Covers (g.B.Kept.bound t.1) v.seen) (sym view) t.3,
     )
+
+pub invariant_of-pass-2 : goal.invariant_of-pass-2
+invariant_of-pass-2 g c = search rules
