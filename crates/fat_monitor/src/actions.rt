@@ -225,20 +225,21 @@ impl fmt::Display for Reply {
     ghost output = { λ x. Some (reply_name x) };
 
     fn fmt<W: fmt::Write>(&self, f: &mut fmt::Formatter<W>) -> fmt::Result {
-        match self {
-            Reply::Entered => f.write_str("Entered"),
-            Reply::Exited => f.write_str("Exited"),
-            Reply::WaitOver => f.write_str("WaitOver"),
-            Reply::Interrupted => f.write_str("Interrupted"),
-            Reply::Notified => f.write_str("Notified"),
-            Reply::Yes => f.write_str("Yes"),
-            Reply::No => f.write_str("No"),
-            Reply::Done => f.write_str("Done"),
-            Reply::Ended => f.write_str("Ended"),
-            Reply::IllegalMonitorState => f.write_str("IllegalMonitorState"),
-            Reply::IllegalArgument => f.write_str("IllegalArgument"),
-            Reply::Refused(cause) => write!(f, "Refused {cause}"),
-        }
+        let name = match self {
+            Reply::Entered => "Entered",
+            Reply::Exited => "Exited",
+            Reply::WaitOver => "WaitOver",
+            Reply::Interrupted => "Interrupted",
+            Reply::Notified => "Notified",
+            Reply::Yes => "Yes",
+            Reply::No => "No",
+            Reply::Done => "Done",
+            Reply::Ended => "Ended",
+            Reply::IllegalMonitorState => "IllegalMonitorState",
+            Reply::IllegalArgument => "IllegalArgument",
+            Reply::Refused(cause) => return write!(f, "Refused {cause}"),
+        };
+        f.write_str(name)
     }
 }
 

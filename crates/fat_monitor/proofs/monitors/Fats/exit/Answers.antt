@@ -1,4 +1,4 @@
-use Rattle.std.proofs.Common.{◌-◌, ◌∙◌, Some, Ok, subst, sym, ap}
+use Rattle.std.proofs.Common.{◌-◌, ◌∙◌, Some, Ok, subst, sym, ap, rules}
 use Rattle.std.proofs.lemmas.Bool.{lt-ltb}
 use Rattle.fat_monitor.specs.declared.actions.Action.TheVariants.{Exit}
 use Rattle.fat_monitor.specs.FatState.{FatState, IsSound}
@@ -30,3 +30,6 @@ invariant_of-self c =
           (ap (λ (b : Monitor). b.owner) c.give.ensures ∙ sym (owner_is _ c.args.thread (rw (← c.self.view_is) at (sym c.if-not-is_owner.ensures))));
       reserved = c.self.invariant.reserved;
     }
+
+pub returns : goal.returns
+returns c = search rules
