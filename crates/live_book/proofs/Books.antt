@@ -1,22 +1,25 @@
 -- What always holds of a book, at the start and after each of its methods.
-use Rattle.std.specs.Prelude.{◌≡◌, ℕ, zero, suc, ◌+◌, ◌-◌, ◌<◌, ◌≤◌, [], ◌∷◌, length, Some, Ok}
+use Rattle.std.specs.Prelude.{◌≡◌, ℕ, zero, suc, ◌+◌, ◌-◌, ◌<◌, ◌≤◌, [], ◌∷◌, length, Some, Result, Ok, Err, true, false, nat_lt}
 use Rattle.std.proofs.Common.{refl, sym, ap, ◌∙◌, arith, subst, length-append}
 use Rattle.std.proofs.Math.Nat.{le-max_right}
+use Rattle.std.proofs.lemmas.Bool.{lt-ltb, le-ltb}
 use Rattle.lock_word.specs.declared.ThreadId.{ThreadId}
 use Rattle.lock_word.specs.declared.ObjectId.{ObjectId}
 use Rattle.fat_monitor.specs.declared.actions.Action.{Action}
 use Rattle.fat_monitor.specs.declared.actions.Action.TheVariants as action
 use Rattle.fat_monitor.specs.declared.actions.Done.{Done}
+use Rattle.fat_monitor.specs.declared.actions.ActFault.{ActFault}
 use Rattle.fat_monitor.specs.declared.actions.Post.TheVariants.{Out}
 use Rattle.fat_monitor.specs.FatState.{FatState, IsSound, opened, with_moment, bound_with, wait_count}
 use Rattle.fat_monitor.specs.Acting.{outcome_of, MayAct, NamesBound}
 use Rattle.fat_monitor.proofs.Counts.{sum-insert, sum-empty}
 use Rattle.fat_monitor.proofs.Effects.{attached-outcome_of}
 use Rattle.fat_monitor.proofs.MonitorEffects.{length-outcome_of, limit-outcome_of, spare-outcome_of}
+use Rattle.live_book.specs.declared.faults.BookFault.TheVariants as fault
 use Rattle.live_book.specs.declared.deeds.Deed.TheVariants.{Bound, Acted, Ticked}
 use Rattle.live_book.specs.Log.{IsForBook, IsThreadOf, Replays, with_threads, nothing_bound}
 use Rattle.live_book.specs.Places.{kept_by, kept_by_threads, kept_of, need, gained, freed}
-use Rattle.live_book.specs.Book.{BookState, IsBook, opening_book, free_of, with_deed, after_bind, after_act, after_tick}
+use Rattle.live_book.specs.Book.{BookState, IsBook, opening_book, free_of, with_deed, after_bind, after_act, after_tick, act_answer, told}
 use Rattle.live_book.proofs.Weights.{kept-bound_with}
 use Rattle.live_book.proofs.Keeping.{KeepsWith, keeps_with}
 use Rattle.live_book.proofs.Refusals.{done_after, done_answer}
@@ -120,3 +123,17 @@ acts_on b now t a d g kept free needs more less waited waiting same is kept_as o
           subst (λ (x : FatState). IsBook (with_deed b t (Acted a d.answer) x)) (sym after)
           (IsBook-act b t a d is of_b for may_b bound_b told (omega arith) (subst (λ (x : FatState). IsSound x) after sound));
     }
+
+-- ---- what an action answers
+
+-- where the record has fewer free places than the action needs
+pub act_answer-full : (b : BookState) (t : ThreadId) (a : Action) (free needs : ℕ) → free ≡ free_of b → needs ≡ need b.fats t a → free < needs → Err fault.RecordFull ≡ act_answer b t a
+act_answer-full b t a free needs free_as needs_as few =
+    let full : nat_lt (free_of b) (need b.fats t a) ≡ true = lt-ltb (free_of b) (need b.fats t a) (omega arith) in rw full refl
+
+-- and where it has as many
+pub act_answer-told : (f : FatState) (b : BookState) (t : ThreadId) (a : Action) (g : FatState) (r : Result Done ActFault) (free needs : ℕ) → f ≡ b.fats → free ≡ free_of b → needs ≡ need b.fats t a → needs ≤ free
+    → record { answer = r; after = g } ≡ outcome_of f t a → told r ≡ act_answer b t a
+act_answer-told f b t a g r free needs same free_as needs_as enough table =
+    let room : nat_lt (free_of b) (need b.fats t a) ≡ false = le-ltb (free_of b) (need b.fats t a) (omega arith) in
+    rw room (ap told (sym (done_answer f g t a r table) ∙ ap (λ (k : FatState). (outcome_of k t a).answer) same))

@@ -1,0 +1,5 @@
+use Rattle.std.proofs.Common.{rules}
+use Rattle.live_book.proofs.book.Book.passes.Goals as goal
+
+pub returns : goal.returns
+returns c = search rules
