@@ -1,0 +1,14 @@
+use Rattle.std.proofs.Common.{rules}
+use Rattle.step_core.proofs.worlds.relayout.RelayoutFault.number.Goals as goal
+
+pub returns : goal.returns
+returns c = search rules
+
+pub returns-2 : goal.returns-2
+returns-2 c = search rules
+
+pub returns-3 : goal.returns-3
+returns-3 c = search rules
+
+pub returns-4 : goal.returns-4
+returns-4 c = search rules
