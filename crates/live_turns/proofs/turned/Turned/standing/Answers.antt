@@ -1,0 +1,8 @@
+use Rattle.std.proofs.Common.{rules}
+use Rattle.live_turns.proofs.turned.Turned.standing.Goals as goal
+
+pub returns-in_default-2 : goal.returns-in_default-2
+returns-in_default-2 c = search rules
+
+pub returns-in_default-2-2 : goal.returns-in_default-2-2
+returns-in_default-2-2 c = search rules
