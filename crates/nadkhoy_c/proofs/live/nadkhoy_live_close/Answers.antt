@@ -1,0 +1,11 @@
+use Rattle.std.proofs.Common.{rules}
+use Rattle.nadkhoy_c.proofs.live.nadkhoy_live_close.Goals as goal
+
+pub returns-in_default : goal.returns-in_default
+returns-in_default c = search rules
+
+pub returns-then-is_full : goal.returns-then-is_full
+returns-then-is_full c = search rules
+
+pub returns : goal.returns
+returns c = search rules
