@@ -1,11 +1,12 @@
 -- The longest beginning that keeps the rules, line by line; and a script is one with nothing left.
-use Rattle.std.proofs.Common.{◌≡◌, ℕ, ◌+◌, ◌<◌, List, [], ◌∷◌, ◌++◌, length, true, false, ◌==◌, None, Some, Ok, Err, refl, sym, ap, ◌∙◌, arith, inl, inr, append_assoc}
+use Rattle.std.proofs.Common.{◌≡◌, ℕ, ◌+◌, ◌<◌, List, [], ◌∷◌, ◌++◌, length, true, false, ◌==◌, None, Some, option_map, subst, Ok, Err, refl, sym, ap, ◌∙◌, arith, inl, inr, append_assoc}
 use Rattle.std.specs.List.{join_with_byte}
 use Rattle.std.proofs.lemmas.Bool.{both_ways, lt-ltb, eqb-true, eq-eqb}
 use Rattle.std.proofs.lemmas.List.Splits.{join_with_byte-slice_split}
 use Rattle.history_text.specs.declared.lines.Line.{Line}
 use Rattle.history_text.specs.Lines.{next_from, lines_from, may_follow, parts_of, line_text, script_text, Fits, Continues, IsBeginning}
 use Rattle.history_text.proofs.BadLaws.{walk, bad_again}
+use Rattle.history_text.proofs.Choices.{mapped}
 use Rattle.history_text.proofs.ScriptLaws.{parts_cons, last_part, next_takes, next_again, first_part, one_part, next_follows, Continues-append, script_text-append}
 
 -- no line that may follow begins what is left
@@ -29,11 +30,11 @@ cut_text part after rest cut = let p = parts_cons after in
     sym (join_with_byte-slice_split 10 rest) ∙ ap (join_with_byte 10) (cut ∙ ap (λ (ps : List (List ℕ)). part ∷ ps) p.2)
     ∙ ap (λ (xs : List ℕ). part ++ (10 ∷ xs)) (ap (join_with_byte 10) (sym p.2) ∙ join_with_byte-slice_split 10 after)
 
-pub right_more : (ls : List Line) (part : List ℕ) (l : Line) → Some l ≡ next_from ls part → Continues [] ls → Continues [] (ls ++ l ∷ [])
+right_more : (ls : List Line) (part : List ℕ) (l : Line) → Some l ≡ next_from ls part → Continues [] ls → Continues [] (ls ++ l ∷ [])
 right_more ls part l next right = let p = next_takes ls part l (sym next) in
     Continues-append ls (l ∷ []) [] right (p.0, p.1, tt)
 
-pub text_more : (bytes rest part after : List ℕ) (ls : List Line) (l : Line) → bytes ≡ script_text ls ++ rest → Some l ≡ next_from ls part → parts_of rest ≡ part ∷ parts_of after
+text_more : (bytes rest part after : List ℕ) (ls : List Line) (l : Line) → bytes ≡ script_text ls ++ rest → Some l ≡ next_from ls part → parts_of rest ≡ part ∷ parts_of after
     → bytes ≡ script_text (ls ++ l ∷ []) ++ after
 text_more bytes rest part after ls l text next cut =
     let p = next_takes ls part l (sym next) in
@@ -42,10 +43,19 @@ text_more bytes rest part after ls l text next cut =
     onward : rest ≡ part ++ (10 ∷ after) → part ≡ line_text l → script_text ls ++ rest ≡ script_text (ls ++ l ∷ []) ++ after
     onward e same = rw (e, same, script_text-append ls (l ∷ [])) (simp append_assoc)
 
+pub right_taken : (ls new : List Line) (part : List ℕ) → option_map (λ l. ls ++ l ∷ []) (next_from ls part) ≡ Some new → Continues [] ls → Continues [] new
+right_taken ls new part e right = let m = mapped (λ (l : Line). ls ++ l ∷ []) (next_from ls part) new e in
+    subst (Continues []) m.2 (right_more ls part m.0 (sym m.1) right)
+
+pub text_taken : (bytes rest part after : List ℕ) (ls new : List Line) → bytes ≡ script_text ls ++ rest → option_map (λ l. ls ++ l ∷ []) (next_from ls part) ≡ Some new → parts_of rest ≡ part ∷ parts_of after
+    → bytes ≡ script_text new ++ after
+text_taken bytes rest part after ls new text e cut = let m = mapped (λ (l : Line). ls ++ l ∷ []) (next_from ls part) new e in
+    subst (λ (ls : List Line). bytes ≡ script_text ls ++ after) m.2 (text_more bytes rest part after ls m.0 text (sym m.1) cut)
+
 pub beginning : (bytes rest : List ℕ) (ls : List Line) → Continues [] ls → bytes ≡ script_text ls ++ rest → IsStuck ls rest → IsBeginning bytes ls rest
 beginning bytes rest ls right text stuck = record { right = right; parts = text; stuck = stuck }
 
-pub ruleset beginning_steps = (stuck_next, stuck_end, right_more, text_more, beginning, next_follows)
+pub ruleset beginning_steps = (stuck_next, stuck_end, beginning, next_follows)
 
 pub beginning_whole : (bytes rest : List ℕ) (ls : List Line) (n : ℕ) → IsBeginning bytes ls rest → n ≡ length ls → (n == 0) ≡ false → (length rest == 0) ≡ true → lines_from [] (parts_of bytes) ≡ Ok ls
 beginning_whole bytes rest ls n b same some none =

@@ -21,7 +21,7 @@ use Rattle.history_text.specs.declared.lines.Call.{Call}
 use Rattle.history_text.specs.declared.lines.Call.TheVariants.{Enter, Exit, Wait, Notify, NotifyAll, Holds, Interrupt, Interrupted, IsInterrupted, End}
 use Rattle.lock_word.specs.Names.{hex_digit}
 use Rattle.history_text.specs.Words.{IsBelow, is_name, name_from, number_from, signed_from, nanos_from, hex_from, low_text, low_from}
-use Rattle.history_text.specs.Lines.{line_at, line_from, split_name, split_from, step_of_two, line_of_three, line_of_four, world_from, world_of, split_words, wait_from, call_alone, call_naming, call_timed, call_with, begin_from, words_of, line_words, step_words, call_words, line_text, Fits, StepFits, CallFits}
+use Rattle.history_text.specs.Lines.{line_at, line_from, split_name, split_from, step_of_thread, step_of_two, line_of_three, line_of_four, world_from, world_of, split_words, wait_from, call_alone, call_naming, call_timed, call_with, begin_from, words_of, line_words, step_words, call_words, line_text, Fits, StepFits, CallFits}
 use Rattle.history_text.proofs.Choices.{by_cond, bound, mapped, none_some, some_same, same_word}
 use Rattle.history_text.proofs.Numerals.{number_takes, number_again}
 use Rattle.history_text.proofs.Signed.{signed_takes, signed_again, signed_plain, nanos_takes, nanos_again, nanos_plain}
@@ -58,16 +58,24 @@ low_takes (a ∷ b ∷ []) n e =
     low_said a b high.0 low.0 n p.0 q.0 low.2 p.1 q.1
 low_takes (a ∷ b ∷ c ∷ more) n e = absurd (cc)
 
+-- the word is a verb, which stands alone or before a name
+verb_is : (v verb : List ℕ) → bytes_eq v verb ≡ true → (v ∷ []) ≡ verb ∷ []
+verb_is v verb is = ap (λ (w : List ℕ). w ∷ []) (same_word v verb is)
+
+verb_before : (v verb name : List ℕ) → bytes_eq v verb ≡ true → (v ∷ name ∷ []) ≡ verb ∷ name ∷ []
+verb_before v verb name is = ap (λ (w : List ℕ). w ∷ name ∷ []) (same_word v verb is)
+
 -- a step of one thread
-thread_takes : (make : List ℕ → StepLine) (v verb word : List ℕ) (s : StepLine) → v ≡ verb → ((thread : List ℕ) → step_words (make thread) ≡ verb ∷ thread ∷ [])
-    → ((thread : List ℕ) → is_name thread ≡ true → StepFits (make thread)) → option_map make (name_from word) ≡ Some s → StepFits s × ((v ∷ word ∷ []) ≡ step_words s)
-thread_takes make v verb word s same spelled right e =
-    let made = mapped make (name_from word) s e in
-    let name = name_takes word made.0 made.1 in
-    subst (λ (s : StepLine). StepFits s × ((v ∷ word ∷ []) ≡ step_words s)) made.2 (right made.0 name.0, words_are v verb word made.0 same name.1 ∙ sym (spelled made.0))
-  where
-    words_are : (v verb o n : List ℕ) → v ≡ verb → o ≡ n → (v ∷ o ∷ []) ≡ verb ∷ n ∷ []
-    words_are v verb o n p q = rw (p, q) refl
+step_said : (ws : List (List ℕ)) (made s : StepLine) → StepFits made → ws ≡ step_words made → Some made ≡ Some s → StepFits s × (ws ≡ step_words s)
+step_said ws made s fits spelled e = subst (λ (s : StepLine). StepFits s × (ws ≡ step_words s)) (some_same made s e) (fits, spelled)
+
+thread_takes : (v n : List ℕ) (s : StepLine) → is_name n ≡ true → step_of_thread v n ≡ Some s → StepFits s × ((v ∷ n ∷ []) ≡ step_words s)
+thread_takes v n s right e =
+    by_cond (bytes_eq v (codes "attach")) _ _ _ _ e (λ is m. step_said (v ∷ n ∷ []) (Attach n) s right (verb_before v _ n is) m)
+    (λ _ e. by_cond (bytes_eq v (codes "go")) _ _ _ _ e (λ is m. step_said (v ∷ n ∷ []) (Go n) s right (verb_before v _ n is) m)
+    (λ _ e. by_cond (bytes_eq v (codes "expire")) _ _ _ _ e (λ is m. step_said (v ∷ n ∷ []) (Expire n) s right (verb_before v _ n is) m)
+    (λ _ e. by_cond (bytes_eq v (codes "spurious")) _ _ _ _ e (λ is m. step_said (v ∷ n ∷ []) (Spurious n) s right (verb_before v _ n is) m)
+    (λ _ none. none_some s _ none))))
 
 tick_said : (v word : List ℕ) (n : ℕ) → v ≡ codes "tick" → word ≡ decimal n → n < 2 ^ 64 → StepFits (Tick n) × ((v ∷ word ∷ []) ≡ step_words (Tick n))
 tick_said v word n verb spelled small = (small, rw (verb, spelled) refl)
@@ -99,12 +107,12 @@ relayout_takes v word s verb e =
 
 two_takes : (v word : List ℕ) (s : StepLine) → step_of_two v word ≡ Some s → StepFits s × ((v ∷ word ∷ []) ≡ step_words s)
 two_takes v word s e =
-    by_cond (bytes_eq v (codes "attach")) _ _ _ _ e (λ is m. thread_takes Attach v (codes "attach") word s (same_word v _ is) (λ _. refl) (λ n h. h) m)
-    (λ _ e. by_cond (bytes_eq v (codes "go")) _ _ _ _ e (λ is m. thread_takes Go v (codes "go") word s (same_word v _ is) (λ _. refl) (λ n h. h) m)
-    (λ _ e. by_cond (bytes_eq v (codes "expire")) _ _ _ _ e (λ is m. thread_takes Expire v (codes "expire") word s (same_word v _ is) (λ _. refl) (λ n h. h) m)
-    (λ _ e. by_cond (bytes_eq v (codes "spurious")) _ _ _ _ e (λ is m. thread_takes Spurious v (codes "spurious") word s (same_word v _ is) (λ _. refl) (λ n h. h) m)
-    (λ _ e. by_cond (bytes_eq v (codes "tick")) _ _ _ _ e (λ is m. tick_takes v word s (same_word v _ is) m)
-    (λ _ e. by_cond (bytes_eq v (codes "relayout")) _ _ _ _ e (λ is m. relayout_takes v word s (same_word v _ is) m) (λ _ none. none_some s _ none))))))
+    by_cond (bytes_eq v (codes "tick")) _ _ _ _ e (λ is m. tick_takes v word s (same_word v _ is) m)
+    (λ _ e. by_cond (bytes_eq v (codes "relayout")) _ _ _ _ e (λ is m. relayout_takes v word s (same_word v _ is) m)
+    (λ _ e. let name = bound (step_of_thread v) (name_from word) s e in
+    let p = name_takes word name.0 name.1 in
+    let q = thread_takes v name.0 s p.0 name.2 in
+    (q.0, ap (λ (w : List ℕ). v ∷ w ∷ []) p.1 ∙ q.1)))
 
 -- a line that is a step
 step_line_takes : (ws : List (List ℕ)) (o : Option StepLine) (l : Line) → ((s : StepLine) → o ≡ Some s → StepFits s × (ws ≡ step_words s)) → option_map Step o ≡ Some l → Fits l × (ws ≡ line_words l)
@@ -143,13 +151,6 @@ object_takes v a b l verb e =
 
 call_said : (ws : List (List ℕ)) (made call : Call) → CallFits made → ws ≡ call_words made → Some made ≡ Some call → CallFits call × (ws ≡ call_words call)
 call_said ws made call fits spelled e = subst (λ (c : Call). CallFits c × (ws ≡ call_words c)) (some_same made call e) (fits, spelled)
-
--- the word is a verb, which stands alone or before a name
-verb_is : (v verb : List ℕ) → bytes_eq v verb ≡ true → (v ∷ []) ≡ verb ∷ []
-verb_is v verb is = ap (λ (w : List ℕ). w ∷ []) (same_word v verb is)
-
-verb_before : (v verb name : List ℕ) → bytes_eq v verb ≡ true → (v ∷ name ∷ []) ≡ verb ∷ name ∷ []
-verb_before v verb name is = ap (λ (w : List ℕ). w ∷ name ∷ []) (same_word v verb is)
 
 alone_takes : (v : List ℕ) (call : Call) → call_alone v ≡ Some call → CallFits call × ((v ∷ []) ≡ call_words call)
 alone_takes v call e =

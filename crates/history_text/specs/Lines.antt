@@ -191,14 +191,18 @@ abbrev pub split_from : List ℕ → Option Split
 split_from word =
     if bytes_eq word (codes "wide") then Some Wide else (if bytes_eq word (codes "deep") then Some Deep else None)
 
+abbrev pub step_of_thread : List ℕ → List ℕ → Option StepLine
+step_of_thread verb thread =
+    if bytes_eq verb (codes "attach") then Some (Attach thread)
+    else (if bytes_eq verb (codes "go") then Some (Go thread)
+    else (if bytes_eq verb (codes "expire") then Some (Expire thread)
+    else (if bytes_eq verb (codes "spurious") then Some (Spurious thread) else None)))
+
 abbrev pub step_of_two : List ℕ → List ℕ → Option StepLine
 step_of_two verb word =
-    if bytes_eq verb (codes "attach") then option_map Attach (name_from word)
-    else (if bytes_eq verb (codes "go") then option_map Go (name_from word)
-    else (if bytes_eq verb (codes "expire") then option_map Expire (name_from word)
-    else (if bytes_eq verb (codes "spurious") then option_map Spurious (name_from word)
-    else (if bytes_eq verb (codes "tick") then option_map Tick (number_from word)
-    else (if bytes_eq verb (codes "relayout") then option_map Relayout (split_from word) else None)))))
+    if bytes_eq verb (codes "tick") then option_map Tick (number_from word)
+    else (if bytes_eq verb (codes "relayout") then option_map Relayout (split_from word)
+    else option_and_then (step_of_thread verb) (name_from word))
 
 abbrev pub world_from : Split → ℕ → ℕ → Option Line
 world_from split m k =

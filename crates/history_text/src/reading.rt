@@ -9,7 +9,8 @@ ghost use Rattle.history_text.specs.Words.{is_numeral, signed_from, nanos_from, 
 ghost use Rattle.history_text.specs.Words.{name_from, hex_from, low_from};
 ghost use Rattle.history_text.specs.Lines.{begin_from, call_alone, call_naming, call_with};
 ghost use Rattle.history_text.specs.Lines.{call_timed, wait_from, world_of, split_from};
-ghost use Rattle.history_text.specs.Lines.{step_of_two, line_of_three, line_of_four, line_from};
+ghost use Rattle.history_text.specs.Lines.{step_of_thread, step_of_two, line_of_three};
+ghost use Rattle.history_text.specs.Lines.{line_of_four, line_from};
 ghost use Rattle.history_text.specs.Lines.{words_of, line_at};
 
 use crate::lines::{Call, Line, StepLine};
@@ -199,12 +200,20 @@ fn step_of_two<'a>(verb: &str, word: &'a str) -> Option<StepLine<'a>>
     ensures { result ≡ step_of_two verb.now word.now }
 {
     match verb {
-        "attach" => Name::from_text(word).map(StepLine::Attach),
-        "go" => Name::from_text(word).map(StepLine::Go),
-        "expire" => Name::from_text(word).map(StepLine::Expire),
-        "spurious" => Name::from_text(word).map(StepLine::Spurious),
         "tick" => Some(StepLine::Tick(number_of(word)?)),
         "relayout" => Some(StepLine::Relayout(split_of(word)?)),
+        _ => step_of_thread(verb, Name::from_text(word)?),
+    }
+}
+
+fn step_of_thread<'a>(verb: &str, thread: Name<'a>) -> Option<StepLine<'a>>
+    ensures { result ≡ step_of_thread verb.now thread.entry }
+{
+    match verb {
+        "attach" => Some(StepLine::Attach(thread)),
+        "go" => Some(StepLine::Go(thread)),
+        "expire" => Some(StepLine::Expire(thread)),
+        "spurious" => Some(StepLine::Spurious(thread)),
         _ => None,
     }
 }
@@ -257,10 +266,10 @@ fn line_of_words<'a>(words: &[&'a str]) -> Option<Line<'a>>
     ensures { result ≡ line_from (map (λ word. word.now) words.now) }
 {
     match words {
-        [verb, word] => step_of_two(verb, word).map(Line::Step),
-        [verb, first, second] => line_of_three(verb, first, second),
-        [verb, first, second, third] => line_of_four(verb, first, second, third),
-        [verb, thread, call, name, millis, nanos] => {
+        &[verb, word] => Some(Line::Step(step_of_two(verb, word)?)),
+        &[verb, first, second] => line_of_three(verb, first, second),
+        &[verb, first, second, third] => line_of_four(verb, first, second, third),
+        &[verb, thread, call, name, millis, nanos] => {
             begin_of(verb, thread, call_timed(call, name, millis, nanos))
         }
         [] => None,

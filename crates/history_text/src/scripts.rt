@@ -2,7 +2,7 @@
 
 ghost use Rattle.std.specs.Prelude.{◌≡◌, ◌<◌, ◌≤◌, ◌++◌, ◌∷◌, ◌==◌, ◌&&◌, ◌||◌, [], ℕ, List, true};
 ghost use Rattle.std.specs.Prelude.{length, map, position, string_bytes, IfErr, IfOk, IfSome};
-ghost use Rattle.std.specs.Prelude.{MatchOption, OnOk, Err, Ok};
+ghost use Rattle.std.specs.Prelude.{MatchOption, OnOk, Err, None, Ok, Some, option_map};
 ghost use Rattle.std.specs.List.{list_any};
 ghost use Rattle.std.specs.Str.{bytes_eq};
 ghost use Rattle.history_text.specs.declared.lines.Line.{Line as LineData};
@@ -124,22 +124,25 @@ fn still_declaring(lines: &[Line<'_>], declaring: bool, line: &Line<'_>) -> bool
     declaring && (lines.is_empty() || is_object_line(line))
 }
 
-/// Notes a line that follows others, and tells whether objects may follow.
+/// Takes a line that follows the others, and tells whether objects may follow it.
 #[tactic(auto, using(crate::proofs::NotedLaws::noted_more))]
-fn note(
+fn take_line<'a>(
     alloc: Global,
-    lines: &[Line<'_>],
+    lines: &mut Vec<Line<'a>>,
     declaring: bool,
     objects: &mut IndexSet<String>,
-    line: &Line<'_>,
+    line: Line<'a>,
 ) -> Result<bool, AllocError>
-    requires noted { IsNoted lines.now declaring (map string_bytes objects.old.keys) }
-    requires follows { may_follow lines.now line.now ≡ true }
-    ensures { IfOk result (λ d.
-        IsNoted (lines.now ++ line.now ∷ []) d (map string_bytes objects.new.keys)) }
+    requires noted { IsNoted lines.old.items declaring (map string_bytes objects.old.keys) }
+    requires follows { may_follow lines.old.items line ≡ true }
+    ensures items { OnOk result (lines.new.items ≡ lines.old.items ++ line.entry ∷ []) }
+    ensures noted { IfOk result (λ d.
+        IsNoted (lines.old.items ++ line.entry ∷ []) d (map string_bytes objects.new.keys)) }
 {
-    note_object(alloc, objects, line)?;
-    Ok(still_declaring(lines, declaring, line))
+    note_object(alloc, objects, &line)?;
+    let declaring = still_declaring(lines, declaring, &line);
+    lines.push(line)?;
+    Ok(declaring)
 }
 
 fn line_end(bytes: &[u8]) -> Option<usize>
@@ -164,9 +167,56 @@ fn cut_line(bytes: &[u8]) -> Option<(&[u8], &[u8])>
     }
 }
 
+/// Takes the line that a part of the bytes is, where it may follow the others, and tells whether
+/// objects may follow it; None where no such line is there.
+#[tactic(auto, using(crate::proofs::ScriptLaws::next_follows))]
+fn take_next<'a>(
+    alloc: Global,
+    lines: &mut Vec<Line<'a>>,
+    declaring: bool,
+    objects: &mut IndexSet<String>,
+    part: &'a [u8],
+) -> Result<Option<bool>, AllocError>
+    requires { IsNoted lines.old.items declaring (map string_bytes objects.old.keys) }
+    ensures { IfOk result (λ taken. MatchOption taken
+        ((lines.new.items ≡ lines.old.items) × (next_from lines.old.items part.now ≡ None))
+        (λ d. (option_map (λ line. lines.old.items ++ line ∷ [])
+        (next_from lines.old.items part.now) ≡ Some lines.new.items)
+        × IsNoted lines.new.items d (map string_bytes objects.new.keys))) }
+{
+    let Some(line) = next_of(alloc, lines, declaring, objects, part)? else {
+        return Ok(None);
+    };
+    Ok(Some(take_line(alloc, lines, declaring, objects, line)?))
+}
+
+/// Takes the lines of the longest beginning of some bytes that keeps the rules, and answers the
+/// bytes that are left.
+#[tactic(auto, using(crate::proofs::Beginnings::beginning_steps))]
+fn take_lines<'a>(
+    alloc: Global,
+    lines: &mut Vec<Line<'a>>,
+    objects: &mut IndexSet<String>,
+    bytes: &'a [u8],
+) -> Result<&'a [u8], AllocError>
+    requires empty { lines.old.items ≡ [] }
+    requires noted { IsNoted lines.old.items true (map string_bytes objects.old.keys) }
+    ensures { IfOk result (λ rest. IsBeginning bytes.now lines.new.items rest.now) }
+{
+    let mut declaring = true;
+    let mut rest = bytes;
+    'lines: while let Some((part, after)) = cut_line(rest) {
+        let Some(still) = take_next(alloc, lines, declaring, objects, part)? else {
+            return Ok(rest);
+        };
+        declaring = still;
+        rest = after;
+    }
+    Ok(rest)
+}
+
 /// The lines of the longest beginning of some bytes that keeps the rules, and the bytes that are
 /// left.
-#[tactic(auto, using(crate::proofs::Beginnings::beginning_steps))]
 pub fn read_beginning<'a>(
     alloc: Global,
     bytes: &'a [u8],
@@ -175,16 +225,7 @@ pub fn read_beginning<'a>(
 {
     let mut lines = Vec::new(alloc);
     let mut objects = IndexSet::new(alloc);
-    let mut declaring = true;
-    let mut rest = bytes;
-    'lines: while let Some((part, after)) = cut_line(rest) {
-        let Some(line) = next_of(alloc, &lines, declaring, &objects, part)? else {
-            return Ok((lines, rest));
-        };
-        declaring = note(alloc, &lines, declaring, &mut objects, &line)?;
-        lines.push(line)?;
-        rest = after;
-    }
+    let rest = take_lines(alloc, &mut lines, &mut objects, bytes)?;
     Ok((lines, rest))
 }
 

@@ -1,7 +1,7 @@
 use Rattle.std.proofs.Common.{◌≡◌, ◌++◌, length, [], map, string_bytes}
 use Rattle.history_text.specs.Lines.{Continues, script_text}
 use Rattle.history_text.specs.Noted.{IsNoted}
-use Rattle.history_text.proofs.scripts.read_beginning.Given as goal
+use Rattle.history_text.proofs.scripts.take_lines.Given as goal
 
 abbrev pub invariant-lines : goal.invariant-lines
 invariant-lines l = record { noted : IsNoted l.lines.items l.declaring (map string_bytes l.objects.keys); right : Continues [] l.lines.items; text : l.fn.bytes ≡ script_text l.lines.items ++ l.rest }
