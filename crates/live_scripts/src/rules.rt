@@ -1,6 +1,6 @@
 //! Which lines of a script may run.
 
-ghost use Rattle.std.specs.Prelude.{◌≡◌, ◌==◌, ◌++◌, IfOk, OnOk, if◌then◌else◌, map};
+ghost use Rattle.std.specs.Prelude.{◌≡◌, ◌==◌, ◌++◌, [], IfOk, OnOk, if◌then◌else◌, map};
 ghost use Rattle.history_text.specs.Names.{is_named};
 ghost use Rattle.live_scripts.specs.Rules.{attached_in, indices_of, is_live_call};
 ghost use Rattle.live_scripts.specs.Rules.{is_wide, may_do, may_run_with};
@@ -8,17 +8,10 @@ ghost use Rattle.live_scripts.specs.Running.{IsRunning};
 
 use history_text::{Call, Line, Name, StepLine};
 use lock_word::Split;
-use std::alloc::{AllocError, Global};
+use std::alloc::AllocError;
 
 /// The most threads of a live script: a service has at most so many passes.
 const MOST_THREADS: usize = 64;
-
-/// The lines at the front that may run, and the names of the threads that they attach.
-#[derive(Drop)]
-pub(crate) struct RunningLines<'a> {
-    pub(crate) count: usize,
-    pub(crate) threads: Vec<&'a str>,
-}
 
 fn is_attached(threads: &[&str], name: &Name<'_>) -> bool
     ensures { result ≡ is_named (map (λ t. t.now) threads.now) name.now }
@@ -91,23 +84,24 @@ pub(crate) fn note<'a>(threads: &mut Vec<&'a str>, line: &Line<'a>) -> Result<()
     }
 }
 
-/// The lines of a script that may run, up to the first that may not.
+/// Counts the lines of a script that may run, up to the first that may not, and notes the threads
+/// that they attach.
 pub(crate) fn running_lines<'a>(
-    alloc: Global,
     lines: &[Line<'a>],
-) -> Result<RunningLines<'a>, AllocError>
-    ensures { IfOk result (λ r. IsRunning lines.now r.count (map (λ t. t.now) r.threads.items)) }
+    threads: &mut Vec<&'a str>,
+) -> Result<usize, AllocError>
+    requires { threads.old.items ≡ [] }
+    ensures { IfOk result (λ n. IsRunning lines.now n (map (λ t. t.now) threads.new.items)) }
 {
-    let mut threads = Vec::new(alloc);
     let mut most = 0;
     let mut count = 0;
     'lines: for line in lines {
-        if !may_run(most, &threads, line) {
-            return Ok(RunningLines { count, threads });
+        if !may_run(most, threads, line) {
+            return Ok(count);
         }
-        note(&mut threads, line)?;
+        note(threads, line)?;
         most = most_after(count, most, line);
         count += 1;
     }
-    Ok(RunningLines { count, threads })
+    Ok(count)
 }

@@ -47,9 +47,10 @@ fn first_bad(alloc: Global, lines: &[Line<'_>], rest: &[u8]) -> Result<Option<u6
         → MatchOption bad (IsLiveScript lines.now × (bytes ≡ script_text lines.now))
         (λ n. IsFirstBadLive bytes n)) }
 {
-    let running = running_lines(alloc, lines)?;
-    if running.count < lines.len() || !rest.is_empty() || running.threads.is_empty() {
-        return Ok(Some(running.count as u64 + 1));
+    let mut threads = Vec::new(alloc);
+    let count = running_lines(lines, &mut threads)?;
+    if count < lines.len() || !rest.is_empty() || threads.is_empty() {
+        return Ok(Some(count as u64 + 1));
     }
     Ok(None)
 }
