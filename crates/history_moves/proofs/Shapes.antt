@@ -15,7 +15,7 @@ use Rattle.fat_monitor.specs.Names.{cause_name}
 use Rattle.history_moves.specs.Moves.{data_of, members_of_move, of_number, of_signed, plain_members, bare_members, object_members, target_members, wait_members, reply_members, refused_members, notify_members, refuse_members, Fits}
 use Rattle.history_moves.specs.Members.{count, AreInOrder, text_at, signed_at, small_signed, millis_at, nanos_at, thread_number, object_at, chosen_at}
 use Rattle.history_moves.specs.Words.{among, plain_moves, object_calls, target_calls, bare_calls, short_replies, plain_from}
-use Rattle.history_moves.specs.Reading.{object_call, target_call, wait_call, is_targeted, call_of, call_from, reply_from, cause_at, refused_from, notify_from, refuse_from, thread_move}
+use Rattle.history_moves.specs.Reading.{object_call, target_call, wait_call, is_targeted, call_of, call_from, reply_from, cause_at, refused_from, notify_from, refuse_from, three_from, thread_move}
 use Rattle.history_moves.proofs.Found.{mapped, bound, by_cond, none_some, same_word, text_is, thread_is, object_is, signed_in, small_is, chosen_is}
 use Rattle.history_moves.proofs.WordRows.{among_has, PlainRow, plain_rows, ObjectRow, object_rows, TargetRow, target_rows, BareRow, bare_rows, ReplyRow, reply_rows, cause_is}
 use Rattle.history_moves.proofs.MemberLaws.{AllFound, same_members}
@@ -133,15 +133,20 @@ refuse_holds ms t m seen e =
     subst (Holds ms) c.2
     (done ms (refuse_members (cause_name c.0) t) (move.Refuse t c.0) refl seen.order ((refl, (refl, tt)), ((refl, tt), (tt, tt))) seen.many (cause_is ms c.0 c.1, (seen.name_is, (seen.thread_is, tt))) seen.small)
 
+three_holds : (ms : Members) (name : List ℕ) (t : ThreadId) (m : Move) → Seen ms 3 name t → three_from (object ms) name t ≡ Some m → Holds ms m
+three_holds ms name t m seen e =
+    by_cond (bytes_eq name (codes "Return")) _ _ _ _ e (λ is s. reply_holds ms t m (with_name ms name (codes "Return") t 3 seen is) s)
+    (λ _ notes. by_cond (bytes_eq name (codes "Notify")) _ _ _ _ notes (λ is s. notify_holds ms t m (with_name ms name (codes "Notify") t 3 seen is) s)
+    (λ _ last. by_cond (bytes_eq name (codes "Refuse")) _ _ _ _ last (λ is s. refuse_holds ms t m (with_name ms name (codes "Refuse") t 3 seen is) s)
+    (λ _ none. none_some m _ none)))
+
 pub thread_holds : (ms : Members) (n : ℕ) (name : List ℕ) (t : ThreadId) (m : Move) → Seen ms n name t → thread_move n (object ms) name t ≡ Some m → Holds ms m
 thread_holds ms n name t m seen e =
     by_cond (n == 2) _ _ _ _ e (λ is s. plain_holds ms name t m (with_count ms name t n 2 seen is) s)
     (λ _ calls. by_cond (bytes_eq name (codes "Call")) _ _ _ _ calls (λ is s. call_holds ms n t m (with_name ms name (codes "Call") t n seen is) s)
-    (λ _ three. by_cond (n == 3 && bytes_eq name (codes "Return")) _ _ _ _ three (λ is s. reply_holds ms t m (at 3 (codes "Return") is) s)
+    (λ _ three. by_cond (n == 3) _ _ _ _ three (λ is s. three_holds ms name t m (with_count ms name t n 3 seen is) s)
     (λ _ four. by_cond (n == 4 && bytes_eq name (codes "Return")) _ _ _ _ four (λ is s. refused_holds ms t m (at 4 (codes "Return") is) s)
-    (λ _ notes. by_cond (n == 3 && bytes_eq name (codes "Notify")) _ _ _ _ notes (λ is s. notify_holds ms t m (at 3 (codes "Notify") is) s)
-    (λ _ last. by_cond (n == 3 && bytes_eq name (codes "Refuse")) _ _ _ _ last (λ is s. refuse_holds ms t m (at 3 (codes "Refuse") is) s)
-    (λ _ none. none_some m _ none))))))
+    (λ _ none. none_some m _ none))))
   where
     at : (k : ℕ) (w : List ℕ) → (n == k && bytes_eq name w) ≡ true → Seen ms k w t
     at k w is = let p = and_parts (n == k) _ is in with_name ms name w t k (with_count ms name t n k seen p.0) p.1

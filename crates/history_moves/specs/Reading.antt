@@ -62,13 +62,16 @@ abbrev pub refuse_from : Data → ThreadId → Option Move
 refuse_from d t = option_map (λ c. move.Refuse t c) (cause_at d)
 
 -- a move of a thread, with so many members and this name
+abbrev pub three_from : Data → List ℕ → ThreadId → Option Move
+three_from d name t = if bytes_eq name (codes "Return") then reply_from d t
+    else (if bytes_eq name (codes "Notify") then notify_from d t
+    else (if bytes_eq name (codes "Refuse") then refuse_from d t else None))
+
 abbrev pub thread_move : ℕ → Data → List ℕ → ThreadId → Option Move
 thread_move n d name t = if n == 2 then plain_from name t
     else (if bytes_eq name (codes "Call") then call_from n d t
-    else (if n == 3 && bytes_eq name (codes "Return") then reply_from d t
-    else (if n == 4 && bytes_eq name (codes "Return") then refused_from d t
-    else (if n == 3 && bytes_eq name (codes "Notify") then notify_from d t
-    else (if n == 3 && bytes_eq name (codes "Refuse") then refuse_from d t else None)))))
+    else (if n == 3 then three_from d name t
+    else (if n == 4 && bytes_eq name (codes "Return") then refused_from d t else None)))
 
 abbrev pub move_named : ℕ → Data → List ℕ → Option Move
 move_named n d name = if n == 2 && bytes_eq name (codes "Time") then option_map (λ now. move.Time now) (now_at d)

@@ -7,8 +7,8 @@ ghost use Rattle.step_core.specs.declared.machine.Move.{Move as MoveData};
 ghost use Rattle.history_moves.specs.Moves.{IsFirstData, IsMoveData};
 ghost use Rattle.history_moves.specs.Members.{IsOrderedData};
 ghost use Rattle.history_moves.specs.Reading.{cause_at, wait_call, is_targeted, call_of, call_from};
-ghost use Rattle.history_moves.specs.Reading.{reply_from, refused_from, thread_move, move_named};
-ghost use Rattle.history_moves.specs.Reading.{move_from, first_from};
+ghost use Rattle.history_moves.specs.Reading.{reply_from, refused_from, three_from, thread_move};
+ghost use Rattle.history_moves.specs.Reading.{move_named, move_from, first_from};
 
 use crate::members::{
     chosen_at, count_in, nanos_at, object_at, signed_at, text_at, thread_number, whole_at,
@@ -98,6 +98,24 @@ fn refused_from(value: &Value, thread: ThreadId) -> Option<Move>
     })
 }
 
+/// The move of a thread with this name and three members.
+fn move_of_three(value: &Value, name: &str, thread: ThreadId) -> Option<Move>
+    ensures { result ≡ three_from (view value.now) name.now thread }
+{
+    match name {
+        "Return" => reply_from(value, thread),
+        "Notify" => {
+            let chosen = chosen_at(value)?;
+            Some(Move::Notify { thread, chosen })
+        }
+        "Refuse" => {
+            let cause = cause_at(value)?;
+            Some(Move::Refuse { thread, cause })
+        }
+        _ => None,
+    }
+}
+
 /// The move of a thread with this name and so many members.
 fn thread_move(count: usize, value: &Value, name: &str, thread: ThreadId) -> Option<Move>
     ensures { result ≡ thread_move count (view value.now) name.now thread }
@@ -108,19 +126,11 @@ fn thread_move(count: usize, value: &Value, name: &str, thread: ThreadId) -> Opt
     if name == "Call" {
         return call_from(count, value, thread);
     }
-    if count == 3 && name == "Return" {
-        return reply_from(value, thread);
+    if count == 3 {
+        return move_of_three(value, name, thread);
     }
     if count == 4 && name == "Return" {
         return refused_from(value, thread);
-    }
-    if count == 3 && name == "Notify" {
-        let chosen = chosen_at(value)?;
-        return Some(Move::Notify { thread, chosen });
-    }
-    if count == 3 && name == "Refuse" {
-        let cause = cause_at(value)?;
-        return Some(Move::Refuse { thread, cause });
     }
     None
 }
