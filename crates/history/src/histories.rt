@@ -12,7 +12,11 @@ ghost use Rattle.step_core.specs.Step.{moves_made, moves_of};
 ghost use Rattle.step_core.specs.declared.steps.Fault.TheVariants.{Memory as OutOfMemory};
 ghost use Rattle.history.specs.Plans.{IsPlanOf};
 ghost use Rattle.history.specs.declared.plans.Plan.{Plan as PlanData};
-ghost use Rattle.history.specs.Histories.{IsHistoryOf, Tells, Told, moves_text, objects_text};
+ghost use Rattle.history.specs.Histories.{IsHistoryOf, Tells, Told, first_world, moves_text};
+ghost use Rattle.history.specs.Histories.{objects_text};
+ghost use Rattle.history_text.specs.Scripts.{IsReasonFor};
+ghost use Rattle.step_core.specs.Machine.{opening};
+ghost use Rattle.step_core.specs.Shown.{shown};
 
 use crate::plans::Plan;
 use crate::running::{plan_in, read_all};
@@ -60,8 +64,7 @@ pub fn moves<S: Source, W: Sink>(
     ensures kinds { (line : ℕ) → (result ≡ Err (BadMove line) ⊎ result ≡ Err (Broken line)) → ⊥ }
 {
     let bytes = read_all(alloc, source)?;
-    let plan = plan_in(alloc, &bytes)?;
-    let history = history_of(alloc, &plan)?;
+    let history = history_in(alloc, &bytes)?;
     write_out(sink, history.as_bytes())
 }
 
@@ -71,8 +74,28 @@ fn history_of(alloc: Global, plan: &Plan) -> Result<String, Memory>
     ensures { IfOk result (λ history. IsHistoryOf plan.now (string_bytes history)) }
 {
     let mut world = World::new(alloc, &plan.lows, plan.monitors, plan.indices, plan.split)?;
+    history_from(alloc, plan, &mut world)
+}
+
+/// Plays a script from its first world on, and writes its history.
+fn history_from(alloc: Global, plan: &Plan, world: &mut World) -> Result<String, Memory>
+    requires first { world.old ≡ first_world plan.now }
+    requires shows { shown world.old ≡ opening (length plan.now.lows.items) }
+    ensures { IfOk result (λ history. IsHistoryOf plan.now (string_bytes history)) }
+{
     let mut history = opening_text(alloc, plan.lows.len() as u16)?;
-    tell_steps(alloc, &mut world, &plan.steps, &mut history)?;
+    tell_steps(alloc, world, &plan.steps, &mut history)?;
+    Ok(history)
+}
+
+/// The history of the script that some bytes are the text of.
+fn history_in(alloc: Global, bytes: &[u8]) -> Result<String, FileFault>
+    ensures history { IfOk result (λ history. (plan : PlanData) × IsPlanOf plan bytes.now
+        × IsHistoryOf plan (string_bytes history)) }
+    ensures fault { IfErr result (IsReasonFor bytes.now) }
+{
+    let plan = plan_in(alloc, bytes)?;
+    let history = history_of(alloc, &plan)?;
     Ok(history)
 }
 

@@ -1,9 +1,14 @@
 //! Reports: what each step of a script answered, and how the objects stand behind the last.
 
 ghost use Rattle.std.specs.Prelude.{◌≡◌, ◌<◌, ◌++◌, ◌∷◌, [], Err, IfOk, OnOk, codes, decimal};
-ghost use Rattle.std.specs.Prelude.{length, map, string_bytes, vec_items};
+ghost use Rattle.std.specs.Prelude.{length, map, string_bytes, unwrap_or, vec_items};
+ghost use Rattle.lock_word.specs.Names.{word_text};
 ghost use Rattle.history_text.specs.Lines.{split_name};
 ghost use Rattle.step_core.specs.Names.{fault_name, fault_number};
+ghost use Rattle.step_core.specs.Names.{relayout_fault_name, relayout_fault_number};
+ghost use Rattle.thread_index.specs.Indices.{index_of};
+ghost use Rattle.history.specs.Histories.{first_world};
+ghost use Rattle.history.specs.NameLists.{name_at};
 ghost use Rattle.step_core.specs.Shown.{shown};
 ghost use Rattle.step_core.specs.declared.steps.Fault.TheVariants.{Memory as OutOfMemory};
 ghost use Rattle.step_core.specs.declared.worlds.relayout.RelayoutFault.TheVariants.{Memory as NoMemory};
@@ -27,9 +32,17 @@ pub fn report_of(alloc: Global, plan: &Plan) -> Result<String, Memory>
     ensures { IfOk result (λ report. IsReportOf plan.now (string_bytes report)) }
 {
     let mut world = World::new(alloc, &plan.lows, plan.monitors, plan.indices, plan.split)?;
+    report_from(alloc, plan, &mut world)
+}
+
+/// Plays a script from its first world on, and writes its report.
+fn report_from(alloc: Global, plan: &Plan, world: &mut World) -> Result<String, Memory>
+    requires { world.old ≡ first_world plan.now }
+    ensures { IfOk result (λ report. IsReportOf plan.now (string_bytes report)) }
+{
     let mut report = String::new(alloc);
-    put_steps(&mut report, &plan.names, &mut world, &plan.steps)?;
-    put_objects(alloc, &mut report, &plan.names, &world)?;
+    put_steps(&mut report, &plan.names, world, &plan.steps)?;
+    put_objects(alloc, &mut report, &plan.names, world)?;
     Ok(report)
 }
 
@@ -113,12 +126,17 @@ fn put_relayout(
     match answer {
         Ok(inflated) => writeln!(report, "relayout {name} inflated {inflated}")?,
         Err(RelayoutFault::Memory) => return Err(Memory),
-        Err(fault) => {
-            let number = fault.number();
-            writeln!(report, "fault {number} {fault}")?
-        }
+        Err(fault) => put_relayout_fault(report, fault)?,
     }
     Ok(())
+}
+
+fn put_relayout_fault(report: &mut String, fault: RelayoutFault) -> Result<(), AllocError>
+    ensures { OnOk result (string_bytes report.new ≡ string_bytes report.old ++ codes "fault "
+        ++ decimal (relayout_fault_number fault) ++ 32 ∷ relayout_fault_name fault ++ 10 ∷ []) }
+{
+    let number = fault.number();
+    writeln!(report, "fault {number} {fault}")
 }
 
 fn split_word(split: Split) -> &'static str
@@ -142,31 +160,49 @@ fn put_step(
         ≡ string_bytes report.old ++ did_text names.now world.now step did) }
 {
     match step {
-        Step::Attach { thread } => {
-            let name = names.name_of_thread(thread);
-            let index = world.index(thread).unwrap_or(0);
-            writeln!(report, "attach {name} index {index}")
-        }
-        Step::Begin { thread, .. } => {
-            let name = names.name_of_thread(thread);
-            writeln!(report, "begin {name}")
-        }
-        Step::Expire { thread } => {
-            let name = names.name_of_thread(thread);
-            writeln!(report, "expire {name}")
-        }
-        Step::Spurious { thread } => {
-            let name = names.name_of_thread(thread);
-            writeln!(report, "spurious {name}")
-        }
+        Step::Attach { thread } => put_attach(report, names, world, thread),
+        Step::Begin { thread, .. } => put_verb(report, "begin", names.name_of_thread(thread)),
+        Step::Expire { thread } => put_verb(report, "expire", names.name_of_thread(thread)),
+        Step::Spurious { thread } => put_verb(report, "spurious", names.name_of_thread(thread)),
         Step::Tick { now } => writeln!(report, "tick {now}"),
-        Step::Go { thread } => {
-            let name = names.name_of_thread(thread);
-            write!(report, "go {name} ")?;
-            put_atomic(report, names, did.atomic)?;
-            put_ending(report, did)
-        }
+        Step::Go { thread } => put_go(report, names, thread, did),
     }
+}
+
+/// Writes the line of a step of which no more is told than its thread.
+fn put_verb(report: &mut String, verb: &str, name: &str) -> Result<(), AllocError>
+    ensures { OnOk result (string_bytes report.new
+        ≡ string_bytes report.old ++ verb.now ++ 32 ∷ name.now ++ 10 ∷ []) }
+{
+    writeln!(report, "{verb} {name}")
+}
+
+/// Writes the line of a thread that was attached.
+fn put_attach(
+    report: &mut String,
+    names: &Names,
+    world: &World,
+    thread: ThreadId,
+) -> Result<(), AllocError>
+    ensures { OnOk result (string_bytes report.new ≡ string_bytes report.old
+        ++ codes "attach " ++ name_at names.now.threads thread.0 ++ codes " index "
+        ++ decimal (unwrap_or (index_of world.now.seats thread) 0) ++ 10 ∷ []) }
+{
+    let name = names.name_of_thread(thread);
+    let index = world.index(thread).unwrap_or(0);
+    writeln!(report, "attach {name} index {index}")
+}
+
+/// Writes the line of a thread that went on.
+fn put_go(report: &mut String, names: &Names, thread: ThreadId, did: Did) -> Result<(), AllocError>
+    ensures { OnOk result (string_bytes report.new ≡ string_bytes report.old
+        ++ codes "go " ++ name_at names.now.threads thread.0
+        ++ 32 ∷ atomic_text names.now did.atomic ++ ending_text did.reply did.atomic ++ 10 ∷ []) }
+{
+    let name = names.name_of_thread(thread);
+    write!(report, "go {name} ")?;
+    put_atomic(report, names, did.atomic)?;
+    put_ending(report, did)
 }
 
 /// Ends the line of a `go`: with the reply, where the call ended, or with ` = parked`, where the
@@ -186,8 +222,8 @@ fn put_ending(report: &mut String, did: Did) -> Result<(), AllocError>
                 ..
             },
             ..
-        } => writeln!(report, " = parked"),
-        Did { .. } => writeln!(report),
+        } => report.push_str(" = parked\n"),
+        Did { .. } => report.push_str("\n"),
     }
 }
 
@@ -198,23 +234,11 @@ fn put_atomic(report: &mut String, names: &Names, atomic: Atomic) -> Result<(), 
 {
     match atomic {
         Atomic::Label => Ok(()),
-        Atomic::Load { object, word } => {
-            let object = names.name_of_object(object);
-            write!(report, "load {object} {word}")
-        }
-        Atomic::Won { object, old, new } => {
-            let object = names.name_of_object(object);
-            write!(report, "won {object} ")?;
-            put_exchange(report, old, new)
-        }
-        Atomic::Lost { object, word } => {
-            let object = names.name_of_object(object);
-            write!(report, "lost {object} {word}")
-        }
+        Atomic::Load { object, word } => put_seen(report, names, "load", object, word),
+        Atomic::Won { object, old, new } => put_written(report, names, "won", object, old, new),
+        Atomic::Lost { object, word } => put_seen(report, names, "lost", object, word),
         Atomic::Stored { object, old, new } => {
-            let object = names.name_of_object(object);
-            write!(report, "store {object} ")?;
-            put_exchange(report, old, new)
+            put_written(report, names, "store", object, old, new)
         }
         Atomic::Bound { object, monitor } => {
             let object = names.name_of_object(object);
@@ -228,13 +252,45 @@ fn put_atomic(report: &mut String, names: &Names, atomic: Atomic) -> Result<(), 
     }
 }
 
+/// Writes that a step saw a word of an object.
+fn put_seen(
+    report: &mut String,
+    names: &Names,
+    verb: &str,
+    object: ObjectId,
+    word: Word,
+) -> Result<(), AllocError>
+    ensures { OnOk result (string_bytes report.new ≡ string_bytes report.old
+        ++ verb.now ++ 32 ∷ name_at names.now.objects object.0 ++ 32 ∷ word_text word.0) }
+{
+    let object = names.name_of_object(object);
+    write!(report, "{verb} {object} {word}")
+}
+
+/// Writes that a step wrote the word of an object.
+fn put_written(
+    report: &mut String,
+    names: &Names,
+    verb: &str,
+    object: ObjectId,
+    old: Word,
+    new: Word,
+) -> Result<(), AllocError>
+    ensures { OnOk result (string_bytes report.new ≡ string_bytes report.old
+        ++ verb.now ++ 32 ∷ name_at names.now.objects object.0 ++ 32 ∷ exchange_text old new) }
+{
+    let object = names.name_of_object(object);
+    write!(report, "{verb} {object} ")?;
+    put_exchange(report, old, new)
+}
+
 /// Writes the words before and after an exchange or a store.
 fn put_exchange(report: &mut String, old: Word, new: Word) -> Result<(), AllocError>
     ensures { OnOk result (string_bytes report.new
         ≡ string_bytes report.old ++ exchange_text old new) }
 {
     put_word(report, old)?;
-    write!(report, " ")?;
+    report.push_str(" ")?;
     put_word(report, new)
 }
 
@@ -279,9 +335,9 @@ fn put_object(
     write!(report, "object {name} ")?;
     put_word(report, world.word(object))?;
     put_standing(report, names, world, object)?;
-    write!(report, " waiting ")?;
+    report.push_str(" waiting ")?;
     put_threads(report, names, waiting)?;
-    writeln!(report)
+    report.push_str("\n")
 }
 
 /// Writes who owns an object, and how often.
@@ -359,7 +415,7 @@ fn put_threads(report: &mut String, names: &Names, threads: &[ThreadId]) -> Resu
         ≡ string_bytes report.old ++ threads_text names.now threads.now) }
 {
     let [first, rest @ ..] = threads else {
-        return write!(report, "-");
+        return report.push_str("-");
     };
     let name = names.name_of_thread(*first);
     write!(report, "{name}")?;

@@ -1,6 +1,7 @@
 //! Running a script: from a reader's bytes to a writer's report.
 
 ghost use Rattle.std.specs.Prelude.{◌≡◌, ◌+◌, ◌<◌, ◌≤◌, ◌⊎◌, ℕ, List, length, take, IsErrOf};
+ghost use Rattle.std.specs.Prelude.{string_bytes};
 ghost use Rattle.std.specs.Prelude.{IfSome, OnOk, OnErr, IfOk, IfErr, Err};
 ghost use Rattle.std.specs.Io.KnownBytes.{Keeps, Appends};
 ghost use Rattle.history_text.specs.Lines.{IsFirstBad};
@@ -55,9 +56,20 @@ pub fn run<S: Source, W: Sink>(alloc: Global, source: &mut S, sink: &mut W) -> R
     ensures kinds { (line : ℕ) → (result ≡ Err (BadMove line) ⊎ result ≡ Err (Broken line)) → ⊥ }
 {
     let bytes = read_all(alloc, source)?;
-    let plan = plan_in(alloc, &bytes)?;
-    let report = report_of(alloc, &plan)?;
+    let report = report_in(alloc, &bytes)?;
     write_out(sink, report.as_bytes())
+}
+
+/// The report of the script that some bytes are the text of.
+fn report_in(alloc: Global, bytes: &[u8]) -> Result<String, FileFault>
+    ensures a_script { OnOk result (IsScriptText bytes.now) }
+    ensures report { IfOk result (λ report. (plan : PlanData) × IsPlanOf plan bytes.now
+        × IsReportOf plan (string_bytes report)) }
+    ensures fault { IfErr result (IsReasonFor bytes.now) }
+{
+    let plan = plan_in(alloc, bytes)?;
+    let report = report_of(alloc, &plan)?;
+    Ok(report)
 }
 
 /// What the script plays that some bytes are the text of.
