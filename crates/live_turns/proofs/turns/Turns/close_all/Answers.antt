@@ -1,4 +1,5 @@
-use Rattle.std.proofs.Common.{◌∙◌, sym, subst, All, false, ◌≡◌}
+use Rattle.std.proofs.Common.{arith, ◌∙◌, sym, subst, All, false, ◌≡◌}
+use Rattle.std.proofs.lemmas.Grind.{common_steps}
 use Rattle.header_words.specs.Passes.{PassValue, Opening}
 use Rattle.live_turns.specs.Ends.{IsEnd}
 use Rattle.live_turns.proofs.Ends.{belong_words, without_words, no_wrong, both_ok, end_of, torn_ends, torn_from}
@@ -30,3 +31,6 @@ pub returns-in-Ok-clause-torn : goal.returns-in-Ok-clause-torn
 returns-in-Ok-clause-torn g c =
     torn_from c.args.self g.L.Crew.monitors c.args.passes.items c.take_apart.new.rests.items c.into_inner.result.book c.end.result c.take_apart.ensures.rests (c.into_inner.result.passes ∙ c.requires.crew.1)
     c.into_inner.result.monitors c.end.ensures.other c.end.ensures.told c.end.ensures.total c.end.ensures.torn
+
+pub end-requires-clause-parts : goal.end-requires-clause-parts
+end-requires-clause-parts g c = grind (arith, common_steps)
