@@ -1,4 +1,5 @@
 use Rattle.std.proofs.Common.{◌+◌, ◌∷◌, [], ap, arith, length-append}
+use Rattle.std.proofs.lemmas.Grind.{common_steps}
 use Rattle.live_threads.proofs.Drives.{answered_next, answered_so_far}
 use Rattle.live_threads.proofs.driving.work_through.Goals as goal
 
@@ -23,3 +24,6 @@ loop-call-preserved g c =
       answered = rw c.push_reserved.ensures.items (answered_next c.args.live.now c.deref-call-items.result.now c.loop-call.call-index _ c.loop-call.answers.items c.call-answer.result c.args.job.work.pass c.loop-call.pass c.call-answer.new.pass
           c.loop-call-test.true i.count i.answered c.call-answer.ensures.called);
     }
+
+pub returns : goal.returns
+returns g c = grind (arith, common_steps)

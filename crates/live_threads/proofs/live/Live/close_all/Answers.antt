@@ -1,4 +1,5 @@
-use Rattle.std.proofs.Common.{◌∙◌, sym, subst, All, false, List, map}
+use Rattle.std.proofs.Common.{arith, ◌∙◌, sym, subst, All, false, List, map}
+use Rattle.std.proofs.lemmas.Grind.{common_steps}
 use Rattle.header_words.specs.Passes.{Opening}
 use Rattle.live_turns.specs.Ways.{Belongs, PassState}
 use Rattle.live_turns.specs.Ends.{Disagrees, IsHandedBack, IsTornFrom}
@@ -26,3 +27,9 @@ returns-in-Err-Torn-clause-torn g c =
     let torn = subst (IsTornFrom c.self.inside.turns g.L.Crew.monitors c.take_apart.new.turns.items) c.in-Err-Torn.field-0-is c.in-Err-Torn.ensures.torn in
     subst (λ (z : Opening). Disagrees z g.L.Crew.monitors (map at_rest c.args.passes.items)) c.self.view_is
     (subst (λ (ts : List PassState). Disagrees c.self.inside.turns g.L.Crew.monitors ts) c.take_apart.ensures.turns torn)
+
+pub with_parkers-passes-requires-clause-len : goal.with_parkers-passes-requires-clause-len
+with_parkers-passes-requires-clause-len g c = grind (arith, common_steps)
+
+pub with_parkers-passes-requires-clause-room : goal.with_parkers-passes-requires-clause-room
+with_parkers-passes-requires-clause-room g c = grind (arith, common_steps)
