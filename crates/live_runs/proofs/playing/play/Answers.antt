@@ -1,4 +1,5 @@
 use Rattle.std.proofs.Common.{ap, arith, length, sym, ◌∙◌}
+use Rattle.std.proofs.lemmas.Grind.{common_steps}
 use Rattle.std.proofs.lemmas.List.{length-map}
 use Rattle.header_words.specs.Passes.{new_passes}
 use Rattle.live_turns.specs.Ways.{new_holding}
@@ -23,3 +24,6 @@ works_of-requires g c =
 
 pub drive_all-requires-clause-calls : goal.drive_all-requires-clause-calls
 drive_all-requires-clause-calls g c κs within = calls_are c.in_ok-works.works.items c.args.plan.calls.items _ c.in_ok-works.ensures.calls c.requires.plan.calls
+
+pub open-requires-clause-some : goal.open-requires-clause-some
+open-requires-clause-some g c = grind (arith, common_steps)
