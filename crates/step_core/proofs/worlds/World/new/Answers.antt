@@ -19,3 +19,6 @@ returns-clause-shows c =
     let places : c.in_ok-places.places.items ≡ replicate c.args.indices Idle = rw (← c.from-2.ensures) (c.in_ok-places.ensures.items_if_clones_equal (λ y e. e)) in
     let bytes : (k : ℕ) → k < length c.args.lows.now → get_or c.args.lows.now k 0 < 256 = λ k h. grind (arith, c.type_inv.lows k) in
     rw (words, c.in_ok-new.ensures.free, places, c.new-2.ensures.opened) (opened_shows c.args.lows.now c.args.monitors c.args.indices c.args.split bytes)
+
+pub returns-clause-world : goal.returns-clause-world
+returns-clause-world c = grind (arith, common_steps)
