@@ -9,7 +9,7 @@ ghost use Rattle.clap.specs.Faults.{fault_of};
 ghost use Rattle.clap.specs.Kinds.{FailsBy};
 ghost use Rattle.clap.specs.declared.builder.command.Command.TheViews.{out-Command};
 ghost use Rattle.command_line.specs.Orders.{bare_program, file_rule, file_words, is_set, order_in};
-ghost use Rattle.command_line.specs.Orders.{order_of, program_words, run_words, task_of};
+ghost use Rattle.command_line.specs.Orders.{moves_rule, order_of, program_words, run_words, task_of};
 
 use clap::{Arg, ArgAction, ArgMatches, Command, Error};
 use std::alloc::{AllocError, Global};
@@ -159,13 +159,9 @@ fn run_command<'a>(alloc: Global) -> Result<Command<'a>, AllocError>
     ensures words { IfOk result (λ command. app_of command ≡ run_words) }
     ensures local { IfOk result (λ command. (out-Command command).has_globals ≡ false) }
 {
-    let moves = Arg::new(alloc, "moves")
-        .long("moves")
-        .action(ArgAction::SetTrue)
-        .help("Prints the moves of the abstract machine and no report");
     Command::new(alloc, "run")
         .about("Plays a script and prints its report, or its history")
-        .arg(moves)?
+        .arg(moves(alloc))?
         .arg(file(alloc, "The script; standard input where it is left out"))
 }
 
@@ -182,6 +178,17 @@ fn file_command<'a>(
     Command::new(alloc, name)
         .about(about)
         .arg(file(alloc, help))
+}
+
+/// The flag that orders the moves.
+fn moves<'a>(alloc: Global) -> Arg<'a>
+    ensures rule { rule_of result ≡ moves_rule }
+    ensures local { result.global ≡ false }
+{
+    Arg::new(alloc, "moves")
+        .long("moves")
+        .action(ArgAction::SetTrue)
+        .help("Prints the moves of the abstract machine and no report")
 }
 
 /// The argument that names the file to read.
