@@ -1,5 +1,6 @@
 use Rattle.std.proofs.lemmas.List.{with_items_is}
-use Rattle.std.proofs.Common.{ap, ◌∙◌, sym, length}
+use Rattle.std.proofs.Common.{arith, ap, ◌∙◌, sym, length}
+use Rattle.std.proofs.lemmas.Grind.{common_steps}
 use Rattle.jls_check.specs.View.{machine_in}
 use Rattle.jls_check.proofs.States.{length-put}
 use Rattle.jls_check.proofs.Soundness.{put_sound_as, waited_there, room_there}
@@ -20,3 +21,6 @@ invariant_of-self c =
     let whole = sym (ap length c.deref_mut.ensures.value) ∙ c.deref_mut.ensures.len in
     rw (c.set.ensures, with_items_is c.self.inside.objects c.count_waits.new.objects (long ∙ whole)) (put_sound_as (machine_in c.self.inside) c.args.thread
     c.self.invariant c.args.flag c.args.act (rw (← c.self.view_is) at c.requires.there) (rw (← c.self.view_is) at c.requires.ends) c.count_waits.new.objects exact)
+
+pub returns : goal.returns
+returns c = grind (arith, common_steps)
