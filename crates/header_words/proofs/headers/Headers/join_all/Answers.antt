@@ -1,4 +1,5 @@
-use Rattle.std.proofs.Common.{◌≡◌, false, List, [], ◌∷◌, ◌++◌, sym, ap, ◌∙◌, subst, arith, append_assoc, All}
+use Rattle.std.proofs.Common.{rules, ◌≡◌, false, List, [], ◌∷◌, ◌++◌, sym, ap, ◌∙◌, subst, arith, append_assoc, All}
+use Rattle.std.proofs.lemmas.Grind.{common_steps}
 use Rattle.header_words.specs.Rule.{part}
 use Rattle.header_words.specs.Passes.{PassValue, carried}
 use Rattle.header_words.proofs.Closes.{all_mid, joining_next, joins_more}
@@ -30,4 +31,10 @@ loop-pass-preserved g c = record {
       c.in-Some-pop.ensures.items c.loop-pass.invariant.joining
       (c.into_parts-other.ensures.inside.lone ∙ λ k. part (c.into_parts-other.ensures.view k).index (c.into_parts-other.ensures.view k).mine ∷ [])
       (ap (λ z. z.seen) c.into_parts-other.ensures.view) (ap (λ z. z.0) c.join_seat.ensures.2);
+}
+
+pub loop-pass-init : goal.loop-pass-init
+loop-pass-init g c = record {
+  same_table = search rules;
+  joining = grind (arith, common_steps);
 }
