@@ -9,7 +9,7 @@ mod limits;
 mod memory;
 mod words;
 
-use books::Names;
+use crate::names::Names;
 use header_words::{CloseFault, Headers, OpenFault, Pass};
 use lock_word::{ObjectId, Word};
 use std::alloc::Global;

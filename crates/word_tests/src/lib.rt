@@ -6,5 +6,6 @@
 mod book;
 #[cfg(test)]
 mod headers;
+mod names;
 #[cfg(test)]
 mod slots;

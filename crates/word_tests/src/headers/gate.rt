@@ -4,8 +4,9 @@ ghost use Rattle.std.specs.Bool.{OnTrue};
 ghost use Rattle.header_words.specs.Bindings.{Binds, Covers};
 ghost use Rattle.header_words.specs.Passes.{depth_at};
 
-use super::books::{Ledger, Names};
+use super::books::Ledger;
 use super::{OBJECT, close_two, open_two};
+use crate::names::{Names, inflate};
 use fat_monitor::{Fats, Receipt};
 use header_words::{Headers, Kept, Pass};
 use lock_word::{Lock, ObjectId, Split, ThreadId, Word, decode};
@@ -64,34 +65,6 @@ fn hold_twice<B: Kept>(headers: &Headers<B>, pass: &mut Pass<B>, object: ObjectI
         return false;
     }
     headers.nest(pass, object);
-    true
-}
-
-// Binds the monitor of the receipt in the book in hand, publishes it, and gives the book back.
-// False where the book would have another number for it, or there is no memory.
-fn inflate(
-    headers: &Headers<Names>,
-    pass: &mut Pass<Names>,
-    mut names: Names,
-    receipt: Receipt,
-) -> bool
-    requires belongs { pass.old.opening ≡ headers.now }
-    requires object { receipt.object.0 < length headers.now.lows }
-    requires owner { receipt.owner.0 ≡ pass.old.index }
-    requires holds { receipt.holds ≡ depth_at pass.old receipt.object.0 }
-    requires gate { pass.old.has_gate ≡ true }
-    requires covers { Covers names.objects.items pass.old.seen }
-    ensures belongs { pass.new.opening ≡ headers.now }
-    ensures gate { pass.new.has_gate ≡ false }
-{
-    let next = names.objects.len();
-    let bound = names.bind(receipt.object());
-    if !bound || next != receipt.monitor() as usize {
-        headers.give(pass, names);
-        return false;
-    }
-    headers.publish(pass, &names, receipt);
-    headers.give(pass, names);
     true
 }
 

@@ -1,5 +1,5 @@
 //! The most objects and passes that there can be.
-use super::books::Names;
+use crate::names::Names;
 use header_words::Headers;
 use lock_word::Word;
 use std::test::Fail;

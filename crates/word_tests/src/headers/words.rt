@@ -3,8 +3,8 @@ ghost use Rattle.std.specs.Prelude.{◌≡◌, ◌<◌, IfSome, length, false};
 ghost use Rattle.lock_word.specs.declared.Lock.TheVariants.{Thin};
 ghost use Rattle.header_words.specs.Passes.{depth_at, word_at};
 
-use super::books::Names;
 use super::{OBJECT, close_too_early, close_two, open_two};
+use crate::names::Names;
 use header_words::{Headers, Kept, Pass};
 use lock_word::Word;
 use std::test::Fail;

@@ -1,6 +1,6 @@
 use Rattle.std.proofs.Common.{rules}
 use Rattle.header_words.proofs.Bindings.{covers_grown}
-use Rattle.word_tests.proofs.headers.gate.inflate.Goals as goal
+use Rattle.word_tests.proofs.names.inflate.Goals as goal
 
 pub give-requires-clause-covers : goal.give-requires-clause-covers
 give-requires-clause-covers c = covers_grown _ _ _ _ c.bind-bound.ensures.grows.1 c.requires.covers
