@@ -1,13 +1,13 @@
 //! The world, and its steps.
 
 ghost use Rattle.std.specs.Prelude.{◌≡◌, ◌+◌, ◌<◌, ◌≤◌, length, Bool, true, Option, IfOk, IfErr};
-ghost use Rattle.std.specs.Prelude.{IfSome, OnOk, OnErr, Some, None};
+ghost use Rattle.std.specs.Prelude.{IfSome, OnOk, OnErr, Some, None, map};
 ghost use Rattle.std.specs.Option.{option_map};
 ghost use Rattle.lock_word.specs.Layout.{greatest_index};
 ghost use Rattle.fat_monitor.specs.FatState.{monitor_at, StandBehindOwners};
 ghost use Rattle.thread_index.specs.Indices.{index_of, holder_of};
 ghost use Rattle.step_core.specs.Machine.{Run, opening, Thread, ActExists, is_waiting};
-ghost use Rattle.step_core.specs.World.{opening_world, word_at};
+ghost use Rattle.step_core.specs.World.{low_word, opening_world, word_at};
 ghost use Rattle.step_core.specs.Shown.{shown, doing_of, doing_in};
 ghost use Rattle.step_core.specs.Sound.{IsSound};
 ghost use Rattle.step_core.specs.declared.steps.Step.TheVariants as step;
@@ -45,6 +45,17 @@ pub struct World {
     fats: Fats,
 }
 
+// The word of each free object, which has its low byte alone.
+fn free_words(alloc: Global, lows: &[u8]) -> Result<Vec<Word>, Memory>
+    ensures { IfOk result (λ words. words.items ≡ map low_word lows.now) }
+{
+    let mut words = Vec::with_capacity(alloc, lows.len())?;
+    for low in lows {
+        words.push(Word(u32::from(*low)))?;
+    }
+    Ok(words)
+}
+
 impl Model for World {
     ghost use Rattle.std.specs.Coded.{codes};
     ghost use Rattle.std.specs.FinMap as map;
@@ -79,10 +90,7 @@ impl World {
         ensures world { IfOk result (λ w. w ≡ opening_world lows.now monitors indices split) }
         ensures shows { IfOk result (λ w. shown w ≡ opening (length lows.now)) }
     {
-        let mut words = Vec::with_capacity(alloc, lows.len())?;
-        for low in lows {
-            words.push(Word(u32::from(*low)))?;
-        }
+        let words = free_words(alloc, lows)?;
         let places = vec![in alloc; Place::Idle; usize::from(indices)]?;
         Ok(World {
             split,

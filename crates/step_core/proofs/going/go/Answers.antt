@@ -1,4 +1,5 @@
-use Rattle.std.proofs.Common.{◌≡◌, ◌-◌, ◌∙◌, true, Some}
+use Rattle.std.proofs.lemmas.Grind.{common_steps}
+use Rattle.std.proofs.Common.{◌≡◌, ◌-◌, ◌∙◌, true, Some, arith}
 use Rattle.thread_index.specs.Indices.{seat_of}
 use Rattle.step_core.specs.declared.places.Place.TheVariants.{InCall, Ending, AtPost}
 use Rattle.step_core.specs.World.{WorldState}
@@ -57,3 +58,9 @@ returns-in-AtPost c =
       sound = go_sound w c.requires (c.in-Some.index - 1) c.args.thread seat true AtPost c.in-AtPost.is _ e;
       exact = (true, e ∙ go_answer w c.requires (c.in-Some.index - 1) c.args.thread seat true AtPost c.in-AtPost.is);
     }
+
+pub go_from-next-requires-clause-ready : goal.go_from-next-requires-clause-ready
+go_from-next-requires-clause-ready c = grind (arith, common_steps)
+
+pub returns-in-Idle-clause-exact : goal.returns-in-Idle-clause-exact
+returns-in-Idle-clause-exact c = grind (arith, common_steps)
