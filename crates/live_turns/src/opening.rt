@@ -46,6 +46,28 @@ fn fresh_owns<L: Crew>(
     Ok(owns)
 }
 
+// What lies behind the gate of a service that starts, and such deeds for each pass.
+fn new_desk<L: Crew>(
+    alloc: Global,
+    blank: Blank,
+    monitors: u32,
+    passes: u16,
+    places: u32,
+) -> Result<(Box<Desk<L>>, Vec<Fresh<L>>), Memory>
+    requires name { blank.name ≡ L.name }
+    requires parts { (blank.parts ≡ L.parts) × (L.parts ≡ passes) }
+    requires crew { (L.passes ≡ passes) × (L.monitors ≡ monitors) × (L.places ≡ places) }
+    requires few { passes ≤ 64 }
+    requires monitors { monitors ≤ 8388608 }
+    ensures owns { IfOk result (λ r. vec_len r.1 ≡ passes) }
+{
+    let book = Book::new(alloc, monitors, passes, places)?;
+    let (total, mut rest) = blank.open::<L>();
+    let owns = fresh_owns(alloc, passes, places, &mut rest)?;
+    let desk = Desk { book, total, rest };
+    Ok((Box::new(alloc, desk)?, owns))
+}
+
 #[tactic(auto, using(crate::proofs::Rows::moved_over))]
 // The passes of these words, each with deeds of its own.
 fn with_owns<L: Crew>(
@@ -96,13 +118,9 @@ impl<L: Crew> Turns<L> {
         ensures passes { IfOk result (λ r. r.1.items
             ≡ map new_state (new_passes r.0 1 passes)) }
     {
-        let book = Book::new(alloc, monitors, passes, places)?;
         let row = Vec::with_capacity(alloc, usize::from(passes))?;
-        let (total, mut rest) = blank.open::<L>();
-        let owns = fresh_owns(alloc, passes, places, &mut rest)?;
-        let desk = Desk { book, total, rest };
-        let boxed = Box::new(alloc, desk)?;
-        let Ok((headers, words)) = Headers::open(alloc, lows, passes, boxed) else {
+        let (desk, owns) = new_desk(alloc, blank, monitors, passes, places)?;
+        let Ok((headers, words)) = Headers::open(alloc, lows, passes, desk) else {
             return Err(Memory);
         };
         let objects = lows.len() as u32;
