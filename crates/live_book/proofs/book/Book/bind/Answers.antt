@@ -1,4 +1,5 @@
-use Rattle.std.proofs.Common.{◌≡◌, ◌+◌, ◌≤◌, ◌∙◌, ap, arith, sym, subst}
+use Rattle.std.proofs.lemmas.Grind.{common_steps}
+use Rattle.std.proofs.Common.{◌≡◌, ◌+◌, ◌≤◌, ◌∙◌, ap, arith, sym, subst, rules}
 use Rattle.fat_monitor.specs.FatState.{FatState, IsSound, bound_with}
 use Rattle.live_book.specs.Log.{IsThreadOf}
 use Rattle.live_book.specs.Book.{BookState, free_of}
@@ -18,3 +19,6 @@ invariant_of-self-2 c =
       rw (c.in-Ok.ensures.bound) (let more = kept-bound_with b.fats c.args.object c.args.thread c.args.holds in let kept = c.self.invariant.1 in let holds = c.from-2.ensures in omega arith),
       rw c.push_reserved.ensures.capacity c.self.invariant.2,
     )
+
+pub returns-clause-receipt : goal.returns-clause-receipt
+returns-clause-receipt c = grind (arith, common_steps)
