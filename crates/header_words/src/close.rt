@@ -1,13 +1,14 @@
 //! The end of the words of objects.
-ghost use Rattle.std.specs.Prelude.{◌≡◌, ◌↔◌, ◌+◌, ◌<◌, length, IfOk, IfErr, IsTrue, All, Contains};
-ghost use Rattle.std.specs.Prelude.{map, true, false};
+ghost use Rattle.std.specs.Prelude.{◌≡◌, ◌↔◌, ◌+◌, ◌<◌, ◌≤◌, ℕ, [], length, IfOk, IfErr, IsTrue, All, Contains};
+ghost use Rattle.std.specs.Prelude.{map, slice_index, true, false, vec_capacity};
+ghost use Rattle.std.specs.Mem.Slots.{slots_items, slots_len, IsFull};
 ghost use Rattle.header_words.specs.Passes.{HasAll, LacksOne, indices_of};
 
 use crate::headers::Headers;
 use crate::kept::Kept;
 use crate::pass::{Parts, Pass};
 use crate::rule::{Joined, Layout, View};
-use atomic_table::Seat;
+use atomic_table::{Closed, Seat};
 use lock_word::Word;
 use std::alloc::Global;
 
@@ -51,6 +52,28 @@ fn has_index<B>(passes: &[Pass<B>], index: u16) -> bool
     false
 }
 
+// The words of all objects, of which the first stands behind the word of the gate.
+fn words_of<B: Kept>(
+    closed: &Closed<Option<B>, Global>,
+    mut words: Vec<Word>,
+    objects: usize,
+) -> Vec<Word>
+    requires empty { words.items ≡ [] }
+    requires room { objects ≤ vec_capacity words }
+    requires there { objects < slots_len closed.now.words }
+    requires full { IsFull closed.now.words }
+    requires small { (o : ℕ) → o < objects
+        → slice_index (slots_items closed.now.words) (o + 1) < 4294967296 }
+    ensures len { length result.items ≡ objects }
+    ensures each { (o : ℕ) → o < objects → slice_index (map (λ w. w.0) result.items) o
+        ≡ slice_index (slots_items closed.now.words) (o + 1) }
+{
+    for o in 0..objects {
+        words.push_reserved(Word(closed.word(o + 1) as u32));
+    }
+    words
+}
+
 impl<B: Kept> Headers<B> {
     ghost use Rattle.header_words.specs.Passes.{IsClosed, TookAll};
     ghost use Rattle.header_words.specs.Faults.{IsHandedBack, TellsFault};
@@ -74,7 +97,7 @@ impl<B: Kept> Headers<B> {
             });
         }
         let objects = self.layout.lows.len();
-        let Ok(mut words) = Vec::with_capacity(alloc, objects) else {
+        let Ok(words) = Vec::with_capacity(alloc, objects) else {
             return Err(CloseFault::Memory {
                 headers: self,
                 passes,
@@ -83,11 +106,7 @@ impl<B: Kept> Headers<B> {
         let seat = self.join_all(passes);
         let Headers { table, layout } = self;
         let mut closed = table.close_with(seat);
-        for o in 0..objects {
-            let Ok(()) = words.push(Word(closed.word(o + 1) as u32)) else {
-                unreachable!()
-            };
-        }
+        let words = words_of(&closed, words, objects);
         let kept = closed.take(0);
         let Some(book) = kept else { unreachable!() };
         closed.free();
