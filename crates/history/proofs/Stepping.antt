@@ -7,7 +7,7 @@ use Rattle.step_core.specs.Machine.{Run}
 use Rattle.step_core.specs.Requests.{moves_then, moves_after, world_then, world_after}
 use Rattle.step_core.specs.Shown.{shown}
 use Rattle.step_core.specs.World.{WorldState, opening_world}
-use Rattle.history.specs.Histories.{HasMemory}
+use Rattle.history.specs.Histories.{HasMemory, first_world}
 use Rattle.history.specs.Plays.{PlaysOne, Plays, IsPlayOf}
 use Rattle.history.specs.Numbering.{IsWorldWith, low_bytes, names_of, requests_of}
 use Rattle.history_text.specs.Noted.{object_names}
@@ -35,10 +35,9 @@ Plays-one w v u rs r p one =
 pub Plays-next : (w v u : WorldState) (rs : List Request) (i : ℕ) (d : Request) → i < length rs → Plays w (take i rs) v → PlaysOne v (get_or rs i d) u → Plays w (take (i + 1) rs) u
 Plays-next w v u rs i d within p one = rw (take_more rs i d within) (Plays-one w v u (take i rs) (get_or rs i d) p one)
 
-pub played : (plan : Plan) (script lines : List Line) (w v : WorldState) (lows : List ℕ) (steps : List Request) → lines ≡ script → IsWorldWith plan.monitors plan.indices plan.split lines
-    → plan.names.objects ≡ object_names lines → plan.lows.items ≡ low_bytes lines → plan.names ≡ names_of lines → plan.steps.items ≡ requests_of lines → lows ≡ plan.lows.items
-    → w ≡ opening_world lows plan.monitors plan.indices plan.split → steps ≡ plan.steps.items → Plays w steps v → IsPlayOf script v plan.names
-played plan script lines w v lows steps same world objects bytes numbered requests these opened all p = record {
+pub played : (plan : Plan) (script lines : List Line) (v : WorldState) → lines ≡ script → IsWorldWith plan.monitors plan.indices plan.split lines → plan.names.objects ≡ object_names lines
+    → plan.lows.items ≡ low_bytes lines → plan.names ≡ names_of lines → plan.steps.items ≡ requests_of lines → Plays (first_world plan) plan.steps.items v → IsPlayOf script v plan.names
+played plan script lines v same world objects bytes numbered requests p = record {
   plan = plan;
   world = subst (λ (l : List Line). IsWorldWith plan.monitors plan.indices plan.split l) same world;
   objects = objects ∙ ap object_names same;
@@ -46,6 +45,11 @@ played plan script lines w v lows steps same world objects bytes numbered reques
   numbered = numbered ∙ ap names_of same;
   steps = requests ∙ ap requests_of same;
   named = refl;
-  plays = subst (λ (x : WorldState). Plays x plan.steps.items v) (opened ∙ ap (λ (l : List ℕ). opening_world l plan.monitors plan.indices plan.split) these)
-      (subst (λ (l : List Request). Plays w l v) all p);
+  plays = p;
 }
+
+-- steps of a plan that begin in its first world
+pub plays_plan : (plan : Plan) (w v : WorldState) (lows : List ℕ) (steps : List Request) → lows ≡ plan.lows.items → w ≡ opening_world lows plan.monitors plan.indices plan.split → steps ≡ plan.steps.items
+    → Plays w steps v → Plays (first_world plan) plan.steps.items v
+plays_plan plan w v lows steps these opened all p =
+    subst (λ (x : WorldState). Plays x plan.steps.items v) (opened ∙ ap (λ (l : List ℕ). opening_world l plan.monitors plan.indices plan.split) these) (subst (λ (l : List Request). Plays w l v) all p)

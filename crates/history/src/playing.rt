@@ -3,6 +3,7 @@
 ghost use Rattle.std.specs.Prelude.{◌≡◌, IfErr, IfOk, OnOk, Some};
 ghost use Rattle.history_streams.specs.declared.faults.FileFault.TheVariants.{Memory as WantOfMemory};
 ghost use Rattle.step_core.specs.declared.steps.Fault.TheVariants.{Memory as OutOfMemory};
+ghost use Rattle.history.specs.Histories.{first_world};
 ghost use Rattle.history.specs.Plays.{PlaysOne, IsPlayOf, Plays};
 
 use crate::names::Names;
@@ -22,14 +23,17 @@ pub fn play(alloc: Global, script: &Script<'_>) -> Result<(World, Names), FileFa
     ensures memory { IfErr result (λ fault. fault ≡ WantOfMemory) }
 {
     let plan = plan_of(alloc, script.lines())?;
+    let world = world_of(alloc, &plan)?;
+    Ok((world, plan.names))
+}
+
+/// The world that a plan leads to.
+fn world_of(alloc: Global, plan: &Plan) -> Result<World, Memory>
+    ensures { IfOk result (λ world. Plays (first_world plan.now) plan.now.steps.items world) }
+{
     let mut world = World::new(alloc, &plan.lows, plan.monitors, plan.indices, plan.split)?;
-    match do_steps(&mut world, &plan.steps) {
-        Ok(()) => {
-            let Plan { names, .. } = plan;
-            Ok((world, names))
-        }
-        Err(Memory) => Err(FileFault::Memory),
-    }
+    do_steps(&mut world, &plan.steps)?;
+    Ok(world)
 }
 
 /// Does steps and relayouts, one after the other.

@@ -1,4 +1,4 @@
-use Rattle.std.proofs.Common.{arith}
+use Rattle.std.proofs.Common.{arith, rules}
 use Rattle.std.proofs.lemmas.Grind.{common_steps}
 use Rattle.history.proofs.running.read_all.Goals as goal
 
@@ -8,3 +8,6 @@ reading-preserved g c = record {
   took = grind (arith, common_steps);
   whole = grind (arith, common_steps);
 }
+
+pub returns-clause-fault : goal.returns-clause-fault
+returns-clause-fault g c = search rules
