@@ -1,4 +1,5 @@
-use Rattle.std.proofs.Common.{List, ℕ, vec_items, sym, subst}
+use Rattle.std.proofs.lemmas.Grind.{common_steps}
+use Rattle.std.proofs.Common.{List, ℕ, vec_items, sym, subst, arith}
 use Rattle.dump.specs.Rows.{IsIn}
 use Rattle.dump.proofs.Positions.{in_map, in_by_position}
 use Rattle.dump.proofs.owners.threads_of_all.Goals as goal
@@ -8,3 +9,6 @@ threads_of-requires c =
     let there : IsIn c.positions-item.result c.args.lists.now =
     subst (λ v. IsIn v c.args.lists.now) (sym c.positions-item.is) (in_by_position c.args.lists.now c.lists.positions-index c.positions-item.result c.lists-test.true) in
     λ position i. c.requires (vec_items c.positions-item.result) position (in_map vec_items c.positions-item.result c.args.lists.now there) (subst (λ (l : List ℕ). IsIn position l) c.deref.ensures.value i)
+
+pub lists-preserved : goal.lists-preserved
+lists-preserved c = grind (arith, common_steps)

@@ -1,5 +1,5 @@
 use Rattle.std.proofs.lemmas.Grind.{common_steps}
-use Rattle.std.proofs.Common.{◌≡◌, ◌+◌, ◌≤◌, ◌∙◌, ap, arith, sym, subst, rules}
+use Rattle.std.proofs.Common.{◌≡◌, ◌+◌, ◌≤◌, ◌∙◌, ap, arith, sym, subst}
 use Rattle.fat_monitor.specs.FatState.{FatState, IsSound, bound_with}
 use Rattle.live_book.specs.Log.{IsThreadOf}
 use Rattle.live_book.specs.Book.{BookState, free_of}

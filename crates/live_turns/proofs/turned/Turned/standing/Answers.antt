@@ -6,3 +6,6 @@ returns-in_default-2 c = search rules
 
 pub returns-in_default-2-2 : goal.returns-in_default-2-2
 returns-in_default-2-2 c = search rules
+
+pub returns-in_default : goal.returns-in_default
+returns-in_default c = search rules
