@@ -4,12 +4,12 @@ use fast_path::Call;
 use fat_monitor::Reply;
 use live_turns::LiveFault;
 use lock_word::Memory;
-use std::io;
 use std::num::ParseIntError;
+use std::{fmt, io};
 use thiserror::Error;
 
 /// What must not happen.
-#[derive(Debug, Drop, Error)]
+#[derive(Drop, Error)]
 pub enum Trouble {
     #[error("the argument is no number of rounds")]
     Rounds(#[from] ParseIntError),
@@ -40,4 +40,11 @@ pub enum Trouble {
     Torn,
     #[error("the system: {0}")]
     System(#[from] io::Error),
+}
+
+/// Its text, which has all that it says.
+impl fmt::Debug for Trouble {
+    fn fmt<W: fmt::Write>(&self, f: &mut fmt::Formatter<W>) -> fmt::Result {
+        fmt::Display::fmt(self, f)
+    }
 }
