@@ -57,48 +57,36 @@ fn waits_on(world: &World, object: ObjectId, thread: ThreadId) -> Option<bool> {
     Some(world.waiting(object, thread))
 }
 
-#[test]
-fn an_index_leads_to_its_thread(rt: HostRuntime) -> Result<(), Fail> {
-    let world = owned(&rt, rt.alloc())?;
+fn an_index_leads_to_its_thread(rt: &impl Abort, world: &World) {
     assert!(rt; world.indices() == 4);
-    assert!(rt; has_index(&world, Y, Some(2)));
-    assert!(rt; is_held(&world, 2, Some(Y)));
-    assert!(rt; is_held(&world, 0, None));
-    assert!(rt; has_index(&world, ThreadId(2), None));
-    Ok(())
+    assert!(rt; has_index(world, Y, Some(2)));
+    assert!(rt; is_held(world, 2, Some(Y)));
+    assert!(rt; is_held(world, 0, None));
+    assert!(rt; has_index(world, ThreadId(2), None));
 }
 
-#[test]
-fn a_thin_word_shows_owner_and_holds(rt: HostRuntime) -> Result<(), Fail> {
-    let world = owned(&rt, rt.alloc())?;
+fn a_thin_word_shows_owner_and_holds(rt: &impl Abort, world: &World) {
     assert!(rt; world.objects() == 1);
-    assert!(rt; shows(&world, 0x0001_00A5, X, 1));
-    assert!(rt; does_now(&world, X, Some(Doing::Idle)));
+    assert!(rt; shows(world, 0x0001_00A5, X, 1));
+    assert!(rt; does_now(world, X, Some(Doing::Idle)));
     assert!(rt; world.flag(X) == Some(false));
     assert!(rt; world.flag(ThreadId(2)) == None);
-    Ok(())
 }
 
-#[test]
-fn a_waiter_shows_its_holds_and_its_deadline(rt: HostRuntime) -> Result<(), Fail> {
-    let mut world = owned(&rt, rt.alloc())?;
-    waits(&rt, &mut world);
+fn a_waiter_shows_its_holds_and_its_deadline(rt: &impl Abort, world: &World) {
     assert!(rt; world.now() == u64::MAX);
     let waiting = Doing::Waits {
         object: A,
         holds: 1,
         deadline: Some(9_223_390_483_598_849_517_551_614),
     };
-    assert!(rt; does_now(&world, X, Some(waiting)));
-    assert!(rt; waits_on(&world, A, X) == Some(true));
-    assert!(rt; waits_on(&world, A, Y) == Some(false));
-    Ok(())
+    assert!(rt; does_now(world, X, Some(waiting)));
+    assert!(rt; waits_on(world, A, X) == Some(true));
+    assert!(rt; waits_on(world, A, Y) == Some(false));
 }
 
-#[test]
-fn a_thread_that_is_back_shows_why(rt: HostRuntime) -> Result<(), Fail> {
-    let mut world = owned(&rt, rt.alloc())?;
-    waits(&rt, &mut world);
+/// The thread y owns the object, and x comes back for no reason.
+fn comes_back(rt: &impl Abort, world: &mut World) {
     let steps = [
         Step::Begin {
             thread: Y,
@@ -108,12 +96,26 @@ fn a_thread_that_is_back_shows_why(rt: HostRuntime) -> Result<(), Fail> {
         Step::Go { thread: Y },
         Step::Spurious { thread: X },
     ];
-    does_all(&rt, &mut world, &steps);
+    does_all(rt, world, &steps);
+}
+
+fn a_thread_that_is_back_shows_why(rt: &impl Abort, world: &World) {
     let back = Doing::Back {
         object: A,
         holds: 1,
         why: Why::Spurious,
     };
-    assert!(rt; does_now(&world, X, Some(back)));
+    assert!(rt; does_now(world, X, Some(back)));
+}
+
+#[test]
+fn a_world_shows_what_was_done(rt: HostRuntime) -> Result<(), Fail> {
+    let mut world = owned(&rt, rt.alloc())?;
+    an_index_leads_to_its_thread(&rt, &world);
+    a_thin_word_shows_owner_and_holds(&rt, &world);
+    waits(&rt, &mut world);
+    a_waiter_shows_its_holds_and_its_deadline(&rt, &world);
+    comes_back(&rt, &mut world);
+    a_thread_that_is_back_shows_why(&rt, &world);
     Ok(())
 }

@@ -3,7 +3,7 @@ use Rattle.step_core.specs.declared.places.Stage.TheVariants.{Acting}
 use Rattle.step_core.specs.declared.paths.Point.TheVariants.{At}
 use Rattle.live_book.specs.Book.{bindings}
 use Rattle.live_turns.proofs.Gates.{published_still, covers_kept, gave_up, held_err}
-use Rattle.std.proofs.Common.{refl}
+use Rattle.std.proofs.Common.{refl, rules}
 use Rattle.live_turns.proofs.Visits.{taken_away, visited_at, held_same, err_always}
 use Rattle.live_turns.proofs.turns.Turns.act.Goals as goal
 
@@ -35,3 +35,6 @@ returns-clause-visited g c =
 pub returns-clause-there : goal.returns-clause-there
 returns-clause-there g c =
     err_always _ c.act_on-told.result (held_same c.args.holder.now c.take.new.holder c.act_on-told.new.self c.give.new.holder c.in-Some.ensures.0 c.act_on-told.ensures.words c.give.ensures.gave)
+
+pub returns-clause-went : goal.returns-clause-went
+returns-clause-went g c = search rules
