@@ -4,7 +4,7 @@ ghost use Rattle.std.specs.Prelude.{◌≡◌, IfOk, Some, codes, false, map, op
 ghost use Rattle.std.specs.Prelude.{true};
 ghost use Rattle.clap.specs.Walk.{rows_of, rule_of};
 ghost use Rattle.clap.specs.Matches.{found_of, has_subcommand};
-ghost use Rattle.clap.specs.Simple.{app_of, subcommand_rows_of};
+ghost use Rattle.clap.specs.Simple.{app_of, subcommand_rows_of, with_subcommand};
 ghost use Rattle.clap.specs.Faults.{fault_of};
 ghost use Rattle.clap.specs.Kinds.{FailsBy};
 ghost use Rattle.clap.specs.declared.builder.command.Command.TheViews.{out-Command};
@@ -115,30 +115,29 @@ fn program<'a>(alloc: Global) -> Result<Command<'a>, AllocError>
     ensures words { IfOk result (λ program. app_of program ≡ program_words) }
     ensures local { IfOk result (λ program. (out-Command program).has_globals ≡ false) }
 {
-    let check = file_command(
+    let run = run_command(alloc)?;
+    let with_run = bare_program(alloc)?.subcommand(run)?;
+    let with_check = with_file_command(
         alloc,
+        with_run,
         "check",
         "Checks whether a history is a run of the abstract machine",
         "The history; standard input where it is left out",
     )?;
-    let dump = file_command(
+    let with_dump = with_file_command(
         alloc,
+        with_check,
         "dump",
         "Plays a script and prints what its threads are doing then, and who waits for whom",
         "The script; standard input where it is left out",
     )?;
-    let live = file_command(
+    with_file_command(
         alloc,
+        with_dump,
         "live",
         "Runs the threads of a live script on threads of the system, and prints their replies",
         "The live script; standard input where it is left out",
-    )?;
-    let program = bare_program(alloc)?;
-    let run = run_command(alloc)?;
-    let with_run = program.subcommand(run)?;
-    let with_check = with_run.subcommand(check)?;
-    let with_dump = with_check.subcommand(dump)?;
-    with_dump.subcommand(live)
+    )
 }
 
 /// The program without its subcommands.
@@ -178,6 +177,23 @@ fn file_command<'a>(
     Command::new(alloc, name)
         .about(about)
         .arg(file(alloc, help))
+}
+
+/// A program with a subcommand of a file alone more.
+fn with_file_command<'a>(
+    alloc: Global,
+    program: Command<'a>,
+    name: &'a str,
+    about: &'a str,
+    help: &'a str,
+) -> Result<Command<'a>, AllocError>
+    requires { (out-Command program).has_globals ≡ false }
+    ensures words { IfOk result (λ with.
+        app_of with ≡ with_subcommand (app_of program.entry) (file_words name.now).top) }
+    ensures local { IfOk result (λ with. (out-Command with).has_globals ≡ false) }
+{
+    let command = file_command(alloc, name, about, help)?;
+    program.subcommand(command)
 }
 
 /// The flag that orders the moves.

@@ -1,11 +1,14 @@
 //! A live script, played on a service of its own.
 
-ghost use Rattle.std.specs.Prelude.{◌≡◌, IfOk, IfErr, length, map, string_bytes, vec_items};
+ghost use Rattle.std.specs.Prelude.{◌≡◌, All, IfOk, IfErr, length, map, string_bytes, vec_items};
 ghost use Rattle.header_words.specs.Passes.{new_passes};
 ghost use Rattle.live_scripts.specs.Planned.{IsPlanOf};
 ghost use Rattle.live_scripts.specs.Plans.{calls_of, lows_of, monitors_in, objects_of};
 ghost use Rattle.live_scripts.specs.Rules.{IsLiveScript, attached};
+ghost use Rattle.live_turns.specs.Ends.{IsEnd};
+ghost use Rattle.live_turns.specs.Numbers.{HasEach};
 ghost use Rattle.live_turns.specs.Ways.{new_holding};
+ghost use Rattle.live_threads.specs.Ends.{at_rest, numbers_of};
 ghost use Rattle.live_runs.specs.Faults.{IsOfRun};
 ghost use Rattle.live_runs.specs.Runs.{IsLiveRun};
 
@@ -14,8 +17,8 @@ use crate::works::{taken_apart, works_of};
 use history_streams::FileFault;
 use live_scripts::{LivePlan, LiveScript, plan_of};
 use live_text::live_text;
-use live_threads::{Gate, Live, LiveClose, Work, drive};
-use live_turns::Crew;
+use live_threads::{Gate, Live, LiveClose, LivePass, Work, drive};
+use live_turns::{Closed, Crew};
 use std::alloc::Global;
 use std::marker::Brand;
 use std::sync::Wait;
@@ -113,8 +116,24 @@ fn drive_all<L: Crew + Send + Sync, R: Threads + Wait + Clock + Sync>(
         return Err(RunFault::File(FileFault::Memory));
     };
     let (passes, told) = taken_apart(alloc, worked)?;
+    let closed = end_of(alloc, live, passes)?;
+    Ok(live_text(alloc, script, &told, &closed)?)
+}
+
+/// Closes the service of a run, of which each pass is there.
+fn end_of<L: Crew>(
+    alloc: Global,
+    live: Live<L>,
+    passes: Vec<LivePass<L>>,
+) -> Result<Closed, RunFault>
+    requires belong { All (λ p. p.words.opening ≡ live) passes.items }
+    requires crew { (L.parts ≡ live.count) × (L.passes ≡ live.count) }
+    requires back { HasEach live.count (numbers_of passes.items) }
+    ensures end { IfOk result (IsEnd live L.monitors (map at_rest passes.items)) }
+    ensures fault { IfErr result IsOfRun }
+{
     match live.close(alloc, passes) {
-        Ok(closed) => Ok(live_text(alloc, script, &told, &closed)?),
+        Ok(closed) => Ok(closed),
         Err(LiveClose::WrongPass { .. }) => unreachable!(),
         Err(LiveClose::Memory { .. }) => Err(RunFault::File(FileFault::Memory)),
         Err(LiveClose::Torn) => Err(RunFault::Torn),

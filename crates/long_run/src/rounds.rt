@@ -58,16 +58,32 @@ fn play<L: Crew + Send + Sync, R: Threads + Wait + Clock + Sync>(
     requires few { threads ≤ 64 }
 {
     let (live, passes) = Live::<L>::open(alloc, blank, &LOWS, OBJECTS, threads, PLACES)?;
-    let plans = plans_of(alloc, round, threads)?;
-    let accounts = Accounts::new(alloc, plans)?;
-    let passes = work(rt, alloc, &live, &accounts, passes)?;
-    accounts.check()?;
+    let passes = play_on(rt, alloc, &live, round, threads, passes)?;
     match live.close(alloc, passes) {
         Ok(closed) => Ok(closed),
         Err(LiveClose::WrongPass { .. }) => Err(Trouble::Passes),
         Err(LiveClose::Memory { .. }) => Err(Trouble::Memory(Memory)),
         Err(LiveClose::Torn) => Err(Trouble::Torn),
     }
+}
+
+/// Has so many threads work at a service, and checks the accounts that they kept.
+fn play_on<L: Crew + Send + Sync, R: Threads + Wait + Clock + Sync>(
+    rt: &R,
+    alloc: Global,
+    live: &Live<L>,
+    round: u32,
+    threads: u16,
+    passes: Vec<LivePass<L>>,
+) -> Result<Vec<LivePass<L>>, Trouble>
+    requires here { All (λ p. p.words.opening ≡ live.now) passes.items }
+    ensures here { IfOk result (λ ps. All (λ p. p.words.opening ≡ live.entry.now) ps.items) }
+{
+    let plans = plans_of(alloc, round, threads)?;
+    let accounts = Accounts::new(alloc, plans)?;
+    let passes = work(rt, alloc, live, &accounts, passes)?;
+    accounts.check()?;
+    Ok(passes)
 }
 
 /// The workers make their calls, and the last thread keeps them going; all passes come back.

@@ -1,6 +1,7 @@
 //! The dumps of a folder: `NAME.dump` is that of the script `NAME.script`.
 
 use crate::comparing::first_difference;
+use crate::files::{names_in, text_of};
 use dump::dump_script;
 use history::{FileFault, ReaderSource, WriterSink};
 use std::alloc::Global;
@@ -13,7 +14,7 @@ where
     R: Files + Print + AllocGlobal + Clone + Drop,
 {
     let mut all_right = true;
-    for name in &names_in(rt, folder)? {
+    for name in &names_in(rt, folder, ".dump")? {
         all_right &= play_one(rt, folder, name)?;
     }
     Ok(all_right)
@@ -25,24 +26,8 @@ where
     R: Files + Print + AllocGlobal,
 {
     let script = fs::read(rt, format!(in rt.alloc(); "{folder}/{name}.script")?)?;
-    let dump = fs::read_to_string(rt, format!(in rt.alloc(); "{folder}/{name}.dump")?)?;
+    let dump = text_of(rt, folder, name, ".dump")?;
     compare(rt, name, &script, &dump)
-}
-
-/// The names of the dumps in a folder, in order.
-fn names_in<R>(rt: &R, folder: &str) -> io::Result<Vec<String>>
-where
-    R: Files + AllocGlobal + Clone + Drop,
-{
-    let mut names = Vec::new(rt.alloc());
-    for entry in fs::read_dir(rt, folder)? {
-        let entry = entry?;
-        if let Some(name) = entry.file_name().strip_suffix(".dump") {
-            names.push(String::from_str(rt.alloc(), name)?)?;
-        }
-    }
-    names.sort()?;
-    Ok(names)
 }
 
 /// The dump of a script, or why it has none.

@@ -11,7 +11,7 @@ where
     R: Files + Print + AllocGlobal + Clone + Drop,
 {
     let mut all_right = true;
-    for name in &names_in(rt, folder)? {
+    for name in &names_in(rt, folder, ".script")? {
         all_right &= play_example(rt, folder, name)?;
     }
     Ok(all_right)
@@ -23,8 +23,8 @@ where
     R: Files + Print + AllocGlobal,
 {
     let script = fs::read(rt, format!(in rt.alloc(); "{folder}/{name}.script")?)?;
-    let report = fs::read_to_string(rt, format!(in rt.alloc(); "{folder}/{name}.report")?)?;
-    let history = fs::read_to_string(rt, format!(in rt.alloc(); "{folder}/{name}.history")?)?;
+    let report = text_of(rt, folder, name, ".report")?;
+    let history = text_of(rt, folder, name, ".history")?;
     let wanted = Wanted {
         report: &report,
         history: Some(&history),
@@ -34,15 +34,23 @@ where
     compare(rt, name, &script, wanted)
 }
 
-/// The names of the scripts in a folder, in order.
-fn names_in<R>(rt: &R, folder: &str) -> io::Result<Vec<String>>
+/// What the file of a folder holds that has this name, with this suffix.
+pub fn text_of<R>(rt: &R, folder: &str, name: &str, suffix: &str) -> io::Result<String>
+where
+    R: Files + AllocGlobal,
+{
+    fs::read_to_string(rt, format!(in rt.alloc(); "{folder}/{name}{suffix}")?)
+}
+
+/// The names of the files of a folder that end with this suffix, without it, in order.
+pub fn names_in<R>(rt: &R, folder: &str, suffix: &str) -> io::Result<Vec<String>>
 where
     R: Files + AllocGlobal + Clone + Drop,
 {
     let mut names = Vec::new(rt.alloc());
     for entry in fs::read_dir(rt, folder)? {
         let entry = entry?;
-        if let Some(name) = entry.file_name().strip_suffix(".script") {
+        if let Some(name) = entry.file_name().strip_suffix(suffix) {
             names.push(String::from_str(rt.alloc(), name)?)?;
         }
     }

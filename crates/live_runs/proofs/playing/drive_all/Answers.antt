@@ -5,7 +5,7 @@ use Rattle.header_words.specs.Passes.{new_passes}
 use Rattle.live_turns.specs.Ends.{IsEnd}
 use Rattle.live_turns.specs.Ways.{Holding, new_holding}
 use Rattle.live_turns.proofs.Rows.{length-new_passes}
-use Rattle.live_threads.specs.Ends.{TellsEnd, at_rest}
+use Rattle.live_threads.specs.Ends.{at_rest}
 use Rattle.live_threads.proofs.Ends.{each_is_back}
 use Rattle.live_scripts.specs.Rules.{attached}
 use Rattle.live_scripts.specs.Plans.{calls_of, monitors_in, objects_of}
@@ -20,15 +20,13 @@ drive-requires-clause-can g c κs within =
     let ls = c.args.script.now in
     can_drive c.args.live c.args.live.count c.args.works.items (map (λ t. calls_of (objects_of ls) (attached ls) t ls) (attached ls)) c.requires.passes c.requires.calls (rows_live ls c.requires.script)
 
-pub close-requires-clause-belong : goal.close-requires-clause-belong
-close-requires-clause-belong g c =
+pub end_of-requires-clause-belong : goal.end_of-requires-clause-belong
+end_of-requires-clause-belong g c =
     subst (All (λ (p : Holding). p.words.opening ≡ c.args.live)) (sym c.in_ok-passes.ensures.passes) (passes_belong c.args.live c.args.works.items c.in-Ok.worked.items c.in-Ok.ensures.driven)
 
--- no pass is missing
-pub unreachable-requires : goal.unreachable-requires
-unreachable-requires g c =
-    subst (λ e. TellsEnd c.args.live.count c.in_ok-passes.passes.items e) c.in-Err-WrongPass.field-0-is c.in-Err-WrongPass.ensures.fault
-    (each_is_back c.args.live c.args.live.count c.args.works.items c.in-Ok.worked.items c.in_ok-passes.passes.items c.requires.passes c.in-Ok.ensures.numbers c.in_ok-passes.ensures.passes)
+pub end_of-requires-clause-back : goal.end_of-requires-clause-back
+end_of-requires-clause-back g c =
+    each_is_back c.args.live c.args.live.count c.args.works.items c.in-Ok.worked.items c.in_ok-passes.passes.items c.requires.passes c.in-Ok.ensures.numbers c.in_ok-passes.ensures.passes
 
 pub live_text-requires-clause-threads : goal.live_text-requires-clause-threads
 live_text-requires-clause-threads g c =
@@ -40,10 +38,10 @@ live_text-requires-clause-threads g c =
 
 pub live_text-requires-clause-objects : goal.live_text-requires-clause-objects
 live_text-requires-clause-objects g c =
-    sym (length-map c.in-Ok-close.closed.words.items (λ w. w.0)) ∙ (c.in-Ok-close.ensures.end.words.wide ∙ (ap length c.requires.lows ∙ as_many_lows c.args.script.now))
+    sym (length-map c.in_ok-closed.closed.words.items (λ w. w.0)) ∙ (c.in_ok-closed.ensures.end.words.wide ∙ (ap length c.requires.lows ∙ as_many_lows c.args.script.now))
 
-pub returns-in-Ok-close-clause-run : goal.returns-in-Ok-close-clause-run
-returns-in-Ok-close-clause-run g c =
+pub returns-clause-run : goal.returns-clause-run
+returns-clause-run g c =
     let driven = c.in-Ok.ensures.driven in
     let ws = c.args.works.items in
     let ds = c.in-Ok.worked.items in
@@ -55,9 +53,9 @@ returns-in-Ok-close-clause-run g c =
       starts = workers_before c.args.live ws ds driven ∙ c.requires.passes;
       calls = workers_calls c.args.live ws ds driven ∙ c.requires.calls;
       worked = workers_worked c.args.live ws ds driven;
-      closed = c.in-Ok-close.closed;
-      end = subst (λ ps. IsEnd c.args.live (monitors_in c.args.script.now) ps c.in-Ok-close.closed) (ap (map at_rest) c.in_ok-passes.ensures.passes ∙ sym (workers_after c.args.live ws ds driven))
-          (subst (λ n. IsEnd c.args.live n (map at_rest c.in_ok-passes.passes.items) c.in-Ok-close.closed) c.requires.crew.2 c.in-Ok-close.ensures.end);
-      says = c.in_ok-live_text-in-Ok-close.ensures ∙ ap (λ ts. live_text c.args.script.now ts c.in-Ok-close.closed)
+      closed = c.in_ok-closed.closed;
+      end = subst (λ ps. IsEnd c.args.live (monitors_in c.args.script.now) ps c.in_ok-closed.closed) (ap (map at_rest) c.in_ok-passes.ensures.passes ∙ sym (workers_after c.args.live ws ds driven))
+          (subst (λ n. IsEnd c.args.live n (map at_rest c.in_ok-passes.passes.items) c.in_ok-closed.closed) c.requires.crew.2 c.in_ok-closed.ensures.end);
+      says = c.in_ok-live_text.ensures ∙ ap (λ ts. live_text c.args.script.now ts c.in_ok-closed.closed)
           (ap (map told_in_row) c.deref.ensures.value ∙ (c.in_ok-passes.ensures.told ∙ sym (workers_told c.args.live ws ds driven)));
     }

@@ -6,8 +6,8 @@ use Rattle.header_words.proofs.Opens.{new_passes_belong}
 use Rattle.live_turns.specs.Ways.{Holding, new_holding}
 use Rattle.long_run.proofs.rounds.play.Goals as goal
 
-pub work-requires-clause-here : goal.work-requires-clause-here
-work-requires-clause-here g c κs within =
+pub play_on-requires-clause-here : goal.play_on-requires-clause-here
+play_on-requires-clause-here g c κs within =
     subst (All (λ (p : Holding). p.words.opening ≡ c.in_ok-live.live)) (sym c.in_ok-live.ensures.passes) (belong c.in_ok-live.live c.args.threads)
   where
     belong : (z : Opening) (count : ℕ) → All (λ (p : Holding). p.words.opening ≡ z) (map new_holding (new_passes z 1 count))
