@@ -9,3 +9,6 @@ loop-rest-preserved g c = record {
   count = grind (arith, common_steps);
   room = grind (arith, common_steps);
 }
+
+pub invariant_of-push_reserved : goal.invariant_of-push_reserved
+invariant_of-push_reserved g c = grind (arith, common_steps)

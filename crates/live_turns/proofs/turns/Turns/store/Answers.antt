@@ -1,3 +1,4 @@
+use Rattle.std.proofs.lemmas.Grind.{common_steps}
 use Rattle.std.specs.Prelude.{◌≡◌, ◌<◌, ◌+◌}
 use Rattle.std.proofs.Common.{refl, arith}
 use Rattle.header_words.specs.Passes.{depth_at}
@@ -46,3 +47,12 @@ returns-in-Exit-Thin-clause-went g c =
     let p : Holding = record { words = c.holder.inside.words; own = c.holder.inside.own.list.items } in
     let q : Holding = record { words = c.unnest.new.pass; own = c.holder.inside.own.list.items } in
     rw (← c.holder.view_is) (unnest_way c.args.call c.args.old c.args.new c.in-Exit-Thin.index-1 c.in-Exit-Thin.count-1 _ p q c.in-Exit-Thin.is-0 c.in-Exit-Thin.is-1 c.requires.fits (rw (← c.holder.view_is) at c.requires.calls) c.unnest.ensures refl)
+
+pub returns-in-Enter-default-clause-visit : goal.returns-in-Enter-default-clause-visit
+returns-in-Enter-default-clause-visit g c = grind (arith, common_steps)
+
+pub returns-in-Exit-Free-clause-visit : goal.returns-in-Exit-Free-clause-visit
+returns-in-Exit-Free-clause-visit g c = grind (arith, common_steps)
+
+pub returns-in-Exit-Thin-clause-visit : goal.returns-in-Exit-Thin-clause-visit
+returns-in-Exit-Thin-clause-visit g c = grind (arith, common_steps)
