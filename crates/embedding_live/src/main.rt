@@ -91,6 +91,20 @@ fn run<L: Crew + Send + Sync, R: Threads + Wait + Clock + Sync>(
         return Err(Trouble::Passes);
     };
     let (first, second) = pay_in(rt, &live, (first, second), account)?;
+    close(alloc, live, first, second)
+}
+
+/// Closes a service of two passes.
+fn close<L: Crew>(
+    alloc: Global,
+    live: Live<L>,
+    first: LivePass<L>,
+    second: LivePass<L>,
+) -> Result<Closed, Trouble>
+    requires first { first.words.opening ≡ live }
+    requires second { second.words.opening ≡ live }
+    requires crew { (L.parts ≡ live.count) × (L.passes ≡ live.count) }
+{
     let Ok(passes) = vec![in alloc; first, second] else {
         return Err(Trouble::Memory(Memory));
     };
