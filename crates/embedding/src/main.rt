@@ -4,7 +4,7 @@
 #![tactic(auto)]
 
 use std::io::Print;
-use std::{array, io};
+use std::io;
 use step_core::{
     Answer, Atomic, Call, Did, Doing, Fault, Memory, Move, ObjectId, Split, Step, ThreadId, World,
 };
@@ -21,18 +21,34 @@ enum Trouble {
     System(#[from] io::Error),
 }
 
-/// A thread, the calls that it is still to make, and its next step, unless it is parked or done.
+/// A thread, its calls and how many of them it has begun, and its next step, unless it is parked or
+/// done.
 #[derive(Drop)]
 struct JavaThread {
     id: ThreadId,
-    calls: array::IntoIter<Call, 8>,
+    calls: [Call; 8],
+    begun: usize,
     next: Option<Step>,
 }
 
-/// A thread that is to be attached, and then to make these calls.
-fn new_thread(id: ThreadId, calls: [Call; 8]) -> JavaThread {
-    let (calls, next) = (calls.into_iter(), Some(Step::Attach { thread: id }));
-    JavaThread { id, calls, next }
+impl JavaThread {
+    /// A thread that is to be attached, and then to make these calls.
+    fn new(id: ThreadId, calls: [Call; 8]) -> JavaThread {
+        JavaThread {
+            id,
+            calls,
+            begun: 0,
+            next: Some(Step::Attach { thread: id }),
+        }
+    }
+
+    /// The step that begins the next of the calls, if there is one more.
+    fn begin(&mut self) -> Option<Step> {
+        let call = *self.calls.get(self.begun)?;
+        self.begun = self.begun.saturating_add(1);
+        let thread = self.id;
+        Some(Step::Begin { thread, call })
+    }
 }
 
 #[derive(Drop)]
@@ -58,15 +74,13 @@ impl Runtime {
         for at in 0..self.threads.len() {
             if let Some(step) = self.threads[at].next {
                 let did = self.step(rt, step)?;
-                let JavaThread { id, calls, next } = &mut self.threads[at];
-                *next = match did.atomic {
+                let java = &mut self.threads[at];
+                java.next = match did.atomic {
                     // It is attached now, or its call has returned: it begins the next one.
-                    _ if did.reply.is_some() || matches!(step, Step::Attach { .. }) => {
-                        calls.next().map(|call| Step::Begin { thread: *id, call })
-                    }
+                    _ if did.reply.is_some() || matches!(step, Step::Attach { .. }) => java.begin(),
                     // It stands in a line now, and has no Go until a step grants it the monitor.
                     Atomic::Acted { answer, .. } if answer == Answer::Parked => None,
-                    _ => Some(Step::Go { thread: *id }),
+                    _ => Some(Step::Go { thread: java.id }),
                 };
             }
         }
@@ -132,7 +146,7 @@ fn main(rt: HostRuntime) -> Result<(), Trouble> {
     // The three waits of thread one end by the notify, by their time, and by the interrupt.
     let one_calls = [enter, enter, wait(5), wait(5), wait(0), exit, exit, end];
     let two_calls = [enter, notify, exit, enter, wait(8), interrupt, exit, end];
-    let threads = [new_thread(one, one_calls), new_thread(two, two_calls)];
+    let threads = [JavaThread::new(one, one_calls), JavaThread::new(two, two_calls)];
     // One object with the low byte A5, one fat monitor, two indices.
     let world = World::new(rt.alloc(), &[0xA5], 1, 2, Split::Wide)?;
     let mut runtime = Runtime { world, threads };
