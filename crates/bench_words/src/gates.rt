@@ -116,6 +116,26 @@ fn hold_in_two<R: Threads + Sync>(
     )
 }
 
+// The same in one thread or in two, of these passes.
+fn hold_in_threads<R: Threads + Sync>(
+    setup: &Setup<'_, R>,
+    headers: &Headers<Book>,
+    threads: u32,
+    passes: (Pass<Book>, Pass<Book>),
+) -> (Pass<Book>, Pass<Book>)
+    requires left { (passes.0.opening ≡ headers.now) × (passes.0.has_gate ≡ false) }
+    requires right { (passes.1.opening ≡ headers.now) × (passes.1.has_gate ≡ false) }
+    ensures left { (result.0.opening ≡ headers.entry.now) × (result.0.has_gate ≡ false) }
+    ensures right { (result.1.opening ≡ headers.entry.now) × (result.1.has_gate ≡ false) }
+{
+    if threads == 1 {
+        let (first, second) = passes;
+        (hold_often(headers, first, setup.rounds), second)
+    } else {
+        hold_in_two(setup.rt, headers, passes, setup.rounds)
+    }
+}
+
 // The two atomic operations of a take and a give, on a bare word, so many times.
 fn bare_hold(word: &AtomicU64, rounds: u32) -> u32 {
     let mut done = 0u32;
@@ -135,8 +155,14 @@ fn bare_hold(word: &AtomicU64, rounds: u32) -> u32 {
     done
 }
 
+// The same in each of two threads.
+fn bare_hold_in_two<R: Threads + Sync>(rt: &R, word: &AtomicU64, rounds: u32) -> u32 {
+    let (one, two) = thread::join(rt, || bare_hold(word, rounds), || bare_hold(word, rounds));
+    one.wrapping_add(two)
+}
+
 // How many takings the book has counted, once these two passes are back beside all others.
-fn count_takings_of_two(
+fn count_takings(
     alloc: Global,
     headers: Headers<Book>,
     mut passes: Vec<Pass<Book>>,
@@ -151,50 +177,18 @@ fn count_takings_of_two(
     let (Ok(()), Ok(())) = (passes.push(left), passes.push(right)) else {
         return Err(BenchFault::Memory(Memory));
     };
-    count_takings(alloc, headers, passes)
-}
-
-// How many takings the book has counted, once all passes are back.
-fn count_takings(
-    alloc: Global,
-    headers: Headers<Book>,
-    passes: Vec<Pass<Book>>,
-) -> Result<u32, BenchFault>
-    requires belong { All (λ p. p.opening ≡ headers) passes.items }
-    requires without { All (λ p. p.has_gate ≡ false) passes.items }
-{
     let Ok((_, book)) = headers.close(alloc, passes) else {
         return Err(BenchFault::Passes);
     };
     Ok(book.takings())
 }
 
-/// Times a take and a give by one pass.
-pub fn take_in_one<R: Clock + Threads + Sync>(
+/// Times a take and a give by one pass, or by two that fight for the gate, each in a thread of its
+/// own.
+pub fn take_in_threads<R: Clock + Threads + Sync>(
     setup: &Setup<'_, R>,
     alloc: Global,
-) -> Result<Measure, BenchFault>
-    requires { length setup.now.lows.now ≡ 256 }
-{
-    let (headers, mut passes) = setup.open(alloc, 1)?;
-    let Some(mut pass) = passes.pop() else {
-        return Err(BenchFault::Passes);
-    };
-    inflate(&headers, &mut pass, alloc)?;
-    let start = Instant::now(setup.rt)?;
-    let pass = hold_often(&headers, pass, setup.rounds);
-    let time = start.elapsed(setup.rt)?.as_nanos();
-    let Ok(()) = passes.push(pass) else {
-        return Err(BenchFault::Memory(Memory));
-    };
-    let done = count_takings(alloc, headers, passes)?;
-    Ok(Measure { done, time })
-}
-
-/// Times takes and gives by two passes, each in a thread of its own, that fight for the gate.
-pub fn take_in_two<R: Clock + Threads + Sync>(
-    setup: &Setup<'_, R>,
-    alloc: Global,
+    threads: u32,
 ) -> Result<Measure, BenchFault>
     requires { length setup.now.lows.now ≡ 256 }
 {
@@ -204,33 +198,24 @@ pub fn take_in_two<R: Clock + Threads + Sync>(
     };
     inflate(&headers, &mut first, alloc)?;
     let start = Instant::now(setup.rt)?;
-    let back = hold_in_two(setup.rt, &headers, (first, second), setup.rounds);
+    let back = hold_in_threads(setup, &headers, threads, (first, second));
     let time = start.elapsed(setup.rt)?.as_nanos();
-    let done = count_takings_of_two(alloc, headers, passes, back)?;
+    let done = count_takings(alloc, headers, passes, back)?;
     Ok(Measure { done, time })
 }
 
-/// Times the bare operations in one thread.
-pub fn bare_in_one<R: Clock + Threads + Sync>(setup: &Setup<'_, R>) -> Result<Measure, BenchFault> {
-    let word = AtomicU64::new(0);
+/// Times the bare operations in one thread, or in two that fight for one word.
+pub fn bare_in_threads<R: Clock + Threads + Sync>(
+    setup: &Setup<'_, R>,
+    threads: u32,
+) -> Result<Measure, BenchFault> {
+    let (word, rounds) = (AtomicU64::new(0), setup.rounds);
     let start = Instant::now(setup.rt)?;
-    let done = bare_hold(&word, setup.rounds);
+    let done = if threads == 1 {
+        bare_hold(&word, rounds)
+    } else {
+        bare_hold_in_two(setup.rt, &word, rounds)
+    };
     let time = start.elapsed(setup.rt)?.as_nanos();
     Ok(Measure { done, time })
-}
-
-/// Times the bare operations in two threads that fight for one word.
-pub fn bare_in_two<R: Clock + Threads + Sync>(setup: &Setup<'_, R>) -> Result<Measure, BenchFault> {
-    let word = AtomicU64::new(0);
-    let start = Instant::now(setup.rt)?;
-    let (one, two) = thread::join(
-        setup.rt,
-        || bare_hold(&word, setup.rounds),
-        || bare_hold(&word, setup.rounds),
-    );
-    let time = start.elapsed(setup.rt)?.as_nanos();
-    Ok(Measure {
-        done: one.wrapping_add(two),
-        time,
-    })
 }

@@ -156,6 +156,29 @@ fn run_four<R: Threads + Sync>(
     one.wrapping_add(two)
 }
 
+/// Does the work in one thread, in two or in four.
+fn run_some<R: Threads + Sync>(
+    setup: &Setup<'_, R>,
+    shared: &Shared<'_>,
+    threads: u32,
+    work: Work,
+    left: (Pass<Book>, Pass<Book>),
+    right: (Pass<Book>, Pass<Book>),
+) -> u32
+    requires objects { 192 < length shared.now.headers.now.lows }
+    requires first { (left.0.opening ≡ shared.now.headers.now) × (left.0.mine ≡ []) }
+    requires second { (left.1.opening ≡ shared.now.headers.now) × (left.1.mine ≡ []) }
+    requires third { (right.0.opening ≡ shared.now.headers.now) × (right.0.mine ≡ []) }
+    requires fourth { (right.1.opening ≡ shared.now.headers.now) × (right.1.mine ≡ []) }
+{
+    let rounds = setup.rounds;
+    match threads {
+        1 => run(shared, work, rounds, left.0, ObjectId(0)),
+        2 => run_two(setup.rt, shared, work, rounds, left, 0),
+        _ => run_four(setup.rt, shared, work, rounds, left, right),
+    }
+}
+
 /// What a run of some threads did, and how long it took.
 #[derive(Clone, Copy)]
 pub struct Measure {
@@ -193,59 +216,17 @@ impl<R> Setup<'_, R> {
     }
 }
 
-/// Times the work in one thread.
-pub fn in_one<R: Clock + Threads + Sync>(
+/// Times the work in one thread, in two or in four.
+pub fn in_threads<R: Clock + Threads + Sync>(
     setup: &Setup<'_, R>,
     alloc: Global,
-    work: Work,
-) -> Result<Measure, BenchFault>
-    requires { length setup.now.lows.now ≡ 256 }
-{
-    let (headers, mut passes) = setup.open(alloc, 1)?;
-    let Some(pass) = passes.pop() else {
-        return Err(BenchFault::Passes);
-    };
-    let shared = Shared {
-        headers: &headers,
-        bare: setup.bare,
-    };
-    let start = Instant::now(setup.rt)?;
-    let done = run(&shared, work, setup.rounds, pass, ObjectId(0));
-    let time = start.elapsed(setup.rt)?.as_nanos();
-    Ok(Measure { done, time })
-}
-
-/// Times the work in two threads.
-pub fn in_two<R: Clock + Threads + Sync>(
-    setup: &Setup<'_, R>,
-    alloc: Global,
-    work: Work,
-) -> Result<Measure, BenchFault>
-    requires { length setup.now.lows.now ≡ 256 }
-{
-    let (headers, mut passes) = setup.open(alloc, 2)?;
-    let (Some(second), Some(first)) = (passes.pop(), passes.pop()) else {
-        return Err(BenchFault::Passes);
-    };
-    let shared = Shared {
-        headers: &headers,
-        bare: setup.bare,
-    };
-    let start = Instant::now(setup.rt)?;
-    let done = run_two(setup.rt, &shared, work, setup.rounds, (first, second), 0);
-    let time = start.elapsed(setup.rt)?.as_nanos();
-    Ok(Measure { done, time })
-}
-
-/// Times the work in four threads.
-pub fn in_four<R: Clock + Threads + Sync>(
-    setup: &Setup<'_, R>,
-    alloc: Global,
+    threads: u32,
     work: Work,
 ) -> Result<Measure, BenchFault>
     requires { length setup.now.lows.now ≡ 256 }
 {
     let (headers, mut passes) = setup.open(alloc, 4)?;
+    let start = Instant::now(setup.rt)?;
     let (Some(fourth), Some(third)) = (passes.pop(), passes.pop()) else {
         return Err(BenchFault::Passes);
     };
@@ -256,15 +237,8 @@ pub fn in_four<R: Clock + Threads + Sync>(
         headers: &headers,
         bare: setup.bare,
     };
-    let start = Instant::now(setup.rt)?;
-    let done = run_four(
-        setup.rt,
-        &shared,
-        work,
-        setup.rounds,
-        (first, second),
-        (third, fourth),
-    );
+    let (left, right) = ((first, second), (third, fourth));
+    let done = run_some(setup, &shared, threads, work, left, right);
     let time = start.elapsed(setup.rt)?.as_nanos();
     Ok(Measure { done, time })
 }

@@ -12,10 +12,11 @@ mod book;
 mod gates;
 mod lanes;
 
-use gates::{bare_in_one, bare_in_two, take_in_one, take_in_two};
-use lanes::{Measure, Setup, Work, in_four, in_one, in_two};
+use gates::{bare_in_threads, take_in_threads};
+use lanes::{Measure, Setup, Work, in_threads};
 use lock_word::Memory;
-use std::alloc::{AllocError, Global};
+use std::alloc::{AllocError, AllocGlobal, Global};
+use std::env::Env;
 use std::io::Print;
 use std::num::ParseIntError;
 use std::sync::atomic::AtomicU64;
@@ -45,7 +46,7 @@ const WORDS: usize = 256;
 
 const RUNS: usize = 7;
 
-// What a row of the report measures.
+// What is measured.
 #[derive(Clone, Copy)]
 enum Task {
     // Work on words, each thread on its own.
@@ -56,6 +57,37 @@ enum Task {
     BareTake,
 }
 
+// A pair of calls, and the bare operations that it stands for.
+type Pair = (&'static str, Task, Task);
+
+const LOCKS: Pair = (
+    "acquire and release",
+    Task::Words(Work::Lock),
+    Task::Words(Work::BareLock),
+);
+
+const NESTS: Pair = (
+    "nest and unnest",
+    Task::Words(Work::Nest),
+    Task::Words(Work::BareNest),
+);
+
+const TAKES: Pair = ("take and give", Task::Take, Task::BareTake);
+
+// A row of the report: how many threads do a pair.
+type Row = (u32, Pair);
+
+const ROWS: [Row; 8] = [
+    (1, LOCKS),
+    (1, NESTS),
+    (2, LOCKS),
+    (2, NESTS),
+    (4, LOCKS),
+    (4, NESTS),
+    (1, TAKES),
+    (2, TAKES),
+];
+
 fn measure<R: Clock + Threads + Sync>(
     setup: &Setup<'_, R>,
     alloc: Global,
@@ -64,14 +96,10 @@ fn measure<R: Clock + Threads + Sync>(
 ) -> Result<Measure, BenchFault>
     requires { length setup.now.lows.now ≡ WORDS }
 {
-    match (task, threads) {
-        (Task::Words(work), 1) => in_one(setup, alloc, work),
-        (Task::Words(work), 2) => in_two(setup, alloc, work),
-        (Task::Words(work), _) => in_four(setup, alloc, work),
-        (Task::Take, 1) => take_in_one(setup, alloc),
-        (Task::Take, _) => take_in_two(setup, alloc),
-        (Task::BareTake, 1) => bare_in_one(setup),
-        (Task::BareTake, _) => bare_in_two(setup),
+    match task {
+        Task::Words(work) => in_threads(setup, alloc, threads, work),
+        Task::Take => take_in_threads(setup, alloc, threads),
+        Task::BareTake => bare_in_threads(setup, threads),
     }
 }
 
@@ -114,63 +142,45 @@ fn bare_words(alloc: Global) -> Result<Vec<AtomicU64>, AllocError> {
 fn report<R: Clock + Threads + Print + Sync>(
     setup: &Setup<'_, R>,
     alloc: Global,
-    threads: u32,
-    name: &str,
-    tasks: (Task, Task),
+    row: &Row,
     timed: bool,
 ) -> Result<(), BenchFault>
     requires { length setup.now.lows.now ≡ WORDS }
 {
-    let (pair, base) = tasks;
+    let (threads, (name, calls, bare)) = *row;
     if timed {
-        let (ours, theirs) = best(setup, alloc, threads, pair, base)?;
+        let (ours, theirs) = best(setup, alloc, threads, calls, bare)?;
         let percent = ours.saturating_mul(100) / theirs.max(1);
         println!(setup.rt;
             "threads {threads}, {name}: {ours} ps by calls, {theirs} ps bare, {percent} percent"
         )?;
     } else {
-        let ours = measure(setup, alloc, threads, pair)?.done;
-        let theirs = measure(setup, alloc, threads, base)?.done;
+        let ours = measure(setup, alloc, threads, calls)?.done;
+        let theirs = measure(setup, alloc, threads, bare)?.done;
         println!(setup.rt; "threads {threads}, {name}: {ours} by calls, {theirs} bare")?;
     }
     Ok(())
 }
 
+// The number of rounds that the program is given, if it is.
+fn rounds_wanted<R: AllocGlobal + Env>(rt: &R) -> Result<Option<u32>, BenchFault> {
+    match env::args(rt)?.nth(1) {
+        Some(text) => Ok(Some(text.parse::<u32>()?)),
+        None => Ok(None),
+    }
+}
+
 fn main(rt: HostRuntime) -> Result<(), BenchFault> {
-    let alloc = rt.alloc();
-    let rounds = match env::args(&rt)?.nth(1) {
-        Some(text) => Some(text.parse::<u32>()?),
-        None => None,
-    };
-    let lows = [0u8; WORDS];
-    let bare = bare_words(alloc)?;
+    let rounds = rounds_wanted(&rt)?;
+    let bare = bare_words(rt.alloc())?;
     let setup = Setup {
         rt: &rt,
-        lows: &lows,
+        lows: &[0; WORDS],
         bare: bare.as_slice(),
         rounds: rounds.unwrap_or(1_000),
     };
-    let locks = (
-        "acquire and release",
-        (Task::Words(Work::Lock), Task::Words(Work::BareLock)),
-    );
-    let nests = (
-        "nest and unnest",
-        (Task::Words(Work::Nest), Task::Words(Work::BareNest)),
-    );
-    let takes = ("take and give", (Task::Take, Task::BareTake));
-    let rows = [
-        (1, locks),
-        (1, nests),
-        (2, locks),
-        (2, nests),
-        (4, locks),
-        (4, nests),
-        (1, takes),
-        (2, takes),
-    ];
-    for (threads, (name, tasks)) in rows {
-        report(&setup, alloc, threads, name, tasks, rounds.is_some())?;
+    for row in &ROWS {
+        report(&setup, rt.alloc(), row, rounds.is_some())?;
     }
     Ok(())
 }
