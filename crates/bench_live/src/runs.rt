@@ -1,6 +1,6 @@
 //! Runs of the benchmark, each on a service of its own.
 
-ghost use Rattle.std.specs.Prelude.{◌≡◌};
+ghost use Rattle.std.specs.Prelude.{◌≡◌, IfOk};
 
 use crate::BenchFault;
 use crate::rounds::{
@@ -105,6 +105,28 @@ fn run<L: Crew + Send + Sync, R: Threads + Wait + Clock + Sync>(
     Ok(Measure { done, time })
 }
 
+// A service with one object, one monitor and a record of so many places, and its two passes.
+fn open_for_two<L: Crew>(
+    alloc: Global,
+    blank: Blank,
+    places: u32,
+) -> Result<(Live<L>, LivePass<L>, LivePass<L>), BenchFault>
+    requires name { blank.name ≡ L.name }
+    requires parts { (blank.parts ≡ L.parts) × (L.parts ≡ 2) }
+    requires crew { (L.passes ≡ 2) × (L.monitors ≡ 1) × (L.places ≡ places) }
+    ensures first { IfOk result (λ r. r.1.words.opening ≡ r.0) }
+    ensures second { IfOk result (λ r. r.2.words.opening ≡ r.0) }
+{
+    let (live, mut passes) = Live::<L>::open(alloc, blank, &[0], 1, 2, places)?;
+    let Some(second) = passes.pop() else {
+        return Err(BenchFault::Passes);
+    };
+    let Some(first) = passes.pop() else {
+        return Err(BenchFault::Passes);
+    };
+    Ok((live, first, second))
+}
+
 /// A run of this work, on a service with a record of so many places.
 pub fn measure<L: Crew + Send + Sync, R: Threads + Wait + Clock + Sync>(
     rt: &R,
@@ -118,11 +140,31 @@ pub fn measure<L: Crew + Send + Sync, R: Threads + Wait + Clock + Sync>(
     requires parts { (blank.parts ≡ L.parts) × (L.parts ≡ 2) }
     requires crew { (L.passes ≡ 2) × (L.monitors ≡ 1) × (L.places ≡ places) }
 {
-    let (live, mut passes) = Live::<L>::open(alloc, blank, &[0], 1, 2, places)?;
-    let (Some(mut second), Some(mut first)) = (passes.pop(), passes.pop()) else {
-        return Err(BenchFault::Passes);
-    };
+    let (live, mut first, mut second) = open_for_two::<L>(alloc, blank, places)?;
     run(rt, &live, &mut first, &mut second, work, rounds)
+}
+
+// The first thread waits, and the second notifies after so long.
+fn doze_of_two<L: Crew + Send + Sync, R: Threads + Wait + Clock + CpuClock + Sync>(
+    rt: &R,
+    live: &Live<L>,
+    first: &mut LivePass<L>,
+    second: &mut LivePass<L>,
+    pause: Duration,
+) -> Result<Option<u128>, BenchFault>
+    requires first { first.old.words.opening ≡ live.now }
+    requires second { second.old.words.opening ≡ live.now }
+{
+    // The one that notifies enters once this one waits.
+    let _entered = live.enter(rt, first, OBJECT);
+    let start = rt.process_cpu_time()?;
+    let (waited, notified) = join(
+        rt,
+        || wait_once(rt, live, first),
+        || notify_after(rt, live, second, pause),
+    );
+    let used = rt.process_cpu_time()?.saturating_sub(start);
+    Ok((waited && notified).then_some(used.as_nanos()))
 }
 
 /// The processor time of the process while one of its threads waits for so long and the other
@@ -137,18 +179,6 @@ pub fn doze<L: Crew + Send + Sync, R: Threads + Wait + Clock + CpuClock + Sync>(
     requires parts { (blank.parts ≡ L.parts) × (L.parts ≡ 2) }
     requires crew { (L.passes ≡ 2) × (L.monitors ≡ 1) × (L.places ≡ 100) }
 {
-    let (live, mut passes) = Live::<L>::open(alloc, blank, &[0], 1, 2, 100)?;
-    let (Some(mut second), Some(mut first)) = (passes.pop(), passes.pop()) else {
-        return Err(BenchFault::Passes);
-    };
-    // The one that notifies enters once this one waits.
-    let _entered = live.enter(rt, &mut first, OBJECT);
-    let start = rt.process_cpu_time()?;
-    let (waited, notified) = join(
-        rt,
-        || wait_once(rt, &live, &mut first),
-        || notify_after(rt, &live, &mut second, pause),
-    );
-    let used = rt.process_cpu_time()?.saturating_sub(start);
-    Ok((waited && notified).then_some(used.as_nanos()))
+    let (live, mut first, mut second) = open_for_two::<L>(alloc, blank, 100)?;
+    doze_of_two(rt, &live, &mut first, &mut second, pause)
 }

@@ -5,10 +5,11 @@
 //! byte FF, which is no text. No script has one of these three.
 
 use crate::comparing::{ends_in, play as report_of};
+use crate::files::text_of;
 use history::FileFault;
 use std::alloc::{AllocError, Global};
+use std::io;
 use std::rt::Files;
-use std::{fs, io};
 
 /// Plays the table `bad_scripts` of a folder, and the front of a script up to each of its bytes.
 pub fn play<R: Files + Print + AllocGlobal>(rt: &R, folder: &str) -> io::Result<bool> {
@@ -18,7 +19,11 @@ pub fn play<R: Files + Print + AllocGlobal>(rt: &R, folder: &str) -> io::Result<
 }
 
 fn play_rows<R: Files + Print + AllocGlobal>(rt: &R, folder: &str) -> io::Result<bool> {
-    let table = fs::read_to_string(rt, format!(in rt.alloc(); "{folder}/bad_scripts")?)?;
+    judge_rows(rt, &text_of(rt, folder, "bad_scripts", "")?)
+}
+
+/// Prints each row of a table that is not so, and how many are.
+fn judge_rows<R: Print + AllocGlobal>(rt: &R, table: &str) -> io::Result<bool> {
     let mut played = 0u64;
     let mut right = 0u64;
     for row in table.lines() {
@@ -34,8 +39,12 @@ fn play_rows<R: Files + Print + AllocGlobal>(rt: &R, folder: &str) -> io::Result
 }
 
 fn play_cuts<R: Files + Print + AllocGlobal>(rt: &R, folder: &str) -> io::Result<bool> {
-    let script = fs::read(rt, format!(in rt.alloc(); "{folder}/one_enter.script")?)?;
-    let wrong = wrong_cuts(rt.alloc(), &script);
+    let script = text_of(rt, folder, "one_enter", ".script")?;
+    tell_cuts(rt, wrong_cuts(rt.alloc(), script.as_bytes()))
+}
+
+/// Prints how many fronts of the script are wrong.
+fn tell_cuts<R: Print>(rt: &R, wrong: u64) -> io::Result<bool> {
     println!(rt; "one_enter, cut after each byte: {wrong} wrong")?;
     Ok(wrong == 0)
 }

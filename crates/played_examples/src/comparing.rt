@@ -174,17 +174,17 @@ where
     if !is_wanted(rt, name, history, wanted.history.unwrap_or(history))? {
         return Ok(false);
     }
-    if !is_printed_again(rt.alloc(), script).unwrap_or(false) {
-        println!(rt; "{name}: its script is printed otherwise")?;
-        return Ok(false);
-    }
     let moves = wanted.moves;
-    if !is_run(rt.alloc(), history, moves).unwrap_or(false) {
-        println!(rt; "{name}: its history is checked otherwise")?;
-        return Ok(false);
-    }
-    println!(rt; "{name}: as its report says, a run of {moves} moves")?;
-    Ok(true)
+    let wrong = if !is_printed_again(rt.alloc(), script).unwrap_or(false) {
+        "its script is printed otherwise"
+    } else if !is_run(rt.alloc(), history, moves).unwrap_or(false) {
+        "its history is checked otherwise"
+    } else {
+        println!(rt; "{name}: as its report says, a run of {moves} moves")?;
+        return Ok(true);
+    };
+    println!(rt; "{name}: {wrong}")?;
+    Ok(false)
 }
 
 /// Whether a script ends in a fault.

@@ -3,37 +3,32 @@
 use std::alloc::{AllocError, Global};
 use std::fmt::Write;
 
+/// A step of a script, and the line that its report has of it.
+pub type Shown = (&'static str, &'static str);
+
 /// A script with the report that it is to have.
 #[derive(Drop)]
 pub struct Draft {
     pub script: String,
     pub report: String,
-    // The word of the object that x holds once.
-    held_once: u32,
+    is_deep: bool,
 }
 
 impl Draft {
-    /// A world with these many monitors and four indices, one object, and the thread x.
-    pub fn new(alloc: Global, monitors: u32) -> Result<Draft, AllocError> {
-        let world = format!(in alloc; "world {monitors} 4\n")?;
-        Draft::in_world(alloc, world, 0x0001_00A5)
-    }
-
-    /// The same in the deep split.
-    pub fn deep(alloc: Global, monitors: u32) -> Result<Draft, AllocError> {
-        let world = format!(in alloc; "world {monitors} 4 deep\n")?;
-        Draft::in_world(alloc, world, 0x0010_00A5)
-    }
-
-    fn in_world(alloc: Global, world: String, held_once: u32) -> Result<Draft, AllocError> {
-        let mut draft = Draft {
-            script: world,
+    /// Nothing yet, of a world of the deep split or of the wide one.
+    pub fn new(alloc: Global, is_deep: bool) -> Draft {
+        Draft {
+            script: String::new(alloc),
             report: String::new(alloc),
-            held_once,
-        };
-        draft.script.push_str("object a A5\n")?;
-        draft.add("attach x", "attach x index 1")?;
-        Ok(draft)
+            is_deep,
+        }
+    }
+
+    /// A world with these many monitors and four indices, one object, and the thread x.
+    pub fn begin(&mut self, monitors: u32) -> Result<(), AllocError> {
+        let split = if self.is_deep { " deep" } else { "" };
+        writeln!(self.script, "world {monitors} 4{split}\nobject a A5")?;
+        self.add("attach x", "attach x index 1")
     }
 
     /// Adds a step and the line that it prints.
@@ -43,7 +38,7 @@ impl Draft {
     }
 
     /// Adds some steps, each with the line that it prints.
-    pub fn add_all(&mut self, steps: &[(&str, &str)]) -> Result<(), AllocError> {
+    pub fn add_all(&mut self, steps: &[Shown]) -> Result<(), AllocError> {
         for (step, line) in steps {
             self.add(step, line)?;
         }
@@ -51,7 +46,7 @@ impl Draft {
     }
 
     /// Adds the same steps this often.
-    pub fn add_often(&mut self, times: u32, steps: &[(&str, &str)]) -> Result<(), AllocError> {
+    pub fn add_often(&mut self, times: u32, steps: &[Shown]) -> Result<(), AllocError> {
         for _ in 0..times {
             self.add_all(steps)?;
         }
@@ -61,7 +56,12 @@ impl Draft {
     /// Adds so many enters by x of the free object, as a thin word counts at most: an exchange of
     /// the free word, and then a store for each further one.
     pub fn enter_thinly(&mut self, times: u32) -> Result<(), AllocError> {
-        let mut word = self.held_once;
+        // The word of the object that x holds once.
+        let mut word: u32 = if self.is_deep {
+            0x0010_00A5
+        } else {
+            0x0001_00A5
+        };
         for enter in 0..times {
             self.add("begin x enter a", "begin x")?;
             self.script.push_str("go x\ngo x\n")?;

@@ -42,25 +42,24 @@ fn compare<R>(rt: &R, name: &str, script: &[u8], wanted: &str) -> io::Result<boo
 where
     R: Print + AllocGlobal,
 {
-    let dump = match dump_of(rt.alloc(), script) {
-        Ok(dump) => dump,
+    match dump_of(rt.alloc(), script) {
+        Ok(dump) => is_wanted(rt, name, &dump, wanted),
         Err(fault) => {
             println!(rt; "dump of {name}: {fault}")?;
-            return Ok(false);
+            Ok(false)
         }
-    };
-    let Ok(dump) = str::from_utf8(&dump) else {
+    }
+}
+
+/// Prints whether a dump is the wanted one.
+fn is_wanted<R: Print>(rt: &R, name: &str, dump: &[u8], wanted: &str) -> io::Result<bool> {
+    let Ok(dump) = str::from_utf8(dump) else {
         println!(rt; "dump of {name}: it is no text")?;
         return Ok(false);
     };
     match first_difference(dump, wanted) {
-        None => {
-            println!(rt; "dump of {name}: as it should be")?;
-            Ok(true)
-        }
-        Some(difference) => {
-            println!(rt; "dump of {name}: {difference}")?;
-            Ok(false)
-        }
+        None => println!(rt; "dump of {name}: as it should be")?,
+        Some(difference) => println!(rt; "dump of {name}: {difference}")?,
     }
+    Ok(dump == wanted)
 }

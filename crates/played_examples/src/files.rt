@@ -2,6 +2,7 @@
 //! history `NAME.history`.
 
 use crate::comparing::{Wanted, compare};
+use std::alloc::{AllocError, Global};
 use std::rt::Files;
 use std::{fs, io};
 
@@ -48,12 +49,29 @@ where
     R: Files + AllocGlobal + Clone + Drop,
 {
     let mut names = Vec::new(rt.alloc());
-    for entry in fs::read_dir(rt, folder)? {
-        let entry = entry?;
-        if let Some(name) = entry.file_name().strip_suffix(suffix) {
-            names.push(String::from_str(rt.alloc(), name)?)?;
-        }
-    }
+    add_names(rt, folder, suffix, &mut names)?;
     names.sort()?;
     Ok(names)
+}
+
+fn add_names<R>(rt: &R, folder: &str, suffix: &str, names: &mut Vec<String>) -> io::Result<()>
+where
+    R: Files + AllocGlobal + Clone + Drop,
+{
+    for entry in fs::read_dir(rt, folder)? {
+        add_name(rt.alloc(), entry?.file_name(), suffix, names)?;
+    }
+    Ok(())
+}
+
+fn add_name(
+    alloc: Global,
+    file: &str,
+    suffix: &str,
+    names: &mut Vec<String>,
+) -> Result<(), AllocError> {
+    if let Some(name) = file.strip_suffix(suffix) {
+        names.push(String::from_str(alloc, name)?)?;
+    }
+    Ok(())
 }
