@@ -59,6 +59,14 @@ fn play<L: Crew + Send + Sync, R: Threads + Wait + Clock + Sync>(
 {
     let (live, passes) = Live::<L>::open(alloc, blank, &LOWS, OBJECTS, threads, PLACES)?;
     let passes = play_on(rt, alloc, &live, round, threads, passes)?;
+    close(alloc, live, passes)
+}
+
+/// Closes a service with all its passes.
+fn close<L: Crew>(alloc: Global, live: Live<L>, passes: Vec<LivePass<L>>) -> Result<Closed, Trouble>
+    requires here { All (λ p. p.words.opening ≡ live) passes.items }
+    requires crew { (L.parts ≡ live.count) × (L.passes ≡ live.count) }
+{
     match live.close(alloc, passes) {
         Ok(closed) => Ok(closed),
         Err(LiveClose::WrongPass { .. }) => Err(Trouble::Passes),
@@ -115,12 +123,27 @@ fn work<L: Crew + Send + Sync, R: Threads + Wait + Clock + Sync>(
             ensures { result.pass.words.opening ≡ live.entry.now }
         { keep(rt, live, keeper, is_over) },
     );
-    if let Some(fault) = kept.fault {
-        return Err(Trouble::Keeper(fault));
-    }
     let Some(worked) = driven else {
         return Err(Trouble::Memory(Memory));
     };
+    come_back(alloc, live, accounts, worked, kept)
+}
+
+/// All passes, once the workers and the keeper have come back with what they should.
+fn come_back<L: Crew>(
+    alloc: Global,
+    live: &Live<L>,
+    accounts: &Accounts,
+    worked: Vec<Worked<L>>,
+    kept: Kept<L>,
+) -> Result<Vec<LivePass<L>>, Trouble>
+    requires here { All (λ d. d.pass.words.opening ≡ live.now) worked.items }
+    requires keeper { kept.pass.words.opening ≡ live.now }
+    ensures here { IfOk result (λ ps. All (λ p. p.words.opening ≡ live.entry.now) ps.items) }
+{
+    if let Some(fault) = kept.fault {
+        return Err(Trouble::Keeper(fault));
+    }
     accounts.check_answers(&worked)?;
     Ok(passes_of(alloc, live, worked, kept.pass)?)
 }
