@@ -9,6 +9,9 @@ ghost use Rattle.history_streams.specs.declared.faults.FileFault.TheVariants.{Br
 ghost use Rattle.history_streams.specs.declared.faults.FileFault.TheVariants.{Read as ReadFault};
 ghost use Rattle.history_streams.specs.declared.faults.FileFault.TheVariants.{Write as WriteFault};
 ghost use Rattle.step_core.specs.Step.{moves_made, moves_of};
+ghost use Rattle.history_streams.specs.declared.faults.FileFault.TheVariants.{
+    Memory as WantOfMemory,
+};
 ghost use Rattle.step_core.specs.declared.steps.Fault.TheVariants.{Memory as OutOfMemory};
 ghost use Rattle.history.specs.Plans.{IsPlanOf};
 ghost use Rattle.history.specs.declared.plans.Plan.{Plan as PlanData};
@@ -95,7 +98,15 @@ fn history_in(alloc: Global, bytes: &[u8]) -> Result<String, FileFault>
     ensures fault { IfErr result (IsReasonFor bytes.now) }
 {
     let plan = plan_in(alloc, bytes)?;
-    let history = history_of(alloc, &plan)?;
+    history_or_fault(alloc, &plan)
+}
+
+/// The history of a plan, or the fault that it has for want of memory.
+fn history_or_fault(alloc: Global, plan: &Plan) -> Result<String, FileFault>
+    ensures history { IfOk result (λ history. IsHistoryOf plan.now (string_bytes history)) }
+    ensures memory { IfErr result (λ fault. fault ≡ WantOfMemory) }
+{
+    let history = history_of(alloc, plan)?;
     Ok(history)
 }
 

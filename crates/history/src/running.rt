@@ -68,7 +68,15 @@ fn report_in(alloc: Global, bytes: &[u8]) -> Result<String, FileFault>
     ensures fault { IfErr result (IsReasonFor bytes.now) }
 {
     let plan = plan_in(alloc, bytes)?;
-    let report = report_of(alloc, &plan)?;
+    report_or_fault(alloc, &plan)
+}
+
+/// The report of a plan, or the fault that it has for want of memory.
+fn report_or_fault(alloc: Global, plan: &Plan) -> Result<String, FileFault>
+    ensures report { IfOk result (λ report. IsReportOf plan.now (string_bytes report)) }
+    ensures memory { IfErr result (λ fault. fault ≡ Memory) }
+{
+    let report = report_of(alloc, plan)?;
     Ok(report)
 }
 

@@ -1,0 +1,5 @@
+use Rattle.std.proofs.lemmas.Result.{IfOk-weaker}
+use Rattle.history.proofs.histories.history_in.Goals as goal
+
+pub returns-clause-history : goal.returns-clause-history
+returns-clause-history c = IfOk-weaker c.history_or_fault.result _ _ (λ history is. (c.in_ok-plan.plan, c.in_ok-plan.ensures.a_plan, is)) c.history_or_fault.ensures.history
