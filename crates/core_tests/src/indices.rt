@@ -1,119 +1,145 @@
+ghost use Rattle.std.specs.Prelude.{◌≤◌};
+
 mod plain;
 
 use lock_word::ThreadId;
 use plain::PlainIndices;
+use std::alloc::Global;
+use std::process::Abort;
 use std::test::Fail;
 use thread_index::{Indices, TakeFault};
 
-/// Whether a take is answered so.
-fn takes(indices: &mut Indices, thread: ThreadId, answer: Result<u16, TakeFault>) -> bool {
-    indices.take(thread) == answer
+/// What is asked of the indices, where threads go by their numbers, and what has to be answered.
+#[derive(Clone, Copy)]
+enum Deed {
+    Takes(u32, Result<u16, TakeFault>),
+    Gives(u32, Option<u16>),
+    /// The thread has this index; None: it has none.
+    Has(u32, Option<u16>),
+    /// The index is this thread's; None: nobody's.
+    IsHeld(u16, Option<u32>),
 }
 
-/// Whether a give is answered so.
-fn gives(indices: &mut Indices, thread: ThreadId, answer: Option<u16>) -> bool {
-    indices.give(thread) == answer
+/// Whether this is the answer.
+fn answers(indices: &mut Indices, deed: Deed) -> bool {
+    match deed {
+        Deed::Takes(thread, answer) => indices.take(ThreadId(thread)) == answer,
+        Deed::Gives(thread, answer) => indices.give(ThreadId(thread)) == answer,
+        Deed::Has(thread, index) => indices.index_of(ThreadId(thread)) == index,
+        Deed::IsHeld(index, thread) => indices.id_of(index) == thread.map(ThreadId),
+    }
 }
 
-/// Whether the thread has this index; None: it has none.
-fn has(indices: &Indices, thread: ThreadId, index: Option<u16>) -> bool {
-    indices.index_of(thread) == index
+/// Asks these deeds, one after the other.
+fn check(rt: &impl Abort, indices: &mut Indices, deeds: &[Deed]) {
+    for (row, deed) in deeds.iter().enumerate() {
+        assert!(rt; answers(indices, *deed), "row {row}");
+    }
 }
 
-/// Whether the index is this thread's; None: nobody's.
-fn is_held(indices: &Indices, index: u16, holder: Option<ThreadId>) -> bool {
-    indices.id_of(index) == holder
+/// So many indices, of which no thread has one.
+fn open(alloc: Global, limit: u16) -> Indices
+    requires some { 1 ≤ limit }
+    requires few { limit ≤ 32767 }
+{
+    Indices::new(alloc, limit).unwrap()
 }
 
 #[test]
-fn two_indices_and_three_threads(rt: HostRuntime) -> Result<(), Fail> {
-    let (seven, eight, nine) = (ThreadId(7), ThreadId(8), ThreadId(9));
-    let mut indices = Indices::new(rt.alloc(), 2)?;
-    assert!(rt; has(&indices, seven, None));
-    assert!(rt; is_held(&indices, 1, None));
-
-    assert!(rt; takes(&mut indices, seven, Ok(1)));
-    assert!(rt; takes(&mut indices, nine, Ok(2)));
-    assert!(rt; takes(&mut indices, seven, Err(TakeFault::Known)));
-    assert!(rt; takes(&mut indices, eight, Err(TakeFault::NoIndex)));
-    assert!(rt; gives(&mut indices, eight, None));
-    for (index, holder) in [(0, None), (1, Some(seven)), (2, Some(nine)), (3, None)] {
-        assert!(rt; is_held(&indices, index, holder), "{index}");
-    }
-
-    assert!(rt; gives(&mut indices, seven, Some(1)));
-    assert!(rt; has(&indices, seven, None));
-    assert!(rt; is_held(&indices, 1, None));
-    assert!(rt; takes(&mut indices, eight, Ok(1)));
-    for (id, index) in [(seven, None), (eight, Some(1)), (nine, Some(2))] {
-        assert!(rt; has(&indices, id, index), "{}", id.0);
-    }
-    Ok(())
+fn two_indices_and_three_threads(rt: HostRuntime) {
+    const DEEDS: [Deed; 18] = [
+        Deed::Has(7, None),
+        Deed::IsHeld(1, None),
+        Deed::Takes(7, Ok(1)),
+        Deed::Takes(9, Ok(2)),
+        Deed::Takes(7, Err(TakeFault::Known)),
+        Deed::Takes(8, Err(TakeFault::NoIndex)),
+        Deed::Gives(8, None),
+        Deed::IsHeld(0, None),
+        Deed::IsHeld(1, Some(7)),
+        Deed::IsHeld(2, Some(9)),
+        Deed::IsHeld(3, None),
+        Deed::Gives(7, Some(1)),
+        Deed::Has(7, None),
+        Deed::IsHeld(1, None),
+        Deed::Takes(8, Ok(1)),
+        Deed::Has(7, None),
+        Deed::Has(8, Some(1)),
+        Deed::Has(9, Some(2)),
+    ];
+    let mut indices = open(rt.alloc(), 2);
+    check(&rt, &mut indices, &DEEDS);
 }
 
 #[test]
-fn every_index_is_taken(rt: HostRuntime) -> Result<(), Fail> {
-    let mut indices = Indices::new(rt.alloc(), 32_767)?;
+fn every_index_is_taken(rt: HostRuntime) {
+    const LATE: u32 = 40_000;
+    const DEEDS: [Deed; 15] = [
+        Deed::Takes(LATE, Err(TakeFault::NoIndex)),
+        Deed::IsHeld(64, Some(63)),
+        Deed::Gives(63, Some(64)),
+        Deed::Has(63, None),
+        Deed::Takes(LATE, Ok(64)),
+        Deed::Takes(63, Err(TakeFault::NoIndex)),
+        Deed::Gives(LATE, Some(64)),
+        Deed::Takes(63, Ok(64)),
+        Deed::IsHeld(32_767, Some(32_766)),
+        Deed::Gives(32_766, Some(32_767)),
+        Deed::Has(32_766, None),
+        Deed::Takes(LATE, Ok(32_767)),
+        Deed::Takes(32_766, Err(TakeFault::NoIndex)),
+        Deed::Gives(LATE, Some(32_767)),
+        Deed::Takes(32_766, Ok(32_767)),
+    ];
+    let mut indices = open(rt.alloc(), 32_767);
     for number in 0..32_767u16 {
-        assert!(rt; takes(&mut indices, ThreadId(u32::from(number)), Ok(number + 1)));
+        let deed = Deed::Takes(u32::from(number), Ok(number + 1));
+        assert!(rt; answers(&mut indices, deed), "{number}");
     }
-    let late = ThreadId(40_000);
-    assert!(rt; takes(&mut indices, late, Err(TakeFault::NoIndex)));
-    for index in [64, 32_767] {
-        let holder = indices.id_of(index).ok_or("nobody")?;
-        assert!(rt; gives(&mut indices, holder, Some(index)));
-        assert!(rt; has(&indices, holder, None));
-        assert!(rt; takes(&mut indices, late, Ok(index)));
-        assert!(rt; takes(&mut indices, holder, Err(TakeFault::NoIndex)));
-        assert!(rt; gives(&mut indices, late, Some(index)));
-        assert!(rt; takes(&mut indices, holder, Ok(index)));
-    }
-    Ok(())
+    check(&rt, &mut indices, &DEEDS);
+}
+
+/// A thread takes an index, or gives back the one that it has, as this number says. Whether the
+/// plain list answers the same.
+fn is_as_plain(indices: &mut Indices, plain: &mut PlainIndices, number: u32) -> bool {
+    let thread = ThreadId((number >> 16) % 200);
+    let is_same = if (number >> 8) % 8 < 5 {
+        indices.take(thread).map(usize::from) == plain.take(thread)
+    } else {
+        indices.give(thread).map(usize::from) == plain.give(thread)
+    };
+    is_same && indices.index_of(thread).map(usize::from) == plain.index_of(thread)
 }
 
 #[test]
-fn takes_and_gives_in_no_order(rt: HostRuntime) -> Result<(), Fail> {
-    let mut indices = Indices::new(rt.alloc(), 150)?;
+fn takes_and_gives_in_no_order(rt: HostRuntime) {
+    let mut indices = open(rt.alloc(), 150);
     let mut plain = PlainIndices::new(rt.alloc(), 150);
     let mut state = 1u32;
     for round in 0..8_000 {
         state = state.wrapping_mul(1_664_525).wrapping_add(1_013_904_223);
-        let id = ThreadId((state >> 16) % 200);
-        if (state >> 8) % 8 < 5 {
-            assert!(rt;
-                indices.take(id).map(usize::from) == plain.take(id),
-                "{round}"
-            );
-        } else {
-            assert!(rt;
-                indices.give(id).map(usize::from) == plain.give(id),
-                "{round}"
-            );
-        }
-        assert!(rt;
-            indices.index_of(id).map(usize::from) == plain.index_of(id),
-            "{round}"
-        );
+        assert!(rt; is_as_plain(&mut indices, &mut plain, state), "{round}");
     }
-    Ok(())
+}
+
+/// A take of this index, tried again where memory was refused.
+fn takes_at_last(rt: &impl Abort, indices: &mut Indices, thread: u32, index: u16) {
+    let first = indices.take(ThreadId(thread));
+    if first == Err(TakeFault::Memory) {
+        assert!(rt; answers(indices, Deed::Has(thread, None)));
+        assert!(rt; answers(indices, Deed::IsHeld(index, None)));
+        assert!(rt; answers(indices, Deed::Takes(thread, Ok(index))));
+    } else {
+        assert!(rt; first == Ok(index));
+    }
 }
 
 /// Run with each allocation refused in turn, this meets every refusal.
 #[test]
 fn what_was_refused_succeeds_when_tried_again(rt: HostRuntime) -> Result<(), Fail> {
-    let mut indices = match Indices::new(rt.alloc(), 4) {
-        Ok(indices) => indices,
-        Err(_) => Indices::new(rt.alloc(), 4)?,
-    };
-    for (thread, index) in [(ThreadId(7), 1), (ThreadId(8), 2), (ThreadId(9), 3)] {
-        let first = indices.take(thread);
-        if first == Err(TakeFault::Memory) {
-            assert!(rt; has(&indices, thread, None));
-            assert!(rt; is_held(&indices, index, None));
-            assert!(rt; takes(&mut indices, thread, Ok(index)));
-        } else {
-            assert!(rt; first == Ok(index));
-        }
-    }
+    let mut indices = open(rt.alloc(), 4);
+    takes_at_last(&rt, &mut indices, 7, 1);
+    takes_at_last(&rt, &mut indices, 8, 2);
+    takes_at_last(&rt, &mut indices, 9, 3);
     Ok(())
 }
