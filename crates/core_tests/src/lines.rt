@@ -4,9 +4,22 @@ mod plain;
 
 use lock_word::{Memory, ThreadId};
 use plain::PlainLines;
-use std::alloc::{AllocError, Global};
-use std::test::Fail;
+use std::alloc::Global;
+use std::process::Abort;
 use wait_lines::{Lines, Role};
+
+/// What is asked of the lines, where threads go by their numbers, and what has to be answered.
+#[derive(Clone, Copy)]
+enum Deed {
+    /// The thread comes to the end of this monitor's line.
+    Joins(u32, u32, Role),
+    /// The thread leaves the line in which it stands; false: it stands in none.
+    Leaves(u32, bool),
+    /// The thread is the first of this monitor's line; None: nobody stands there.
+    IsFirst(u32, Role, Option<u32>),
+    /// Just these threads stand in this monitor's line, in this order.
+    Stand(u32, Role, &'static [u32]),
+}
 
 /// Makes room for one more thread, where there is not room for all, and moves this one to the end
 /// of a line.
@@ -21,15 +34,6 @@ fn add(lines: &mut Lines, thread: u32, monitor: u32, role: Role) -> Result<(), M
     Ok(())
 }
 
-/// Lines in which these threads stand, which came in this order, each with its monitor and role.
-fn lines_of(alloc: Global, arrivals: &[(u32, u32, Role)]) -> Result<Lines, Memory> {
-    let mut lines = Lines::new(alloc);
-    for (thread, monitor, role) in arrivals {
-        add(&mut lines, *thread, *monitor, *role)?;
-    }
-    Ok(lines)
-}
-
 /// Whether just these threads stand in a line, in this order.
 fn stand(lines: &Lines, monitor: u32, role: Role, threads: &[u32]) -> bool {
     let mut line = lines.all(monitor, role);
@@ -41,27 +45,110 @@ fn stand(lines: &Lines, monitor: u32, role: Role, threads: &[u32]) -> bool {
     line.next() == None
 }
 
-/// Whether this thread is the first of a line; None: nobody stands there.
-fn is_first(lines: &Lines, monitor: u32, role: Role, thread: Option<ThreadId>) -> bool {
-    lines.first(monitor, role) == thread
+/// Whether this is the answer.
+fn answers(lines: &mut Lines, deed: Deed) -> bool {
+    match deed {
+        Deed::Joins(thread, monitor, role) => add(lines, thread, monitor, role).is_ok(),
+        Deed::Leaves(thread, stood) => lines.leave(ThreadId(thread)) == stood,
+        Deed::IsFirst(monitor, role, thread) => {
+            lines.first(monitor, role) == thread.map(ThreadId)
+        }
+        Deed::Stand(monitor, role, threads) => stand(lines, monitor, role, threads),
+    }
 }
 
-/// Whether the thread stood in a line, which it leaves.
-fn leaves(lines: &mut Lines, thread: ThreadId) -> bool {
-    lines.leave(thread)
+/// Asks these deeds of new lines, one after the other.
+fn check(rt: &impl Abort, alloc: Global, deeds: &[Deed]) {
+    let mut lines = Lines::new(alloc);
+    for (row, deed) in deeds.iter().enumerate() {
+        assert!(rt; answers(&mut lines, *deed), "row {row}");
+    }
 }
 
-/// Whether a line has the threads of the plain one in their order, and its first as first.
-fn is_as_plain(
-    alloc: Global,
-    lines: &Lines,
-    plain: &PlainLines,
-    monitor: u32,
-    role: Role,
-) -> Result<bool, AllocError> {
-    let all = lines.all(monitor, role).collect::<Vec<ThreadId>>(alloc)?;
-    let is_same = all == plain.all(alloc, monitor, role)?;
-    Ok(is_same && lines.first(monitor, role) == all.first().copied())
+#[test]
+fn two_wait_and_one_leaves(rt: HostRuntime) {
+    const DEEDS: [Deed; 7] = [
+        Deed::Joins(5, 0, Role::Waiting),
+        Deed::Joins(6, 0, Role::Waiting),
+        Deed::IsFirst(0, Role::Waiting, Some(5)),
+        Deed::Leaves(5, true),
+        Deed::IsFirst(0, Role::Waiting, Some(6)),
+        Deed::Stand(0, Role::Waiting, &[6]),
+        Deed::Leaves(5, false),
+    ];
+    check(&rt, rt.alloc(), &DEEDS);
+}
+
+#[test]
+fn lines_are_apart(rt: HostRuntime) {
+    const DEEDS: [Deed; 6] = [
+        Deed::Joins(7, 0, Role::Entry),
+        Deed::Joins(8, 1, Role::Waiting),
+        Deed::IsFirst(0, Role::Entry, Some(7)),
+        Deed::IsFirst(0, Role::Waiting, None),
+        Deed::IsFirst(1, Role::Entry, None),
+        Deed::IsFirst(1, Role::Waiting, Some(8)),
+    ];
+    check(&rt, rt.alloc(), &DEEDS);
+}
+
+#[test]
+fn the_middle_one_leaves(rt: HostRuntime) {
+    const DEEDS: [Deed; 5] = [
+        Deed::Joins(3, 9, Role::Entry),
+        Deed::Joins(1, 9, Role::Entry),
+        Deed::Joins(2, 9, Role::Entry),
+        Deed::Leaves(1, true),
+        Deed::Stand(9, Role::Entry, &[3, 2]),
+    ];
+    check(&rt, rt.alloc(), &DEEDS);
+}
+
+/// Lines, and the plain ones that have to answer the same.
+#[derive(Drop)]
+struct Both {
+    lines: Lines,
+    plain: PlainLines,
+}
+
+impl Both {
+    fn new(alloc: Global) -> Both {
+        Both {
+            lines: Lines::new(alloc),
+            plain: PlainLines::new(alloc),
+        }
+    }
+
+    /// Moves the thread to the end of a line. False: there was no memory.
+    fn join(&mut self, thread: u32, monitor: u32, role: Role) -> bool {
+        add(&mut self.lines, thread, monitor, role).is_ok()
+            && self.plain.join(ThreadId(thread), monitor, role).is_ok()
+    }
+
+    /// Takes the thread out by its node. Whether it has none then, and had one before.
+    fn leave_by_node(&mut self, thread: ThreadId) -> bool {
+        let Some(node) = self.lines.node_of(thread) else {
+            return false;
+        };
+        self.lines.leave_at(node);
+        self.plain.leave(thread);
+        self.lines.node_of(thread) == None
+    }
+
+    /// Whether a line has the threads of the plain one in their order, and its first as first.
+    fn is_same(&self, alloc: Global, monitor: u32, role: Role) -> bool {
+        let Ok(all) = self
+            .lines
+            .all(monitor, role)
+            .collect::<Vec<ThreadId>>(alloc)
+        else {
+            return false;
+        };
+        let Ok(plain) = self.plain.all(alloc, monitor, role) else {
+            return false;
+        };
+        all == plain && self.lines.first(monitor, role) == all.first().copied()
+    }
 }
 
 /// From the middle of a line of 1,000 outwards: 500, 499, 501, 498 and so on.
@@ -75,78 +162,31 @@ fn outwards(turn: u32) -> ThreadId
     })
 }
 
-#[test]
-fn two_wait_and_one_leaves(rt: HostRuntime) -> Result<(), Fail> {
-    let (five, six) = (ThreadId(5), ThreadId(6));
-    let mut lines = lines_of(rt.alloc(), &[(5, 0, Role::Waiting), (6, 0, Role::Waiting)])?;
-    assert!(rt; is_first(&lines, 0, Role::Waiting, Some(five)));
-    assert!(rt; leaves(&mut lines, five));
-    assert!(rt; is_first(&lines, 0, Role::Waiting, Some(six)));
-    assert!(rt; stand(&lines, 0, Role::Waiting, &[6]));
-    assert!(rt; !leaves(&mut lines, five));
-    Ok(())
+/// Threads 0 to 999 wait for monitor 3.
+fn a_thousand(rt: &impl Abort, alloc: Global) -> Both {
+    let mut both = Both::new(alloc);
+    for number in 0..1000 {
+        assert!(rt; both.join(number, 3, Role::Waiting));
+    }
+    both
 }
 
 #[test]
-fn lines_are_apart(rt: HostRuntime) -> Result<(), Fail> {
-    let lines = lines_of(rt.alloc(), &[(7, 0, Role::Entry), (8, 1, Role::Waiting)])?;
-    let rows = [
-        (0, Role::Entry, Some(ThreadId(7))),
-        (0, Role::Waiting, None),
-        (1, Role::Entry, None),
-        (1, Role::Waiting, Some(ThreadId(8))),
-    ];
-    for (monitor, role, first) in rows {
+fn a_long_line_is_emptied_from_the_middle_outwards(rt: HostRuntime) {
+    let mut both = a_thousand(&rt, rt.alloc());
+    for turn in 0..1000 {
+        let left = both.leave_by_node(outwards(turn));
         assert!(rt;
-            is_first(&lines, monitor, role, first),
-            "{monitor} {role:?}"
+            left && both.is_same(rt.alloc(), 3, Role::Waiting),
+            "{turn}"
         );
     }
-    Ok(())
-}
-
-#[test]
-fn the_middle_one_leaves(rt: HostRuntime) -> Result<(), Fail> {
-    let arrivals = [
-        (3, 9, Role::Entry),
-        (1, 9, Role::Entry),
-        (2, 9, Role::Entry),
-    ];
-    let mut lines = lines_of(rt.alloc(), &arrivals)?;
-    assert!(rt; leaves(&mut lines, ThreadId(1)));
-    assert!(rt; stand(&lines, 9, Role::Entry, &[3, 2]));
-    Ok(())
-}
-
-#[test]
-fn a_long_line_is_emptied_from_the_middle_outwards(rt: HostRuntime) -> Result<(), Fail> {
-    let mut lines = Lines::new(rt.alloc());
-    let mut plain = PlainLines::new(rt.alloc());
-    for number in 0..1000 {
-        add(&mut lines, number, 3, Role::Waiting)?;
-        plain.join(ThreadId(number), 3, Role::Waiting)?;
-    }
-    for turn in 0..1000 {
-        let thread = outwards(turn);
-        let node = lines.node_of(thread).ok_or("nowhere")?;
-        lines.leave_at(node);
-        plain.leave(thread);
-        assert!(rt; lines.node_of(thread) == None);
-        let is_same = is_as_plain(rt.alloc(), &lines, &plain, 3, Role::Waiting)?;
-        assert!(rt; is_same, "{turn}");
-    }
-    assert!(rt; is_first(&lines, 3, Role::Waiting, None));
-    Ok(())
+    assert!(rt; both.lines.first(3, Role::Waiting) == None);
 }
 
 /// A thread joins a line, or leaves the one in which it stands, as this number says. Whether the
 /// line that the number names is then as the plain one.
-fn joins_or_leaves(
-    alloc: Global,
-    lines: &mut Lines,
-    plain: &mut PlainLines,
-    number: u32,
-) -> Result<bool, Fail> {
+fn joins_or_leaves(alloc: Global, both: &mut Both, number: u32) -> bool {
     let thread = ThreadId((number >> 8) % 60);
     let monitor = (number >> 16) % 90;
     let role = if number >> 31 == 0 {
@@ -154,36 +194,36 @@ fn joins_or_leaves(
     } else {
         Role::Waiting
     };
-    plain.leave(thread);
-    if (number >> 24) % 4 == 0 {
-        leaves(lines, thread);
-    } else {
-        add(lines, thread.0, monitor, role)?;
-        plain.join(thread, monitor, role)?;
+    both.plain.leave(thread);
+    let leaves = (number >> 24) % 4 == 0;
+    if leaves {
+        both.lines.leave(thread);
     }
-    Ok(is_as_plain(alloc, lines, plain, monitor, role)?)
+    (leaves || both.join(thread.0, monitor, role)) && both.is_same(alloc, monitor, role)
 }
 
 #[test]
-fn threads_join_and_leave_in_no_order(rt: HostRuntime) -> Result<(), Fail> {
-    let mut lines = Lines::new(rt.alloc());
-    let mut plain = PlainLines::new(rt.alloc());
+fn threads_join_and_leave_in_no_order(rt: HostRuntime) {
+    let mut both = Both::new(rt.alloc());
     let mut state = 1u32;
     for round in 0..600u32 {
         state = state.wrapping_mul(1_664_525).wrapping_add(1_013_904_223);
-        let is_same = joins_or_leaves(rt.alloc(), &mut lines, &mut plain, state)?;
-        assert!(rt; is_same, "{round}");
+        assert!(rt; joins_or_leaves(rt.alloc(), &mut both, state), "{round}");
     }
-    Ok(())
+}
+
+/// Makes room for one more thread. False: there was not room for just so many, or is no memory.
+fn grows(lines: &mut Lines, reservations: u16) -> bool
+    requires { reservations < 32767 }
+{
+    lines.reservations() == reservations && lines.reserve_one().is_ok()
 }
 
 #[test]
-fn there_is_room_for_every_thread(rt: HostRuntime) -> Result<(), Fail> {
+fn there_is_room_for_every_thread(rt: HostRuntime) {
     let mut lines = Lines::new(rt.alloc());
-    for number in 0..32_767u16 {
-        assert!(rt; lines.reservations() == number);
-        lines.reserve_one()?;
+    for number in 0..32_767 {
+        assert!(rt; grows(&mut lines, number), "{number}");
     }
     assert!(rt; lines.reservations() == 32_767);
-    Ok(())
 }
