@@ -4,206 +4,132 @@
 use fast_path::Call;
 use fat_monitor::{Cause, Reply};
 use jls_check::{Machine, MoveFault};
-use lock_word::{Memory, ObjectId, ThreadId};
+use lock_word::{ObjectId, ThreadId};
+use std::alloc::Global;
 use std::process::Abort;
 use step_core::Move;
 
+macro_rules! calls {
+    ($thread:expr, $call:expr) => {
+        Move::Call {
+            thread: $thread,
+            call: $call,
+        }
+    };
+}
+
+macro_rules! returns {
+    ($thread:expr, $reply:expr) => {
+        Move::Return {
+            thread: $thread,
+            reply: $reply,
+        }
+    };
+}
+
+macro_rules! notifies {
+    ($thread:expr, $chosen:expr) => {
+        Move::Notify {
+            thread: $thread,
+            chosen: $chosen,
+        }
+    };
+}
+
+macro_rules! refuses {
+    ($thread:expr, $cause:expr) => {
+        Move::Refuse {
+            thread: $thread,
+            cause: $cause,
+        }
+    };
+}
+
 const OBJECT: ObjectId = ObjectId(0);
 
-/// Whether the machine answers the move so.
-fn answers(machine: &mut Machine, made: Move, answer: Result<(), MoveFault>) -> bool {
-    machine.take(made) == answer
-}
+/// A wait of no limit.
+const WAIT: Call = Call::Wait {
+    object: OBJECT,
+    millis: 0,
+    nanos: 0,
+};
 
-/// Takes these moves, each of which has to be lawful.
-fn take_all(rt: &impl Abort, machine: &mut Machine, moves: &[Move]) {
-    for made in moves {
-        assert!(rt; answers(machine, *made, Ok(())));
+/// What a machine answers.
+type Answer = Result<(), MoveFault>;
+
+const LAWFUL: Answer = Ok(());
+
+const BROKEN: Answer = Err(MoveFault::Broken);
+
+/// Asks these moves of a new machine with one object, one after the other.
+fn check_all(rt: &impl Abort, alloc: Global, moves: &[(Move, Answer)]) {
+    let mut machine = Machine::new(alloc, 1).expect(rt, "memory");
+    for &(made, answer) in moves {
+        check(rt, &mut machine, made, answer);
     }
 }
 
-/// Refuses each of these moves.
-fn refuse_all(rt: &impl Abort, machine: &mut Machine, moves: &[Move]) {
-    for made in moves {
-        assert!(rt; answers(machine, *made, Err(MoveFault::Broken)));
-    }
+fn check(rt: &impl Abort, machine: &mut Machine, made: Move, answer: Answer) {
+    assert!(rt; machine.take(made) == answer, "{made:?}");
 }
 
 #[test]
-fn a_thread_is_attached_once(rt: HostRuntime) -> Result<(), Memory> {
-    let thread = ThreadId(0);
-    let mut machine = Machine::new(rt.alloc(), 1)?;
-    take_all(&rt, &mut machine, &[Move::Attach { thread }]);
-    refuse_all(&rt, &mut machine, &[Move::Attach { thread }]);
-    Ok(())
+fn a_thread_is_attached_once(rt: HostRuntime) {
+    const ONE: ThreadId = ThreadId(0);
+    const MOVES: [(Move, Answer); 2] = [
+        (Move::Attach { thread: ONE }, LAWFUL),
+        (Move::Attach { thread: ONE }, BROKEN),
+    ];
+    check_all(&rt, rt.alloc(), &MOVES);
 }
 
 #[test]
-fn a_notified_thread_locks_again_after_the_notifier(rt: HostRuntime) -> Result<(), Memory> {
-    let waiter = ThreadId(7);
-    let notifier = ThreadId(9);
-    let mut machine = Machine::new(rt.alloc(), 1)?;
-    let wait = Call::Wait {
-        object: OBJECT,
-        millis: 0,
-        nanos: 0,
-    };
-    take_all(
-        &rt,
-        &mut machine,
-        &[
-            Move::Attach { thread: waiter },
-            Move::Attach { thread: notifier },
-            Move::Call {
-                thread: waiter,
-                call: Call::Enter(OBJECT),
-            },
-            Move::Lock { thread: waiter },
-            Move::Return {
-                thread: waiter,
-                reply: Reply::Entered,
-            },
-            Move::Call {
-                thread: waiter,
-                call: wait,
-            },
-            Move::Wait { thread: waiter },
-            Move::Call {
-                thread: notifier,
-                call: Call::Enter(OBJECT),
-            },
-            Move::Lock { thread: notifier },
-            Move::Return {
-                thread: notifier,
-                reply: Reply::Entered,
-            },
-            Move::Call {
-                thread: notifier,
-                call: Call::Notify(OBJECT),
-            },
-        ],
-    );
-    refuse_all(
-        &rt,
-        &mut machine,
-        &[
-            Move::Notify {
-                thread: notifier,
-                chosen: None,
-            },
-            Move::Notify {
-                thread: notifier,
-                chosen: Some(notifier),
-            },
-            Move::Expire { thread: waiter },
-            Move::Relock { thread: waiter },
-        ],
-    );
-    take_all(
-        &rt,
-        &mut machine,
-        &[Move::Notify {
-            thread: notifier,
-            chosen: Some(waiter),
-        }],
-    );
-    refuse_all(&rt, &mut machine, &[Move::Relock { thread: waiter }]);
-    take_all(
-        &rt,
-        &mut machine,
-        &[
-            Move::Return {
-                thread: notifier,
-                reply: Reply::Notified,
-            },
-            Move::Call {
-                thread: notifier,
-                call: Call::Exit(OBJECT),
-            },
-            Move::Unlock { thread: notifier },
-            Move::Relock { thread: waiter },
-        ],
-    );
-    refuse_all(
-        &rt,
-        &mut machine,
-        &[Move::Return {
-            thread: waiter,
-            reply: Reply::Interrupted,
-        }],
-    );
-    take_all(
-        &rt,
-        &mut machine,
-        &[Move::Return {
-            thread: waiter,
-            reply: Reply::WaitOver,
-        }],
-    );
-    Ok(())
+fn a_notified_thread_locks_again_after_the_notifier(rt: HostRuntime) {
+    const WAITER: ThreadId = ThreadId(7);
+    const NOTIFIER: ThreadId = ThreadId(9);
+    const MOVES: [(Move, Answer); 23] = [
+        (Move::Attach { thread: WAITER }, LAWFUL),
+        (Move::Attach { thread: NOTIFIER }, LAWFUL),
+        (calls!(WAITER, Call::Enter(OBJECT)), LAWFUL),
+        (Move::Lock { thread: WAITER }, LAWFUL),
+        (returns!(WAITER, Reply::Entered), LAWFUL),
+        (calls!(WAITER, WAIT), LAWFUL),
+        (Move::Wait { thread: WAITER }, LAWFUL),
+        (calls!(NOTIFIER, Call::Enter(OBJECT)), LAWFUL),
+        (Move::Lock { thread: NOTIFIER }, LAWFUL),
+        (returns!(NOTIFIER, Reply::Entered), LAWFUL),
+        (calls!(NOTIFIER, Call::Notify(OBJECT)), LAWFUL),
+        (notifies!(NOTIFIER, None), BROKEN),
+        (notifies!(NOTIFIER, Some(NOTIFIER)), BROKEN),
+        (Move::Expire { thread: WAITER }, BROKEN),
+        (Move::Relock { thread: WAITER }, BROKEN),
+        (notifies!(NOTIFIER, Some(WAITER)), LAWFUL),
+        (Move::Relock { thread: WAITER }, BROKEN),
+        (returns!(NOTIFIER, Reply::Notified), LAWFUL),
+        (calls!(NOTIFIER, Call::Exit(OBJECT)), LAWFUL),
+        (Move::Unlock { thread: NOTIFIER }, LAWFUL),
+        (Move::Relock { thread: WAITER }, LAWFUL),
+        (returns!(WAITER, Reply::Interrupted), BROKEN),
+        (returns!(WAITER, Reply::WaitOver), LAWFUL),
+    ];
+    check_all(&rt, rt.alloc(), &MOVES);
 }
 
 #[test]
-fn an_owner_does_not_end(rt: HostRuntime) -> Result<(), Memory> {
-    let thread = ThreadId(3);
-    let mut machine = Machine::new(rt.alloc(), 1)?;
-    take_all(
-        &rt,
-        &mut machine,
-        &[
-            Move::Attach { thread },
-            Move::Call {
-                thread,
-                call: Call::Enter(OBJECT),
-            },
-        ],
-    );
-    refuse_all(
-        &rt,
-        &mut machine,
-        &[
-            Move::Call {
-                thread,
-                call: Call::End,
-            },
-            Move::Refuse {
-                thread,
-                cause: Cause::NoMonitor,
-            },
-            Move::Illegal { thread },
-        ],
-    );
-    take_all(
-        &rt,
-        &mut machine,
-        &[
-            Move::Lock { thread },
-            Move::Return {
-                thread,
-                reply: Reply::Entered,
-            },
-            Move::Call {
-                thread,
-                call: Call::End,
-            },
-        ],
-    );
-    refuse_all(&rt, &mut machine, &[Move::End { thread }]);
-    take_all(
-        &rt,
-        &mut machine,
-        &[Move::Refuse {
-            thread,
-            cause: Cause::StillOwner,
-        }],
-    );
-    refuse_all(
-        &rt,
-        &mut machine,
-        &[Move::Call {
-            thread,
-            call: Call::Exit(ObjectId(1)),
-        }],
-    );
-    Ok(())
+fn an_owner_does_not_end(rt: HostRuntime) {
+    const OWNER: ThreadId = ThreadId(3);
+    const MOVES: [(Move, Answer); 11] = [
+        (Move::Attach { thread: OWNER }, LAWFUL),
+        (calls!(OWNER, Call::Enter(OBJECT)), LAWFUL),
+        (calls!(OWNER, Call::End), BROKEN),
+        (refuses!(OWNER, Cause::NoMonitor), BROKEN),
+        (Move::Illegal { thread: OWNER }, BROKEN),
+        (Move::Lock { thread: OWNER }, LAWFUL),
+        (returns!(OWNER, Reply::Entered), LAWFUL),
+        (calls!(OWNER, Call::End), LAWFUL),
+        (Move::End { thread: OWNER }, BROKEN),
+        (refuses!(OWNER, Cause::StillOwner), LAWFUL),
+        (calls!(OWNER, Call::Exit(ObjectId(1))), BROKEN),
+    ];
+    check_all(&rt, rt.alloc(), &MOVES);
 }
