@@ -1,13 +1,11 @@
 //! How values are written.
 
-use std::alloc::{AllocError, Global};
+use std::alloc::Global;
 use std::fmt::Display;
+use std::process::Abort;
 
-/// Whether the value is written so.
-pub(crate) fn is_written<T: Display>(
-    alloc: Global,
-    value: &T,
-    text: &str,
-) -> Result<bool, AllocError> {
-    Ok(format!(in alloc; "{value}")?.as_str() == text)
+/// Asks that the value is written so.
+pub(crate) fn writes<T: Display>(rt: &impl Abort, alloc: Global, value: &T, text: &str) {
+    let written = format!(in alloc; "{value}").ok().expect(rt, "memory");
+    assert!(rt; written.as_str() == text, "{text}");
 }

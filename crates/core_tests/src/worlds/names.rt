@@ -1,12 +1,11 @@
 //! How a report names a fault.
 
-use crate::texts::is_written;
-use std::test::Fail;
+use crate::texts::writes;
 use step_core::{Fault, RelayoutFault};
 
 #[test]
-fn faults_have_numbers_and_names(rt: HostRuntime) -> Result<(), Fail> {
-    let faults = [
+fn faults_have_numbers_and_names(rt: HostRuntime) {
+    const FAULTS: [(Fault, u8, &str); 11] = [
         (Fault::NoIndex, 1, "NoIndex"),
         (Fault::Memory, 2, "Memory"),
         (Fault::Known, 3, "Known"),
@@ -19,24 +18,22 @@ fn faults_have_numbers_and_names(rt: HostRuntime) -> Result<(), Fail> {
         (Fault::Backwards, 10, "Backwards"),
         (Fault::NotWaiting, 28, "NotWaiting"),
     ];
-    for (fault, number, name) in faults {
-        assert!(rt; fault.number() == number);
-        assert!(rt; is_written(rt.alloc(), &fault, name)?);
+    for &(fault, number, name) in &FAULTS {
+        assert!(rt; fault.number() == number, "{name}");
+        writes(&rt, rt.alloc(), &fault, name);
     }
-    Ok(())
 }
 
 #[test]
-fn faults_of_a_relayout_have_numbers_and_names(rt: HostRuntime) -> Result<(), Fail> {
-    let faults = [
+fn faults_of_a_relayout_have_numbers_and_names(rt: HostRuntime) {
+    const FAULTS: [(RelayoutFault, u8, &str); 4] = [
         (RelayoutFault::Memory, 2, "Memory"),
         (RelayoutFault::NoMonitor, 11, "NoMonitor"),
         (RelayoutFault::NotAtRest, 29, "NotAtRest"),
         (RelayoutFault::IndexTooWide, 30, "IndexTooWide"),
     ];
-    for (fault, number, name) in faults {
-        assert!(rt; fault.number() == number);
-        assert!(rt; is_written(rt.alloc(), &fault, name)?);
+    for &(fault, number, name) in &FAULTS {
+        assert!(rt; fault.number() == number, "{name}");
+        writes(&rt, rt.alloc(), &fault, name);
     }
-    Ok(())
 }
