@@ -7,6 +7,16 @@ use std::alloc::Global;
 use std::process::Abort;
 use step_core::{Step, World};
 
+/// The thread begins a call.
+macro_rules! begins {
+    ($thread:expr, $call:expr) => {
+        Step::Begin {
+            thread: $thread,
+            call: $call,
+        }
+    };
+}
+
 mod memory;
 mod names;
 mod readers;
@@ -38,22 +48,34 @@ fn goes(rt: &impl Abort, world: &mut World, times: u32) {
 
 /// So many enters of x, of an object that nobody else wants, each of which takes two steps.
 fn enters(rt: &impl Abort, world: &mut World, times: u32) {
-    let call = Call::Enter(A);
     for _ in 0..times {
-        does(rt, world, Step::Begin { thread: X, call });
+        does(rt, world, begins!(X, Call::Enter(A)));
         goes(rt, world, 2);
     }
 }
 
 /// Whether the word of the object is this, and it is owned by the thread, which holds it so often.
-fn shows(world: &World, word: u32, owner: ThreadId, holds: u16) -> bool {
+fn is_shown(world: &World, word: u32, owner: ThreadId, holds: u16) -> bool {
     A.0 < world.objects()
         && world.word(A) == Word(word)
         && world.owner(A) == Some(owner)
         && world.holds(A) == holds
 }
 
+/// Asks it.
+fn shows(rt: &impl Abort, world: &World, word: u32, owner: ThreadId, holds: u16) {
+    assert!(rt; is_shown(world, word, owner, holds), "{word:08X}");
+}
+
 /// A world with one object, low byte A5, and no threads.
 fn opening(alloc: Global, split: Split) -> Result<World, Memory> {
     World::new(alloc, &[0xA5], 4, 4, split)
+}
+
+/// The same, made anew where memory was refused.
+fn opened(rt: &impl Abort, alloc: Global, split: Split) -> World {
+    match opening(alloc, split) {
+        Ok(world) => world,
+        Err(_) => opening(alloc, split).expect(rt, "memory"),
+    }
 }

@@ -26,6 +26,14 @@ fn attaches(rt: &impl Abort, world: &mut World, thread: ThreadId) {
     }
 }
 
+/// A world with one object, low byte A5, and two threads.
+fn with_both(rt: &impl Abort, alloc: Global) -> World {
+    let mut world = opened(rt, alloc, Split::Wide);
+    attaches(rt, &mut world, X);
+    attaches(rt, &mut world, Y);
+    world
+}
+
 /// The bind of a 257th enter of x, and the enter up to it once more where memory was refused.
 fn binds(rt: &impl Abort, world: &mut World) {
     if let Ok(
@@ -36,38 +44,31 @@ fn binds(rt: &impl Abort, world: &mut World) {
     ) = go(world, X)
     {
         assert!(rt; reply == Reply::Refused(Cause::Memory));
-        assert!(rt; shows(world, 0x0001_FFA5, X, 256));
-        let call = Call::Enter(A);
-        does(rt, world, Step::Begin { thread: X, call });
+        shows(rt, world, 0x0001_FFA5, X, 256);
+        does(rt, world, begins!(X, Call::Enter(A)));
         goes(rt, world, 2);
-    }
-}
-
-/// A world with one object, low byte A5, made anew where memory was refused.
-fn opened(alloc: Global, split: Split) -> Result<World, Fail> {
-    match opening(alloc, split) {
-        Ok(world) => Ok(world),
-        Err(_) => Ok(opening(alloc, split)?),
     }
 }
 
 /// The 257th enter of x, by which a monitor is bound.
 fn enters_deeper(rt: &impl Abort, world: &mut World) {
-    let call = Call::Enter(A);
-    does(rt, world, Step::Begin { thread: X, call });
+    does(rt, world, begins!(X, Call::Enter(A)));
     goes(rt, world, 1);
     binds(rt, world);
     goes(rt, world, 2);
 }
 
+/// Enters of x, of which the last binds a monitor.
+fn enters_up_to_a_monitor(rt: &impl Abort, world: &mut World) {
+    enters(rt, world, 256);
+    enters_deeper(rt, world);
+    shows(rt, world, 0x8000_00A5, X, 257);
+}
+
 #[test]
 fn what_was_refused_succeeds_when_tried_again(rt: HostRuntime) -> Result<(), Fail> {
-    let mut world = opened(rt.alloc(), Split::Wide)?;
-    attaches(&rt, &mut world, X);
-    attaches(&rt, &mut world, Y);
-    enters(&rt, &mut world, 256);
-    enters_deeper(&rt, &mut world);
-    assert!(rt; shows(&world, 0x8000_00A5, X, 257));
+    let mut world = with_both(&rt, rt.alloc());
+    enters_up_to_a_monitor(&rt, &mut world);
     Ok(())
 }
 
@@ -84,35 +85,55 @@ fn replies(rt: &impl Abort, world: &mut World, most: u32) -> Option<Reply> {
     None
 }
 
-#[test]
-fn an_enter_that_won_stays_though_its_bind_is_refused(rt: HostRuntime) -> Result<(), Fail> {
-    let mut world = opened(rt.alloc(), Split::Wide)?;
-    attaches(&rt, &mut world, X);
-    attaches(&rt, &mut world, Y);
-    enters(&rt, &mut world, 1);
-    let call = Call::Enter(A);
-    does(&rt, &mut world, Step::Begin { thread: Y, call });
-    does(&rt, &mut world, Step::Go { thread: Y });
-    let call = Call::Exit(A);
-    does(&rt, &mut world, Step::Begin { thread: X, call });
-    goes(&rt, &mut world, 2);
-    assert!(rt; replies(&rt, &mut world, 4) == Some(Reply::Entered));
-    assert!(rt; shows(&world, 0x8000_00A5, Y, 1) || shows(&world, 0x0002_00A5, Y, 1));
-    Ok(())
+/// The thread y owns the object once, by a fat word, or by a thin one where its bind was refused.
+fn is_y_the_owner(world: &World) -> bool {
+    is_shown(world, 0x8000_00A5, Y, 1) || is_shown(world, 0x0002_00A5, Y, 1)
+}
+
+/// An enter of y, which finds x as the owner, and wins when x is not any more.
+fn wins_late(rt: &impl Abort, world: &mut World) {
+    const STEPS: [Step; 5] = [
+        begins!(Y, Call::Enter(A)),
+        Step::Go { thread: Y },
+        begins!(X, Call::Exit(A)),
+        Step::Go { thread: X },
+        Step::Go { thread: X },
+    ];
+    enters(rt, world, 1);
+    does_all(rt, world, &STEPS);
+    assert!(rt; replies(rt, world, 4) == Some(Reply::Entered));
+    assert!(rt; is_y_the_owner(world));
 }
 
 #[test]
-fn a_refused_relayout_succeeds_when_tried_again(rt: HostRuntime) -> Result<(), Fail> {
-    let mut world = opened(rt.alloc(), Split::Deep)?;
-    attaches(&rt, &mut world, X);
-    enters(&rt, &mut world, 257);
+fn an_enter_that_won_stays_though_its_bind_is_refused(rt: HostRuntime) -> Result<(), Fail> {
+    let mut world = with_both(&rt, rt.alloc());
+    wins_late(&rt, &mut world);
+    Ok(())
+}
+
+/// A relayout to the wide split, tried again where memory was refused.
+fn lays_out(rt: &impl Abort, world: &mut World) {
     let first = world.relayout(Split::Wide);
     if first == Err(RelayoutFault::Memory) {
-        assert!(rt; shows(&world, 0x0011_00A5, X, 257));
+        shows(rt, world, 0x0011_00A5, X, 257);
         assert!(rt; world.relayout(Split::Wide) == Ok(1));
     } else {
         assert!(rt; first == Ok(1));
     }
-    assert!(rt; shows(&world, 0x8000_00A5, X, 257));
+}
+
+/// The same behind enters of x, the last of which is too deep for a thin word of that split.
+fn enters_and_lays_out(rt: &impl Abort, world: &mut World) {
+    attaches(rt, world, X);
+    enters(rt, world, 257);
+    lays_out(rt, world);
+    shows(rt, world, 0x8000_00A5, X, 257);
+}
+
+#[test]
+fn a_refused_relayout_succeeds_when_tried_again(rt: HostRuntime) -> Result<(), Fail> {
+    let mut world = opened(&rt, rt.alloc(), Split::Deep);
+    enters_and_lays_out(&rt, &mut world);
     Ok(())
 }
