@@ -1,20 +1,19 @@
 //! Places that are used, kept and freed, and passes that are torn from the book.
 
-ghost use Rattle.std.specs.Prelude.{◌≡◌, ◌≤◌, ◌<◌, length};
-ghost use Rattle.fat_monitor.specs.FatState.{FatState};
-ghost use Rattle.fat_monitor.specs.Acting.{NamesBound};
-ghost use Rattle.live_book.specs.Log.{IsThreadOf, IsForBook};
+ghost use Rattle.std.specs.Prelude.{◌≤◌};
 
 use fat_monitor::{Action, Answer, Done, Post, Reply};
 use header_words::Kept;
 use live_book::{Book, BookFault, Deed, LiveFault, Logged};
 use lock_word::{ObjectId, ThreadId};
+use std::alloc::Global;
 use std::process::Abort;
-use std::test::Fail;
 
 const ONE: ThreadId = ThreadId(1);
 
 const TWO: ThreadId = ThreadId(2);
+
+const THREE: ThreadId = ThreadId(3);
 
 const OBJECT: ObjectId = ObjectId(0);
 
@@ -34,155 +33,217 @@ const WAIT: Action = Action::Wait {
     nanos: 1,
 };
 
-/// Whether a bind of object 0 by an attached thread, which holds it this often, is answered so.
-fn binds(book: &mut Book, thread: ThreadId, holds: u16, answer: Result<u32, BookFault>) -> bool
-    requires low { 1 ≤ holds }
-    requires high { holds ≤ 256 }
-{
-    if book.post(thread).is_none() {
-        return false;
+/// What an action answers.
+type Told = Result<Done, BookFault>;
+
+macro_rules! told {
+    ($answer:expr) => {
+        Ok(Done {
+            answer: $answer,
+            granted: None,
+            chosen: None,
+        })
+    };
+}
+
+const FULL: BookFault = BookFault::RecordFull;
+
+const PARKED: Told = told!(Answer::Parked);
+
+const ENTERED: Told = told!(Answer::Reply(Reply::Entered));
+
+const EXITED: Told = told!(Answer::Reply(Reply::Exited));
+
+const NOTIFIED: Told = told!(Answer::Reply(Reply::Notified));
+
+const OWNS: Told = told!(Answer::Reply(Reply::Yes));
+
+const WAIT_OVER: Told = told!(Answer::Reply(Reply::WaitOver));
+
+/// What is asked of a book, and what has to be answered.
+#[derive(Clone, Copy)]
+enum Turn {
+    /// The thread holds the object so often, and binds this monitor to it.
+    Binds(ThreadId, u16, Result<u32, BookFault>),
+    Acts(ThreadId, Action, Told),
+    /// The thread tells this moment.
+    Ticks(ThreadId, u64, Result<(), BookFault>),
+    /// The thread's pass has it parked or not, and its own list of deeds full or not.
+    Checks(ThreadId, bool, bool, Result<(), LiveFault>),
+    /// So many places are used, and so many free.
+    HasPlaces(u32, u32),
+    HasPasses(u16),
+    /// This is the moment that was told last.
+    HasMoment(u64),
+    /// Monitor 0 belongs to this object.
+    Keeps(ObjectId),
+    /// The record has this at a place.
+    Logs(usize, Logged),
+}
+
+/// What a bind of object 0 comes to; None where the thread may not make it.
+fn bind(book: &mut Book, thread: ThreadId, holds: u16) -> Option<Result<u32, BookFault>> {
+    if book.post(thread).is_none() || holds < 1 || holds > 256 {
+        return None;
     }
-    let bound = book.bind(thread, OBJECT, holds);
-    bound.map(|receipt| receipt.monitor()) == answer
-}
-
-/// Whether an action of a thread that is out, on monitor 0 where it names one, is answered so.
-fn acts(book: &mut Book, thread: ThreadId, action: Action, answer: Result<Done, BookFault>) -> bool
-    requires bound { (f : FatState) → 0 < length f.monitors → NamesBound f action }
-    requires action { IsForBook action }
-{
-    if book.post(thread) != Some(Post::Out) || book.object(0).is_none() {
-        return false;
+    match book.bind(thread, OBJECT, holds) {
+        Ok(receipt) => Some(Ok(receipt.monitor())),
+        Err(fault) => Some(Err(fault)),
     }
-    book.act(thread, action) == answer
 }
 
-/// Whether an attached thread collects its reply so.
-fn collects(book: &mut Book, thread: ThreadId, answer: Result<Done, BookFault>) -> bool {
-    book.post(thread).is_some() && book.act(thread, Action::Collect) == answer
+/// What an action comes to; None where the thread may not make it.
+fn act(book: &mut Book, thread: ThreadId, action: Action) -> Option<Told> {
+    let post = book.post(thread)?;
+    match action {
+        Action::Expire | Action::Collect => Some(book.act(thread, action)),
+        Action::Enter { monitor }
+        | Action::Exit { monitor }
+        | Action::Wait { monitor, .. }
+        | Action::Notify { monitor }
+        | Action::NotifyAll { monitor }
+        | Action::Holds { monitor }
+            if post == Post::Out && book.object(monitor).is_some() => {
+            Some(book.act(thread, action))
+        }
+        _ => None,
+    }
 }
 
-fn expire(rt: &impl Abort, book: &mut Book, thread: ThreadId) -> Result<Done, BookFault> {
-    assert!(rt; book.post(thread).is_some());
-    book.act(thread, Action::Expire)
+/// What a moment that is told comes to; None where the book does not have the thread.
+fn tick(book: &mut Book, thread: ThreadId, now: u64) -> Option<Result<(), BookFault>> {
+    let _post = book.post(thread)?;
+    Some(book.tick(thread, now))
 }
 
-/// Whether a moment that an attached thread tells is answered so.
-fn ticks(book: &mut Book, thread: ThreadId, now: u64, answer: Result<(), BookFault>) -> bool {
-    book.post(thread).is_some() && book.tick(thread, now) == answer
+/// Whether this is the answer.
+fn answers(book: &mut Book, turn: Turn) -> bool {
+    match turn {
+        Turn::Binds(thread, holds, answer) => bind(book, thread, holds) == Some(answer),
+        Turn::Acts(thread, action, answer) => act(book, thread, action) == Some(answer),
+        Turn::Ticks(thread, now, answer) => tick(book, thread, now) == Some(answer),
+        Turn::Checks(thread, parked, full, answer) => book.check(thread, parked, full) == answer,
+        Turn::HasPlaces(used, free) => book.used() == used && book.free() == free,
+        Turn::HasPasses(passes) => book.passes() == passes,
+        Turn::HasMoment(now) => book.now() == now,
+        Turn::Keeps(object) => Kept::object(book, 0) == Some(object),
+        Turn::Logs(place, logged) => book.log().get(place).copied() == Some(logged),
+    }
 }
 
-fn told(answer: Answer) -> Result<Done, BookFault> {
-    Ok(Done {
-        answer,
-        granted: None,
-        chosen: None,
-    })
-}
-
-fn replied(reply: Reply) -> Result<Done, BookFault> {
-    told(Answer::Reply(reply))
-}
-
-/// Whether so many places are used, and so many free.
-fn has_places(book: &Book, used: u32, free: u32) -> bool {
-    book.used() == used && book.free() == free
+/// Asks these turns of a new book of one monitor, with so many passes and places.
+fn check(rt: &impl Abort, alloc: Global, passes: u16, places: u32, turns: &[Turn])
+    requires { passes ≤ 64 }
+{
+    let mut book = Book::new(alloc, 1, passes, places).expect(rt, "memory");
+    for (row, turn) in turns.iter().enumerate() {
+        assert!(rt; answers(&mut book, *turn), "row {row}");
+    }
 }
 
 #[test]
-fn a_full_record_lets_an_owner_leave_and_a_parked_thread_return(
-    rt: HostRuntime,
-) -> Result<(), Fail> {
-    let mut book = Book::new(rt.alloc(), 1, 2, 6)?;
-    assert!(rt; binds(&mut book, ONE, 1, Ok(0)));
-    assert!(rt; has_places(&book, 1, 4));
-    assert!(rt; acts(&mut book, TWO, ENTER, told(Answer::Parked)));
-    assert!(rt; has_places(&book, 2, 1));
-    assert!(rt; acts(&mut book, ONE, NOTIFY, replied(Reply::Notified)));
-    assert!(rt; has_places(&book, 3, 0));
-    assert!(rt; acts(&mut book, ONE, HOLDS, Err(BookFault::RecordFull)));
-    assert!(rt; ticks(&mut book, ONE, 1, Err(BookFault::RecordFull)));
-    let granted = Done {
+fn a_full_record_lets_an_owner_leave_and_a_parked_thread_return(rt: HostRuntime) {
+    const GRANTED: Told = Ok(Done {
         answer: Answer::Reply(Reply::Exited),
         granted: Some(TWO),
         chosen: None,
-    };
-    assert!(rt; acts(&mut book, ONE, EXIT, Ok(granted)));
-    assert!(rt; has_places(&book, 4, 0));
-    assert!(rt; collects(&mut book, TWO, replied(Reply::Entered)));
-    assert!(rt; has_places(&book, 5, 0));
-    assert!(rt; acts(&mut book, TWO, EXIT, replied(Reply::Exited)));
-    assert!(rt; has_places(&book, 6, 0));
-    assert!(rt; Kept::object(&book, 0) == Some(OBJECT));
-    Ok(())
+    });
+    const TURNS: [Turn; 15] = [
+        Turn::Binds(ONE, 1, Ok(0)),
+        Turn::HasPlaces(1, 4),
+        Turn::Acts(TWO, ENTER, PARKED),
+        Turn::HasPlaces(2, 1),
+        Turn::Acts(ONE, NOTIFY, NOTIFIED),
+        Turn::HasPlaces(3, 0),
+        Turn::Acts(ONE, HOLDS, Err(FULL)),
+        Turn::Ticks(ONE, 1, Err(FULL)),
+        Turn::Acts(ONE, EXIT, GRANTED),
+        Turn::HasPlaces(4, 0),
+        Turn::Acts(TWO, Action::Collect, ENTERED),
+        Turn::HasPlaces(5, 0),
+        Turn::Acts(TWO, EXIT, EXITED),
+        Turn::HasPlaces(6, 0),
+        Turn::Keeps(OBJECT),
+    ];
+    check(&rt, rt.alloc(), 2, 6, &TURNS);
 }
 
 #[test]
-fn a_bind_that_fits_can_leave_no_place_for_the_wait(rt: HostRuntime) -> Result<(), Fail> {
-    let mut book = Book::new(rt.alloc(), 1, 1, 3)?;
-    assert!(rt; binds(&mut book, ONE, 3, Err(BookFault::RecordFull)));
-    assert!(rt; binds(&mut book, ONE, 1, Ok(0)));
-    assert!(rt; has_places(&book, 1, 1));
-    assert!(rt; binds(&mut book, ONE, 1, Err(BookFault::RecordFull)));
-    assert!(rt; acts(&mut book, ONE, WAIT, Err(BookFault::RecordFull)));
-    assert!(rt; acts(&mut book, ONE, HOLDS, replied(Reply::Yes)));
-    assert!(rt; acts(&mut book, ONE, EXIT, replied(Reply::Exited)));
-    assert!(rt; has_places(&book, 3, 0));
-    Ok(())
+fn a_bind_that_fits_can_leave_no_place_for_the_wait(rt: HostRuntime) {
+    const TURNS: [Turn; 8] = [
+        Turn::Binds(ONE, 3, Err(FULL)),
+        Turn::Binds(ONE, 1, Ok(0)),
+        Turn::HasPlaces(1, 1),
+        Turn::Binds(ONE, 1, Err(FULL)),
+        Turn::Acts(ONE, WAIT, Err(FULL)),
+        Turn::Acts(ONE, HOLDS, OWNS),
+        Turn::Acts(ONE, EXIT, EXITED),
+        Turn::HasPlaces(3, 0),
+    ];
+    check(&rt, rt.alloc(), 1, 3, &TURNS);
 }
 
 #[test]
-fn each_thread_that_a_notify_all_removes_frees_a_place(rt: HostRuntime) -> Result<(), Fail> {
-    let mut book = Book::new(rt.alloc(), 1, 3, 30)?;
-    assert!(rt; binds(&mut book, ONE, 5, Ok(0)));
-    assert!(rt; has_places(&book, 1, 24));
-    assert!(rt; acts(&mut book, ONE, WAIT, told(Answer::Parked)));
-    assert!(rt; has_places(&book, 2, 21));
-    assert!(rt; acts(&mut book, TWO, ENTER, replied(Reply::Entered)));
-    assert!(rt; acts(&mut book, TWO, WAIT, told(Answer::Parked)));
-    assert!(rt; has_places(&book, 4, 16));
-    let three = ThreadId(3);
-    assert!(rt; acts(&mut book, three, ENTER, replied(Reply::Entered)));
-    assert!(rt; has_places(&book, 5, 14));
-    assert!(rt; acts(&mut book, three, NOTIFY_ALL, replied(Reply::Notified)));
-    assert!(rt; has_places(&book, 6, 15));
-    Ok(())
+fn each_thread_that_a_notify_all_removes_frees_a_place(rt: HostRuntime) {
+    const TURNS: [Turn; 11] = [
+        Turn::Binds(ONE, 5, Ok(0)),
+        Turn::HasPlaces(1, 24),
+        Turn::Acts(ONE, WAIT, PARKED),
+        Turn::HasPlaces(2, 21),
+        Turn::Acts(TWO, ENTER, ENTERED),
+        Turn::Acts(TWO, WAIT, PARKED),
+        Turn::HasPlaces(4, 16),
+        Turn::Acts(THREE, ENTER, ENTERED),
+        Turn::HasPlaces(5, 14),
+        Turn::Acts(THREE, NOTIFY_ALL, NOTIFIED),
+        Turn::HasPlaces(6, 15),
+    ];
+    check(&rt, rt.alloc(), 3, 30, &TURNS);
 }
 
 #[test]
-fn a_wait_that_is_over_frees_the_place_of_its_expiry(rt: HostRuntime) -> Result<(), Fail> {
-    let mut book = Book::new(rt.alloc(), 1, 1, 7)?;
-    assert!(rt; binds(&mut book, ONE, 1, Ok(0)));
-    assert!(rt; acts(&mut book, ONE, WAIT, told(Answer::Parked)));
-    assert!(rt; has_places(&book, 2, 2));
-    assert!(rt; expire(&rt, &mut book, ONE) == Err(BookFault::NotDue));
-    assert!(rt; collects(&mut book, ONE, Err(BookFault::Parked)));
-    assert!(rt; ticks(&mut book, ONE, 5, Ok(())));
-    assert!(rt; ticks(&mut book, ONE, 4, Err(BookFault::Backwards)));
-    assert!(rt; book.now() == 5);
-    assert!(rt; has_places(&book, 3, 1));
-    assert!(rt; ticks(&mut book, ONE, 5, Ok(())));
-    assert!(rt; expire(&rt, &mut book, ONE).is_ok());
-    assert!(rt; collects(&mut book, ONE, replied(Reply::WaitOver)));
-    assert!(rt; acts(&mut book, ONE, EXIT, replied(Reply::Exited)));
-    assert!(rt; has_places(&book, 7, 0));
-    let ticked = Logged {
+fn a_wait_that_is_over_frees_the_place_of_its_expiry(rt: HostRuntime) {
+    /// The thread left its wait set by itself, and owns the monitor, which was free.
+    const BACK: Told = Ok(Done {
+        answer: Answer::Quiet,
+        granted: Some(ONE),
+        chosen: None,
+    });
+    const TICKED: Logged = Logged {
         thread: ONE,
         deed: Deed::Ticked { now: 5 },
     };
-    assert!(rt; book.log().get(2).copied() == Some(ticked));
-    Ok(())
+    const TURNS: [Turn; 15] = [
+        Turn::Binds(ONE, 1, Ok(0)),
+        Turn::Acts(ONE, WAIT, PARKED),
+        Turn::HasPlaces(2, 2),
+        Turn::Acts(ONE, Action::Expire, Err(BookFault::NotDue)),
+        Turn::Acts(ONE, Action::Collect, Err(BookFault::Parked)),
+        Turn::Ticks(ONE, 5, Ok(())),
+        Turn::Ticks(ONE, 4, Err(BookFault::Backwards)),
+        Turn::HasMoment(5),
+        Turn::HasPlaces(3, 1),
+        Turn::Ticks(ONE, 5, Ok(())),
+        Turn::Acts(ONE, Action::Expire, BACK),
+        Turn::Acts(ONE, Action::Collect, WAIT_OVER),
+        Turn::Acts(ONE, EXIT, EXITED),
+        Turn::HasPlaces(7, 0),
+        Turn::Logs(2, TICKED),
+    ];
+    check(&rt, rt.alloc(), 1, 7, &TURNS);
 }
 
 #[test]
-fn a_pass_is_torn_where_the_book_has_it_elsewhere(rt: HostRuntime) -> Result<(), Fail> {
-    let book = Book::new(rt.alloc(), 1, 1, 5)?;
-    let (parked, full) = (true, true);
-    assert!(rt; book.passes() == 1);
-    assert!(rt; book.check(ONE, !parked, !full) == Ok(()));
-    assert!(rt; book.check(ONE, parked, !full) == Err(LiveFault::Torn));
-    assert!(rt; book.check(ONE, !parked, full) == Err(LiveFault::Torn));
-    assert!(rt; book.check(TWO, !parked, !full) == Err(LiveFault::Torn));
+fn a_pass_is_torn_where_the_book_has_it_elsewhere(rt: HostRuntime) {
+    const PARKED: bool = true;
+    const FULL: bool = true;
+    const TURNS: [Turn; 5] = [
+        Turn::HasPasses(1),
+        Turn::Checks(ONE, !PARKED, !FULL, Ok(())),
+        Turn::Checks(ONE, PARKED, !FULL, Err(LiveFault::Torn)),
+        Turn::Checks(ONE, !PARKED, FULL, Err(LiveFault::Torn)),
+        Turn::Checks(TWO, !PARKED, !FULL, Err(LiveFault::Torn)),
+    ];
+    check(&rt, rt.alloc(), 1, 5, &TURNS);
     assert!(rt; LiveFault::Torn.number() == 18);
-    Ok(())
 }
