@@ -5,13 +5,13 @@ ghost use Rattle.header_words.specs.Bindings.{Binds, Covers};
 ghost use Rattle.header_words.specs.Passes.{depth_at};
 
 use super::books::Ledger;
-use super::{OBJECT, close_two, open_two};
+use super::{OBJECT, close_one, close_two, open_one, open_two};
 use crate::names::{Names, inflate};
 use fat_monitor::{Fats, Receipt};
 use header_words::{Headers, Kept, Pass};
 use lock_word::{Lock, ObjectId, Split, ThreadId, Word, decode};
 use std::alloc::Global;
-use std::test::Fail;
+use std::process::Abort;
 use std::thread::{Threads, join};
 
 // A pass that finds a fat word takes the book, which binds the monitor to the object.
@@ -39,14 +39,19 @@ fn monitor_of<B: Kept>(
 
 // The receipt for monitor 0, which a world of fat monitors binds to the object for two holds of
 // thread 1.
-fn receipt_for_two_holds(alloc: Global) -> Option<Receipt>
-    ensures object { IfSome result (λ r. r.object.0 ≡ 0) }
-    ensures owner { IfSome result (λ r. r.owner.0 ≡ 1) }
-    ensures holds { IfSome result (λ r. r.holds ≡ 2) }
+fn receipt_for_two_holds(rt: &impl Abort, alloc: Global) -> Receipt
+    ensures object { result.object.0 ≡ 0 }
+    ensures owner { result.owner.0 ≡ 1 }
+    ensures holds { result.holds ≡ 2 }
 {
     let mut fats = Fats::new(alloc, 1);
-    fats.attach(ThreadId(1)).ok()?;
-    fats.bind(OBJECT, ThreadId(1), 2).ok()
+    let Ok(()) = fats.attach(ThreadId(1)) else {
+        panic!(rt; "the thread is attached")
+    };
+    let Ok(receipt) = fats.bind(OBJECT, ThreadId(1), 2) else {
+        panic!(rt; "the monitor is bound")
+    };
+    receipt
 }
 
 // Acquires the object and nests it, so that the pass holds it twice. False where its word is not
@@ -175,42 +180,77 @@ fn finds_monitor(headers: &Headers<Names>, pass: &mut Pass<Names>) -> bool
 // A shared reference to the value may cross threads, and the value itself.
 fn crosses_threads<T: Send + Sync>(_value: &T) {}
 
-#[test]
-fn the_book_is_taken_by_one_pass_at_a_time(rt: HostRuntime) -> Result<(), Fail> {
-    let Some((headers, mut first, mut second)) = open_two(rt.alloc()) else {
-        panic!(rt; "memory")
+// Whether the first pass takes the book, which the second then cannot, and gives it back with this
+// object.
+fn takes_alone(
+    headers: &Headers<Names>,
+    first: &mut Pass<Names>,
+    second: &mut Pass<Names>,
+    object: ObjectId,
+) -> bool
+    requires first { (first.old.opening ≡ headers.now) × (first.old.has_gate ≡ false) }
+    requires second { (second.old.opening ≡ headers.now) × (second.old.has_gate ≡ false) }
+    ensures second { OnTrue result
+        ((second.new.opening ≡ headers.now) × (second.new.has_gate ≡ false)) }
+{
+    let Some(names) = headers.take(first) else {
+        return false;
     };
-    crosses_threads(&headers);
-    let Some(names) = headers.take(&mut first) else {
-        panic!(rt; "the gate was open")
+    let is_alone = first.has_gate() && headers.take(second).is_none() && !second.has_gate();
+    add_and_give(headers, first, names, object) && is_alone && !first.has_gate()
+}
+
+// Whether the book has just this object.
+fn has_just(headers: &Headers<Names>, pass: &mut Pass<Names>, object: ObjectId) -> bool
+    requires belongs { pass.old.opening ≡ headers.now }
+    requires without { pass.old.has_gate ≡ false }
+{
+    let Some(names) = headers.take(pass) else {
+        return false;
     };
-    assert!(rt; first.has_gate());
-    assert!(rt; headers.take(&mut second).is_none());
-    assert!(rt; !second.has_gate());
-    assert!(rt; add_and_give(&headers, &mut first, names, ObjectId(7)));
-    assert!(rt; !first.has_gate());
-    let Some(names) = headers.take(&mut second) else {
-        panic!(rt; "the gate is open again")
-    };
-    assert!(rt; names.object(0) == Some(ObjectId(7)));
-    assert!(rt; names.object(1) == None);
-    headers.give(&mut second, names);
-    Ok(())
+    let (zeroth, first) = (names.object(0), names.object(1));
+    headers.give(pass, names);
+    zeroth == Some(object) && first == None
 }
 
 #[test]
-fn a_receipt_is_published(rt: HostRuntime) -> Result<(), Fail> {
-    let receipt = receipt_for_two_holds(rt.alloc()).ok_or("a receipt")?;
-    let Some((headers, mut first, mut second)) = open_two(rt.alloc()) else {
-        panic!(rt; "memory")
-    };
-    assert!(rt; publish_two_holds(&headers, &mut first, receipt));
-    assert!(rt; is_fat(&headers, &mut first));
-    assert!(rt; finds_monitor(&headers, &mut second));
-    let (words, names) = close_two(rt.alloc(), headers, first, second)?;
+fn the_book_is_taken_by_one_pass_at_a_time(rt: HostRuntime) {
+    let (headers, mut first, mut second) = open_two(&rt, rt.alloc());
+    crosses_threads(&headers);
+    assert!(rt; takes_alone(&headers, &mut first, &mut second, ObjectId(7)));
+    assert!(rt; has_just(&headers, &mut second, ObjectId(7)));
+}
+
+// Whether the first pass publishes monitor 0, to which the second is led.
+fn leads_to_monitor(
+    headers: &Headers<Names>,
+    first: &mut Pass<Names>,
+    second: &mut Pass<Names>,
+    receipt: Receipt,
+) -> bool
+    requires first { (first.old.opening ≡ headers.now) × (first.old.has_gate ≡ false) }
+    requires second { (second.old.opening ≡ headers.now) × (second.old.has_gate ≡ false) }
+    requires objects { 0 < length headers.now.lows }
+    requires free { depth_at first.old 0 ≡ 0 }
+    requires object { receipt.object.0 ≡ 0 }
+    requires owner { receipt.owner.0 ≡ first.old.index }
+    requires holds { receipt.holds ≡ 2 }
+    ensures first { (first.new.opening ≡ headers.now) × (first.new.has_gate ≡ false) }
+    ensures second { (second.new.opening ≡ headers.now) × (second.new.has_gate ≡ false) }
+{
+    publish_two_holds(headers, first, receipt)
+        && is_fat(headers, first)
+        && finds_monitor(headers, second)
+}
+
+#[test]
+fn a_receipt_is_published(rt: HostRuntime) {
+    let receipt = receipt_for_two_holds(&rt, rt.alloc());
+    let (headers, mut first, mut second) = open_two(&rt, rt.alloc());
+    assert!(rt; leads_to_monitor(&headers, &mut first, &mut second, receipt));
+    let (words, names) = close_two(&rt, rt.alloc(), headers, first, second);
     assert!(rt; words.as_slice() == [Word(0x8000_00a5)].as_slice());
     assert!(rt; names.object(0) == Some(OBJECT));
-    Ok(())
 }
 
 // Takes the book and gives it back. Whether it had no objects.
@@ -229,27 +269,24 @@ fn is_empty(headers: &Headers<Ledger>, pass: &mut Pass<Ledger>) -> bool
 }
 
 #[test]
-fn a_type_with_a_model_is_kept(rt: HostRuntime) -> Result<(), Fail> {
-    let ledger = Ledger::new(rt.alloc());
-    let Ok((headers, mut passes)) = Headers::open(rt.alloc(), &[0xa5], 1, ledger) else {
-        panic!(rt; "memory")
-    };
+fn a_type_with_a_model_is_kept(rt: HostRuntime) {
+    let (headers, mut pass) = open_one(&rt, rt.alloc(), Ledger::new(rt.alloc()));
     crosses_threads(&headers);
-    let Some(mut pass) = passes.pop() else {
-        panic!(rt; "one pass")
-    };
     assert!(rt; is_empty(&headers, &mut pass));
-    let passes = vec![in rt.alloc(); pass]?;
-    let (_, ledger) = headers.close(rt.alloc(), passes).ok().ok_or("closed")?;
+    let (_, ledger) = close_one(&rt, rt.alloc(), headers, pass);
     assert!(rt; ledger.object(0) == None);
-    Ok(())
+}
+
+// Whether the book has 2,000 objects, of which 1,000 are object 1.
+fn has_a_thousand_ones(names: &Names) -> bool {
+    let objects = names.objects.as_slice();
+    let ones = objects.iter().filter(|object| object.0 == 1).count();
+    objects.len() == 2_000 && ones == 1_000
 }
 
 #[test]
-fn two_threads_add_to_the_book(rt: HostRuntime) -> Result<(), Fail> {
-    let Some((headers, first, second)) = open_two(rt.alloc()) else {
-        panic!(rt; "memory")
-    };
+fn two_threads_add_to_the_book(rt: HostRuntime) {
+    let (headers, first, second) = open_two(&rt, rt.alloc());
     let (one, two) = join(
         &rt,
         || add_often(&headers, first, ObjectId(1), 1_000),
@@ -257,10 +294,6 @@ fn two_threads_add_to_the_book(rt: HostRuntime) -> Result<(), Fail> {
     );
     assert!(rt; (one.0, two.0) == (1_000, 1_000));
     let (first, second) = headers.meet(one.1, two.1);
-    let (_, names) = close_two(rt.alloc(), headers, first, second)?;
-    let objects = names.objects.as_slice();
-    assert!(rt; objects.len() == 2_000);
-    let ones = objects.iter().filter(|object| object.0 == 1).count();
-    assert!(rt; ones == 1_000);
-    Ok(())
+    let (_, names) = close_two(&rt, rt.alloc(), headers, first, second);
+    assert!(rt; has_a_thousand_ones(&names));
 }

@@ -1,6 +1,6 @@
 //! Want of memory, which only a run with refused allocations meets: what was handed in comes back,
 //! and the same succeeds when it is tried again.
-ghost use Rattle.std.specs.Prelude.{◌≡◌, [], length, false, IfOk, All};
+ghost use Rattle.std.specs.Prelude.{◌≡◌, [], length, false, All};
 ghost use Rattle.header_words.specs.Passes.{new_passes};
 
 use header_words::{CloseFault, Headers, Kept, OpenFault, Pass};
@@ -27,19 +27,19 @@ impl Kept for Marked {
 
 /// Opens the words of two objects for two passes; where memory is refused, the book comes back, and
 /// is opened again.
-fn open_again(rt: &impl Abort, alloc: Global) -> Result<(Headers<Marked>, Vec<Pass<Marked>>), Fail>
-    ensures objects { IfOk result (λ r. length r.0.lows ≡ 2) }
-    ensures passes { IfOk result (λ r. r.1.items ≡ new_passes r.0 1 2) }
+fn open_again(rt: &impl Abort, alloc: Global) -> (Headers<Marked>, Vec<Pass<Marked>>)
+    ensures objects { length result.0.lows ≡ 2 }
+    ensures passes { result.1.items ≡ new_passes result.0 1 2 }
 {
     let book = match Headers::open(alloc, &[0xa5, 0x5a], 2, Marked { mark: 7 }) {
-        Ok(opened) => return Ok(opened),
+        Ok(opened) => return opened,
         Err(OpenFault::Memory { book }) => book,
     };
     assert!(rt; book.mark == 7);
-    match Headers::open(alloc, &[0xa5, 0x5a], 2, book) {
-        Ok(opened) => Ok(opened),
-        Err(OpenFault::Memory { .. }) => Err(Fail::from("refused twice")),
-    }
+    let Ok(opened) = Headers::open(alloc, &[0xa5, 0x5a], 2, book) else {
+        panic!(rt; "refused twice")
+    };
+    opened
 }
 
 /// Acquires the object by the second of both passes, which stay where they are. False where its
@@ -57,6 +57,13 @@ fn acquire_by_second(headers: &Headers<Marked>, passes: &mut Vec<Pass<Marked>>) 
     passes.push(second).is_ok() && acquired
 }
 
+/// Whether these are passes 1 and 2.
+fn are_both(passes: &[Pass<Marked>]) -> bool {
+    let first = passes.first().map(|pass| pass.index());
+    let last = passes.last().map(|pass| pass.index());
+    passes.len() == 2 && first == Some(1) && last == Some(2)
+}
+
 /// Closes the words; where memory is refused, they come back with their passes, and are closed
 /// again.
 fn close_again(
@@ -64,31 +71,27 @@ fn close_again(
     alloc: Global,
     headers: Headers<Marked>,
     passes: Vec<Pass<Marked>>,
-) -> Result<(Vec<Word>, Marked), Fail>
+) -> (Vec<Word>, Marked)
     requires belong { All (λ p. p.opening ≡ headers) passes.items }
     requires without { All (λ p. p.has_gate ≡ false) passes.items }
 {
     let (headers, passes) = match headers.close(alloc, passes) {
-        Ok(closed) => return Ok(closed),
+        Ok(closed) => return closed,
         Err(CloseFault::Memory { headers, passes }) => (headers, passes),
-        Err(CloseFault::WrongPass { .. }) => return Err(Fail::from("another fault")),
+        Err(CloseFault::WrongPass { .. }) => panic!(rt; "another fault"),
     };
-    let indices = (
-        passes.first().map(|pass| pass.index()),
-        passes.last().map(|pass| pass.index()),
-    );
-    assert!(rt; passes.len() == 2 && indices == (Some(1), Some(2)));
-    match headers.close(alloc, passes) {
-        Ok(closed) => Ok(closed),
-        Err(_) => Err(Fail::from("refused twice")),
-    }
+    assert!(rt; are_both(passes.as_slice()));
+    let Ok(closed) = headers.close(alloc, passes) else {
+        panic!(rt; "refused twice")
+    };
+    closed
 }
 
 #[test]
 fn what_was_refused_comes_back_and_succeeds_again(rt: HostRuntime) -> Result<(), Fail> {
-    let (headers, mut passes) = open_again(&rt, rt.alloc())?;
+    let (headers, mut passes) = open_again(&rt, rt.alloc());
     assert!(rt; acquire_by_second(&headers, &mut passes));
-    let (words, book) = close_again(&rt, rt.alloc(), headers, passes)?;
+    let (words, book) = close_again(&rt, rt.alloc(), headers, passes);
     assert!(rt; words.as_slice() == [Word(0x0002_00a5), Word(0x0000_005a)].as_slice());
     assert!(rt; book.mark == 7);
     Ok(())

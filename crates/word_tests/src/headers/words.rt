@@ -3,11 +3,10 @@ ghost use Rattle.std.specs.Prelude.{◌≡◌, ◌<◌, IfSome, length, false};
 ghost use Rattle.lock_word.specs.declared.Lock.TheVariants.{Thin};
 ghost use Rattle.header_words.specs.Passes.{depth_at, word_at};
 
-use super::{OBJECT, close_too_early, close_two, open_two};
+use super::{OBJECT, close_one, close_too_early, close_two, open_one, open_two};
 use crate::names::Names;
 use header_words::{Headers, Kept, Pass};
 use lock_word::Word;
-use std::test::Fail;
 use std::thread::{Threads, join};
 
 // Acquires the object, by at most `turns` tries, nests, unnests and releases it.
@@ -84,30 +83,33 @@ fn locks_and_unlocks(headers: &Headers<Names>, pass: &mut Pass<Names>) -> bool
     first == Word(0x0001_00a5) && nested == Word(0x0001_01a5) && depth == 2
 }
 
-#[test]
-fn one_pass_locks_an_object(rt: HostRuntime) -> Result<(), Fail> {
-    let names = Names::new(rt.alloc());
-    let Ok((headers, mut passes)) = Headers::open(rt.alloc(), &[0xa5], 1, names) else {
-        panic!(rt; "memory")
-    };
-    let Some(mut pass) = passes.pop() else {
-        panic!(rt; "one pass")
-    };
-    assert!(rt; pass.index() == 1);
-    assert!(rt; locks_and_unlocks(&headers, &mut pass));
-    assert!(rt; pass.depth(OBJECT) == 0);
-    let passes = vec![in rt.alloc(); pass]?;
-    let (words, names) = headers.close(rt.alloc(), passes).ok().ok_or("closed")?;
-    assert!(rt; names.object(0) == None);
-    assert!(rt; words.as_slice() == [Word(0x0000_00a5)].as_slice());
-    Ok(())
+// Whether pass 1 locks and unlocks the object, and holds it no more.
+fn is_locked_by_one(headers: &Headers<Names>, pass: &mut Pass<Names>) -> bool
+    requires belongs { pass.old.opening ≡ headers.now }
+    requires object { 0 < length headers.now.lows }
+    requires free { depth_at pass.old 0 ≡ 0 }
+    ensures belongs { pass.new.opening ≡ headers.now }
+    ensures gate { pass.new.has_gate ≡ pass.old.has_gate }
+{
+    pass.index() == 1 && locks_and_unlocks(headers, pass) && pass.depth(OBJECT) == 0
+}
+
+// Whether nothing is bound, and the word of the one object is free.
+fn is_as_at_first(words: &[Word], names: &Names) -> bool {
+    names.object(0) == None && words == [Word(0x0000_00a5)].as_slice()
 }
 
 #[test]
-fn two_threads_take_turns(rt: HostRuntime) -> Result<(), Fail> {
-    let Some((headers, first, second)) = open_two(rt.alloc()) else {
-        panic!(rt; "memory")
-    };
+fn one_pass_locks_an_object(rt: HostRuntime) {
+    let (headers, mut pass) = open_one(&rt, rt.alloc(), Names::new(rt.alloc()));
+    assert!(rt; is_locked_by_one(&headers, &mut pass));
+    let (words, names) = close_one(&rt, rt.alloc(), headers, pass);
+    assert!(rt; is_as_at_first(words.as_slice(), &names));
+}
+
+#[test]
+fn two_threads_take_turns(rt: HostRuntime) {
+    let (headers, first, second) = open_two(&rt, rt.alloc());
     let (one, two) = join(
         &rt,
         || lock_often(&headers, first, 1_000),
@@ -116,9 +118,7 @@ fn two_threads_take_turns(rt: HostRuntime) -> Result<(), Fail> {
     assert!(rt; (one.0, two.0) == (1_000, 1_000));
     let (first, mut second) = headers.meet(one.1, two.1);
     assert!(rt; headers.load(&mut second, OBJECT) == Word(0x0000_00a5));
-    let (headers, first) = close_too_early(rt.alloc(), headers, first)?;
-    let (words, names) = close_two(rt.alloc(), headers, first, second)?;
-    assert!(rt; names.object(0) == None);
-    assert!(rt; words.as_slice() == [Word(0x0000_00a5)].as_slice());
-    Ok(())
+    let (headers, first) = close_too_early(&rt, rt.alloc(), headers, first);
+    let (words, names) = close_two(&rt, rt.alloc(), headers, first, second);
+    assert!(rt; is_as_at_first(words.as_slice(), &names));
 }
