@@ -6,6 +6,22 @@ use fat_monitor::{Cause, Reply};
 use std::test::Fail;
 use step_core::{Did, Fault, RelayoutFault};
 
+/// What is done with a world, which does it in the end though memory is refused.
+#[derive(Clone, Copy)]
+enum Deed {
+    Attaches(ThreadId),
+    /// So many enters of x, the last of which needs no monitor.
+    Enters(u32),
+    /// One enter of x more, by which a monitor is bound.
+    EntersDeeper,
+    /// An enter of y, which finds x as the owner, and wins when x is not any more.
+    WinsLate,
+    /// A relayout to the wide split, behind 257 enters of x.
+    LaysOut,
+    /// The word of the object is this, and it is owned by x, which holds it 257 times.
+    Shows(u32),
+}
+
 /// What one more step of the thread in its call comes to.
 fn go(world: &mut World, thread: ThreadId) -> Result<Did, Fault> {
     world.step(Step::Go { thread })
@@ -24,14 +40,6 @@ fn attaches(rt: &impl Abort, world: &mut World, thread: ThreadId) {
         assert!(rt; is_unknown(world, thread));
         does(rt, world, step);
     }
-}
-
-/// A world with one object, low byte A5, and two threads.
-fn with_both(rt: &impl Abort, alloc: Global) -> World {
-    let mut world = opened(rt, alloc, Split::Wide);
-    attaches(rt, &mut world, X);
-    attaches(rt, &mut world, Y);
-    world
 }
 
 /// The bind of a 257th enter of x, and the enter up to it once more where memory was refused.
@@ -56,20 +64,6 @@ fn enters_deeper(rt: &impl Abort, world: &mut World) {
     goes(rt, world, 1);
     binds(rt, world);
     goes(rt, world, 2);
-}
-
-/// Enters of x, of which the last binds a monitor.
-fn enters_up_to_a_monitor(rt: &impl Abort, world: &mut World) {
-    enters(rt, world, 256);
-    enters_deeper(rt, world);
-    shows(rt, world, 0x8000_00A5, X, 257);
-}
-
-#[test]
-fn what_was_refused_succeeds_when_tried_again(rt: HostRuntime) -> Result<(), Fail> {
-    let mut world = with_both(&rt, rt.alloc());
-    enters_up_to_a_monitor(&rt, &mut world);
-    Ok(())
 }
 
 /// The Go steps of y in its call, up to its reply, of which there are so many at most.
@@ -99,17 +93,9 @@ fn wins_late(rt: &impl Abort, world: &mut World) {
         Step::Go { thread: X },
         Step::Go { thread: X },
     ];
-    enters(rt, world, 1);
     does_all(rt, world, &STEPS);
     assert!(rt; replies(rt, world, 4) == Some(Reply::Entered));
     assert!(rt; is_y_the_owner(world));
-}
-
-#[test]
-fn an_enter_that_won_stays_though_its_bind_is_refused(rt: HostRuntime) -> Result<(), Fail> {
-    let mut world = with_both(&rt, rt.alloc());
-    wins_late(&rt, &mut world);
-    Ok(())
 }
 
 /// A relayout to the wide split, tried again where memory was refused.
@@ -123,17 +109,58 @@ fn lays_out(rt: &impl Abort, world: &mut World) {
     }
 }
 
-/// The same behind enters of x, the last of which is too deep for a thin word of that split.
-fn enters_and_lays_out(rt: &impl Abort, world: &mut World) {
-    attaches(rt, world, X);
-    enters(rt, world, 257);
-    lays_out(rt, world);
-    shows(rt, world, 0x8000_00A5, X, 257);
+fn play(rt: &impl Abort, world: &mut World, deed: Deed) {
+    match deed {
+        Deed::Attaches(thread) => attaches(rt, world, thread),
+        Deed::Enters(times) => enters(rt, world, times),
+        Deed::EntersDeeper => enters_deeper(rt, world),
+        Deed::WinsLate => wins_late(rt, world),
+        Deed::LaysOut => lays_out(rt, world),
+        Deed::Shows(word) => shows(rt, world, word, X, 257),
+    }
+}
+
+/// Does these deeds with a new world, one after the other.
+fn play_all(rt: &impl Abort, alloc: Global, split: Split, deeds: &[Deed]) {
+    let mut world = opened(rt, alloc, split);
+    for deed in deeds {
+        play(rt, &mut world, *deed);
+    }
+}
+
+#[test]
+fn what_was_refused_succeeds_when_tried_again(rt: HostRuntime) -> Result<(), Fail> {
+    const DEEDS: [Deed; 5] = [
+        Deed::Attaches(X),
+        Deed::Attaches(Y),
+        Deed::Enters(256),
+        Deed::EntersDeeper,
+        Deed::Shows(0x8000_00A5),
+    ];
+    play_all(&rt, rt.alloc(), Split::Wide, &DEEDS);
+    Ok(())
+}
+
+#[test]
+fn an_enter_that_won_stays_though_its_bind_is_refused(rt: HostRuntime) -> Result<(), Fail> {
+    const DEEDS: [Deed; 4] = [
+        Deed::Attaches(X),
+        Deed::Attaches(Y),
+        Deed::Enters(1),
+        Deed::WinsLate,
+    ];
+    play_all(&rt, rt.alloc(), Split::Wide, &DEEDS);
+    Ok(())
 }
 
 #[test]
 fn a_refused_relayout_succeeds_when_tried_again(rt: HostRuntime) -> Result<(), Fail> {
-    let mut world = opened(&rt, rt.alloc(), Split::Deep);
-    enters_and_lays_out(&rt, &mut world);
+    const DEEDS: [Deed; 4] = [
+        Deed::Attaches(X),
+        Deed::Enters(257),
+        Deed::LaysOut,
+        Deed::Shows(0x8000_00A5),
+    ];
+    play_all(&rt, rt.alloc(), Split::Deep, &DEEDS);
     Ok(())
 }
