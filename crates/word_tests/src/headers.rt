@@ -1,6 +1,6 @@
 //! Header words that threads share.
 
-ghost use Rattle.std.specs.Prelude.{◌≡◌, IfSome, All, length, false};
+ghost use Rattle.std.specs.Prelude.{◌≡◌, ◌∷◌, [], IfSome, All, length, false};
 ghost use Rattle.header_words.specs.Passes.{new_pass, new_passes};
 
 mod books;
@@ -77,6 +77,15 @@ fn close<B: Kept + Drop>(
     closed
 }
 
+fn only<B: Kept + Drop>(rt: &impl Abort, alloc: Global, pass: Pass<B>) -> Vec<Pass<B>>
+    ensures { result.items ≡ pass ∷ [] }
+{
+    let Ok(passes) = vec![in alloc; pass] else {
+        panic!(rt; "memory")
+    };
+    passes
+}
+
 /// Closes the words with their one pass.
 fn close_one<B: Kept + Drop>(
     rt: &impl Abort,
@@ -87,9 +96,7 @@ fn close_one<B: Kept + Drop>(
     requires belongs { pass.opening ≡ headers }
     requires without { pass.has_gate ≡ false }
 {
-    let Ok(passes) = vec![in alloc; pass] else {
-        panic!(rt; "memory")
-    };
+    let passes = only(rt, alloc, pass);
     close(rt, alloc, headers, passes)
 }
 
@@ -123,9 +130,7 @@ fn close_too_early(
     ensures belongs { result.1.opening ≡ headers }
     ensures without { result.1.has_gate ≡ false }
 {
-    let Ok(passes) = vec![in alloc; pass] else {
-        panic!(rt; "memory")
-    };
+    let passes = only(rt, alloc, pass);
     let Err(
         CloseFault::WrongPass {
             headers,

@@ -243,14 +243,18 @@ fn leads_to_monitor(
         && finds_monitor(headers, second)
 }
 
+// Whether the word of the one object is fat, and its monitor is bound to it.
+fn is_bound(words: &[Word], names: &Names) -> bool {
+    words == [Word(0x8000_00a5)].as_slice() && names.object(0) == Some(OBJECT)
+}
+
 #[test]
 fn a_receipt_is_published(rt: HostRuntime) {
     let receipt = receipt_for_two_holds(&rt, rt.alloc());
     let (headers, mut first, mut second) = open_two(&rt, rt.alloc());
     assert!(rt; leads_to_monitor(&headers, &mut first, &mut second, receipt));
     let (words, names) = close_two(&rt, rt.alloc(), headers, first, second);
-    assert!(rt; words.as_slice() == [Word(0x8000_00a5)].as_slice());
-    assert!(rt; names.object(0) == Some(OBJECT));
+    assert!(rt; is_bound(words.as_slice(), &names));
 }
 
 // Takes the book and gives it back. Whether it had no objects.

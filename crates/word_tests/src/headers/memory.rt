@@ -87,12 +87,16 @@ fn close_again(
     closed
 }
 
+/// Whether pass 2 holds the first of both objects once, and nobody the other.
+fn is_held_by_second(words: &[Word]) -> bool {
+    words == [Word(0x0002_00a5), Word(0x0000_005a)].as_slice()
+}
+
 #[test]
 fn what_was_refused_comes_back_and_succeeds_again(rt: HostRuntime) -> Result<(), Fail> {
     let (headers, mut passes) = open_again(&rt, rt.alloc());
     assert!(rt; acquire_by_second(&headers, &mut passes));
     let (words, book) = close_again(&rt, rt.alloc(), headers, passes);
-    assert!(rt; words.as_slice() == [Word(0x0002_00a5), Word(0x0000_005a)].as_slice());
-    assert!(rt; book.mark == 7);
+    assert!(rt; is_held_by_second(words.as_slice()) && book.mark == 7);
     Ok(())
 }
