@@ -14,10 +14,25 @@ use thread_index::{Indices, TakeFault};
 enum Deed {
     Takes(u32, Result<u16, TakeFault>),
     Gives(u32, Option<u16>),
+    /// The thread takes this index, and tries again where memory was refused.
+    TakesAtLast(u32, u16),
     /// The thread has this index; None: it has none.
     Has(u32, Option<u16>),
     /// The index is this thread's; None: nobody's.
     IsHeld(u16, Option<u32>),
+}
+
+/// Whether the thread takes this index; where memory was refused, whether nothing shows of it, and
+/// a second take succeeds.
+fn takes_at_last(indices: &mut Indices, thread: u32, index: u16) -> bool {
+    let thread = ThreadId(thread);
+    let first = indices.take(thread);
+    if first != Err(TakeFault::Memory) {
+        return first == Ok(index);
+    }
+    indices.index_of(thread) == None
+        && indices.id_of(index) == None
+        && indices.take(thread) == Ok(index)
 }
 
 /// Whether this is the answer.
@@ -25,6 +40,7 @@ fn answers(indices: &mut Indices, deed: Deed) -> bool {
     match deed {
         Deed::Takes(thread, answer) => indices.take(ThreadId(thread)) == answer,
         Deed::Gives(thread, answer) => indices.give(ThreadId(thread)) == answer,
+        Deed::TakesAtLast(thread, index) => takes_at_last(indices, thread, index),
         Deed::Has(thread, index) => indices.index_of(ThreadId(thread)) == index,
         Deed::IsHeld(index, thread) => indices.id_of(index) == thread.map(ThreadId),
     }
@@ -122,24 +138,15 @@ fn takes_and_gives_in_no_order(rt: HostRuntime) {
     }
 }
 
-/// A take of this index, tried again where memory was refused.
-fn takes_at_last(rt: &impl Abort, indices: &mut Indices, thread: u32, index: u16) {
-    let first = indices.take(ThreadId(thread));
-    if first == Err(TakeFault::Memory) {
-        assert!(rt; answers(indices, Deed::Has(thread, None)));
-        assert!(rt; answers(indices, Deed::IsHeld(index, None)));
-        assert!(rt; answers(indices, Deed::Takes(thread, Ok(index))));
-    } else {
-        assert!(rt; first == Ok(index));
-    }
-}
-
 /// Run with each allocation refused in turn, this meets every refusal.
 #[test]
 fn what_was_refused_succeeds_when_tried_again(rt: HostRuntime) -> Result<(), Fail> {
+    const DEEDS: [Deed; 3] = [
+        Deed::TakesAtLast(7, 1),
+        Deed::TakesAtLast(8, 2),
+        Deed::TakesAtLast(9, 3),
+    ];
     let mut indices = open(rt.alloc(), 4);
-    takes_at_last(&rt, &mut indices, 7, 1);
-    takes_at_last(&rt, &mut indices, 8, 2);
-    takes_at_last(&rt, &mut indices, 9, 3);
+    check(&rt, &mut indices, &DEEDS);
     Ok(())
 }
