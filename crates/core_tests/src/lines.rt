@@ -171,15 +171,18 @@ fn a_thousand(rt: &impl Abort, alloc: Global) -> Both {
     both
 }
 
+/// Whether the thread of this turn leaves the line of monitor 3, which is then as the plain one.
+fn leaves_outwards(alloc: Global, both: &mut Both, turn: u32) -> bool
+    requires { turn < 1000 }
+{
+    both.leave_by_node(outwards(turn)) && both.is_same(alloc, 3, Role::Waiting)
+}
+
 #[test]
 fn a_long_line_is_emptied_from_the_middle_outwards(rt: HostRuntime) {
     let mut both = a_thousand(&rt, rt.alloc());
     for turn in 0..1000 {
-        let left = both.leave_by_node(outwards(turn));
-        assert!(rt;
-            left && both.is_same(rt.alloc(), 3, Role::Waiting),
-            "{turn}"
-        );
+        assert!(rt; leaves_outwards(rt.alloc(), &mut both, turn), "{turn}");
     }
     assert!(rt; both.lines.first(3, Role::Waiting) == None);
 }
