@@ -80,8 +80,7 @@ fn a_thread_that_is_back_shows_why(world: &World) -> bool {
 }
 
 fn shows_what_was_done(rt: &impl Abort, world: &mut World) {
-    assert!(rt; an_index_leads_to_its_thread(world));
-    assert!(rt; a_thin_word_shows_owner_and_holds(world));
+    assert!(rt; an_index_leads_to_its_thread(world) && a_thin_word_shows_owner_and_holds(world));
     waits(rt, world);
     assert!(rt; a_waiter_shows_its_holds_and_its_deadline(world));
     comes_back(rt, world);
