@@ -1,117 +1,115 @@
 //! Lines that are written.
 
 use history_moves::{first_line, move_line};
-use lock_word::Memory;
 use std::alloc::Global;
+use std::process::Abort;
 use std::test::Fail;
 use step_core::{Call, Cause, Move, ObjectId, Reply, ThreadId};
 
 const THREAD: ThreadId = ThreadId(0);
 
-/// Whether a move is written so.
-fn is_written(alloc: Global, made: Move, line: &str) -> Result<bool, Memory> {
-    Ok(move_line(alloc, &made)?.as_str() == line)
+const OBJECT: ObjectId = ObjectId(0);
+
+/// Each move is written as the line beside it.
+fn are_written(rt: &impl Abort, alloc: Global, rows: &[(Move, &str)]) -> Result<(), Fail> {
+    for &(made, line) in rows {
+        assert!(rt; move_line(alloc, &made)?.as_str() == line, "{line}");
+    }
+    Ok(())
 }
 
-/// The move of a call of the thread.
-fn called(call: Call) -> Move {
-    Move::Call {
-        thread: THREAD,
-        call,
-    }
-}
+const FIRST_ENTER: [(Move, &str); 4] = [
+    (
+        Move::Attach { thread: THREAD },
+        r#"{"move":"Attach","thread":0}"#,
+    ),
+    (
+        Move::Call {
+            thread: THREAD,
+            call: Call::Enter(OBJECT),
+        },
+        r#"{"call":"Enter","move":"Call","object":0,"thread":0}"#,
+    ),
+    (
+        Move::Lock { thread: THREAD },
+        r#"{"move":"Lock","thread":0}"#,
+    ),
+    (
+        Move::Return {
+            thread: THREAD,
+            reply: Reply::Entered,
+        },
+        r#"{"move":"Return","reply":"Entered","thread":0}"#,
+    ),
+];
 
 #[test]
 fn a_first_enter(rt: HostRuntime) -> Result<(), Fail> {
-    let alloc = rt.alloc();
-    let attach = Move::Attach { thread: THREAD };
-    let enter = called(Call::Enter(ObjectId(0)));
-    let lock = Move::Lock { thread: THREAD };
-    let entered = Move::Return {
-        thread: THREAD,
-        reply: Reply::Entered,
-    };
-    assert!(rt; first_line(alloc, 1)?.as_str() == r#"{"objects":1}"#);
-    assert!(rt; is_written(alloc, attach, r#"{"move":"Attach","thread":0}"#)?);
-    assert!(rt;
-        is_written(
-            alloc,
-            enter,
-            r#"{"call":"Enter","move":"Call","object":0,"thread":0}"#
-        )?
-    );
-    assert!(rt; is_written(alloc, lock, r#"{"move":"Lock","thread":0}"#)?);
-    assert!(rt;
-        is_written(
-            alloc,
-            entered,
-            r#"{"move":"Return","reply":"Entered","thread":0}"#
-        )?
-    );
-    Ok(())
+    assert!(rt; first_line(rt.alloc(), 1)?.as_str() == r#"{"objects":1}"#);
+    are_written(&rt, rt.alloc(), &FIRST_ENTER)
 }
+
+const CALLS: [(Move, &str); 3] = [
+    (
+        Move::Call {
+            thread: THREAD,
+            call: Call::Wait {
+                object: OBJECT,
+                millis: -1,
+                nanos: 5,
+            },
+        },
+        r#"{"call":"Wait","millis":-1,"move":"Call","nanos":5,"object":0,"thread":0}"#,
+    ),
+    (
+        Move::Call {
+            thread: THREAD,
+            call: Call::Interrupt(ThreadId(7)),
+        },
+        r#"{"call":"Interrupt","move":"Call","target":7,"thread":0}"#,
+    ),
+    (
+        Move::Call {
+            thread: THREAD,
+            call: Call::End,
+        },
+        r#"{"call":"End","move":"Call","thread":0}"#,
+    ),
+];
 
 #[test]
 fn calls_and_their_members(rt: HostRuntime) -> Result<(), Fail> {
-    let alloc = rt.alloc();
-    let wait = called(Call::Wait {
-        object: ObjectId(0),
-        millis: -1,
-        nanos: 5,
-    });
-    let interrupt = called(Call::Interrupt(ThreadId(7)));
-    assert!(rt;
-        is_written(
-            alloc,
-            wait,
-            r#"{"call":"Wait","millis":-1,"move":"Call","nanos":5,"object":0,"thread":0}"#
-        )?
-    );
-    assert!(rt;
-        is_written(
-            alloc,
-            interrupt,
-            r#"{"call":"Interrupt","move":"Call","target":7,"thread":0}"#
-        )?
-    );
-    assert!(rt;
-        is_written(
-            alloc,
-            called(Call::End),
-            r#"{"call":"End","move":"Call","thread":0}"#
-        )?
-    );
-    Ok(())
+    are_written(&rt, rt.alloc(), &CALLS)
 }
+
+const CHOICES_CAUSES_AND_MOMENTS: [(Move, &str); 4] = [
+    (
+        Move::Notify {
+            thread: THREAD,
+            chosen: None,
+        },
+        r#"{"chosen":null,"move":"Notify","thread":0}"#,
+    ),
+    (
+        Move::Return {
+            thread: THREAD,
+            reply: Reply::Refused(Cause::TooDeep),
+        },
+        r#"{"cause":"TooDeep","move":"Return","reply":"Refused","thread":0}"#,
+    ),
+    (
+        Move::Spurious { thread: THREAD },
+        r#"{"move":"Spurious","thread":0}"#,
+    ),
+    (
+        Move::Time {
+            now: 18_446_744_073_709_551_615,
+        },
+        r#"{"move":"Time","now":18446744073709551615}"#,
+    ),
+];
 
 #[test]
 fn choices_causes_and_moments(rt: HostRuntime) -> Result<(), Fail> {
-    let alloc = rt.alloc();
-    let nobody = Move::Notify {
-        thread: THREAD,
-        chosen: None,
-    };
-    let refused = Move::Return {
-        thread: THREAD,
-        reply: Reply::Refused(Cause::TooDeep),
-    };
-    let woken = Move::Spurious { thread: THREAD };
-    let late = Move::Time { now: u64::MAX };
-    assert!(rt;
-        is_written(
-            alloc,
-            nobody,
-            r#"{"chosen":null,"move":"Notify","thread":0}"#
-        )?
-    );
-    assert!(rt;
-        is_written(
-            alloc,
-            refused,
-            r#"{"cause":"TooDeep","move":"Return","reply":"Refused","thread":0}"#
-        )?
-    );
-    assert!(rt; is_written(alloc, woken, r#"{"move":"Spurious","thread":0}"#)?);
-    assert!(rt; is_written(alloc, late, r#"{"move":"Time","now":18446744073709551615}"#)?);
-    Ok(())
+    are_written(&rt, rt.alloc(), &CHOICES_CAUSES_AND_MOMENTS)
 }
