@@ -48,11 +48,12 @@ fn is_written(
     text: &[u8],
 ) -> bool {
     let bytes = sink.into_inner();
-    match outcome {
-        Ok(()) => assert!(rt; bytes.as_slice() == text),
-        Err(FileFault::Write) => assert!(rt; text.starts_with(bytes.as_slice())),
-        Err(fault) => assert!(rt; fault == FileFault::Memory && bytes.is_empty()),
-    }
+    let is_right = match outcome {
+        Ok(()) => bytes.as_slice() == text,
+        Err(FileFault::Write) => text.starts_with(bytes.as_slice()),
+        Err(fault) => fault == FileFault::Memory && bytes.is_empty(),
+    };
+    assert!(rt; is_right);
     outcome.is_ok()
 }
 
@@ -63,9 +64,8 @@ fn runs(rt: &impl Abort, alloc: Global) -> bool {
 }
 
 #[test]
-fn a_refused_run_succeeds_when_tried_again(rt: HostRuntime) -> Result<(), Fail> {
+fn a_refused_run_succeeds_when_tried_again(rt: HostRuntime) {
     assert!(rt; runs(&rt, rt.alloc()) || runs(&rt, rt.alloc()));
-    Ok(())
 }
 
 fn tells_moves(rt: &impl Abort, alloc: Global) -> bool {
@@ -75,9 +75,8 @@ fn tells_moves(rt: &impl Abort, alloc: Global) -> bool {
 }
 
 #[test]
-fn a_refused_history_succeeds_when_tried_again(rt: HostRuntime) -> Result<(), Fail> {
+fn a_refused_history_succeeds_when_tried_again(rt: HostRuntime) {
     assert!(rt; tells_moves(&rt, rt.alloc()) || tells_moves(&rt, rt.alloc()));
-    Ok(())
 }
 
 fn dumps(rt: &impl Abort, alloc: Global) -> bool {
@@ -87,9 +86,8 @@ fn dumps(rt: &impl Abort, alloc: Global) -> bool {
 }
 
 #[test]
-fn a_refused_dump_succeeds_when_tried_again(rt: HostRuntime) -> Result<(), Fail> {
+fn a_refused_dump_succeeds_when_tried_again(rt: HostRuntime) {
     assert!(rt; dumps(&rt, rt.alloc()) || dumps(&rt, rt.alloc()));
-    Ok(())
 }
 
 fn checks(rt: &impl Abort, alloc: Global) -> bool {
@@ -99,9 +97,8 @@ fn checks(rt: &impl Abort, alloc: Global) -> bool {
 }
 
 #[test]
-fn a_refused_check_succeeds_when_tried_again(rt: HostRuntime) -> Result<(), Fail> {
+fn a_refused_check_succeeds_when_tried_again(rt: HostRuntime) {
     assert!(rt; checks(&rt, rt.alloc()) || checks(&rt, rt.alloc()));
-    Ok(())
 }
 
 fn lives<R: Threads + Wait + Clock + Sync + Abort>(rt: &R, alloc: Global) -> bool {
@@ -115,9 +112,8 @@ fn lives<R: Threads + Wait + Clock + Sync + Abort>(rt: &R, alloc: Global) -> boo
 }
 
 #[test]
-fn a_refused_live_run_succeeds_when_tried_again(rt: HostRuntime) -> Result<(), Fail> {
+fn a_refused_live_run_succeeds_when_tried_again(rt: HostRuntime) {
     assert!(rt; lives(&rt, rt.alloc()) || lives(&rt, rt.alloc()));
-    Ok(())
 }
 
 /// The script, read and written.
@@ -127,38 +123,36 @@ fn printed(alloc: Global) -> Result<String, FileFault> {
 }
 
 fn prints(rt: &impl Abort, alloc: Global) -> bool {
-    match printed(alloc) {
-        Ok(text) => {
-            assert!(rt; text.as_bytes() == SCRIPT);
-            true
-        }
-        Err(fault) => {
-            assert_eq!(rt; fault, FileFault::Memory);
-            false
-        }
-    }
+    let outcome = printed(alloc);
+    let is_right = match &outcome {
+        Ok(text) => text.as_bytes() == SCRIPT,
+        Err(fault) => *fault == FileFault::Memory,
+    };
+    assert!(rt; is_right);
+    outcome.is_ok()
 }
 
 #[test]
-fn a_refused_print_succeeds_when_tried_again(rt: HostRuntime) -> Result<(), Fail> {
+fn a_refused_print_succeeds_when_tried_again(rt: HostRuntime) {
     assert!(rt; prints(&rt, rt.alloc()) || prints(&rt, rt.alloc()));
-    Ok(())
 }
 
+/// The order of the words `run --moves f`.
+const MOVES_OF_F: Order<'static> = Order {
+    task: Task::Moves,
+    file: Some("f"),
+};
+
+const FAILED: ProgramEnd = ProgramEnd::Failed(RunFault::File(FileFault::Memory));
+
 fn reads(rt: &impl Abort, alloc: Global, words: &[String]) -> bool {
-    match read_words(alloc, words) {
-        Ok(order) => {
-            let file = Some("f");
-            let task = Task::Moves;
-            assert_eq!(rt; order, Order { task, file });
-            true
-        }
-        Err(error) => {
-            let fault = RunFault::File(FileFault::Memory);
-            assert_eq!(rt; end_for(&error), ProgramEnd::Failed(fault));
-            false
-        }
-    }
+    let outcome = read_words(alloc, words);
+    let is_right = match &outcome {
+        Ok(order) => *order == MOVES_OF_F,
+        Err(error) => end_for(error) == FAILED,
+    };
+    assert!(rt; is_right);
+    outcome.is_ok()
 }
 
 #[test]
