@@ -5,6 +5,8 @@ use command_line::{FaultLine, Order, Task, read_words};
 use history::FileFault;
 use live_runs::RunFault;
 use std::alloc::{AllocError, Global};
+use std::fmt::Display;
+use std::process::Abort;
 use std::test::Fail;
 
 pub(crate) fn words_of(alloc: Global, line: &str) -> Result<Vec<String>, AllocError> {
@@ -15,48 +17,78 @@ pub(crate) fn words_of(alloc: Global, line: &str) -> Result<Vec<String>, AllocEr
     Ok(words)
 }
 
-#[test]
-fn orders(rt: HostRuntime) -> Result<(), Fail> {
-    let rows = [
-        ("run", Task::Run, None),
-        ("run x.script", Task::Run, Some("x.script")),
-        ("run -", Task::Run, Some("-")),
-        ("run check", Task::Run, Some("check")),
-        ("run -- --moves", Task::Run, Some("--moves")),
-        ("run --moves", Task::Moves, None),
-        ("run --moves x.script", Task::Moves, Some("x.script")),
-        ("run x.script --moves", Task::Moves, Some("x.script")),
-        ("check", Task::Check, None),
-        ("check x.history", Task::Check, Some("x.history")),
-        ("check run", Task::Check, Some("run")),
-        ("dump", Task::Dump, None),
-        ("dump x.script", Task::Dump, Some("x.script")),
-        ("dump dump", Task::Dump, Some("dump")),
-        ("live", Task::Live, None),
-        ("live x.script", Task::Live, Some("x.script")),
-    ];
-    for (line, task, file) in rows {
-        let words = words_of(rt.alloc(), line)?;
-        match read_words(rt.alloc(), &words) {
-            Ok(order) => assert_eq!(rt; order, Order { task, file }, "{line}"),
-            Err(_) => assert!(rt; false, "{line}"),
-        }
+/// A line of words, and the order that it is read as: its task and its file.
+const ORDERS: [(&str, Task, Option<&str>); 16] = [
+    ("run", Task::Run, None),
+    ("run x.script", Task::Run, Some("x.script")),
+    ("run -", Task::Run, Some("-")),
+    ("run check", Task::Run, Some("check")),
+    ("run -- --moves", Task::Run, Some("--moves")),
+    ("run --moves", Task::Moves, None),
+    ("run --moves x.script", Task::Moves, Some("x.script")),
+    ("run x.script --moves", Task::Moves, Some("x.script")),
+    ("check", Task::Check, None),
+    ("check x.history", Task::Check, Some("x.history")),
+    ("check run", Task::Check, Some("run")),
+    ("dump", Task::Dump, None),
+    ("dump x.script", Task::Dump, Some("x.script")),
+    ("dump dump", Task::Dump, Some("dump")),
+    ("live", Task::Live, None),
+    ("live x.script", Task::Live, Some("x.script")),
+];
+
+/// Whether a line of words is read as this order.
+fn is_order(alloc: Global, line: &str, order: Order) -> Result<bool, AllocError> {
+    let words = words_of(alloc, line)?;
+    match read_words(alloc, &words) {
+        Ok(read) => Ok(read == order),
+        Err(_) => Ok(false),
+    }
+}
+
+/// Each line of words is read as the order beside it.
+fn are_orders(
+    rt: &impl Abort,
+    alloc: Global,
+    rows: &[(&str, Task, Option<&str>)],
+) -> Result<(), Fail> {
+    for &(line, task, file) in rows {
+        assert!(rt; is_order(alloc, line, Order { task, file })?, "{line}");
     }
     Ok(())
 }
 
 #[test]
-fn lines_of_faults(rt: HostRuntime) -> Result<(), Fail> {
-    let faults = [
-        (RunFault::File(FileFault::BadLine(5)), "thinmon: bad line 5"),
-        (RunFault::File(FileFault::Read), "thinmon: read failed"),
-        (RunFault::Torn, "thinmon: fault 18 Torn"),
-    ];
-    for (fault, text) in faults {
-        assert_eq!(rt;
-            format!(in rt.alloc(); "{}", FaultLine(fault))?.as_str(),
-            text
-        );
+fn orders(rt: HostRuntime) -> Result<(), Fail> {
+    are_orders(&rt, rt.alloc(), &ORDERS)
+}
+
+/// Each fault is told by the text beside it.
+pub(crate) fn are_told<F: Display>(
+    rt: &impl Abort,
+    alloc: Global,
+    rows: &[(F, &str)],
+) -> Result<(), Fail> {
+    for (fault, text) in rows {
+        let told = format!(in alloc; "{fault}")?;
+        assert!(rt; told.as_str() == *text, "{told}");
     }
     Ok(())
+}
+
+const FAULT_LINES: [(FaultLine, &str); 3] = [
+    (
+        FaultLine(RunFault::File(FileFault::BadLine(5))),
+        "thinmon: bad line 5",
+    ),
+    (
+        FaultLine(RunFault::File(FileFault::Read)),
+        "thinmon: read failed",
+    ),
+    (FaultLine(RunFault::Torn), "thinmon: fault 18 Torn"),
+];
+
+#[test]
+fn lines_of_faults(rt: HostRuntime) -> Result<(), Fail> {
+    are_told(&rt, rt.alloc(), &FAULT_LINES)
 }
