@@ -6,6 +6,7 @@ mod readers;
 use history_check::{FileFault, ReaderSource, WriterSink, replay};
 use std::alloc::Global;
 use std::io::Read;
+use std::process::Abort;
 
 /// A thread is attached and enters an object.
 const ENTERS: &[u8] = b"{\"objects\":1}
@@ -30,6 +31,18 @@ fn check_of<R: Read + Drop>(alloc: Global, reader: R) -> Result<Vec<u8>, FileFau
     let mut sink = WriterSink::new(Vec::new(alloc));
     replay(alloc, &mut ReaderSource::new(reader), &mut sink)?;
     Ok(sink.into_inner())
+}
+
+/// This is what is written of a history.
+fn tells<R: Read + Drop>(
+    rt: &impl Abort,
+    alloc: Global,
+    reader: R,
+    text: &[u8],
+) -> Result<(), FileFault> {
+    let told = check_of(alloc, reader)?;
+    assert!(rt; told.as_slice() == text);
+    Ok(())
 }
 
 fn fault_of<R: Read + Drop>(alloc: Global, reader: R) -> Option<FileFault> {

@@ -14,6 +14,8 @@ mod memory;
 #[cfg(test)]
 mod moves;
 #[cfg(test)]
+mod pieces;
+#[cfg(test)]
 mod streams;
 #[cfg(test)]
 mod words;

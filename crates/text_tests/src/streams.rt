@@ -1,8 +1,12 @@
 //! What no script shows: readers and writers that fail.
 
+use super::pieces::{PiecesReader, Then};
+use super::words::are_told;
 use history::{FileFault, ReaderSource, WriterSink, moves, run};
+use std::alloc::Global;
 use std::io;
 use std::io::{ErrorKind, Read, Write};
+use std::process::Abort;
 use std::test::Fail;
 
 pub(crate) const SCRIPT: &[u8] = b"world 4 4\nobject a A5\nattach x\nbegin x enter a\ngo x\ngo x\n";
@@ -16,28 +20,6 @@ pub(crate) const HISTORY: &[u8] = b"{\"objects\":1}
 {\"move\":\"Lock\",\"thread\":0}
 {\"move\":\"Return\",\"reply\":\"Entered\",\"thread\":0}
 ";
-
-/// Gives some bytes, so many at a time, and then fails or ends.
-#[derive(Drop)]
-struct PiecesReader<'a> {
-    bytes: &'a [u8],
-    at_once: usize,
-    fails: bool,
-}
-
-impl<'a> Read for PiecesReader<'a> {
-    fn read(&mut self, buf: &mut [u8]) -> io::Result<usize> {
-        if self.bytes.is_empty() && self.fails {
-            return Err(io::Error::from(ErrorKind::UnexpectedEof));
-        }
-        let count = self.at_once.min(buf.len()).min(self.bytes.len());
-        let (front, rest) = self.bytes.split_at(count);
-        let (room, _) = buf.split_at_mut(count);
-        room.copy_from_slice(front);
-        self.bytes = rest;
-        Ok(count)
-    }
-}
 
 /// Gives bytes without end.
 #[derive(Drop)]
@@ -79,83 +61,88 @@ impl Write for FullWriter {
     }
 }
 
-#[test]
-fn readers_that_fail(rt: HostRuntime) {
-    for count in 0..=SCRIPT.len() {
-        let (bytes, _) = SCRIPT.split_at(count);
-        let mut source = ReaderSource::new(PiecesReader {
-            bytes,
-            at_once: 1,
-            fails: true,
-        });
-        let mut sink = WriterSink::new(Vec::new(rt.alloc()));
-        let outcome = run(rt.alloc(), &mut source, &mut sink);
-        assert_eq!(rt; outcome, Err(FileFault::Read), "{count} bytes");
-        assert!(rt; sink.into_inner().is_empty(), "{count} bytes");
-    }
-    let mut sink = WriterSink::new(Vec::new(rt.alloc()));
-    let outcome = run(rt.alloc(), &mut ReaderSource::new(EndlessReader), &mut sink);
-    assert_eq!(rt; outcome, Err(FileFault::Read));
-    assert!(rt; sink.into_inner().is_empty());
+/// Whether a run of what a reader gives ends so, and writes this text.
+fn ends_so<R: Read + Drop>(
+    alloc: Global,
+    reader: R,
+    ending: Result<(), FileFault>,
+    text: &[u8],
+) -> bool {
+    let mut sink = WriterSink::new(Vec::new(alloc));
+    let outcome = run(alloc, &mut ReaderSource::new(reader), &mut sink);
+    outcome == ending && sink.into_inner().as_slice() == text
 }
 
 #[test]
-fn readers_that_give_a_little(rt: HostRuntime) {
-    for at_once in [1, 2, 56, 57, 4095] {
-        let mut source = ReaderSource::new(PiecesReader {
-            bytes: SCRIPT,
-            at_once,
-            fails: false,
-        });
-        let mut sink = WriterSink::new(Vec::new(rt.alloc()));
-        let outcome = run(rt.alloc(), &mut source, &mut sink);
-        assert_eq!(rt; outcome, Ok(()), "{at_once} at once");
-        assert!(rt; sink.into_inner().as_slice() == REPORT, "{at_once} at once");
+fn readers_that_fail(rt: HostRuntime) {
+    let fault = Err(FileFault::Read);
+    for count in 0..=SCRIPT.len() {
+        let (bytes, _) = SCRIPT.split_at(count);
+        let reader = PiecesReader::new(bytes, 1, Then::Fails);
+        assert!(rt; ends_so(rt.alloc(), reader, fault, b""), "{count} bytes");
     }
+    assert!(rt; ends_so(rt.alloc(), EndlessReader, fault, b""));
+}
+
+const AT_ONCE: [usize; 5] = [1, 2, 56, 57, 4095];
+
+#[test]
+fn readers_that_give_a_little(rt: HostRuntime) {
+    for &at_once in &AT_ONCE {
+        let reader = PiecesReader::new(SCRIPT, at_once, Then::Ends);
+        assert!(rt;
+            ends_so(rt.alloc(), reader, Ok(()), REPORT),
+            "{at_once} at once"
+        );
+    }
+}
+
+/// Writes a report with room for so many of its bytes, which are taken.
+fn fills(rt: &impl Abort, alloc: Global, room: usize, is_silent: bool) {
+    let mut sink = WriterSink::new(FullWriter {
+        taken: Vec::new(alloc),
+        room,
+        is_silent,
+    });
+    let outcome = run(alloc, &mut ReaderSource::new(SCRIPT), &mut sink);
+    let wanted = if room == REPORT.len() {
+        Ok(())
+    } else {
+        Err(FileFault::Write)
+    };
+    let writer = sink.into_inner();
+    let is_front = writer.taken.len() == room && REPORT.starts_with(writer.taken.as_slice());
+    assert!(rt;
+        outcome == wanted && is_front,
+        "{room} bytes, silent: {is_silent}"
+    );
 }
 
 #[test]
 fn writers_that_fail(rt: HostRuntime) {
     for room in 0..=REPORT.len() {
-        for is_silent in [false, true] {
-            let writer = FullWriter {
-                taken: Vec::new(rt.alloc()),
-                room,
-                is_silent,
-            };
-            let mut sink = WriterSink::new(writer);
-            let outcome = run(rt.alloc(), &mut ReaderSource::new(SCRIPT), &mut sink);
-            if room == REPORT.len() {
-                assert_eq!(rt; outcome, Ok(()));
-            } else {
-                assert_eq!(rt; outcome, Err(FileFault::Write), "{room} bytes");
-            }
-            let (front, _) = REPORT.split_at(room);
-            assert!(rt; sink.into_inner().taken.as_slice() == front, "{room} bytes");
-        }
+        fills(&rt, rt.alloc(), room, false);
+        fills(&rt, rt.alloc(), room, true);
     }
 }
 
 #[test]
-fn the_moves_of_a_script(rt: HostRuntime) -> Result<(), Fail> {
+fn the_moves_of_a_script(rt: HostRuntime) {
     let mut sink = WriterSink::new(Vec::new(rt.alloc()));
-    moves(rt.alloc(), &mut ReaderSource::new(SCRIPT), &mut sink)?;
-    assert!(rt; sink.into_inner().as_slice() == HISTORY);
-    Ok(())
+    let outcome = moves(rt.alloc(), &mut ReaderSource::new(SCRIPT), &mut sink);
+    assert!(rt; outcome == Ok(()) && sink.into_inner().as_slice() == HISTORY);
 }
+
+const FAULTS: [(FileFault, &str); 6] = [
+    (FileFault::BadLine(7), "bad line 7"),
+    (FileFault::BadMove(7), "bad move 7"),
+    (FileFault::Broken(5), "broken at 5"),
+    (FileFault::Read, "read failed"),
+    (FileFault::Write, "write failed"),
+    (FileFault::Memory, "out of memory"),
+];
 
 #[test]
 fn texts_of_faults(rt: HostRuntime) -> Result<(), Fail> {
-    let faults = [
-        (FileFault::BadLine(7), "bad line 7"),
-        (FileFault::BadMove(7), "bad move 7"),
-        (FileFault::Broken(5), "broken at 5"),
-        (FileFault::Read, "read failed"),
-        (FileFault::Write, "write failed"),
-        (FileFault::Memory, "out of memory"),
-    ];
-    for (fault, text) in faults {
-        assert_eq!(rt; format!(in rt.alloc(); "{fault}")?.as_str(), text);
-    }
-    Ok(())
+    are_told(&rt, rt.alloc(), &FAULTS)
 }
