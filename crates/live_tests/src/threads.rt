@@ -30,14 +30,15 @@ const ENTERED: Result<Reply, LiveFault> = Ok(Reply::Entered);
 
 const EXITED: Result<Reply, LiveFault> = Ok(Reply::Exited);
 
-/// A wait for object 0 of so many milliseconds; 0: of no limit.
-const fn wait(millis: i64) -> Call {
-    Call::Wait {
-        object: OBJECT,
-        millis,
-        nanos: 0,
-    }
-}
+/// A wait of no limit.
+const WAIT: Call = Call::Wait {
+    object: OBJECT,
+    millis: 0,
+    nanos: 0,
+};
+
+/// A call, and its answer.
+type Answered = (Call, Result<Reply, LiveFault>);
 
 /// Opens a service of one object with this low byte, so many monitors, one pass and so many places.
 pub(crate) fn open_one<L: Crew>(
@@ -129,29 +130,55 @@ fn is_told<L: Crew, R: Wait + Clock>(
     live.tick(rt, pass, now) == answer
 }
 
-/// Closes a service with all its passes.
-fn close<L: Crew>(alloc: Global, live: Live<L>, passes: Vec<LivePass<L>>) -> Result<Closed, Fail>
+/// Makes these calls, each of which has the answer beside it.
+fn are_answered<L: Crew, R: Abort + Wait + Clock>(
+    rt: &R,
+    live: &Live<L>,
+    pass: &mut LivePass<L>,
+    rows: &[Answered],
+)
+    requires here { pass.old.words.opening ≡ live.now }
+    ensures here { pass.new.words.opening ≡ live.now }
+{
+    for &(call, answer) in rows {
+        assert!(rt; is_answered(rt, live, pass, call, answer));
+    }
+}
+
+/// The word of the one object of a closed service, and how many deeds all its passes did.
+fn word_and_deeds(closed: &Closed) -> Result<(Word, u64), Fail> {
+    let word = closed.words.first().ok_or("one object")?;
+    let mut deeds = 0u64;
+    for count in &closed.counts {
+        deeds = deeds.wrapping_add(*count);
+    }
+    Ok((*word, deeds))
+}
+
+/// Closes a service with all its passes, and tells the word of its one object and the deeds of all.
+fn close<L: Crew>(
+    alloc: Global,
+    live: Live<L>,
+    passes: Vec<LivePass<L>>,
+) -> Result<(Word, u64), Fail>
     requires belong { All (λ p. p.words.opening ≡ live) passes.items }
     requires crew { (L.parts ≡ live.count) × (L.passes ≡ live.count) }
 {
     match live.close(alloc, passes) {
-        Ok(closed) => Ok(closed),
+        Ok(closed) => word_and_deeds(&closed),
         Err(_) => Err(Fail::from("not closed")),
     }
 }
 
-/// Closes a service of one pass, and tells the word of its one object and the deeds of its pass.
+/// Closes a service of one pass.
 fn close_one<L: Crew>(alloc: Global, live: Live<L>, pass: LivePass<L>) -> Result<(Word, u64), Fail>
     requires here { pass.words.opening ≡ live }
     requires crew { (L.parts ≡ live.count) × (L.passes ≡ live.count) }
 {
-    let closed = close(alloc, live, vec![in alloc; pass]?)?;
-    let word = closed.words.first().ok_or("one object")?;
-    let count = closed.counts.first().ok_or("one pass")?;
-    Ok((*word, *count))
+    close(alloc, live, vec![in alloc; pass]?)
 }
 
-/// Closes a service of two passes, and tells the word of its one object and the deeds of both.
+/// Closes a service of two passes.
 pub(crate) fn close_both<L: Crew>(
     alloc: Global,
     live: Live<L>,
@@ -162,11 +189,33 @@ pub(crate) fn close_both<L: Crew>(
     requires second { second.words.opening ≡ live }
     requires crew { (L.parts ≡ live.count) × (L.passes ≡ live.count) }
 {
-    let closed = close(alloc, live, vec![in alloc; first, second]?)?;
-    let word = closed.words.first().ok_or("one object")?;
-    let one = closed.counts.first().ok_or("two passes")?;
-    let other = closed.counts.last().ok_or("two passes")?;
-    Ok((*word, one.wrapping_add(*other)))
+    close(alloc, live, vec![in alloc; first, second]?)
+}
+
+/// Drops a service of two passes, which is not closed.
+pub(crate) fn drop_both<L: Crew>(_live: Live<L>, _first: LivePass<L>, _second: LivePass<L>) {}
+
+const ENTER_AND_WAIT: [Answered; 2] = [(ENTER, ENTERED), (WAIT, Err(LiveFault::RecordFull))];
+
+/// The calls of a record in which a wait binds its monitor and finds too few places for its action.
+fn calls_of_a_small_record<L: Crew, R: Abort + Wait + Clock>(
+    rt: &R,
+    live: &Live<L>,
+    pass: &mut LivePass<L>,
+    held: Result<Reply, LiveFault>,
+)
+    requires here { pass.old.words.opening ≡ live.now }
+    ensures here { pass.new.words.opening ≡ live.now }
+{
+    assert!(rt; pass.thread() == ThreadId(1));
+    are_answered(rt, live, pass, &ENTER_AND_WAIT);
+    assert!(rt; live.look(rt, pass, |book| book.used() == 1));
+    are_answered(
+        rt,
+        live,
+        pass,
+        &[(Call::Holds(OBJECT), held), (EXIT, EXITED)],
+    );
 }
 
 /// A record in which a wait binds its monitor and finds too few places for its action.
@@ -182,13 +231,7 @@ fn a_small_record<L: Crew, R: Abort + Wait + Clock>(
     requires crew { (L.passes ≡ 1) × (L.monitors ≡ 1) × (L.places ≡ places) }
 {
     let (live, mut pass) = open_one::<L>(alloc, blank, 0xa5, 1, places)?;
-    assert!(rt; pass.thread() == ThreadId(1));
-    assert!(rt; is_answered(rt, &live, &mut pass, ENTER, ENTERED));
-    let full = Err(LiveFault::RecordFull);
-    assert!(rt; is_answered(rt, &live, &mut pass, wait(0), full));
-    assert!(rt; live.look(rt, &mut pass, |book| book.used() == 1));
-    assert!(rt; is_answered(rt, &live, &mut pass, Call::Holds(OBJECT), held));
-    assert!(rt; is_answered(rt, &live, &mut pass, EXIT, EXITED));
+    calls_of_a_small_record(rt, &live, &mut pass, held);
     close_one(alloc, live, pass)
 }
 
@@ -243,6 +286,28 @@ fn close_with_one_and_both<L: Crew>(
     close_both(alloc, live, first, second)
 }
 
+const MISSING: [Answered; 2] = [
+    (Call::Enter(ObjectId(1)), Err(LiveFault::NoObject)),
+    (Call::Interrupt(ThreadId(3)), Err(LiveFault::NoThread)),
+];
+
+/// Calls that name what is not there, and a moment that would fall.
+fn calls_of_what_is_not_there<L: Crew, R: Abort + Wait + Clock>(
+    rt: &R,
+    live: &Live<L>,
+    first: &mut LivePass<L>,
+    second: &mut LivePass<L>,
+)
+    requires first { first.old.words.opening ≡ live.now }
+    requires second { second.old.words.opening ≡ live.now }
+    ensures first { first.new.words.opening ≡ live.now }
+    ensures second { second.new.words.opening ≡ live.now }
+{
+    are_answered(rt, live, first, &MISSING);
+    assert!(rt; is_told(rt, live, first, 5, Ok(())));
+    assert!(rt; is_told(rt, live, second, 4, Err(LiveFault::Backwards)));
+}
+
 /// Calls that name what is not there, a moment that would fall, and a close without one of two
 /// passes.
 fn what_is_not_there<L: Crew, R: Abort + Wait + Clock>(
@@ -255,12 +320,7 @@ fn what_is_not_there<L: Crew, R: Abort + Wait + Clock>(
     requires crew { (L.passes ≡ 2) × (L.monitors ≡ 1) × (L.places ≡ 10) }
 {
     let (live, mut first, mut second) = open_two::<L>(alloc, blank, 10)?;
-    let missing = Call::Enter(ObjectId(1));
-    assert!(rt; is_answered(rt, &live, &mut first, missing, Err(LiveFault::NoObject)));
-    let stranger = Call::Interrupt(ThreadId(3));
-    assert!(rt; is_answered(rt, &live, &mut first, stranger, Err(LiveFault::NoThread)));
-    assert!(rt; is_told(rt, &live, &mut first, 5, Ok(())));
-    assert!(rt; is_told(rt, &live, &mut second, 4, Err(LiveFault::Backwards)));
+    calls_of_what_is_not_there(rt, &live, &mut first, &mut second);
     close_with_one_and_both(alloc, live, first, second)
 }
 
@@ -270,6 +330,22 @@ fn what_is_not_there_leaves_one_deed(rt: HostRuntime) -> Result<(), Fail> {
     assert!(&rt; closed == (Word(0xa5), 1));
     Ok(())
 }
+
+const OWNS: [Answered; 2] = [
+    (ENTER, ENTERED),
+    (Call::NotifyAll(OBJECT), Ok(Reply::Notified)),
+];
+
+const INTERRUPTS: [Answered; 2] = [
+    (Call::Interrupt(ThreadId(1)), Ok(Reply::Done)),
+    (Call::IsInterrupted(ThreadId(1)), Ok(Reply::Yes)),
+];
+
+const IS_INTERRUPTED: [Answered; 3] = [
+    (WAIT, Ok(Reply::Interrupted)),
+    (Call::Interrupted, Ok(Reply::No)),
+    (EXIT, EXITED),
+];
 
 /// The calls of an owner, whom another thread interrupts.
 fn one_after_another<L: Crew, R: Abort + Wait + Clock>(
@@ -282,16 +358,10 @@ fn one_after_another<L: Crew, R: Abort + Wait + Clock>(
     requires crew { (L.passes ≡ 2) × (L.monitors ≡ 1) × (L.places ≡ 10) }
 {
     let (live, mut first, mut second) = open_two::<L>(alloc, blank, 10)?;
-    assert!(rt; is_answered(rt, &live, &mut first, ENTER, ENTERED));
-    let notify = Call::NotifyAll(OBJECT);
-    assert!(rt; is_answered(rt, &live, &mut first, notify, Ok(Reply::Notified)));
-    let interrupt = Call::Interrupt(ThreadId(1));
-    assert!(rt; is_answered(rt, &live, &mut second, interrupt, Ok(Reply::Done)));
-    let ask = Call::IsInterrupted(ThreadId(1));
-    assert!(rt; is_answered(rt, &live, &mut second, ask, Ok(Reply::Yes)));
-    assert!(rt; is_answered(rt, &live, &mut first, wait(0), Ok(Reply::Interrupted)));
-    assert!(rt; is_answered(rt, &live, &mut first, Call::Interrupted, Ok(Reply::No)));
-    assert!(rt; is_answered(rt, &live, &mut first, EXIT, EXITED));
+    are_answered(rt, &live, &mut first, &OWNS);
+    are_answered(rt, &live, &mut second, &INTERRUPTS);
+    are_answered(rt, &live, &mut first, &IS_INTERRUPTED);
+    drop_both(live, first, second);
     Ok(())
 }
 
@@ -299,6 +369,23 @@ fn one_after_another<L: Crew, R: Abort + Wait + Clock>(
 fn interrupts_have_their_answers(rt: HostRuntime) -> Result<(), Fail> {
     one_after_another::<Brand, _>(&rt, rt.alloc(), Blank::new(2))
 }
+
+const ENTERS: [Answered; 256] = [(ENTER, ENTERED); 256];
+
+const NEED_A_MONITOR: [Answered; 3] = [
+    (ENTER, Ok(Reply::Refused(Cause::NoMonitor))),
+    (
+        Call::Wait {
+            object: OBJECT,
+            millis: -1,
+            nanos: 0,
+        },
+        Ok(Reply::IllegalArgument),
+    ),
+    (WAIT, Ok(Reply::Refused(Cause::NoMonitor))),
+];
+
+const EXITS: [Answered; 256] = [(EXIT, EXITED); 256];
 
 /// As many enters, and then as many exits, of an object; between them calls that need a monitor, of
 /// which there is none.
@@ -312,16 +399,9 @@ fn no_monitor<L: Crew, R: Abort + Wait + Clock>(
     requires crew { (L.passes ≡ 1) × (L.monitors ≡ 0) × (L.places ≡ 300) }
 {
     let (live, mut pass) = open_one::<L>(alloc, blank, 0, 0, 300)?;
-    for _ in 0..256 {
-        assert!(rt; is_answered(rt, &live, &mut pass, ENTER, ENTERED));
-    }
-    let refused = Ok(Reply::Refused(Cause::NoMonitor));
-    assert!(rt; is_answered(rt, &live, &mut pass, ENTER, refused));
-    assert!(rt; is_answered(rt, &live, &mut pass, wait(-1), Ok(Reply::IllegalArgument)));
-    assert!(rt; is_answered(rt, &live, &mut pass, wait(0), refused));
-    for _ in 0..256 {
-        assert!(rt; is_answered(rt, &live, &mut pass, EXIT, EXITED));
-    }
+    are_answered(rt, &live, &mut pass, &ENTERS);
+    are_answered(rt, &live, &mut pass, &NEED_A_MONITOR);
+    are_answered(rt, &live, &mut pass, &EXITS);
     close_one(alloc, live, pass)
 }
 
