@@ -2,7 +2,7 @@
 
 ghost use Rattle.std.specs.Prelude.{◌≡◌};
 
-use crate::threads::{ENTER, EXIT, OBJECT, is_answered, is_told, open_two};
+use crate::threads::{ENTER, EXIT, OBJECT, drop_both, is_answered, is_told, open_two};
 use fat_monitor::Reply;
 use live_threads::{Live, LivePass};
 use live_turns::{Crew, LiveFault};
@@ -37,6 +37,26 @@ fn enter_and_tick<L: Crew, R: Wait + Clock>(rt: &R, live: &Live<L>, pass: &mut L
     entered && ticked && exited
 }
 
+/// An owner waits a moment, which passes while another thread owns the object.
+fn wait_and_tick<L: Crew + Send + Sync, R: Threads + Wait + Clock + Sync + Abort>(
+    rt: &R,
+    live: &Live<L>,
+    first: &mut LivePass<L>,
+    second: &mut LivePass<L>,
+)
+    requires first { first.old.words.opening ≡ live.now }
+    requires second { second.old.words.opening ≡ live.now }
+{
+    assert!(rt; is_answered(rt, live, first, ENTER, Ok(Reply::Entered)));
+    let (waited, ticked) = join(
+        rt,
+        || wait_a_moment(rt, live, first),
+        || enter_and_tick(rt, live, second),
+    );
+    assert!(rt; waited == Ok(Reply::WaitOver));
+    assert!(rt; ticked);
+}
+
 fn a_wait_that_ends<L: Crew + Send + Sync, R: Threads + Wait + Clock + Sync + Abort>(
     rt: &R,
     alloc: Global,
@@ -47,14 +67,8 @@ fn a_wait_that_ends<L: Crew + Send + Sync, R: Threads + Wait + Clock + Sync + Ab
     requires crew { (L.passes ≡ 2) × (L.monitors ≡ 1) × (L.places ≡ 20) }
 {
     let (live, mut first, mut second) = open_two::<L>(alloc, blank, 20)?;
-    assert!(rt; is_answered(rt, &live, &mut first, ENTER, Ok(Reply::Entered)));
-    let (waited, ticked) = join(
-        rt,
-        || wait_a_moment(rt, &live, &mut first),
-        || enter_and_tick(rt, &live, &mut second),
-    );
-    assert!(rt; waited == Ok(Reply::WaitOver));
-    assert!(rt; ticked);
+    wait_and_tick(rt, &live, &mut first, &mut second);
+    drop_both(live, first, second);
     Ok(())
 }
 
@@ -98,6 +112,34 @@ fn enter_while_lent<L: Crew, R: Wait + Clock>(
     is_lent && entered && exited
 }
 
+/// One thread has the book, and another enters and exits meanwhile.
+fn look_and_enter<L: Crew + Send + Sync, R: Threads + Wait + Clock + Sync + Abort>(
+    rt: &R,
+    live: &Live<L>,
+    first: &mut LivePass<L>,
+    second: &mut LivePass<L>,
+)
+    requires first { first.old.words.opening ≡ live.now }
+    requires second { second.old.words.opening ≡ live.now }
+{
+    let told = Told {
+        lent: AtomicBool::new(false),
+        entered: AtomicBool::new(false),
+    };
+    let (looked, entered) = join(
+        rt,
+        || {
+            live.look(rt, first, |_| {
+                told.lent.store(true, Ordering::SeqCst);
+                is_seen(&told.entered)
+            })
+        },
+        || enter_while_lent(rt, live, second, &told),
+    );
+    assert!(rt; looked);
+    assert!(rt; entered);
+}
+
 fn a_book_is_lent<L: Crew + Send + Sync, R: Threads + Wait + Clock + Sync + Abort>(
     rt: &R,
     alloc: Global,
@@ -107,23 +149,9 @@ fn a_book_is_lent<L: Crew + Send + Sync, R: Threads + Wait + Clock + Sync + Abor
     requires parts { (blank.parts ≡ L.parts) × (L.parts ≡ 2) }
     requires crew { (L.passes ≡ 2) × (L.monitors ≡ 1) × (L.places ≡ 20) }
 {
-    let told = Told {
-        lent: AtomicBool::new(false),
-        entered: AtomicBool::new(false),
-    };
     let (live, mut first, mut second) = open_two::<L>(alloc, blank, 20)?;
-    let (looked, entered) = join(
-        rt,
-        || {
-            live.look(rt, &mut first, |_| {
-                told.lent.store(true, Ordering::SeqCst);
-                is_seen(&told.entered)
-            })
-        },
-        || enter_while_lent(rt, &live, &mut second, &told),
-    );
-    assert!(rt; looked);
-    assert!(rt; entered);
+    look_and_enter(rt, &live, &mut first, &mut second);
+    drop_both(live, first, second);
     Ok(())
 }
 
