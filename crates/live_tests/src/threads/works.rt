@@ -20,20 +20,11 @@ use std::test::Fail;
 use std::thread::{Threads, yield_now};
 use std::time::Clock;
 
-/// What the calls of a worker came to, and whether it was stopped.
-#[derive(Drop)]
-struct Outcome {
-    answers: Vec<Result<Reply, LiveFault>>,
+/// What the calls of a worker are to come to, and whether it is to be stopped.
+#[derive(Clone, Copy)]
+struct Outcome<'a> {
+    answers: &'a [Result<Reply, LiveFault>],
     stopped: bool,
-}
-
-/// What came of two works, the word of their object after the close, and how many deeds both did.
-#[derive(Drop)]
-struct Driven {
-    first: Outcome,
-    second: Outcome,
-    word: Word,
-    deeds: u64,
 }
 
 /// Drives two works, and hands out what came of each.
@@ -53,15 +44,23 @@ fn drive_both<L: Crew + Send + Sync, G: Gate + Sync, R: Threads + Wait + Clock +
     let Ok(mut worked) = drive(rt, alloc, live, works, gate) else {
         return Err(Fail::from("memory"));
     };
-    let second = worked.pop();
-    let first = worked.pop();
-    match (first, second) {
-        (Some(first), Some(second)) => Ok((first, second)),
-        _ => Err(Fail::from("two works")),
-    }
+    let Some(second) = worked.pop() else {
+        return Err(Fail::from("two works"));
+    };
+    let Some(first) = worked.pop() else {
+        return Err(Fail::from("two works"));
+    };
+    Ok((first, second))
 }
 
-/// Drives two works of these calls, on one object, closes the service, and tells what came of each.
+/// A worker came to this outcome.
+fn came_to<L: Crew>(rt: &impl Abort, worked: &Worked<L>, outcome: Outcome<'_>) {
+    assert!(rt; worked.answers.as_slice() == outcome.answers);
+    assert!(rt; worked.stopped == outcome.stopped);
+}
+
+/// Drives two works of these calls, on one object, looks at the outcome of each, closes the service,
+/// and tells the word of the object after the close, and how many deeds both did.
 fn two_are_driven<L: Crew + Send + Sync, G: Gate + Sync, R: Threads + Wait + Clock + Sync + Abort>(
     rt: &R,
     alloc: Global,
@@ -69,7 +68,8 @@ fn two_are_driven<L: Crew + Send + Sync, G: Gate + Sync, R: Threads + Wait + Clo
     places: u32,
     gate: &G,
     calls: (Vec<Call>, Vec<Call>),
-) -> Result<Driven, Fail>
+    outcomes: (Outcome<'_>, Outcome<'_>),
+) -> Result<(Word, u64), Fail>
     requires name { blank.name ≡ L.name }
     requires parts { (blank.parts ≡ L.parts) × (L.parts ≡ 2) }
     requires crew { (L.passes ≡ 2) × (L.monitors ≡ 1) × (L.places ≡ places) }
@@ -86,19 +86,9 @@ fn two_are_driven<L: Crew + Send + Sync, G: Gate + Sync, R: Threads + Wait + Clo
         calls: calls.1,
     };
     let (first, second) = drive_both(rt, alloc, &live, gate, (first, second))?;
-    let (word, deeds) = close_both(alloc, live, first.pass, second.pass)?;
-    Ok(Driven {
-        first: Outcome {
-            answers: first.answers,
-            stopped: first.stopped,
-        },
-        second: Outcome {
-            answers: second.answers,
-            stopped: second.stopped,
-        },
-        word,
-        deeds,
-    })
+    came_to(rt, &first, outcomes.0);
+    came_to(rt, &second, outcomes.1);
+    close_both(alloc, live, first.pass, second.pass)
 }
 
 /// Lets every call be made.
@@ -185,14 +175,15 @@ fn two_workers_hand_an_object_to_each_other(rt: HostRuntime) -> Result<(), Fail>
     let alloc = rt.alloc();
     let calls = (rounds(alloc, 1_000)?, rounds(alloc, 1_000)?);
     let blank = Blank::new(2);
-    let driven = two_are_driven::<Brand, _, _>(&rt, alloc, blank, 8_000, &Open, calls)?;
-    let Driven { first, second, .. } = &driven;
     let wanted = answers_of_rounds(alloc, 1_000)?;
-    assert!(&rt; first.answers == wanted && !first.stopped);
-    assert!(&rt; second.answers == wanted && !second.stopped);
-    assert!(&rt; driven.word == Word(0x8000_00a5));
+    let outcome = Outcome {
+        answers: wanted.as_slice(),
+        stopped: false,
+    };
+    let outcomes = (outcome, outcome);
+    let closed = two_are_driven::<Brand, _, _>(&rt, alloc, blank, 8_000, &Open, calls, outcomes)?;
     // The second comer's enter parks, or finds the object without an owner.
-    assert!(&rt; driven.deeds == 6_005 || driven.deeds == 6_006);
+    assert!(&rt; closed == (Word(0x8000_00a5), 6_005) || closed == (Word(0x8000_00a5), 6_006));
     Ok(())
 }
 
@@ -208,17 +199,28 @@ fn holds_twice(alloc: Global) -> Result<Vec<Call>, Memory>
     Ok(vec![in alloc; Call::Holds(OBJECT), Call::Interrupted]?)
 }
 
+const ONE_AND_STOPPED: Outcome<'static> = Outcome {
+    answers: &[Ok(Reply::No)],
+    stopped: true,
+};
+
+const ONE: Outcome<'static> = Outcome {
+    answers: &[Ok(Reply::No)],
+    stopped: false,
+};
+
+const TWO: Outcome<'static> = Outcome {
+    answers: &[Ok(Reply::No), Ok(Reply::No)],
+    stopped: false,
+};
+
 #[test]
 fn a_gate_stops_a_worker_before_its_second_call(rt: HostRuntime) -> Result<(), Fail> {
     let alloc = rt.alloc();
     let calls = (holds_twice(alloc)?, holds_twice(alloc)?);
     let blank = Blank::new(2);
-    let driven = two_are_driven::<Brand, _, _>(&rt, alloc, blank, 10, &First, calls)?;
-    let Driven { first, second, .. } = &driven;
-    let one = vec![in alloc; Ok(Reply::No)]?;
-    let two = vec![in alloc; Ok(Reply::No), Ok(Reply::No)]?;
-    assert!(&rt; first.answers == one && first.stopped);
-    assert!(&rt; second.answers == two && !second.stopped);
+    let outcomes = (ONE_AND_STOPPED, TWO);
+    two_are_driven::<Brand, _, _>(&rt, alloc, blank, 10, &First, calls, outcomes)?;
     Ok(())
 }
 
@@ -231,10 +233,7 @@ fn workers_run_side_by_side(rt: HostRuntime) -> Result<(), Fail> {
     };
     let calls = (holds_once(alloc)?, holds_once(alloc)?);
     let blank = Blank::new(2);
-    let driven = two_are_driven::<Brand, _, _>(&rt, alloc, blank, 10, &both, calls)?;
-    let Driven { first, second, .. } = &driven;
-    let no = vec![in alloc; Ok(Reply::No)]?;
-    assert!(&rt; first.answers == no && !first.stopped);
-    assert!(&rt; second.answers == no && !second.stopped);
+    let outcomes = (ONE, ONE);
+    two_are_driven::<Brand, _, _>(&rt, alloc, blank, 10, &both, calls, outcomes)?;
     Ok(())
 }
