@@ -56,62 +56,79 @@ fn drive_again<L: Crew + Send + Sync, R: Threads + Wait + Clock + Sync + Abort>(
     }
 }
 
-/// Closes a service; where memory is refused, all comes back, and is closed again.
+/// A closed service did no deed.
+fn did_nothing(rt: &impl Abort, closed: &Closed) {
+    assert!(rt; closed.words.first() == Some(&Word(0xa5)));
+    assert!(rt; closed.logged.is_empty() && closed.counts.first() == Some(&0));
+}
+
+/// Closes a service, which did no deed; where memory is refused, all comes back, and is closed
+/// again.
 fn close_again<L: Crew, R: Abort>(
     rt: &R,
     alloc: Global,
     live: Live<L>,
     passes: Vec<LivePass<L>>,
-) -> Result<Closed, Fail>
+) -> Result<(), Fail>
     requires belong { All (λ p. p.words.opening ≡ live) passes.items }
     requires crew { (L.parts ≡ live.count) × (L.passes ≡ live.count) }
 {
     let (live, passes) = match live.close(alloc, passes) {
-        Ok(closed) => return Ok(closed),
+        Ok(closed) => {
+            did_nothing(rt, &closed);
+            return Ok(());
+        }
         Err(LiveClose::Memory { live, passes }) => (live, passes),
         Err(_) => return Err(Fail::from("another fault")),
     };
     assert!(rt; passes.len() == 1);
     match live.close(alloc, passes) {
-        Ok(closed) => Ok(closed),
-        Err(_) => Err(Fail::from("refused twice")),
+        Ok(closed) => did_nothing(rt, &closed),
+        Err(_) => return Err(Fail::from("refused twice")),
+    }
+    Ok(())
+}
+
+/// A worker was stopped before its one call, or the call was answered with a no.
+fn came_to_a_no<L: Crew>(rt: &impl Abort, done: &Worked<L>) {
+    assert!(rt; done.stopped == done.answers.is_empty());
+    for answer in &done.answers {
+        assert!(rt; *answer == Ok(Reply::No));
     }
 }
 
-/// Looks at what one work came to, and closes its service; None where a growth was refused that
-/// hands nothing back.
+/// Looks at what one work came to, and closes its service. Whether it was closed: else a growth was
+/// refused that hands nothing back.
 fn close_after<L: Crew, R: Abort>(
     rt: &R,
     alloc: Global,
     live: Live<L>,
     done: Worked<L>,
-) -> Result<Option<Closed>, Fail>
+) -> Result<bool, Fail>
     requires here { done.pass.words.opening ≡ live }
     requires crew { (L.parts ≡ live.count) × (L.passes ≡ live.count) }
 {
-    assert!(rt; done.stopped == done.answers.is_empty());
-    for answer in &done.answers {
-        assert!(rt; *answer == Ok(Reply::No));
-    }
+    came_to_a_no(rt, &done);
     let Ok(passes) = vec![in alloc; done.pass] else {
-        return Ok(None);
+        return Ok(false);
     };
-    Ok(Some(close_again(rt, alloc, live, passes)?))
+    close_again(rt, alloc, live, passes)?;
+    Ok(true)
 }
 
-/// Drives one work, and closes the service; None where a growth was refused that hands nothing
-/// back.
+/// Drives one work, and closes the service. Whether it was closed: else a growth was refused that
+/// hands nothing back.
 fn drive_and_close<L: Crew + Send + Sync, R: Threads + Wait + Clock + Sync + Abort>(
     rt: &R,
     alloc: Global,
     live: Live<L>,
     pass: LivePass<L>,
-) -> Result<Option<Closed>, Fail>
+) -> Result<bool, Fail>
     requires here { pass.words.opening ≡ live }
     requires crew { (L.parts ≡ live.count) × (L.passes ≡ live.count) }
 {
     let Ok(works) = one_work(alloc, &live, pass) else {
-        return Ok(None);
+        return Ok(false);
     };
     let mut worked = drive_again(rt, alloc, &live, works)?;
     match worked.pop() {
@@ -120,31 +137,30 @@ fn drive_and_close<L: Crew + Send + Sync, R: Threads + Wait + Clock + Sync + Abo
     }
 }
 
-/// Opens a service, drives one work, and closes the service; None where a growth was refused that
-/// hands nothing back.
+/// Opens a service, drives one work, and closes the service. Whether it was closed: else a growth
+/// was refused that hands nothing back.
 fn open_drive_and_close<L: Crew + Send + Sync, R: Threads + Wait + Clock + Sync + Abort>(
     rt: &R,
     alloc: Global,
     blank: Blank,
-) -> Result<Option<Closed>, Fail>
+) -> Result<bool, Fail>
     requires name { blank.name ≡ L.name }
     requires parts { (blank.parts ≡ L.parts) × (L.parts ≡ 1) }
     requires crew { (L.passes ≡ 1) × (L.monitors ≡ 1) × (L.places ≡ 10) }
 {
     let Ok((live, pass)) = open_one::<L>(alloc, blank, 0xa5, 1, 10) else {
-        return Ok(None);
+        return Ok(false);
     };
     drive_and_close(rt, alloc, live, pass)
 }
 
 #[test]
 fn what_was_refused_comes_back_and_succeeds_again(rt: HostRuntime) -> Result<(), Fail> {
-    let mut closed = open_drive_and_close::<Brand, _>(&rt, rt.alloc(), Blank::new(1))?;
-    if closed.is_none() {
-        closed = open_drive_and_close::<Brand, _>(&rt, rt.alloc(), Blank::new(1))?;
+    if open_drive_and_close::<Brand, _>(&rt, rt.alloc(), Blank::new(1))? {
+        return Ok(());
     }
-    let closed = closed.ok_or("refused twice")?;
-    assert!(&rt; closed.words.first() == Some(&Word(0xa5)));
-    assert!(&rt; closed.logged.is_empty() && closed.counts.first() == Some(&0));
-    Ok(())
+    if open_drive_and_close::<Brand, _>(&rt, rt.alloc(), Blank::new(1))? {
+        return Ok(());
+    }
+    Err(Fail::from("refused twice"))
 }
