@@ -2,7 +2,7 @@
 
 ghost use Rattle.std.specs.Prelude.{◌≡◌, ◌≤◌};
 
-use live_turns::{Crew, Turns};
+use live_turns::{Closed, Crew, TurnPass, Turns};
 use lock_word::{ThreadId, Word};
 use std::alloc::Global;
 use std::marker::Brand;
@@ -17,6 +17,21 @@ struct Size {
     monitors: u32,
     passes: u16,
     places: u32,
+}
+
+/// The passes are for the threads 1 to this one.
+fn are_numbered<L: Crew>(rt: &impl Abort, passes: &[TurnPass<L>], count: u16) {
+    assert!(rt; passes.len() == usize::from(count));
+    let last = passes.last().map(|pass| pass.thread());
+    assert!(rt; last == Some(ThreadId(u32::from(count))));
+}
+
+/// A closed service was of this size, and no deed was done.
+fn is_untouched(rt: &impl Abort, closed: &Closed, size: Size) {
+    assert!(rt; closed.words.len() == usize::from(size.objects));
+    assert!(rt; closed.words.iter().all(|word| *word == Word(0x0000_00a5)));
+    assert!(rt; closed.logged.is_empty());
+    assert!(rt; closed.counts.len() == usize::from(size.passes));
 }
 
 /// Opens a service of this size, and closes it again.
@@ -42,16 +57,11 @@ fn opened_and_closed<L: Crew>(
     } = size;
     let lows = vec![in alloc; 0xa5u8; usize::from(objects)]?;
     let (turns, passes) = Turns::<L>::open(alloc, blank, lows.as_slice(), monitors, count, places)?;
-    assert!(rt; passes.len() == usize::from(count));
-    let last = passes.last().map(|pass| pass.thread());
-    assert!(rt; last == Some(ThreadId(u32::from(count))));
+    are_numbered(rt, &passes, count);
     let Ok(closed) = turns.close(alloc, passes) else {
         return Err(Fail::from("not closed"));
     };
-    assert!(rt; closed.words.len() == usize::from(objects));
-    assert!(rt; closed.words.iter().all(|word| *word == Word(0x0000_00a5)));
-    assert!(rt; closed.logged.is_empty());
-    assert!(rt; closed.counts.len() == usize::from(count));
+    is_untouched(rt, &closed, size);
     Ok(())
 }
 
