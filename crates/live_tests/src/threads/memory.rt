@@ -62,31 +62,23 @@ fn did_nothing(rt: &impl Abort, closed: &Closed) {
     assert!(rt; closed.logged.is_empty() && closed.counts.first() == Some(&0));
 }
 
-/// Closes a service, which did no deed; where memory is refused, all comes back, and is closed
-/// again.
+/// Closes a service; where memory is refused, all comes back, and is closed again.
 fn close_again<L: Crew, R: Abort>(
     rt: &R,
     alloc: Global,
     live: Live<L>,
     passes: Vec<LivePass<L>>,
-) -> Result<(), Fail>
+) -> Result<Closed, LiveClose<L>>
     requires belong { All (λ p. p.words.opening ≡ live) passes.items }
     requires crew { (L.parts ≡ live.count) × (L.passes ≡ live.count) }
 {
-    let (live, passes) = match live.close(alloc, passes) {
-        Ok(closed) => {
-            did_nothing(rt, &closed);
-            return Ok(());
-        }
-        Err(LiveClose::Memory { live, passes }) => (live, passes),
-        Err(_) => return Err(Fail::from("another fault")),
-    };
-    assert!(rt; passes.len() == 1);
     match live.close(alloc, passes) {
-        Ok(closed) => did_nothing(rt, &closed),
-        Err(_) => return Err(Fail::from("refused twice")),
+        Err(LiveClose::Memory { live, passes }) => {
+            assert!(rt; passes.len() == 1);
+            live.close(alloc, passes)
+        }
+        outcome => outcome,
     }
-    Ok(())
 }
 
 /// A worker was stopped before its one call, or the call was answered with a no.
@@ -112,7 +104,10 @@ fn close_after<L: Crew, R: Abort>(
     let Ok(passes) = vec![in alloc; done.pass] else {
         return Ok(false);
     };
-    close_again(rt, alloc, live, passes)?;
+    let Ok(closed) = close_again(rt, alloc, live, passes) else {
+        return Err(Fail::from("refused twice, or another fault"));
+    };
+    did_nothing(rt, &closed);
     Ok(true)
 }
 

@@ -7,7 +7,7 @@ ghost use Rattle.live_threads.specs.Driving.{IsLive, CanDrive};
 use crate::threads::{OBJECT, close_both, open_two};
 use fast_path::Call;
 use fat_monitor::Reply;
-use live_threads::{Gate, Live, Work, Worked, drive};
+use live_threads::{Gate, Live, LivePass, Work, Worked, drive};
 use live_turns::{Crew, LiveFault};
 use lock_word::{Memory, Word};
 use std::alloc::Global;
@@ -53,10 +53,13 @@ fn drive_both<L: Crew + Send + Sync, G: Gate + Sync, R: Threads + Wait + Clock +
     Ok((first, second))
 }
 
-/// A worker came to this outcome.
-fn came_to<L: Crew>(rt: &impl Abort, worked: &Worked<L>, outcome: Outcome<'_>) {
+/// A worker came to this outcome. Hands out its pass.
+fn came_to<L: Crew>(rt: &impl Abort, worked: Worked<L>, outcome: Outcome<'_>) -> LivePass<L>
+    ensures pass { result ≡ worked.pass }
+{
     assert!(rt; worked.answers.as_slice() == outcome.answers);
     assert!(rt; worked.stopped == outcome.stopped);
+    worked.pass
 }
 
 /// Drives two works of these calls, on one object, looks at the outcome of each, closes the service,
@@ -86,9 +89,9 @@ fn two_are_driven<L: Crew + Send + Sync, G: Gate + Sync, R: Threads + Wait + Clo
         calls: calls.1,
     };
     let (first, second) = drive_both(rt, alloc, &live, gate, (first, second))?;
-    came_to(rt, &first, outcomes.0);
-    came_to(rt, &second, outcomes.1);
-    close_both(alloc, live, first.pass, second.pass)
+    let first = came_to(rt, first, outcomes.0);
+    let second = came_to(rt, second, outcomes.1);
+    close_both(alloc, live, first, second)
 }
 
 /// Lets every call be made.
