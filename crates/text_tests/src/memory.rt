@@ -68,7 +68,7 @@ fn a_refused_run_succeeds_when_tried_again(rt: HostRuntime) {
     assert!(rt; runs(&rt, rt.alloc()) || runs(&rt, rt.alloc()));
 }
 
-fn tells_moves(rt: &impl Abort, alloc: Global) -> bool {
+pub(crate) fn tells_moves(rt: &impl Abort, alloc: Global) -> bool {
     let mut sink = WriterSink::new(Vec::new(alloc));
     let outcome = moves(alloc, &mut ReaderSource::new(SCRIPT), &mut sink);
     is_written(rt, outcome, sink, HISTORY)

@@ -1,8 +1,9 @@
 //! What no script shows: readers and writers that fail.
 
+use super::memory::tells_moves;
 use super::pieces::{PiecesReader, Then};
 use super::words::are_told;
-use history::{FileFault, ReaderSource, WriterSink, moves, run};
+use history::{FileFault, ReaderSource, WriterSink, run};
 use std::alloc::Global;
 use std::io;
 use std::io::{ErrorKind, Read, Write};
@@ -128,9 +129,7 @@ fn writers_that_fail(rt: HostRuntime) {
 
 #[test]
 fn the_moves_of_a_script(rt: HostRuntime) {
-    let mut sink = WriterSink::new(Vec::new(rt.alloc()));
-    let outcome = moves(rt.alloc(), &mut ReaderSource::new(SCRIPT), &mut sink);
-    assert!(rt; outcome == Ok(()) && sink.into_inner().as_slice() == HISTORY);
+    assert!(rt; tells_moves(&rt, rt.alloc()));
 }
 
 const FAULTS: [(FileFault, &str); 6] = [
