@@ -3,8 +3,8 @@
 //! with what it did.
 #![tactic(auto)]
 
-use std::io::Print;
 use std::io;
+use std::io::Print;
 use step_core::{
     Answer, Atomic, Call, Did, Doing, Fault, Memory, Move, ObjectId, Split, Step, ThreadId, World,
 };
@@ -146,7 +146,10 @@ fn main(rt: HostRuntime) -> Result<(), Trouble> {
     // The three waits of thread one end by the notify, by their time, and by the interrupt.
     let one_calls = [enter, enter, wait(5), wait(5), wait(0), exit, exit, end];
     let two_calls = [enter, notify, exit, enter, wait(8), interrupt, exit, end];
-    let threads = [JavaThread::new(one, one_calls), JavaThread::new(two, two_calls)];
+    let threads = [
+        JavaThread::new(one, one_calls),
+        JavaThread::new(two, two_calls),
+    ];
     // One object with the low byte A5, one fat monitor, two indices.
     let world = World::new(rt.alloc(), &[0xA5], 1, 2, Split::Wide)?;
     let mut runtime = Runtime { world, threads };

@@ -10,7 +10,7 @@ ghost use Rattle.history_streams.specs.declared.faults.FileFault.TheVariants.{Re
 ghost use Rattle.history_streams.specs.declared.faults.FileFault.TheVariants.{Write as WriteFault};
 ghost use Rattle.step_core.specs.Step.{moves_made, moves_of};
 ghost use Rattle.history_streams.specs.declared.faults.FileFault.TheVariants.{
-    Memory as WantOfMemory,
+  Memory as WantOfMemory,
 };
 ghost use Rattle.step_core.specs.declared.steps.Fault.TheVariants.{Memory as OutOfMemory};
 ghost use Rattle.history.specs.Plans.{IsPlanOf};

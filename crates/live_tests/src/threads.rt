@@ -148,6 +148,7 @@ fn are_answered<L: Crew, R: Abort + Wait + Clock>(
 /// The word of the one object of a closed service, and how many deeds all its passes did.
 fn word_and_deeds(closed: &Closed) -> Result<(Word, u64), Fail> {
     let word = closed.words.first().ok_or("one object")?;
+    let _count = closed.counts.first().ok_or("one pass")?;
     let mut deeds = 0u64;
     for count in &closed.counts {
         deeds = deeds.wrapping_add(*count);
