@@ -151,11 +151,8 @@ fn open_drive_and_close<L: Crew + Send + Sync, R: Threads + Wait + Clock + Sync 
 
 #[test]
 fn what_was_refused_comes_back_and_succeeds_again(rt: HostRuntime) -> Result<(), Fail> {
-    if open_drive_and_close::<Brand, _>(&rt, rt.alloc(), Blank::new(1))? {
-        return Ok(());
-    }
-    if open_drive_and_close::<Brand, _>(&rt, rt.alloc(), Blank::new(1))? {
-        return Ok(());
-    }
-    Err(Fail::from("refused twice"))
+    let is_closed = open_drive_and_close::<Brand, _>(&rt, rt.alloc(), Blank::new(1))?
+        || open_drive_and_close::<Brand, _>(&rt, rt.alloc(), Blank::new(1))?;
+    assert!(&rt; is_closed, "refused twice");
+    Ok(())
 }
