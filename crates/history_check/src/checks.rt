@@ -1,7 +1,7 @@
 //! A check of a history, which is fed with its bytes.
 
-ghost use Rattle.std.specs.Prelude.{◌≡◌, ◌<◌, ◌≤◌, ◌+◌, ◌^◌, ◌++◌, ◌∷◌, ◌⊎◌, ◌==◌, [], ℕ, List};
-ghost use Rattle.std.specs.Prelude.{length, position, IfErr, OnOk, IfSome, option_map, MatchOption};
+ghost use Rattle.std.specs.Prelude.{◌≡◌, ◌<◌, ◌≤◌, ◌+◌, ◌^◌, ◌++◌, ◌∷◌, ◌⊎◌, [], ℕ, List};
+ghost use Rattle.std.specs.Prelude.{length, IfErr, OnOk, IfSome, option_map, MatchOption};
 ghost use Rattle.std.specs.Prelude.{MatchResult};
 ghost use Rattle.history_streams.specs.declared.faults.FileFault.TheVariants.{BadMove, Memory};
 ghost use Rattle.step_core.specs.declared.machine.Move.{Move as MoveData};
@@ -10,7 +10,7 @@ ghost use Rattle.history_check.specs.Histories.{NoFeed, LineLeads, Refuses, IsRi
 ghost use Rattle.history_check.specs.Histories.{IsFaultOf};
 
 use history_moves::{line_first, line_move};
-use history_streams::FileFault;
+use history_streams::{FileFault, line_end};
 use jls_check::{Machine, MoveFault};
 use std::alloc::Global;
 
@@ -163,10 +163,4 @@ fn cut_line(bytes: &[u8]) -> Option<(&[u8], &[u8])>
             Some((line, rest))
         }
     }
-}
-
-fn line_end(bytes: &[u8]) -> Option<usize>
-    ensures { result ≡ position (λ b. b == 10) bytes.now }
-{
-    bytes.iter().position(|byte| *byte == b'\n')
 }

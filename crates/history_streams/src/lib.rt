@@ -6,8 +6,10 @@
 
 mod ends;
 mod faults;
+mod feeds;
 mod writing;
 
 pub use ends::{ReaderSource, Sink, Source, WriterSink};
 pub use faults::FileFault;
+pub use feeds::line_end;
 pub use writing::write_out;

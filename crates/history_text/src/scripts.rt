@@ -1,7 +1,7 @@
 //! Scripts: lines that follow one another by the rules.
 
 ghost use Rattle.std.specs.Prelude.{◌≡◌, ◌<◌, ◌≤◌, ◌++◌, ◌∷◌, ◌==◌, ◌&&◌, ◌||◌, [], ℕ, List, true};
-ghost use Rattle.std.specs.Prelude.{length, map, position, string_bytes, IfErr, IfOk, IfSome};
+ghost use Rattle.std.specs.Prelude.{length, map, string_bytes, IfErr, IfOk, IfSome};
 ghost use Rattle.std.specs.Prelude.{MatchOption, OnOk, Err, None, Ok, Some, option_map};
 ghost use Rattle.std.specs.List.{list_any};
 ghost use Rattle.std.specs.Str.{bytes_eq};
@@ -16,7 +16,7 @@ use crate::names::Name;
 use crate::numbering::number_of_name;
 use crate::printing::print_lines;
 use crate::reading::line_of;
-use history_streams::FileFault;
+use history_streams::{FileFault, line_end};
 use indexmap::IndexSet;
 use lock_word::Memory;
 use std::alloc::{AllocError, Global};
@@ -143,12 +143,6 @@ fn take_line<'a>(
     let declaring = still_declaring(lines, declaring, &line);
     lines.push(line)?;
     Ok(declaring)
-}
-
-fn line_end(bytes: &[u8]) -> Option<usize>
-    ensures { result ≡ position (λ b. b == 10) bytes.now }
-{
-    bytes.iter().position(|byte| *byte == b'\n')
 }
 
 /// The bytes before the first line feed, and those after it.
