@@ -5,6 +5,7 @@ pub mod LineLaws
 pub mod ScriptLaws
 pub mod NameLaws
 pub mod NotedLaws
+pub mod NameText
 pub mod Signed
 pub mod BadLaws
 pub mod Beginnings

@@ -9,6 +9,7 @@ mod lines;
 mod names;
 mod numbering;
 mod printing;
+mod quick;
 mod reading;
 mod scripts;
 

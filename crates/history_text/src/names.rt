@@ -5,8 +5,8 @@ ghost use Rattle.std.specs.Int.{is_in_range};
 ghost use Rattle.std.specs.List.{list_all};
 ghost use Rattle.history_text.specs.Words.{is_name_byte, is_name, name_from};
 
-use std::fmt;
 use std::marker::Model;
+use std::{fmt, str};
 
 /// The most bytes that a name has.
 const LONGEST_NAME: usize = 32;
@@ -47,10 +47,10 @@ fn are_right(bytes: &[u8]) -> bool
     bytes.iter().all(|byte| may_stand_in_name(*byte))
 }
 
-fn is_right(text: &str) -> bool
-    ensures { result ≡ is_name text.now }
+fn is_right(bytes: &[u8]) -> bool
+    ensures { result ≡ is_name bytes.now }
 {
-    match text.as_bytes() {
+    match bytes {
         [] => false,
         [first, rest @ ..] => { is_letter(*first) && rest.len() < LONGEST_NAME && are_right(rest) }
     }
@@ -61,11 +61,23 @@ impl<'a> Name<'a> {
     pub fn from_text(text: &'a str) -> Option<Name<'a>>
         ensures { result ≡ name_from text.now }
     {
-        if is_right(text) {
+        if is_right(text.as_bytes()) {
             Some(Name { text })
         } else {
             None
         }
+    }
+
+    /// The name that some bytes are.
+    pub(crate) fn from_bytes(bytes: &'a [u8]) -> Option<Name<'a>>
+        ensures { result ≡ name_from bytes.now }
+    {
+        if !is_right(bytes) {
+            return None;
+        }
+        // The bytes of a name are ASCII.
+        let text = unsafe { str::from_utf8_unchecked(bytes) };
+        Some(Name { text })
     }
 
     /// The text of the name.

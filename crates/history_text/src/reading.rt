@@ -15,6 +15,7 @@ ghost use Rattle.history_text.specs.Lines.{words_of, line_at};
 
 use crate::lines::{Call, Line, StepLine};
 use crate::names::Name;
+use crate::quick::quick_line;
 use lock_word::Split;
 use std::alloc::{AllocError, Global};
 use std::str;
@@ -293,10 +294,13 @@ fn line_of_text<'a>(alloc: Global, text: &'a str) -> Result<Option<Line<'a>>, Al
 }
 
 /// The line that some bytes are, with no line feed.
-#[tactic(auto, using(crate::proofs::LineLaws::line_at_text, crate::proofs::LineLaws::not_text))]
+#[tactic(auto, using(crate::proofs::LineLaws::line_at_text, crate::proofs::LineLaws::not_text, crate::proofs::LineLaws::line_again))]
 pub fn line_of<'a>(alloc: Global, bytes: &'a [u8]) -> Result<Option<Line<'a>>, AllocError>
     ensures { IfOk result (λ line. line ≡ line_at bytes.now) }
 {
+    if let Some(line) = quick_line(bytes) {
+        return Ok(Some(line));
+    }
     match str::from_utf8(bytes) {
         Ok(text) => line_of_text(alloc, text),
         Err(_) => Ok(None),
