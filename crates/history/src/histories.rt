@@ -1,7 +1,7 @@
 //! Histories: the moves that the steps of a script hand out.
 
 ghost use Rattle.std.specs.Prelude.{◌≡◌, ◌≤◌, ◌<◌, ◌⊎◌, ◌++◌, ◌∷◌, [], ℕ, List, Err, IfErr, IfOk};
-ghost use Rattle.std.specs.Prelude.{IfSome, IsErrOf, OnOk, length, string_bytes, take};
+ghost use Rattle.std.specs.Prelude.{IfSome, IsErrOf, OnOk, length, take};
 ghost use Rattle.std.specs.Io.KnownBytes.{Keeps, Appends};
 ghost use Rattle.history_text.specs.Lines.{IsFirstBad};
 ghost use Rattle.history_streams.specs.declared.faults.FileFault.TheVariants.{BadLine, BadMove};
@@ -23,12 +23,11 @@ ghost use Rattle.step_core.specs.Shown.{shown};
 
 use crate::plans::Plan;
 use crate::running::{plan_in, read_all};
-use history_moves::{first_line, move_line};
+use history_moves::{first_line, push_move};
 use history_streams::{FileFault, Sink, Source, write_out};
 use history_text::MOST_BYTES;
 use lock_word::Memory;
 use std::alloc::Global;
-use std::fmt::Write;
 use step_core::{Did, Fault, Move, RelayoutFault, Request, World};
 
 /// Reads a script to its end, plays it, and writes its history: how many objects there are, and a
@@ -68,33 +67,33 @@ pub fn moves<S: Source, W: Sink>(
 {
     let bytes = read_all(alloc, source)?;
     let history = history_in(alloc, &bytes)?;
-    write_out(sink, history.as_bytes())
+    write_out(sink, &history)
 }
 
 /// Plays a script and writes its history: how many objects there are, and then a line for each move
 /// that its steps hand out.
-fn history_of(alloc: Global, plan: &Plan) -> Result<String, Memory>
-    ensures { IfOk result (λ history. IsHistoryOf plan.now (string_bytes history)) }
+fn history_of(alloc: Global, plan: &Plan) -> Result<Vec<u8>, Memory>
+    ensures { IfOk result (λ history. IsHistoryOf plan.now history.items) }
 {
     let mut world = World::new(alloc, &plan.lows, plan.monitors, plan.indices, plan.split)?;
     history_from(alloc, plan, &mut world)
 }
 
 /// Plays a script from its first world on, and writes its history.
-fn history_from(alloc: Global, plan: &Plan, world: &mut World) -> Result<String, Memory>
+fn history_from(alloc: Global, plan: &Plan, world: &mut World) -> Result<Vec<u8>, Memory>
     requires first { world.old ≡ first_world plan.now }
     requires shows { shown world.old ≡ opening (length plan.now.lows.items) }
-    ensures { IfOk result (λ history. IsHistoryOf plan.now (string_bytes history)) }
+    ensures { IfOk result (λ history. IsHistoryOf plan.now history.items) }
 {
     let mut history = opening_text(alloc, plan.lows.len() as u16)?;
-    tell_steps(alloc, world, &plan.steps, &mut history)?;
+    tell_steps(world, &plan.steps, &mut history)?;
     Ok(history)
 }
 
 /// The history of the script that some bytes are the text of.
-fn history_in(alloc: Global, bytes: &[u8]) -> Result<String, FileFault>
+fn history_in(alloc: Global, bytes: &[u8]) -> Result<Vec<u8>, FileFault>
     ensures history { IfOk result (λ history. (plan : PlanData) × IsPlanOf plan bytes.now
-        × IsHistoryOf plan (string_bytes history)) }
+        × IsHistoryOf plan history.items) }
     ensures fault { IfErr result (IsReasonFor bytes.now) }
 {
     let plan = plan_in(alloc, bytes)?;
@@ -102,8 +101,8 @@ fn history_in(alloc: Global, bytes: &[u8]) -> Result<String, FileFault>
 }
 
 /// The history of a plan, or the fault that it has for want of memory.
-fn history_or_fault(alloc: Global, plan: &Plan) -> Result<String, FileFault>
-    ensures history { IfOk result (λ history. IsHistoryOf plan.now (string_bytes history)) }
+fn history_or_fault(alloc: Global, plan: &Plan) -> Result<Vec<u8>, FileFault>
+    ensures history { IfOk result (λ history. IsHistoryOf plan.now history.items) }
     ensures memory { IfErr result (λ fault. fault ≡ WantOfMemory) }
 {
     let history = history_of(alloc, plan)?;
@@ -112,43 +111,35 @@ fn history_or_fault(alloc: Global, plan: &Plan) -> Result<String, FileFault>
 
 /// The first line of a history, with its line feed.
 #[tactic(auto, unfolding(crate::specs::Histories::objects_text))]
-fn opening_text(alloc: Global, objects: u16) -> Result<String, Memory>
-    ensures { IfOk result (λ text. string_bytes text ≡ objects_text objects) }
+fn opening_text(alloc: Global, objects: u16) -> Result<Vec<u8>, Memory>
+    ensures { IfOk result (λ text. text.items ≡ objects_text objects) }
 {
     let line = first_line(alloc, objects)?;
-    Ok(format!(in alloc; "{line}\n")?)
+    let mut text = Vec::from_slice(alloc, line.as_bytes())?;
+    text.push(b'\n')?;
+    Ok(text)
 }
 
 /// Does steps and relayouts, and writes the moves that they hand out.
-fn tell_steps(
-    alloc: Global,
-    world: &mut World,
-    steps: &[Request],
-    history: &mut String,
-) -> Result<(), Memory>
+fn tell_steps(world: &mut World, steps: &[Request], history: &mut Vec<u8>) -> Result<(), Memory>
     ensures { OnOk result (Tells world.old steps.now world.new
-        (string_bytes history.old) (string_bytes history.new)) }
+        history.old.items history.new.items) }
 {
     'steps: for request in steps {
-        tell(alloc, world, *request, history)?;
+        tell(world, *request, history)?;
     }
     Ok(())
 }
 
 /// Does a step, and writes its moves; or a relayout, which has none.
-fn tell(
-    alloc: Global,
-    world: &mut World,
-    request: Request,
-    history: &mut String,
-) -> Result<(), Memory>
+fn tell(world: &mut World, request: Request, history: &mut Vec<u8>) -> Result<(), Memory>
     ensures { OnOk result (Told world.old request world.new
-        (string_bytes history.old) (string_bytes history.new)) }
+        history.old.items history.new.items) }
 {
     match request {
         Request::Step(step) => {
             let answer = world.step(step);
-            put_answer(alloc, history, answer)
+            put_answer(history, answer)
         }
         Request::Relayout(split) => match world.relayout(split) {
             Err(RelayoutFault::Memory) => Err(Memory),
@@ -158,46 +149,46 @@ fn tell(
 }
 
 /// Writes the moves of an answer, unless it is want of memory.
-fn put_answer(alloc: Global, history: &mut String, answer: Result<Did, Fault>) -> Result<(), Memory>
-    ensures told { OnOk result (string_bytes history.new
-        ≡ string_bytes history.old ++ moves_text (moves_of answer)) }
+fn put_answer(history: &mut Vec<u8>, answer: Result<Did, Fault>) -> Result<(), Memory>
+    ensures told { OnOk result (history.new.items
+        ≡ history.old.items ++ moves_text (moves_of answer)) }
     ensures memory { OnOk result (answer ≡ Err OutOfMemory → ⊥) }
 {
     match answer {
-        Ok(did) => put_moves(alloc, history, &did.moves),
+        Ok(did) => put_moves(history, &did.moves),
         Err(Fault::Memory) => Err(Memory),
         Err(_) => Ok(()),
     }
 }
 
 /// Writes the moves that are there.
-fn put_moves(alloc: Global, history: &mut String, moves: &[Option<Move>]) -> Result<(), Memory>
-    ensures { OnOk result (string_bytes history.new
-        ≡ string_bytes history.old ++ moves_text (moves_made moves.now)) }
+fn put_moves(history: &mut Vec<u8>, moves: &[Option<Move>]) -> Result<(), Memory>
+    ensures { OnOk result (history.new.items
+        ≡ history.old.items ++ moves_text (moves_made moves.now)) }
 {
     'moves: for made in moves {
-        put_made(alloc, history, made)?;
+        put_made(history, made)?;
     }
     Ok(())
 }
 
 /// Writes a move, if it is there.
-fn put_made(alloc: Global, history: &mut String, made: &Option<Move>) -> Result<(), Memory>
-    ensures { OnOk result (string_bytes history.new
-        ≡ string_bytes history.old ++ moves_text (moves_made (made.now ∷ []))) }
+fn put_made(history: &mut Vec<u8>, made: &Option<Move>) -> Result<(), Memory>
+    ensures { OnOk result (history.new.items
+        ≡ history.old.items ++ moves_text (moves_made (made.now ∷ []))) }
 {
     match made {
-        Some(made) => put_move(alloc, history, made),
+        Some(made) => put_move(history, made),
         None => Ok(()),
     }
 }
 
 #[tactic(auto, unfolding(crate::specs::Histories::move_text))]
-fn put_move(alloc: Global, history: &mut String, made: &Move) -> Result<(), Memory>
-    ensures { OnOk result (string_bytes history.new
-        ≡ string_bytes history.old ++ moves_text (made.now ∷ [])) }
+fn put_move(history: &mut Vec<u8>, made: &Move) -> Result<(), Memory>
+    ensures { OnOk result (history.new.items
+        ≡ history.old.items ++ moves_text (made.now ∷ [])) }
 {
-    let line = move_line(alloc, made)?;
-    writeln!(history, "{line}")?;
+    push_move(history, made)?;
+    history.push(b'\n')?;
     Ok(())
 }

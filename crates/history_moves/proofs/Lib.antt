@@ -1,3 +1,4 @@
+pub mod Digits
 pub mod MemberLaws
 pub mod Again
 pub mod Found
@@ -5,3 +6,6 @@ pub mod WordRows
 pub mod Shapes
 pub mod MoveLaws
 pub mod LineLaws
+pub mod QuickLaws
+pub mod Told
+pub mod Fronts

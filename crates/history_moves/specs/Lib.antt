@@ -3,3 +3,4 @@ pub mod Members
 pub mod Words
 pub mod Reading
 pub mod Lines
+pub mod Texts

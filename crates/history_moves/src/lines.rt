@@ -8,6 +8,7 @@ ghost use Rattle.step_core.specs.declared.machine.Move.{Move as MoveData};
 ghost use Rattle.history_moves.specs.Moves.{data_of, first_data};
 ghost use Rattle.history_moves.specs.Lines.{IsFirst, IsMove, IsTextOf};
 
+use crate::quick::quick_move;
 use crate::reading::{read_first, read_move};
 use crate::writing::{write_first, write_move};
 use lock_word::Memory;
@@ -49,6 +50,15 @@ fn value_of(alloc: Global, line: &[u8]) -> Result<Option<Value>, Memory>
     }
 }
 
+/// The move that a line is, where it is just as [`move_line`] writes it: a quick way for most lines
+/// of a history. None also of some lines that [`move_line`] may write: a wait for less than no time,
+/// and a number of 20 digits.
+fn written_line(line: &[u8]) -> Option<Move>
+    ensures { IfSome result (IsMove line.now) }
+{
+    quick_move(line)
+}
+
 /// The move that a line is, as serde_json reads a value: with any white space between its tokens,
 /// its keys in any order, and the last one of a key that is written twice.
 #[tactic(auto, unfolding(crate::specs::Lines::IsMove))]
@@ -56,6 +66,9 @@ pub fn line_move(alloc: Global, line: &[u8]) -> Result<Option<Move>, Memory>
     ensures found { IfOk result (λ o. IfSome o (IsMove line.now)) }
     ensures none { IfOk result (λ o. IfNone o ((m : MoveData) → IsMove line.now m → ⊥)) }
 {
+    if let Some(made) = written_line(line) {
+        return Ok(Some(made));
+    }
     match value_of(alloc, line)? {
         Some(value) => Ok(read_move(&value)),
         None => Ok(None),

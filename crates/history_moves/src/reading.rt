@@ -28,7 +28,7 @@ const MOST_OBJECTS: u64 = 65_535;
 fn cause_at(value: &Value) -> Option<Cause>
     ensures { result ≡ cause_at (view value.now) }
 {
-    cause_named(text_at(value, "cause")?)
+    cause_named(text_at(value, "cause")?.as_bytes())
 }
 
 fn is_targeted(verb: &str) -> bool
@@ -55,13 +55,13 @@ fn call_of(count: usize, value: &Value, verb: &str) -> Option<Call>
     ensures { result ≡ call_of count (view value.now) verb.now }
 {
     if count == 3 {
-        return bare_call_named(verb);
+        return bare_call_named(verb.as_bytes());
     }
     if count == 4 && is_targeted(verb) {
-        return target_call_named(verb, thread_number(value, "target")?);
+        return target_call_named(verb.as_bytes(), thread_number(value, "target")?);
     }
     if count == 4 {
-        return object_call_named(verb, object_at(value)?);
+        return object_call_named(verb.as_bytes(), object_at(value)?);
     }
     if count == 6 && verb == "Wait" {
         return wait_call(value);
@@ -80,7 +80,7 @@ fn call_from(count: usize, value: &Value, thread: ThreadId) -> Option<Move>
 fn reply_from(value: &Value, thread: ThreadId) -> Option<Move>
     ensures { result ≡ reply_from (view value.now) thread }
 {
-    let reply = reply_named(text_at(value, "reply")?)?;
+    let reply = reply_named(text_at(value, "reply")?.as_bytes())?;
     Some(Move::Return { thread, reply })
 }
 
@@ -121,7 +121,7 @@ fn thread_move(count: usize, value: &Value, name: &str, thread: ThreadId) -> Opt
     ensures { result ≡ thread_move count (view value.now) name.now thread }
 {
     if count == 2 {
-        return plain_named(name, thread);
+        return plain_named(name.as_bytes(), thread);
     }
     if name == "Call" {
         return call_from(count, value, thread);

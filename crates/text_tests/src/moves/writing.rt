@@ -1,6 +1,6 @@
 //! Lines that are written.
 
-use history_moves::{first_line, move_line};
+use history_moves::{first_line, move_line, push_move};
 use std::alloc::Global;
 use std::process::Abort;
 use std::test::Fail;
@@ -10,10 +10,13 @@ const THREAD: ThreadId = ThreadId(0);
 
 const OBJECT: ObjectId = ObjectId(0);
 
-/// Each move is written as the line beside it.
+/// Each move is written as the line beside it, and added to a history as that.
 fn are_written(rt: &impl Abort, alloc: Global, rows: &[(Move, &str)]) -> Result<(), Fail> {
     for &(made, line) in rows {
         assert!(rt; move_line(alloc, &made)?.as_str() == line, "{line}");
+        let mut text = Vec::new(alloc);
+        push_move(&mut text, &made)?;
+        assert!(rt; text.as_slice() == line.as_bytes(), "{line}");
     }
     Ok(())
 }

@@ -1,4 +1,3 @@
-use Rattle.std.proofs.Common.{string_bytes}
 use Rattle.history.specs.Histories.{IsHistoryOf}
 use Rattle.history.proofs.Telling.{text_written, text_cut}
 use Rattle.history.proofs.histories.moves.Goals as goal
@@ -6,9 +5,9 @@ use Rattle.history.proofs.histories.moves.Goals as goal
 pub returns-clause-written : goal.returns-clause-written
 returns-clause-written g c =
     text_written IsHistoryOf c.write_out.result (g.S.Source.left c.args.source.now) (g.W.Sink.holds c.args.sink.now) (g.W.Sink.holds c.write_out.new.sink) c.in_ok-history.ensures.history.0 c.in_ok-bytes.bytes.items c.deref.result.now
-    c.as_bytes.result.now (string_bytes c.in_ok-history.history) c.in_ok-bytes.ensures.all c.deref.ensures.value c.in_ok-history.ensures.history.1 c.in_ok-history.ensures.history.2 c.as_bytes.ensures.value c.write_out.ensures.ok
+    c.deref-2.result.now c.in_ok-history.history.items c.in_ok-bytes.ensures.all c.deref.ensures.value c.in_ok-history.ensures.history.1 c.in_ok-history.ensures.history.2 c.deref-2.ensures.value c.write_out.ensures.ok
 
 pub returns-clause-cut : goal.returns-clause-cut
 returns-clause-cut g c =
     text_cut IsHistoryOf c.write_out.result _ (g.S.Source.left c.args.source.now) (g.W.Sink.holds c.args.sink.now) (g.W.Sink.holds c.write_out.new.sink) c.in_ok-history.ensures.history.0 c.in_ok-bytes.bytes.items c.deref.result.now
-    c.as_bytes.result.now (string_bytes c.in_ok-history.history) c.in_ok-bytes.ensures.all c.deref.ensures.value c.in_ok-history.ensures.history.1 c.in_ok-history.ensures.history.2 c.as_bytes.ensures.value c.write_out.ensures.prefix
+    c.deref-2.result.now c.in_ok-history.history.items c.in_ok-bytes.ensures.all c.deref.ensures.value c.in_ok-history.ensures.history.1 c.in_ok-history.ensures.history.2 c.deref-2.ensures.value c.write_out.ensures.prefix
