@@ -3,3 +3,4 @@ pub mod Namings
 pub mod Telling
 pub mod Stepping
 pub mod Reporting
+pub mod DigitText

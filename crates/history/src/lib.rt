@@ -10,6 +10,7 @@ mod plans;
 mod playing;
 mod reports;
 mod running;
+mod words;
 
 pub use histories::moves;
 pub use history_check::{one_answer, replay};

@@ -20,6 +20,7 @@ ghost use Rattle.history.specs.Reports.{threads_text};
 
 use crate::names::Names;
 use crate::plans::Plan;
+use crate::words::{action_word, put_digits, put_reply, put_verb_and_name};
 use fat_monitor::Answer;
 use lock_word::{Memory, ObjectId, Split, ThreadId, Word};
 use std::alloc::{AllocError, Global};
@@ -174,7 +175,10 @@ fn put_verb(report: &mut String, verb: &str, name: &str) -> Result<(), AllocErro
     ensures { OnOk result (string_bytes report.new
         ≡ string_bytes report.old ++ verb.now ++ 32 ∷ name.now ++ 10 ∷ []) }
 {
-    writeln!(report, "{verb} {name}")
+    report.push_str(verb)?;
+    report.push_str(" ")?;
+    report.push_str(name)?;
+    report.push_str("\n")
 }
 
 /// Writes the line of a thread that was attached.
@@ -199,8 +203,9 @@ fn put_go(report: &mut String, names: &Names, thread: ThreadId, did: Did) -> Res
         ++ codes "go " ++ name_at names.now.threads thread.0
         ++ 32 ∷ atomic_text names.now did.atomic ++ ending_text did.reply did.atomic ++ 10 ∷ []) }
 {
-    let name = names.name_of_thread(thread);
-    write!(report, "go {name} ")?;
+    report.push_str("go ")?;
+    report.push_str(names.name_of_thread(thread))?;
+    report.push_str(" ")?;
     put_atomic(report, names, did.atomic)?;
     put_ending(report, did)
 }
@@ -215,7 +220,7 @@ fn put_ending(report: &mut String, did: Did) -> Result<(), AllocError>
         Did {
             reply: Some(reply),
             ..
-        } => writeln!(report, " = {reply}"),
+        } => put_reply(report, reply),
         Did {
             atomic: Atomic::Acted {
                 answer: Answer::Parked,
@@ -248,7 +253,10 @@ fn put_atomic(report: &mut String, names: &Names, atomic: Atomic) -> Result<(), 
             let object = names.name_of_object(object);
             write!(report, "nobind {object} {cause}")
         }
-        Atomic::Acted { action, .. } => write!(report, "act {action}"),
+        Atomic::Acted { action, .. } => {
+            report.push_str("act ")?;
+            report.push_str(action_word(action))
+        }
     }
 }
 
@@ -263,8 +271,8 @@ fn put_seen(
     ensures { OnOk result (string_bytes report.new ≡ string_bytes report.old
         ++ verb.now ++ 32 ∷ name_at names.now.objects object.0 ++ 32 ∷ word_text word.0) }
 {
-    let object = names.name_of_object(object);
-    write!(report, "{verb} {object} {word}")
+    put_verb_and_name(report, verb, names.name_of_object(object))?;
+    put_digits(report, word)
 }
 
 /// Writes that a step wrote the word of an object.
@@ -279,8 +287,7 @@ fn put_written(
     ensures { OnOk result (string_bytes report.new ≡ string_bytes report.old
         ++ verb.now ++ 32 ∷ name_at names.now.objects object.0 ++ 32 ∷ exchange_text old new) }
 {
-    let object = names.name_of_object(object);
-    write!(report, "{verb} {object} ")?;
+    put_verb_and_name(report, verb, names.name_of_object(object))?;
     put_exchange(report, old, new)
 }
 
@@ -298,7 +305,7 @@ fn put_exchange(report: &mut String, old: Word, new: Word) -> Result<(), AllocEr
 fn put_word(report: &mut String, word: Word) -> Result<(), AllocError>
     ensures { OnOk result (string_bytes report.new ≡ string_bytes report.old ++ shown_word word) }
 {
-    write!(report, "{word}")
+    put_digits(report, word)
 }
 
 /// Writes a line for each object of a world.
@@ -331,8 +338,7 @@ fn put_object(
     ensures { OnOk result (string_bytes report.new ≡ string_bytes report.old
         ++ object_text names.now world.now object waiting.now) }
 {
-    let name = names.name_of_object(object);
-    write!(report, "object {name} ")?;
+    put_verb_and_name(report, "object", names.name_of_object(object))?;
     put_word(report, world.word(object))?;
     put_standing(report, names, world, object)?;
     report.push_str(" waiting ")?;
