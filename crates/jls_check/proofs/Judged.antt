@@ -61,7 +61,7 @@ numbered_back (reply.Refused cause.NoThread) = refl
 pub one_reply : (q r : Reply) → (distinct_number q == distinct_number r) ≡ true → q ≡ r
 one_reply q r e = sym (numbered_back q) ∙ ap numbered (eqb-true (distinct_number q) (distinct_number r) e) ∙ numbered_back r
 
-has_it : (d : Doing) (r : Reply) → has_reply d r ≡ true → d ≡ Has r
+pub has_it : (d : Doing) (r : Reply) → has_reply d r ≡ true → d ≡ Has r
 has_it (Has q) r e = ap (λ (x : Reply). Has x) (one_reply q r e)
 has_it Idle r e = absurd (cc)
 has_it (Wants c) r e = absurd (cc)

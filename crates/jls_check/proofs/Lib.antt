@@ -8,3 +8,4 @@ pub mod Guards
 pub mod Judging
 pub mod Replying
 pub mod Judged
+pub mod Turned

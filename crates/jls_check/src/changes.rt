@@ -25,9 +25,8 @@ impl Machine {
     {
         // No more threads wait than are live, so one more can be counted.
         prove!(self.threads.count() < usize::MAX);
-        let was = self.threads.get(thread);
+        let was = self.threads.set(thread, Live { flag, act });
         count_waits(&mut self.objects, was, act);
-        self.threads.set(thread, Live { flag, act });
     }
 
     /// The call of a live thread has this reply.

@@ -1,6 +1,7 @@
 //! The rows of the machine, but those of waits: a function for each kind of move.
 
 ghost use Rattle.std.specs.Prelude.{◌≡◌, Bool};
+ghost use Rattle.fat_monitor.specs.declared.actions.Reply.TheVariants.{Ended};
 ghost use Rattle.jls_check.specs.Taking as rows;
 ghost use Rattle.jls_check.specs.Taking.{taken, after_attach_move};
 
@@ -8,7 +9,7 @@ use crate::MoveFault;
 use crate::acts::{has, owner_only, yes_or_no};
 use crate::machine::Machine;
 use crate::monitors::Held;
-use crate::threads::Live;
+use crate::threads::{Live, Turn};
 use fast_path::Call;
 use fat_monitor::{Cause, Reply};
 use lock_word::ThreadId;
@@ -37,15 +38,35 @@ impl Machine {
         ensures { record { answer = result; after = self.new }
             ≡ taken self.old (rows.return_with self.old thread reply) }
     {
+        match reply {
+            Reply::Ended => self.leave(thread),
+            _ => self.finish(thread, reply),
+        }
+    }
+
+    /// The thread is live no longer, if its call has the reply Ended.
+    fn leave(&mut self, thread: ThreadId) -> Result<(), MoveFault>
+        ensures { record { answer = result; after = self.new }
+            ≡ taken self.old (rows.return_with self.old thread Ended) }
+    {
         let Some(live) = self.threads.get(thread) else {
             return Err(MoveFault::Broken);
         };
-        if !has(live.act, reply) {
+        if !has(live.act, Reply::Ended) {
             return Err(MoveFault::Broken);
         }
-        match reply {
-            Reply::Ended => self.threads.remove(thread),
-            _ => self.put(thread, live.flag, Doing::Idle),
+        self.threads.remove(thread);
+        Ok(())
+    }
+
+    /// The thread does nothing any more, if its call has the reply.
+    fn finish(&mut self, thread: ThreadId, reply: Reply) -> Result<(), MoveFault>
+        requires { reply ≡ Ended → ⊥ }
+        ensures { record { answer = result; after = self.new }
+            ≡ taken self.old (rows.return_with self.old thread reply) }
+    {
+        if !self.threads.turn(thread, Turn::Returns(reply)) {
+            return Err(MoveFault::Broken);
         }
         Ok(())
     }
@@ -54,19 +75,12 @@ impl Machine {
         ensures { record { answer = result; after = self.new }
             ≡ taken self.old (rows.make_call self.old thread call) }
     {
-        let Some(
-            Live {
-                flag,
-                act: Doing::Idle,
-            },
-        ) = self.threads.get(thread)
-        else {
-            return Err(MoveFault::Broken);
-        };
         if !self.names_an_object(call) {
             return Err(MoveFault::Broken);
         }
-        self.put(thread, flag, Doing::Wants(call));
+        if !self.threads.turn(thread, Turn::Begins(call)) {
+            return Err(MoveFault::Broken);
+        }
         Ok(())
     }
 

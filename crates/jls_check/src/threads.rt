@@ -1,13 +1,16 @@
 //! The live threads, by their numbers.
 
-ghost use Rattle.std.specs.Prelude.{◌≡◌, ◌+◌, ◌≤◌, ◌<◌, ◌^◌, IsSome, Some, OnOk, OnErr};
+ghost use Rattle.std.specs.Prelude.{◌≡◌, ◌+◌, ◌≤◌, ◌<◌, ◌^◌, IsSome, Some, OnOk, OnErr, is_some};
 ghost use Rattle.std.specs.Prelude.{MatchOption};
 ghost use Rattle.std.specs.FinMap as map;
 ghost use Rattle.step_core.specs.Machine.{after_notify_all};
 ghost use Rattle.jls_check.specs.LiveThreads.{live_of, owned_of, with_live, without_live};
 ghost use Rattle.jls_check.specs.LiveThreads.{owning_one_less, owning_one_more, all_back};
+ghost use Rattle.jls_check.specs.Turns.{after_turn, turned_record, turn_of, turned};
 
-use fat_monitor::Why;
+use crate::acts::has;
+use fast_path::Call;
+use fat_monitor::{Reply, Why};
 use lock_word::{Memory, ObjectId, ThreadId};
 use std::alloc::Global;
 use std::collections::BTreeMap;
@@ -27,6 +30,13 @@ pub(crate) struct ThreadRecord {
     pub(crate) live: Live,
     // How many objects it owns.
     pub(crate) owned: u64,
+}
+
+/// How a thread goes from one call to the next.
+#[derive(Clone, Copy)]
+pub(crate) enum Turn {
+    Begins(Call),
+    Returns(Reply),
 }
 
 /// The live threads, in the order of their numbers.
@@ -60,16 +70,6 @@ impl Threads {
         ensures { result ≡ map.get self.now thread.0 }
     {
         self.by_number.get(&thread.0).copied()
-    }
-
-    /// Writes what is kept of a live thread.
-    fn write(&mut self, thread: ThreadId, kept: ThreadRecord)
-        requires { IsSome (map.get self.old thread.0) }
-        ensures { self.new ≡ map.insert self.old thread.0 kept }
-    {
-        let Ok(_) = self.by_number.insert(thread.0, kept) else {
-            unreachable!();
-        };
     }
 
     /// How many threads are live.
@@ -107,13 +107,33 @@ impl Threads {
         Ok(())
     }
 
-    /// Writes what a live thread is doing, and its flag.
-    pub(crate) fn set(&mut self, thread: ThreadId, live: Live)
+    /// Writes what a live thread is doing, and its flag, and tells what it did before.
+    pub(crate) fn set(&mut self, thread: ThreadId, live: Live) -> Option<Live>
         requires { IsSome (live_of self.old thread) }
-        ensures { self.new ≡ with_live self.old thread live }
+        ensures was { result ≡ live_of self.old thread }
+        ensures set { self.new ≡ with_live self.old thread live }
     {
-        let owned = self.owned(thread);
-        self.write(thread, ThreadRecord { live, owned });
+        match self.by_number.get_mut(&thread.0) {
+            Some(record) => {
+                let was = record.live;
+                record.live = live;
+                Some(was)
+            }
+            None => None,
+        }
+    }
+
+    /// A live thread that does nothing begins a call, or one whose call has this reply returns; its
+    /// flag stays. Answers whether there is such a thread. This looks for the thread once, where
+    /// [`get`](Threads::get) and [`set`](Threads::set) would do so twice.
+    pub(crate) fn turn(&mut self, thread: ThreadId, turn: Turn) -> bool
+        ensures answer { result ≡ is_some (turn_of self.old thread turn) }
+        ensures turned { self.new ≡ turned self.old thread turn }
+    {
+        match self.by_number.get_mut(&thread.0) {
+            Some(record) => take_turn(record, turn),
+            None => false,
+        }
     }
 
     /// This thread, if there is one, owns one object less.
@@ -122,11 +142,9 @@ impl Threads {
         ensures { self.new ≡ owning_one_less self.old owner }
     {
         let Some(thread) = owner else { return };
-        let Some(kept) = self.kept(thread) else {
-            return;
-        };
-        let owned = kept.owned - 1;
-        self.write(thread, ThreadRecord { owned, ..kept });
+        if let Some(record) = self.by_number.get_mut(&thread.0) {
+            record.owned -= 1;
+        }
     }
 
     /// This thread, if there is one, owns one object more.
@@ -135,11 +153,9 @@ impl Threads {
         ensures { self.new ≡ owning_one_more self.old owner }
     {
         let Some(thread) = owner else { return };
-        let Some(kept) = self.kept(thread) else {
-            return;
-        };
-        let owned = kept.owned + 1;
-        self.write(thread, ThreadRecord { owned, ..kept });
+        if let Some(record) = self.by_number.get_mut(&thread.0) {
+            record.owned += 1;
+        }
     }
 
     pub(crate) fn remove(&mut self, thread: ThreadId)
@@ -156,6 +172,36 @@ impl Threads {
             record.live.act = after_notify_all(record.live.act, object);
             true
         });
+    }
+}
+
+fn take_turn(kept: &mut ThreadRecord, turn: Turn) -> bool
+    ensures answer { result ≡ is_some (after_turn turn kept.old.live.act) }
+    ensures turned { kept.new ≡ turned_record kept.old (after_turn turn kept.old.live.act) }
+{
+    let Some(act) = after_turn(turn, kept.live.act) else {
+        return false;
+    };
+    kept.live.act = act;
+    true
+}
+
+/// What a thread that did this does in its turn, if it may take it.
+fn after_turn(turn: Turn, act: Doing) -> Option<Doing>
+    ensures { result ≡ after_turn turn act }
+{
+    match turn {
+        Turn::Begins(call) => match act {
+            Doing::Idle => Some(Doing::Wants(call)),
+            _ => None,
+        },
+        Turn::Returns(reply) => {
+            if has(act, reply) {
+                Some(Doing::Idle)
+            } else {
+                None
+            }
+        }
     }
 }
 
