@@ -8,4 +8,5 @@ pub mod Guards
 pub mod Judging
 pub mod Replying
 pub mod Judged
+pub mod Woken
 pub mod Turned

@@ -6,3 +6,4 @@ pub mod Taking
 pub mod Turns
 pub mod Judging
 pub mod Texts
+pub mod Emptied

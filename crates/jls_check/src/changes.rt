@@ -5,13 +5,14 @@ ghost use Rattle.fat_monitor.specs.declared.actions.Reply.TheVariants.{Ended};
 ghost use Rattle.step_core.specs.declared.machine.Doing.TheVariants.{Has};
 ghost use Rattle.step_core.specs.Machine.{ActExists};
 ghost use Rattle.jls_check.specs.LiveThreads.{live_of, owned_of};
-ghost use Rattle.jls_check.specs.MachineState.{put, put_reply, with_held, MayOwn};
+ghost use Rattle.jls_check.specs.MachineState.{put, put_reply, with_held, IsSound, MayOwn};
 ghost use Rattle.jls_check.specs.Taking.{all_left};
+ghost use Rattle.jls_check.specs.Emptied.{emptied};
 
 use crate::machine::Machine;
 use crate::monitors::{Held, count_waits};
 use crate::threads::Live;
-use fat_monitor::Reply;
+use fat_monitor::{Reply, Why};
 use lock_word::{ObjectId, ThreadId};
 use step_core::Doing;
 
@@ -54,14 +55,97 @@ impl Machine {
         self.threads.gain(held.owner);
     }
 
+    /// Notes that a thread began to wait.
+    pub(crate) fn note_waiter(&mut self, thread: ThreadId)
+        ensures { self.new ≡ self.old }
+    {
+        self.forget_surplus();
+        // Without memory it is not noted.
+        let _ = self.waiters.push(thread);
+    }
+
+    /// Forgets who began to wait, once there is more than one note for every 64 live threads and 16
+    /// more. So to look for the thread of each note takes less time than to go through all threads,
+    /// but for a fixed number of looks. Notes that take the memory of more threads than are live
+    /// are forgotten too, and that memory is given back.
+    pub(crate) fn forget_surplus(&mut self)
+        ensures { self.new ≡ self.old }
+    {
+        let most = self.threads.count() / 64 + 16;
+        if self.waiters.len() > most {
+            self.waiters.clear();
+        }
+        if self.waiters.capacity() / 4 > most {
+            self.waiters.clear();
+            self.waiters.shrink_to_fit();
+        }
+    }
+
     /// Every thread leaves the wait set of the object, notified.
     pub(crate) fn empty_wait_set(&mut self, object: ObjectId)
         ensures { self.new ≡ all_left self.old object }
+    {
+        // A use of a field, by which the counts are known to be those of the state.
+        let _ = &self.moment;
+        self.wake_noted(object);
+        self.wake_all(object);
+    }
+
+    /// The same by a look at every live thread, where some still wait.
+    fn wake_all(&mut self, object: ObjectId)
+        ensures was { IsSound self.old }
+        ensures left { self.new ≡ all_left self.old object }
     {
         if self.waiting(object) == 0 {
             return;
         }
         self.objects[object.0 as usize].waiting = 0;
         self.threads.notify_all(object);
+    }
+
+    /// Those of the noted threads that wait on the object leave its wait set, notified, the last
+    /// one first, until it is empty. A note of a thread that no longer waits is dropped.
+    fn wake_noted(&mut self, object: ObjectId)
+        ensures { emptied self.new object ≡ emptied self.old object }
+    {
+        let mut left = self.waiters.len();
+        'noted: while left > 0 && self.waiting(object) > 0 {
+            left -= 1;
+            let Some(thread) = self.waiters.get(left).copied() else {
+                return;
+            };
+            if !self.wake_unless_elsewhere(thread, object) && left < self.waiters.len() {
+                self.waiters.swap_remove(left);
+            }
+        }
+    }
+
+    /// The thread leaves the wait set of the object, notified, if it is in there. Answers whether
+    /// it waits on another object.
+    fn wake_unless_elsewhere(&mut self, thread: ThreadId, object: ObjectId) -> bool
+        ensures { emptied self.new object ≡ emptied self.old object }
+    {
+        let Some(live) = self.threads.get(thread) else {
+            return false;
+        };
+        // The deadline is named for the proof, which tells by it what the thread was doing.
+        let Doing::Waits {
+            object: awaited,
+            holds,
+            deadline: _deadline,
+        } = live.act
+        else {
+            return false;
+        };
+        if awaited.0 != object.0 {
+            return true;
+        }
+        let back = Doing::Back {
+            object: awaited,
+            holds,
+            why: Why::Notified,
+        };
+        self.put(thread, live.flag, back);
+        false
     }
 }

@@ -40,6 +40,10 @@ pub struct Machine {
     pub(crate) objects: Vec<ObjectRecord>,
     // In nanoseconds.
     pub(crate) moment: u64,
+    // Threads that began to wait lately: at most one for every 64 live threads and 17 more. Some of
+    // them may wait no longer, and some that wait may be missing; nothing is proved of this list.
+    // With it a NotifyAll mostly looks at the threads that wait, and not at every thread.
+    pub(crate) waiters: Vec<ThreadId>,
 }
 
 impl Model for Machine {
@@ -68,6 +72,7 @@ impl Machine {
             threads: Threads::new(alloc),
             objects: vec![in alloc; UNTOUCHED; objects as usize]?,
             moment: 0,
+            waiters: Vec::new(alloc),
         })
     }
 

@@ -56,6 +56,7 @@ impl Machine {
             return Err(MoveFault::Broken);
         }
         self.threads.remove(thread);
+        self.forget_surplus();
         Ok(())
     }
 

@@ -61,6 +61,7 @@ impl Machine {
         };
         self.hold(object, UNHELD);
         self.put(thread, false, waits);
+        self.note_waiter(thread);
         Ok(())
     }
 
