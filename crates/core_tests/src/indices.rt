@@ -115,10 +115,14 @@ fn every_index_is_taken(rt: HostRuntime) {
     check(&rt, &mut indices, &DEEDS);
 }
 
-/// A thread takes an index, or gives back the one that it has, as this number says. Whether the
+/// The thread takes an index, or gives back the one that it has, as this number says. Whether the
 /// plain list answers the same.
-fn is_as_plain(indices: &mut Indices, plain: &mut PlainIndices, number: u32) -> bool {
-    let thread = ThreadId((number >> 16) % 200);
+fn is_as_plain(
+    indices: &mut Indices,
+    plain: &mut PlainIndices,
+    thread: ThreadId,
+    number: u32,
+) -> bool {
     let is_same = if (number >> 8) % 8 < 5 {
         indices.take(thread).map(usize::from) == plain.take(thread)
     } else {
@@ -134,7 +138,22 @@ fn takes_and_gives_in_no_order(rt: HostRuntime) {
     let mut state = 1u32;
     for round in 0..8_000 {
         state = state.wrapping_mul(1_664_525).wrapping_add(1_013_904_223);
-        assert!(rt; is_as_plain(&mut indices, &mut plain, state), "{round}");
+        let thread = ThreadId((state >> 16) % 200);
+        assert!(rt; is_as_plain(&mut indices, &mut plain, thread, state), "{round}");
+    }
+}
+
+/// Numbers of threads that have the same low bits have one hint together, in a row of any width.
+#[test]
+fn threads_whose_numbers_end_alike(rt: HostRuntime) {
+    let mut indices = open(rt.alloc(), 600);
+    let mut plain = PlainIndices::new(rt.alloc(), 600);
+    let mut state = 1u32;
+    for round in 0..8_000 {
+        state = state.wrapping_mul(1_664_525).wrapping_add(1_013_904_223);
+        let number = (state >> 16) % 700;
+        let thread = ThreadId(if number < 350 { number } else { number << 16 });
+        assert!(rt; is_as_plain(&mut indices, &mut plain, thread, state), "{round}");
     }
 }
 

@@ -15,6 +15,8 @@ macro_rules! thin {
 #[cfg(test)]
 mod calls;
 #[cfg(test)]
+mod hints;
+#[cfg(test)]
 mod indices;
 #[cfg(test)]
 mod lines;

@@ -4,7 +4,7 @@
 //! 32,767, and of 11 bits in the deep one, 1 to 2,047; 0 is nobody's. A thread takes the lowest
 //! index that is free, keeps it while it lives, and gives it back. A seat is an index less one.
 //! What a call costs does not grow with the number of live threads: a table has the seat of each
-//! thread, and bits tell which seats are taken.
+//! thread, hints spare most looks into it, and bits tell which seats are taken.
 #![tactic(auto)]
 
 ghost use Rattle.std.specs.Prelude.{◌≡◌, ◌↔◌, ◌-◌, ◌<◌, ◌≤◌, ◌+◌, ℕ, length, max, replicate};
@@ -23,6 +23,7 @@ use std::collections::HashMap;
 use std::error::Error;
 use std::fmt;
 use std::marker::Model;
+use thread_hints::Hints;
 
 /// Why a thread got no index.
 #[derive(Clone, Copy, PartialEq, Eq, Debug)]
@@ -81,6 +82,8 @@ pub struct Indices {
     bits: SeatBits,
     /// The seat of each thread that has one.
     seats: HashMap<u32, u16>,
+    /// Where a thread may have its seat, which is looked at before the table: that takes a hash.
+    hints: Hints,
     /// How many seats there are.
     limit: u16,
 }
@@ -110,6 +113,7 @@ impl Indices {
             holders: Vec::new(alloc),
             bits: SeatBits::new(alloc),
             seats: HashMap::new(alloc),
+            hints: Hints::new(alloc),
             limit: k,
         })
     }
@@ -180,13 +184,56 @@ impl Indices {
     }
 
     /// The seat of a thread.
+    #[inline(always)]
     fn seat_of(&self, id: ThreadId) -> Option<usize>
         ensures seat { result ≡ seat_of self.now id }
         ensures within { IfSome result (λ k. k < length self.now) }
         ensures one_to_one { IsOneToOne self.now }
         ensures length { length self.now ≤ 32767 }
     {
+        match self.hinted_seat_of(id) {
+            Some(seat) => Some(seat),
+            None => self.listed_seat_of(id),
+        }
+    }
+
+    /// The seat of a thread by the table. It is a function of its own, so that a look by a hint has
+    /// nothing of it.
+    #[inline(never)]
+    fn listed_seat_of(&self, id: ThreadId) -> Option<usize>
+        ensures seat { result ≡ seat_of self.now id }
+        ensures within { IfSome result (λ k. k < length self.now) }
+        ensures one_to_one { IsOneToOne self.now }
+        ensures length { length self.now ≤ 32767 }
+    {
         self.seats.get(&id.0).map(|&seat| usize::from(seat))
+    }
+
+    /// The seat that the hints name, where the thread has that seat.
+    #[inline(always)]
+    fn hinted_seat_of(&self, id: ThreadId) -> Option<usize>
+        ensures seat { IfSome result (λ k. seat_of self.now id ≡ Some k) }
+        ensures within { IfSome result (λ k. k < length self.now) }
+        ensures one_to_one { IsOneToOne self.now }
+        ensures length { length self.now ≤ 32767 }
+    {
+        let seat = self.hints.place(id.0) as usize;
+        match self.holders.get(seat) {
+            Some(Some(holder)) if holder.0 == id.0 => Some(seat),
+            _ => None,
+        }
+    }
+
+    /// Notes the seat of a thread as a hint. Where there are few hints for the seats there are more
+    /// from then on, if there is memory for them.
+    fn note(&mut self, seat: usize, id: ThreadId)
+        requires { seat < 32767 }
+        ensures { self.new ≡ self.old }
+    {
+        if self.hints.are_few_for(self.holders.len()) && self.hints.widen() {
+            note_all(&mut self.hints, &self.holders);
+        }
+        self.hints.note(id.0, seat as u32);
     }
 
     /// The lowest seat that nobody has.
@@ -211,7 +258,19 @@ impl Indices {
         self.seats.insert(id.0, seat as u16)?;
         self.holders[seat] = Some(id);
         self.bits.take(seat);
+        self.note(seat, id);
         Ok(())
+    }
+}
+
+/// Notes the seat of each holder.
+fn note_all(hints: &mut Hints, holders: &[Option<ThreadId>])
+    requires { length holders.now ≤ 32767 }
+{
+    for (seat, holder) in holders.iter().enumerate() {
+        if let Some(id) = holder {
+            hints.note(id.0, seat as u32);
+        }
     }
 }
 

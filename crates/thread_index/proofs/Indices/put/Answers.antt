@@ -55,4 +55,9 @@ pub returns-clause-value : goal.returns-clause-value
 returns-clause-value c =
     let more = IsWhole-more _ _ _ _ _ _ _ c.self.inside.seats c.self.inside.seats c.self.invariant c.self.view_is c.requires.free
     c.in_ok-make_room.ensures.ok c.make_room.ensures.longer c.make_room.ensures.bits c.write_down.ensures.same c.write_down.ensures.few refl in
-    padded-slice_set _ _ _ _ _ more.0 c.in_ok-write_down.ensures.ok
+    c.note.ensures ∙ padded-slice_set _ _ _ _ _ more.0 c.in_ok-write_down.ensures.ok
+
+pub note-requires : goal.note-requires
+note-requires c =
+    let position = free_seat-next _ _ _ _ _ _ c.self.invariant c.self.view_is c.requires.free in
+    omega (arith, position.1, c.self.invariant.kept.few)

@@ -2,7 +2,7 @@ use Rattle.std.proofs.Common.{◌≡◌, rules}
 use Rattle.thread_index.specs.Indices.{seat_of}
 use Rattle.thread_index.proofs.Seats.{seat_of-within}
 use Rattle.thread_index.proofs.Wholes.{one_to_one-shown, few-shown}
-use Rattle.thread_index.proofs.Indices.seat_of.Goals as goal
+use Rattle.thread_index.proofs.Indices.listed_seat_of.Goals as goal
 
 pub returns-clause-seat : goal.returns-clause-seat
 returns-clause-seat c = search rules

@@ -1,0 +1,36 @@
+use std::process::Abort;
+use thread_hints::Hints;
+
+/// Notes place 100 for thread 7 and place 200 for thread 71. Whether these are the places of both
+/// then.
+fn has(hints: &mut Hints, of_7: u32, of_71: u32) -> bool {
+    hints.note(7, 100);
+    hints.note(71, 200);
+    hints.place(7) == of_7 && hints.place(71) == of_71
+}
+
+#[test]
+fn a_hint_is_the_last_place_of_a_number_that_ends_alike(rt: HostRuntime) {
+    let mut hints = Hints::new(rt.alloc());
+    assert!(rt; hints.place(7) == 0);
+    assert!(rt; has(&mut hints, 200, 200));
+    assert!(rt; hints.widen());
+    assert!(rt; hints.place(7) == 0);
+    assert!(rt; has(&mut hints, 100, 200));
+    assert!(rt; hints.place(7 + 256) == 100);
+    assert!(rt; hints.place(7 + 128) == 0);
+}
+
+#[test]
+fn hints_widen_to_the_most(rt: HostRuntime) {
+    let mut hints = Hints::new(rt.alloc());
+    for records in [32, 128, 512, 2_048, 8_192] {
+        assert!(rt; !hints.are_few_for(records), "{records}");
+        assert!(rt; hints.are_few_for(records + 1), "{records}");
+        assert!(rt; hints.widen(), "{records}");
+    }
+    assert!(rt; !hints.are_few_for(1_000_000));
+    assert!(rt; has(&mut hints, 100, 200));
+    assert!(rt; !hints.widen());
+    assert!(rt; hints.place(7) == 100 && hints.place(71) == 200);
+}

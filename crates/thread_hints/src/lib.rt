@@ -1,0 +1,121 @@
+//! Hints where the record of a thread stands, by the number of the thread.
+//!
+//! A table from numbers to places takes a hash for each look. Whoever has such a table asks the
+//! hints first, and takes the place that they name where the record there is that of the thread;
+//! else it looks into its table. So an answer never rests on a hint: hints may be old, missing or
+//! another thread's, since threads whose numbers have the same low bits share one.
+#![tactic(auto)]
+
+ghost use Rattle.std.specs.Prelude.{◌≡◌, ◌-◌, ◌*◌, ◌/◌, ◌&&◌, ◌≤◌, length, nat_lt, replicate};
+ghost use Rattle.std.specs.Prelude.{slice_index, slice_set};
+ghost use Rattle.std.specs.Bool.{OnTrue, OnFalse};
+ghost use Rattle.std.specs.Int.Bits.{bit_and};
+
+use std::alloc::Global;
+use std::marker::Model;
+
+/// How many hints there are before any memory is asked for.
+const FEW: usize = 64;
+
+/// The most hints.
+const MOST: usize = 65_536;
+
+/// A place for each of some numbers, told apart by their low bits.
+#[derive(Drop)]
+pub struct Hints {
+    alloc: Global,
+    few: [u32; FEW],
+    // Where there are hints here, they are in the place of the few.
+    many: Vec<u32>,
+}
+
+impl Model for Hints {
+    ghost use Rattle.std.specs.Prelude.{ℕ, List, ◌≤◌, length};
+    ghost use Rattle.thread_hints.specs.Hints.{hints_in};
+
+    ghost Value = { List ℕ };
+
+    ghost view = { λ h. hints_in h.few h.many.items };
+
+    ghost invariant = { λ h. (1 ≤ length (hints_in h.few h.many.items))
+        × (length (hints_in h.few h.many.items) ≤ 65536) };
+}
+
+impl Hints {
+    /// Place 0 for each number. No memory is asked for.
+    pub fn new(alloc: Global) -> Hints
+        ensures { result ≡ replicate 64 0 }
+    {
+        Hints {
+            alloc,
+            few: [0; FEW],
+            many: Vec::new(alloc),
+        }
+    }
+
+    /// The hints that are in use.
+    #[inline(always)]
+    fn places(&self) -> &[u32]
+        ensures places { result.now ≡ self.now }
+        ensures some { 1 ≤ length result.now }
+        ensures few { length result.now ≤ 65536 }
+    {
+        if self.many.is_empty() {
+            &self.few
+        } else {
+            &self.many
+        }
+    }
+
+    /// The place that was noted last for a number with the same low bits; 0 where there is none.
+    #[inline(always)]
+    pub fn place(&self, number: u32) -> u32
+        ensures { result
+            ≡ slice_index self.now (bit_and number (length self.now - 1)) }
+    {
+        let places = self.places();
+        places[number as usize & (places.len() - 1)]
+    }
+
+    /// Notes a place for a number, and for those with the same low bits.
+    pub fn note(&mut self, number: u32, place: u32)
+        ensures { self.new
+            ≡ slice_set self.old (bit_and number (length self.old - 1)) place }
+    {
+        let low = number as usize & (self.places().len() - 1);
+        if self.many.is_empty() {
+            self.few[low] = place;
+        } else {
+            self.many[low] = place;
+        }
+    }
+
+    /// Whether there should be more hints for so many records: fewer than twice as many are there,
+    /// and fewer than the most.
+    pub fn are_few_for(&self, records: usize) -> bool
+        ensures { result
+            ≡ (nat_lt (length self.now) 65536 && nat_lt (length self.now / 2) records) }
+    {
+        let count = self.places().len();
+        count < MOST && count / 2 < records
+    }
+
+    /// Makes four times as many hints, with place 0 for each number, and says whether it did: not
+    /// where there would be more than the most, or where the system refuses the memory.
+    pub fn widen(&mut self) -> bool
+        ensures wider { OnTrue result (self.new ≡ replicate (4 * length self.old) 0) }
+        ensures same { OnFalse result (self.new ≡ self.old) }
+    {
+        let count = self.places().len();
+        if count > MOST / 4 {
+            return false;
+        }
+        match vec![in self.alloc; 0; count * 4] {
+            Ok(wider) => {
+                self.many = wider;
+                true
+            }
+            Err(_) => false,
+        }
+    }
+}
