@@ -18,6 +18,7 @@ use slab::Slab;
 use std::alloc::Global;
 use std::collections::HashMap;
 use std::marker::Model;
+use thread_hints::Hints;
 use wait_lines::Node;
 
 /// What is kept of an attached thread.
@@ -40,6 +41,8 @@ pub(crate) struct Posts {
     records: Slab<Record>,
     // The key of each attached thread's record, by the thread's number.
     keys: HashMap<u32, usize>,
+    // Where a thread may have its record, which is looked at before the keys: they take a hash.
+    hints: Hints,
     // How many of the threads stand in wait sets.
     waiting: usize,
 }
@@ -72,22 +75,48 @@ fn is_at(records: &Slab<Record>, key: usize, thread: ThreadId) -> bool
     }
 }
 
-// The key of a thread's record; None where the thread is not attached. It is looked for first where
-// it is if threads were attached in the order of their numbers, from 1 or from 0 on: that needs no
-// hash.
-fn key_of(records: &Slab<Record>, keys: &HashMap<u32, usize>, thread: ThreadId) -> Option<usize>
+// The key of a thread's record; None where the thread is not attached.
+#[inline(always)]
+fn key_of(
+    records: &Slab<Record>,
+    keys: &HashMap<u32, usize>,
+    hints: &Hints,
+    thread: ThreadId,
+) -> Option<usize>
     requires { HaveKeys records.now keys.now.entries }
     ensures { result ≡ lookup (nat_eq thread.0) keys.now.entries }
 {
-    let number = thread.0 as usize;
-    let before = number.wrapping_sub(1);
-    if is_at(records, before, thread) {
-        return Some(before);
+    let hint = hints.place(thread.0) as usize;
+    if is_at(records, hint, thread) {
+        return Some(hint);
     }
-    if is_at(records, number, thread) {
-        return Some(number);
-    }
+    listed_key_of(keys, thread)
+}
+
+// The key of a thread's record by the table of keys. It is a function of its own, so that a look by
+// a hint has nothing of it.
+#[inline(never)]
+fn listed_key_of(keys: &HashMap<u32, usize>, thread: ThreadId) -> Option<usize>
+    ensures { result ≡ lookup (nat_eq thread.0) keys.now.entries }
+{
     keys.get(&thread.0).copied()
+}
+
+// Notes the key of a thread's record as a hint. Where there are few hints for the records there are
+// more from then on, if there is memory for them.
+fn note(hints: &mut Hints, records: &Slab<Record>, thread: ThreadId, key: usize) {
+    if hints.are_few_for(records.len()) && hints.widen() {
+        for (key, record) in records.iter() {
+            note_one(hints, record.thread, key);
+        }
+    }
+    note_one(hints, thread, key);
+}
+
+fn note_one(hints: &mut Hints, thread: ThreadId, key: usize) {
+    if let Ok(place) = u32::try_from(key) {
+        hints.note(thread.0, place);
+    }
 }
 
 /// One where a thread with this post stands in a wait set.
@@ -108,6 +137,7 @@ impl Posts {
         Posts {
             records: Slab::new(alloc),
             keys: HashMap::new(alloc),
+            hints: Hints::new(alloc),
             waiting: 0,
         }
     }
@@ -130,7 +160,7 @@ impl Posts {
     pub(crate) fn get(&self, thread: ThreadId) -> Option<Post>
         ensures { result ≡ map.get self.now.posts thread.0 }
     {
-        let key = key_of(&self.records, &self.keys, thread)?;
+        let key = key_of(&self.records, &self.keys, &self.hints, thread)?;
         let record = self.records.get(key)?;
         Some(record.post)
     }
@@ -139,7 +169,7 @@ impl Posts {
     pub(crate) fn flag(&self, thread: ThreadId) -> bool
         ensures { result ≡ unwrap_or (map.get self.now.flags thread.0) false }
     {
-        let Some(key) = key_of(&self.records, &self.keys, thread) else {
+        let Some(key) = key_of(&self.records, &self.keys, &self.hints, thread) else {
             return false;
         };
         match self.records.get(key) {
@@ -153,7 +183,7 @@ impl Posts {
         ensures count { result ≡ count_of self.now.owned thread }
         ensures attached { 0 < result → IsSome (map.get self.now.posts thread.0) }
     {
-        let Some(key) = key_of(&self.records, &self.keys, thread) else {
+        let Some(key) = key_of(&self.records, &self.keys, &self.hints, thread) else {
             return 0;
         };
         match self.records.get(key) {
@@ -191,6 +221,7 @@ impl Posts {
             owned: 0,
         };
         let _ = self.records.insert_reserved(record);
+        note(&mut self.hints, &self.records, thread, key);
         Ok(())
     }
 
@@ -199,7 +230,7 @@ impl Posts {
         requires { IsSome (map.get self.old.posts thread.0) }
         ensures { self.new ≡ record self.old { posts = map.insert self.old.posts thread.0 post } }
     {
-        let Some(key) = key_of(&self.records, &self.keys, thread) else {
+        let Some(key) = key_of(&self.records, &self.keys, &self.hints, thread) else {
             unreachable!();
         };
         let Some(record) = self.records.get_mut(key) else {
@@ -217,7 +248,7 @@ impl Posts {
         requires { IsSome (map.get self.now.posts thread.0) }
         ensures { map.get self.now.nodes thread.0 ≡ Some result.0 }
     {
-        let Some(key) = key_of(&self.records, &self.keys, thread) else {
+        let Some(key) = key_of(&self.records, &self.keys, &self.hints, thread) else {
             unreachable!();
         };
         match self.records.get(key) {
@@ -231,7 +262,7 @@ impl Posts {
         requires { IsSome (map.get self.old.posts thread.0) }
         ensures { self.new ≡ with_parked self.old thread post node.0 }
     {
-        let Some(key) = key_of(&self.records, &self.keys, thread) else {
+        let Some(key) = key_of(&self.records, &self.keys, &self.hints, thread) else {
             unreachable!();
         };
         let Some(record) = self.records.get_mut(key) else {
@@ -255,7 +286,7 @@ impl Posts {
         requires { IsSome (map.get self.old.posts thread.0) }
         ensures { self.new ≡ record self.old { flags = map.insert self.old.flags thread.0 flag } }
     {
-        let Some(key) = key_of(&self.records, &self.keys, thread) else {
+        let Some(key) = key_of(&self.records, &self.keys, &self.hints, thread) else {
             unreachable!();
         };
         let Some(record) = self.records.get_mut(key) else {
@@ -301,7 +332,7 @@ impl Posts {
         requires { IsSome (map.get self.old.posts thread.0) }
         ensures { self.new ≡ record self.old { owned = map.insert self.old.owned thread.0 count } }
     {
-        let Some(key) = key_of(&self.records, &self.keys, thread) else {
+        let Some(key) = key_of(&self.records, &self.keys, &self.hints, thread) else {
             unreachable!();
         };
         let Some(record) = self.records.get_mut(key) else {

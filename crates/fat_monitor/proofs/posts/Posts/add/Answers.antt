@@ -22,13 +22,13 @@ returns-in_default-insert-clause-known c =
     ((λ e. absurd (cc)), (λ h. absurd (not_posted c.self.inside.records c.self.inside.keys.entries c.args.thread.0 (sym c.contains_key.ensures ∙ c.if-contains_key.false) (rw (← c.self.view_is) at h))))
 
 -- the new key leads to the new record
-led : (c : goal.After-insert_reserved) → (q : ℕ) → lookup (nat_eq q) c.insert.new.self.entries ≡ (if nat_eq c.args.thread.0 q then Some c.insert_reserved.result else lookup (nat_eq q) c.self.inside.keys.entries)
+led : (c : goal.After-note) → (q : ℕ) → lookup (nat_eq q) c.insert.new.self.entries ≡ (if nat_eq c.args.thread.0 q then Some c.insert_reserved.result else lookup (nat_eq q) c.self.inside.keys.entries)
 led c =
     let key : c.vacant_key-key.result ≡ c.insert_reserved.result = c.vacant_key-key.ensures.value ∙ sym c.insert_reserved.ensures.key in
     subst (λ (k : ℕ). (q : ℕ) → lookup (nat_eq q) c.insert.new.self.entries ≡ (if nat_eq c.args.thread.0 q then Some k else lookup (nat_eq q) c.self.inside.keys.entries)) key c.in-Ok-insert.ensures.updates.0
 
 -- what is shown now
-shown : (c : goal.After-insert_reserved) → posted_in c.insert_reserved.new.self c.insert.new.self.entries ≡ with_thread_posted (posted_in c.self.inside.records c.self.inside.keys.entries) c.args.thread
+shown : (c : goal.After-note) → posted_in c.insert_reserved.new.self c.insert.new.self.entries ≡ with_thread_posted (posted_in c.self.inside.records c.self.inside.keys.entries) c.args.thread
 shown c =
     posted_in-put c.reserve.new.self c.insert_reserved.new.self c.self.inside.keys.entries c.insert.new.self.entries c.args.thread.0 c.insert_reserved.result
     (record { thread = c.args.thread; post = Out; node = record { 0 = 0 }; flag = false; owned = 0 })
