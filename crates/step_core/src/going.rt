@@ -48,14 +48,12 @@ pub(crate) fn go(
     match places[seat] {
         Place::Idle => Err(Fault::NotCalling),
         Place::InCall(stage) => {
-            let (next, did) = go_from(split, words, fats, index, thread, stage);
-            places[seat] = next;
-            Ok(did)
+            let place = &mut places[seat];
+            Ok(go_from(split, words, fats, index, thread, stage, place))
         }
         Place::Ending { loaded } if (loaded as usize) < words.len() => {
-            let (next, did) = look(split, words, index, thread, loaded);
-            places[seat] = next;
-            Ok(did)
+            let place = &mut places[seat];
+            Ok(look(split, words, index, thread, loaded, place))
         }
         Place::Ending { .. } => Ok(end(indices, places, fats, thread, seat)),
         Place::AtPost => collect(places, fats, thread, seat),

@@ -1,6 +1,8 @@
-//! What a Go does at each stage of a call: one function for each kind of atomic step.
+//! What a Go does at each stage of a call: one function for each kind of atomic step. Each writes
+//! where the thread stands then in its place, and hands out what it did: a pair of both would be
+//! made and copied at each step.
 
-ghost use Rattle.std.specs.Prelude.{◌≡◌, ◌+◌, ◌-◌, ◌<◌, ◌≤◌, List, length, Bool, Some};
+ghost use Rattle.std.specs.Prelude.{◌≡◌, ◌+◌, ◌-◌, ◌<◌, ◌≤◌, List, length, Bool, true, None, Some};
 ghost use Rattle.lock_word.specs.declared.Word.{Word};
 ghost use Rattle.lock_word.specs.Layout.{Fits, count_of, greatest_index};
 ghost use Rattle.lock_word.specs.declared.Split.{Split};
@@ -8,9 +10,11 @@ ghost use Rattle.fat_monitor.specs.declared.actions.Post.TheVariants.{Out};
 ghost use Rattle.fat_monitor.specs.FatState.{FatState, IsAttached, post_of};
 ghost use Rattle.fat_monitor.specs.Acting.{NamesBound};
 ghost use Rattle.fat_monitor.specs.declared.actions.Action.TheVariants.{End};
+ghost use Rattle.fast_path.specs.Calls.{call_about, call_of};
 ghost use Rattle.fast_path.specs.Table.{next_of};
 ghost use Rattle.step_core.specs.World.{lock_at, is_own};
 ghost use Rattle.step_core.specs.Ready.{bare, AreFormed, IsReady, IsOwnAction};
+ghost use Rattle.step_core.specs.Did.{move_and_return, move_for};
 ghost use Rattle.step_core.specs.Go.{after_load, after_take, after_store, after_bind};
 ghost use Rattle.step_core.specs.Go.{after_publish, after_act, after_stage, action_on};
 ghost use Rattle.step_core.specs.Go.{action_about, bind_cause, entering, stored_reply};
@@ -32,7 +36,8 @@ pub(crate) fn go_from(
     me: u16,
     thread: ThreadId,
     stage: Stage,
-) -> (Place, Did)
+    place: &mut Place,
+) -> Did
     requires ready { IsReady split words.old fats.old stage }
     requires few { length words.old ≤ 65535 }
     requires formed { AreFormed split words.old }
@@ -40,29 +45,23 @@ pub(crate) fn go_from(
     requires low { 1 ≤ me }
     requires high { me ≤ greatest_index split }
     ensures { (room : Bool)
-        × (record { words = words.new; fats = fats.new; place = result.0; did = result.1 }
+        × (record { words = words.new; fats = fats.new; place = place.new; did = result }
         ≡ after_stage room (bare split words.old fats.old) (me - 1) thread stage) }
 {
     match stage {
-        Stage::Begun { call, contended } => load(split, words, me, thread, call, contended),
-        Stage::Taking { object, contended } => take(split, words, me, thread, object, contended),
-        Stage::Storing { call, lock } => store(split, words, thread, call, lock),
-        Stage::Binding { call, count } => bind(fats, thread, call, false, count + 1),
-        Stage::Acting { call, monitor } => act(
-            fats,
-            thread,
-            call.call(),
-            action_on(call.operation, monitor),
-        ),
-        Stage::Won { object } => bind(fats, thread, entering(object), true, 1),
-        Stage::Bound { call, won, monitor } => publish(split, words, thread, call, won, monitor),
-        Stage::Inflated { call, monitor } => act(
-            fats,
-            thread,
-            call.call(),
-            action_on(call.operation, monitor),
-        ),
-        Stage::Direct { call } => act(fats, thread, call.call(), action_about(call)),
+        Stage::Begun { call, contended } => load(split, words, me, thread, call, contended, place),
+        Stage::Taking { object, contended } => {
+            take(split, words, me, thread, object, contended, place)
+        }
+        Stage::Storing { call, lock } => store(split, words, thread, call, lock, place),
+        Stage::Binding { call, count } => bind(fats, thread, call, false, count + 1, place),
+        Stage::Acting { call, monitor } => act_on(fats, thread, call, monitor, place),
+        Stage::Won { object } => bind_won(fats, thread, object, place),
+        Stage::Bound { call, won, monitor } => {
+            publish(split, words, thread, call, won, monitor, place)
+        }
+        Stage::Inflated { call, monitor } => act_on(fats, thread, call, monitor, place),
+        Stage::Direct { call } => act_about(fats, thread, call, place),
     }
 }
 
@@ -85,11 +84,12 @@ fn load(
     thread: ThreadId,
     call: MonitorCall,
     contended: bool,
-) -> (Place, Did)
+    place: &mut Place,
+) -> Did
     requires within { call.object.0 < length words.now }
     requires formed { AreFormed split words.now }
     ensures { (f : FatState)
-        → record { words = words.now; fats = f; place = result.0; did = result.1 }
+        → record { words = words.now; fats = f; place = place.new; did = result }
         ≡ after_load (bare split words.now f) thread call contended
         (next_of split call.operation (lock_at (bare split words.now f) call.object.0) me) }
 {
@@ -99,11 +99,8 @@ fn load(
     let atomic = Atomic::Load { object, word };
     let stage = match call.operation.next(split, lock, me) {
         Next::Reply(reply) => {
-            let made = move_for(call.call(), reply, None, thread);
-            return (
-                Place::Idle,
-                Did::move_and_return(atomic, made, thread, reply),
-            );
+            *place = Place::Idle;
+            return replied(atomic, call, thread, reply);
         }
         Next::Cas(_) => Stage::Taking { object, contended },
         Next::Store(lock) => Stage::Storing { call, lock },
@@ -117,7 +114,8 @@ fn load(
             contended: true,
         },
     };
-    (Place::InCall(stage), Did::no_move(atomic))
+    *place = Place::InCall(stage);
+    Did::no_move(atomic)
 }
 
 /// Exchanges the free word for the thread's own, if it is still free.
@@ -129,13 +127,14 @@ fn take(
     thread: ThreadId,
     object: ObjectId,
     contended: bool,
-) -> (Place, Did)
+    place: &mut Place,
+) -> Did
     requires within { object.0 < length words.old }
     requires formed { AreFormed split words.old }
     requires low { 1 ≤ me }
     requires high { me ≤ greatest_index split }
     ensures { (f : FatState)
-        → record { words = words.new; fats = f; place = result.0; did = result.1 }
+        → record { words = words.new; fats = f; place = place.new; did = result }
         ≡ after_take (bare split words.old f) (me - 1) thread object contended
         (lock_at (bare split words.old f) object.0) }
 {
@@ -145,10 +144,8 @@ fn take(
         let call = entering(object);
         let contended = true;
         let atomic = Atomic::Lost { object, word: old };
-        return (
-            Place::InCall(Stage::Begun { call, contended }),
-            Did::no_move(atomic),
-        );
+        *place = Place::InCall(Stage::Begun { call, contended });
+        return Did::no_move(atomic);
     };
     let mine = Lock::Thin {
         index: me,
@@ -159,15 +156,11 @@ fn take(
     let atomic = Atomic::Won { object, old, new };
     let made = Move::Lock { thread };
     if contended {
-        return (
-            Place::InCall(Stage::Won { object }),
-            Did::one_move(atomic, made),
-        );
+        *place = Place::InCall(Stage::Won { object });
+        return Did::one_move(atomic, made);
     }
-    (
-        Place::Idle,
-        Did::move_and_return(atomic, made, thread, Reply::Entered),
-    )
+    *place = Place::Idle;
+    Did::move_and_return(atomic, made, thread, Reply::Entered)
 }
 
 /// Stores a free or thin word over the thread's own thin one.
@@ -178,11 +171,12 @@ fn store(
     thread: ThreadId,
     call: MonitorCall,
     lock: Lock,
-) -> (Place, Did)
+    place: &mut Place,
+) -> Did
     requires within { call.object.0 < length words.old }
     requires fits { Fits split lock }
     ensures { (f : FatState)
-        → record { words = words.new; fats = f; place = result.0; did = result.1 }
+        → record { words = words.new; fats = f; place = place.new; did = result }
         ≡ after_store (bare split words.old f) thread call lock }
 {
     let object = call.object;
@@ -191,12 +185,19 @@ fn store(
     let new = with_lock(split, old, lock);
     words[at] = new;
     let reply = stored_reply(call.operation);
-    let made = move_for(call.call(), reply, None, thread);
     let atomic = Atomic::Stored { object, old, new };
-    (
-        Place::Idle,
-        Did::move_and_return(atomic, made, thread, reply),
-    )
+    *place = Place::Idle;
+    replied(atomic, call, thread, reply)
+}
+
+/// A call on an object gets this reply by its step on the word, and returns.
+#[inline(always)]
+fn replied(atomic: Atomic, call: MonitorCall, thread: ThreadId, reply: Reply) -> Did
+    ensures { result ≡ move_and_return atomic (move_for (call_of call) reply None thread)
+        thread reply }
+{
+    let made = move_for(call.call(), reply, None, thread);
+    Did::move_and_return(atomic, made, thread, reply)
 }
 
 /// What a call replies when its free or thin word is stored: only an enter and an exit store one.
@@ -211,13 +212,20 @@ fn stored_reply(operation: Operation) -> Reply
 
 /// Binds a fat monitor to the call's object, which the thread holds this often. Where none can be
 /// had, an enter that has won already drops the inflation, and any other call is refused.
-fn bind(fats: &mut Fats, thread: ThreadId, call: MonitorCall, won: bool, holds: u16) -> (Place, Did)
+fn bind(
+    fats: &mut Fats,
+    thread: ThreadId,
+    call: MonitorCall,
+    won: bool,
+    holds: u16,
+    place: &mut Place,
+) -> Did
     requires attached { IsAttached fats.old thread }
     requires low { 1 ≤ holds }
     requires high { holds ≤ 4096 }
     ensures { (split : Split) (ws : List Word)
         → (room : Bool)
-        × (record { words = ws; fats = fats.new; place = result.0; did = result.1 }
+        × (record { words = ws; fats = fats.new; place = place.new; did = result }
         ≡ after_bind (bare split ws fats.old) thread call won holds (bind_cause room fats.old)) }
 {
     let object = call.object;
@@ -225,25 +233,19 @@ fn bind(fats: &mut Fats, thread: ThreadId, call: MonitorCall, won: bool, holds: 
         Ok(receipt) => {
             let monitor = receipt.monitor();
             let stage = Stage::Bound { call, won, monitor };
-            return (
-                Place::InCall(stage),
-                Did::no_move(Atomic::Bound { object, monitor }),
-            );
+            *place = Place::InCall(stage);
+            return Did::no_move(Atomic::Bound { object, monitor });
         }
         Err(cause) => cause,
     };
     let atomic = Atomic::NotBound { object, cause };
     if won {
-        return (
-            Place::Idle,
-            Did::return_alone(atomic, thread, Reply::Entered),
-        );
+        *place = Place::Idle;
+        return Did::return_alone(atomic, thread, Reply::Entered);
     }
     let made = Move::Refuse { thread, cause };
-    (
-        Place::Idle,
-        Did::move_and_return(atomic, made, thread, Reply::Refused(cause)),
-    )
+    *place = Place::Idle;
+    Did::move_and_return(atomic, made, thread, Reply::Refused(cause))
 }
 
 /// Stores the fat word over the thread's own thin one.
@@ -254,11 +256,12 @@ fn publish(
     call: MonitorCall,
     won: bool,
     monitor: u32,
-) -> (Place, Did)
+    place: &mut Place,
+) -> Did
     requires within { call.object.0 < length words.old }
     requires fits { monitor ≤ 8388607 }
     ensures { (f : FatState)
-        → record { words = words.new; fats = f; place = result.0; did = result.1 }
+        → record { words = words.new; fats = f; place = place.new; did = result }
         ≡ after_publish (bare split words.old f) thread call won monitor }
 {
     let object = call.object;
@@ -268,24 +271,66 @@ fn publish(
     words[at] = new;
     let atomic = Atomic::Stored { object, old, new };
     if won {
-        return (
-            Place::Idle,
-            Did::return_alone(atomic, thread, Reply::Entered),
-        );
+        *place = Place::Idle;
+        return Did::return_alone(atomic, thread, Reply::Entered);
     }
-    (
-        Place::InCall(Stage::Inflated { call, monitor }),
-        Did::no_move(atomic),
+    *place = Place::InCall(Stage::Inflated { call, monitor });
+    Did::no_move(atomic)
+}
+
+/// Binds a fat monitor to the object of an enter that has won its word.
+fn bind_won(fats: &mut Fats, thread: ThreadId, object: ObjectId, place: &mut Place) -> Did
+    requires attached { IsAttached fats.old thread }
+    ensures { (split : Split) (ws : List Word)
+        → (room : Bool)
+        × (record { words = ws; fats = fats.new; place = place.new; did = result }
+        ≡ after_bind (bare split ws fats.old) thread (entering object) true 1
+        (bind_cause room fats.old)) }
+{
+    bind(fats, thread, entering(object), true, 1, place)
+}
+
+/// Makes the action of a call on an object that has this fat monitor.
+fn act_on(
+    fats: &mut Fats,
+    thread: ThreadId,
+    call: MonitorCall,
+    monitor: u32,
+    place: &mut Place,
+) -> Did
+    requires out { post_of fats.old thread ≡ Some Out }
+    requires bound { NamesBound fats.old (action_on call.operation monitor) }
+    ensures { (split : Split) (ws : List Word)
+        → record { words = ws; fats = fats.new; place = place.new; did = result }
+        ≡ after_act (bare split ws fats.old) thread (call_of call)
+        (action_on call.operation monitor) }
+{
+    act(
+        fats,
+        thread,
+        call.call(),
+        action_on(call.operation, monitor),
+        place,
     )
 }
 
+/// Makes the action of a call about interrupts.
+fn act_about(fats: &mut Fats, thread: ThreadId, call: InterruptCall, place: &mut Place) -> Did
+    requires out { post_of fats.old thread ≡ Some Out }
+    ensures { (split : Split) (ws : List Word)
+        → record { words = ws; fats = fats.new; place = place.new; did = result }
+        ≡ after_act (bare split ws fats.old) thread (call_about call) (action_about call) }
+{
+    act(fats, thread, call.call(), action_about(call), place)
+}
+
 /// Makes the call's own action on a fat monitor: the call has its reply then, or is parked.
-fn act(fats: &mut Fats, thread: ThreadId, call: Call, action: Action) -> (Place, Did)
+fn act(fats: &mut Fats, thread: ThreadId, call: Call, action: Action, place: &mut Place) -> Did
     requires out { post_of fats.old thread ≡ Some Out }
     requires bound { NamesBound fats.old action }
     requires own { IsOwnAction action }
     ensures { (split : Split) (ws : List Word)
-        → record { words = ws; fats = fats.new; place = result.0; did = result.1 }
+        → record { words = ws; fats = fats.new; place = place.new; did = result }
         ≡ after_act (bare split ws fats.old) thread call action }
 {
     let Ok(done) = fats.act(thread, action) else {
@@ -297,11 +342,17 @@ fn act(fats: &mut Fats, thread: ThreadId, call: Call, action: Action) -> (Place,
     match answer {
         Answer::Reply(reply) => {
             let made = move_for(call, reply, done.chosen, thread);
-            let did = Did::move_grant_and_return(atomic, made, granted, thread, reply);
-            (Place::Idle, did)
+            *place = Place::Idle;
+            Did::move_grant_and_return(atomic, made, granted, thread, reply)
         }
-        Answer::Parked => (Place::AtPost, Did::parking(call, atomic, thread, granted)),
-        Answer::Quiet => (Place::AtPost, Did::no_move(atomic)),
+        Answer::Parked => {
+            *place = Place::AtPost;
+            Did::parking(call, atomic, thread, granted)
+        }
+        Answer::Quiet => {
+            *place = Place::AtPost;
+            Did::no_move(atomic)
+        }
     }
 }
 
@@ -341,13 +392,14 @@ pub(crate) fn look(
     me: u16,
     thread: ThreadId,
     loaded: u32,
-) -> (Place, Did)
+    place: &mut Place,
+) -> Did
     requires within { loaded < length words.now }
     requires formed { AreFormed split words.now }
     requires low { 1 ≤ me }
     requires few { length words.now ≤ 65535 }
     ensures { (f : FatState)
-        → record { words = words.now; fats = f; place = result.0; did = result.1 }
+        → record { words = words.now; fats = f; place = place.new; did = result }
         ≡ after_look (bare split words.now f) (me - 1) thread loaded }
 {
     let object = ObjectId(loaded);
@@ -356,13 +408,12 @@ pub(crate) fn look(
     if is_own(lock_of(split, word), me) {
         let cause = Cause::StillOwner;
         let made = Move::Refuse { thread, cause };
-        return (
-            Place::Idle,
-            Did::move_and_return(atomic, made, thread, Reply::Refused(cause)),
-        );
+        *place = Place::Idle;
+        return Did::move_and_return(atomic, made, thread, Reply::Refused(cause));
     }
     let loaded = loaded + 1;
-    (Place::Ending { loaded }, Did::no_move(atomic))
+    *place = Place::Ending { loaded };
+    Did::no_move(atomic)
 }
 
 /// Whether a lock is a thin one of the thread with this index.
