@@ -133,3 +133,196 @@ fn an_owner_does_not_end(rt: HostRuntime) {
     ];
     check_all(&rt, rt.alloc(), &MOVES);
 }
+
+/// What a thread does, as a plain list has it.
+#[derive(Clone, Copy, PartialEq, Eq)]
+enum Stands {
+    Gone,
+    Idle,
+    Waits,
+}
+
+/// A machine with one object, beside a plain list of what each of some threads does.
+#[derive(Drop)]
+struct Crowd {
+    machine: Machine,
+    // The thread at an index has this multiple of it for its number.
+    step: u32,
+    threads: Vec<Stands>,
+}
+
+impl Crowd {
+    fn new(rt: &impl Abort, alloc: Global, step: u32, count: usize) -> Crowd {
+        Crowd {
+            machine: Machine::new(alloc, 1).expect(rt, "memory"),
+            step,
+            threads: vec![in alloc; Stands::Gone; count].expect(rt, "memory"),
+        }
+    }
+
+    fn stands(&self, index: u32) -> Stands {
+        self.threads
+            .get(index as usize)
+            .copied()
+            .unwrap_or(Stands::Gone)
+    }
+
+    fn write(&mut self, index: u32, stands: Stands) {
+        if let Some(thread) = self.threads.get_mut(index as usize) {
+            *thread = stands;
+        }
+    }
+
+    fn check(&mut self, rt: &impl Abort, made: Move, answer: Answer) {
+        check(rt, &mut self.machine, made, answer);
+    }
+
+    fn thread(&self, index: u32) -> ThreadId {
+        ThreadId(index.wrapping_mul(self.step))
+    }
+
+    /// Makes a thread live, if it is not.
+    fn attach(&mut self, rt: &impl Abort, index: u32) {
+        let thread = self.thread(index);
+        if self.stands(index) == Stands::Gone {
+            self.check(rt, calls!(thread, Call::End), BROKEN);
+            if self.machine.take(Move::Attach { thread }) != LAWFUL {
+                // It was refused memory, and is not live.
+                self.check(rt, calls!(thread, Call::End), BROKEN);
+                self.check(rt, Move::Attach { thread }, LAWFUL);
+            }
+            self.write(index, Stands::Idle);
+        }
+        self.check(rt, Move::Attach { thread }, BROKEN);
+    }
+
+    /// A thread ends, if it may.
+    fn end(&mut self, rt: &impl Abort, index: u32) {
+        let thread = self.thread(index);
+        if self.stands(index) == Stands::Idle {
+            self.check(rt, calls!(thread, Call::End), LAWFUL);
+            self.check(rt, Move::End { thread }, LAWFUL);
+            self.check(rt, returns!(thread, Reply::Ended), LAWFUL);
+            self.write(index, Stands::Gone);
+        }
+        self.check(rt, calls!(thread, Call::End), BROKEN);
+        self.check(rt, returns!(thread, Reply::Ended), BROKEN);
+    }
+
+    fn lock(&mut self, rt: &impl Abort, thread: ThreadId) {
+        self.check(rt, calls!(thread, Call::Enter(OBJECT)), LAWFUL);
+        self.check(rt, Move::Lock { thread }, LAWFUL);
+        self.check(rt, returns!(thread, Reply::Entered), LAWFUL);
+    }
+
+    fn unlock(&mut self, rt: &impl Abort, thread: ThreadId) {
+        self.check(rt, calls!(thread, Call::Exit(OBJECT)), LAWFUL);
+        self.check(rt, Move::Unlock { thread }, LAWFUL);
+        self.check(rt, returns!(thread, Reply::Exited), LAWFUL);
+    }
+
+    /// A thread goes into the wait set, if it is live and not there.
+    fn wait(&mut self, rt: &impl Abort, index: u32) {
+        if self.stands(index) == Stands::Idle {
+            let thread = self.thread(index);
+            self.lock(rt, thread);
+            self.check(rt, calls!(thread, WAIT), LAWFUL);
+            self.check(rt, Move::Wait { thread }, LAWFUL);
+            self.write(index, Stands::Waits);
+        }
+    }
+
+    /// A thread that is live and not in the wait set takes all others out of it.
+    fn notify_all(&mut self, rt: &impl Abort, index: u32) {
+        let thread = self.thread(index);
+        self.lock(rt, thread);
+        self.check(rt, calls!(thread, Call::NotifyAll(OBJECT)), LAWFUL);
+        self.check(rt, Move::NotifyAll { thread }, LAWFUL);
+        self.check(rt, returns!(thread, Reply::Notified), LAWFUL);
+        self.unlock(rt, thread);
+    }
+
+    /// After that, just those that were in the wait set lock again.
+    fn relock(&mut self, rt: &impl Abort, index: u32) {
+        let thread = self.thread(index);
+        if self.stands(index) == Stands::Waits {
+            self.check(rt, Move::Relock { thread }, LAWFUL);
+            self.check(rt, returns!(thread, Reply::WaitOver), LAWFUL);
+            self.unlock(rt, thread);
+            self.write(index, Stands::Idle);
+        }
+        self.check(rt, Move::Relock { thread }, BROKEN);
+    }
+
+    /// Threads come, some of them wait, threads go and come again, and the last ones notify.
+    fn live(&mut self, rt: &impl Abort, count: u32) {
+        for index in 0..count {
+            self.attach(rt, index);
+            if index % 7 == 3 {
+                self.wait(rt, index);
+            }
+        }
+        let mut drawn: u32 = count;
+        for _ in 0..count {
+            drawn = drawn.wrapping_mul(1_664_525).wrapping_add(1_013_904_223);
+            let index = (drawn >> 8) % count.max(1);
+            if drawn % 3 == 0 {
+                self.attach(rt, index);
+            } else {
+                self.end(rt, index);
+            }
+        }
+        for index in 1..count {
+            self.end(rt, index);
+        }
+        self.attach(rt, 0);
+        self.notify_all(rt, 0);
+        for index in 0..count {
+            self.relock(rt, index);
+        }
+        for index in 0..count {
+            self.end(rt, index);
+        }
+    }
+}
+
+/// Threads come and go while a table of places for their numbers grows and gives memory back: with
+/// numbers one after the other, with numbers whose low bits are all alike, and with numbers far
+/// apart.
+#[test]
+fn crowds_come_and_go(rt: HostRuntime) {
+    const STEPS: [u32; 6] = [1, 7, 65_536, 1_048_576, 2_147_483_647, 2_654_435_769];
+    const COUNTS: [u32; 8] = [1, 4, 5, 9, 16, 40, 300, 1_500];
+    for step in STEPS {
+        let mut crowd = Crowd::new(&rt, rt.alloc(), step, 1_500);
+        for count in COUNTS {
+            crowd.live(&rt, count);
+        }
+        crowd.live(&rt, 20);
+    }
+}
+
+/// Many threads wait, and some of those that do not end before all are notified, so that others
+/// stand where they stood.
+#[test]
+fn the_rest_of_a_crowd_is_notified(rt: HostRuntime) {
+    const STEPS: [u32; 3] = [65_536, 1, 2_654_435_769];
+    for step in STEPS {
+        let mut crowd = Crowd::new(&rt, rt.alloc(), step, 1_200);
+        for index in 0..1_200 {
+            crowd.attach(&rt, index);
+        }
+        for index in 0..1_200 {
+            if index % 3 != 0 {
+                crowd.wait(&rt, index);
+            }
+        }
+        for index in 1..1_200 {
+            crowd.end(&rt, index);
+        }
+        crowd.notify_all(&rt, 0);
+        for index in 0..1_200 {
+            crowd.relock(&rt, index);
+        }
+    }
+}

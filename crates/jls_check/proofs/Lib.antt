@@ -10,3 +10,4 @@ pub mod Replying
 pub mod Judged
 pub mod Woken
 pub mod Turned
+pub mod Places

@@ -1,8 +1,8 @@
--- What an ordered map of live threads shows.
-use Rattle.std.specs.Prelude.{◌≡◌, ◌⊎◌, ℕ, ◌==◌, List, [], ◌∷◌, Some, None, Bool, true, false, cond, map as list_map}
+-- What entries by number show, and all threads of a wait set that are back.
+use Rattle.std.specs.Prelude.{◌≡◌, ◌⊎◌, ℕ, ◌==◌, List, [], ◌∷◌, Some, Bool, true, false, cond, map as list_map}
 use Rattle.std.specs.Option.{option_map}
 use Rattle.std.specs.Map.{lookup}
-use Rattle.std.specs.BTreeMap.{BTreeMap, is_at, Updates}
+use Rattle.std.specs.BTreeMap.{is_at}
 use Rattle.std.specs.Ordering.{nat_cmp, is_eq}
 use Rattle.std.specs.Cmp.{unsigned_tied, nat_cmp_total}
 use Rattle.std.specs.FinMap as map
@@ -20,9 +20,7 @@ use Rattle.std.specs.Ordering.{is_lt}
 use Rattle.std.specs.declared.cmp.Ordering.TheVariants.{Less}
 use Rattle.std.specs.Prelude.{T, ◌&&◌, length}
 use Rattle.lock_word.specs.declared.ObjectId.{ObjectId}
-use Rattle.jls_check.specs.declared.threads.ThreadRecord.{ThreadRecord}
 use Rattle.jls_check.specs.LiveThreads.{LiveThreads, notified_record, all_back}
-use Rattle.fat_monitor.proofs.PostMaps.{get-insert_by, get-remove_by}
 
 find-lookup : {X : Type 0} (q : ℕ) (es : List (ℕ × X)) → find nat_cmp q es ≡ lookup (is_at (nat_cmp q)) es
 find-lookup q [] = refl
@@ -36,34 +34,13 @@ get_shown es q = get-from_entries nat_cmp_total es q ∙ find-lookup q es
 abbrev pub shown_map : {X : Type 0} → List (ℕ × X) → map.FinMap nat_cmp X
 shown_map es = map.from_entries es
 
-at_key : (k q : ℕ) → is_at (nat_cmp k) q ≡ (q == k)
+-- the test of a look for a number
+pub at_key : (k q : ℕ) → is_at (nat_cmp k) q ≡ (q == k)
 at_key k q = unsigned_tied k q ∙ by (cases_eq q k)
   where
     by : (q ≡ k) ⊎ (q ≡ k → ⊥) → (k == q) ≡ (q == k)
     by (inl same) = rw (same) refl
     by (inr other) = rw (ne_eqb q k other, ne_eqb k q (λ e. other (sym e))) refl
-
--- after an insert
-get_inserted : {X : Type 0} (m n : BTreeMap ℕ X) (k : ℕ) (x : X) → Updates nat_cmp m n k (Some x) → (q : ℕ)
-    → map.get (shown_map n.entries) q ≡ map.get (map.insert (shown_map m.entries) k x) q
-get_inserted m n k x updates q =
-    get_shown n.entries q ∙ updates.0 q ∙ ap (λ b. cond b (Some x) (lookup (is_at (nat_cmp q)) m.entries)) (at_key k q)
-    ∙ ap (λ o. cond (q == k) (Some x) o) (sym (get_shown m.entries q)) ∙ sym (get-insert_by (shown_map m.entries) k x q)
-
-pub shown_inserted : {X : Type 0} (m n : BTreeMap ℕ X) (k : ℕ) (x : X) → Updates nat_cmp m n k (Some x)
-    → shown_map n.entries ≡ map.insert (shown_map m.entries) k x
-shown_inserted m n k x updates = same_map nat_cmp_total nat_cmp-IsAntisymmetric _ _ (get_inserted m n k x updates)
-
--- after a removal
-get_removed : {X : Type 0} (m n : BTreeMap ℕ X) (k : ℕ) → Updates nat_cmp m n k None → (q : ℕ)
-    → map.get (shown_map n.entries) q ≡ map.get (map.remove (shown_map m.entries) k) q
-get_removed m n k updates q =
-    get_shown n.entries q ∙ updates.0 q ∙ ap (λ b. cond b None (lookup (is_at (nat_cmp q)) m.entries)) (at_key k q)
-    ∙ ap (λ o. cond (q == k) None o) (sym (get_shown m.entries q)) ∙ sym (get-remove_by (shown_map m.entries) k q)
-
-pub shown_removed : {X : Type 0} (m n : BTreeMap ℕ X) (k : ℕ) → Updates nat_cmp m n k None
-    → shown_map n.entries ≡ map.remove (shown_map m.entries) k
-shown_removed m n k updates = same_map nat_cmp_total nat_cmp-IsAntisymmetric _ _ (get_removed m n k updates)
 
 -- a value that is written anew from each value
 pub get_mapped : {X : Type 0} (f : X → X) (es : List (ℕ × X)) (q : ℕ)
@@ -75,11 +52,6 @@ pub get-all_back : (l : LiveThreads) (o : ObjectId) (q : ℕ) → map.get (all_b
 get-all_back l o q =
     get_mapped (notified_record o) (map.entries l) q
     ∙ ap (option_map (notified_record o)) (sym (find-lookup q (map.entries l)) ∙ sym (get-entries l q))
-
-pub shown_all_back : (es kept : List (ℕ × ThreadRecord)) (o : ObjectId) → kept ≡ list_map (λ e. (e.0, notified_record o e.1)) es → shown_map kept ≡ all_back (shown_map es) o
-shown_all_back es kept o e = same_map nat_cmp_total nat_cmp-IsAntisymmetric _ _ (λ q.
-    ap (λ ks. map.get (shown_map ks) q) e ∙ get_mapped (notified_record o) es q
-    ∙ ap (option_map (notified_record o)) (sym (get_shown es q)) ∙ sym (get-all_back (shown_map es) o q))
 
 -- ---- in order
 

@@ -7,3 +7,4 @@ pub mod Turns
 pub mod Judging
 pub mod Texts
 pub mod Emptied
+pub mod Slots

@@ -11,6 +11,7 @@ mod faults;
 mod machine;
 mod monitors;
 mod rows;
+mod slots;
 mod threads;
 mod waits;
 

@@ -3,14 +3,16 @@
 ghost use Rattle.std.specs.Prelude.{◌≡◌, ◌+◌, ◌≤◌, ◌<◌, ◌^◌, IsSome, Some, OnOk, OnErr, is_some};
 ghost use Rattle.std.specs.Prelude.{MatchOption};
 ghost use Rattle.std.specs.FinMap as map;
-ghost use Rattle.step_core.specs.Machine.{after_notify_all};
 ghost use Rattle.jls_check.specs.LiveThreads.{live_of, owned_of, with_live, without_live};
 ghost use Rattle.jls_check.specs.LiveThreads.{owning_one_less, owning_one_more, all_back};
 ghost use Rattle.jls_check.specs.Turns.{after_turn, turned_record, turn_of, turned};
 
 use crate::acts::has;
+use crate::slots::{
+    Slot, fit_hints, fit_slots, follow, note, notify_slots, place_noting, place_of,
+};
 use fast_path::Call;
-use fat_monitor::{Reply, Why};
+use fat_monitor::Reply;
 use lock_word::{Memory, ObjectId, ThreadId};
 use std::alloc::Global;
 use std::collections::BTreeMap;
@@ -39,10 +41,16 @@ pub(crate) enum Turn {
     Returns(Reply),
 }
 
-/// The live threads, in the order of their numbers.
+/// The live threads.
 #[derive(Drop)]
 pub(crate) struct Threads {
-    by_number: BTreeMap<u32, ThreadRecord>,
+    // One for each of them, in no order.
+    slots: Vec<Slot>,
+    // Where the slot of a thread is, by the thread's number.
+    places: BTreeMap<u32, usize>,
+    // Where the slots of some threads may be, for a look without the map. Nothing is proved of
+    // them but that what is found is right whatever they are.
+    hints: Vec<u32>,
 }
 
 impl Model for Threads {
@@ -54,7 +62,12 @@ impl Model for Threads {
 
     ghost coded = { Prim.hlevel (codes, map.code) };
 
-    ghost view = { λ a. map.from_entries a.by_number.entries };
+    ghost use Rattle.jls_check.specs.Slots.{records_in, LeadToSlots, HavePlaces};
+
+    ghost view = { λ a. records_in a.slots.items a.places.entries };
+
+    ghost invariant = { λ a. LeadToSlots a.slots.items a.places.entries
+        × HavePlaces a.slots.items a.places.entries };
 }
 
 impl Threads {
@@ -62,14 +75,18 @@ impl Threads {
         ensures { result ≡ map.empty }
     {
         Threads {
-            by_number: BTreeMap::new(alloc),
+            slots: Vec::new(alloc),
+            places: BTreeMap::new(alloc),
+            hints: Vec::new(alloc),
         }
     }
 
     fn kept(&self, thread: ThreadId) -> Option<ThreadRecord>
         ensures { result ≡ map.get self.now thread.0 }
     {
-        self.by_number.get(&thread.0).copied()
+        let place = place_of(&self.slots, &self.places, &self.hints, thread.0)?;
+        let slot = self.slots.get(place)?;
+        Some(slot.kept)
     }
 
     /// How many threads are live.
@@ -77,7 +94,7 @@ impl Threads {
         ensures count { result ≡ map.len self.now }
         ensures small { result < 2 ^ 63 }
     {
-        self.by_number.len()
+        self.places.len()
     }
 
     pub(crate) fn get(&self, thread: ThreadId) -> Option<Live>
@@ -102,8 +119,21 @@ impl Threads {
         ensures ok { OnOk result (self.new ≡ with_live self.old thread live) }
         ensures err { OnErr result (self.new ≡ self.old) }
     {
-        self.by_number
-            .insert(thread.0, ThreadRecord { live, owned: 0 })?;
+        let place = self.slots.len();
+        let Ok(()) = self.slots.reserve(1) else {
+            return Err(Memory);
+        };
+        let Ok(_) = self.places.insert(thread.0, place) else {
+            return Err(Memory);
+        };
+        let kept = ThreadRecord { live, owned: 0 };
+        // There is room for it.
+        let _ = self.slots.push(Slot {
+            number: thread.0,
+            kept,
+        });
+        note(&mut self.hints, thread.0, place);
+        fit_hints(&mut self.hints, &self.slots);
         Ok(())
     }
 
@@ -113,14 +143,13 @@ impl Threads {
         ensures was { result ≡ live_of self.old thread }
         ensures set { self.new ≡ with_live self.old thread live }
     {
-        match self.by_number.get_mut(&thread.0) {
-            Some(record) => {
-                let was = record.live;
-                record.live = live;
-                Some(was)
-            }
-            None => None,
-        }
+        let place = place_noting(&self.slots, &self.places, &mut self.hints, thread.0)?;
+        let Some(slot) = self.slots.get_mut(place) else {
+            unreachable!();
+        };
+        let was = slot.kept.live;
+        slot.kept.live = live;
+        Some(was)
     }
 
     /// A live thread that does nothing begins a call, or one whose call has this reply returns; its
@@ -130,10 +159,13 @@ impl Threads {
         ensures answer { result ≡ is_some (turn_of self.old thread turn) }
         ensures turned { self.new ≡ turned self.old thread turn }
     {
-        match self.by_number.get_mut(&thread.0) {
-            Some(record) => take_turn(record, turn),
-            None => false,
-        }
+        let Some(place) = place_noting(&self.slots, &self.places, &mut self.hints, thread.0) else {
+            return false;
+        };
+        let Some(slot) = self.slots.get_mut(place) else {
+            unreachable!();
+        };
+        take_turn(&mut slot.kept, turn)
     }
 
     /// This thread, if there is one, owns one object less.
@@ -142,9 +174,13 @@ impl Threads {
         ensures { self.new ≡ owning_one_less self.old owner }
     {
         let Some(thread) = owner else { return };
-        if let Some(record) = self.by_number.get_mut(&thread.0) {
-            record.owned -= 1;
-        }
+        let Some(place) = place_noting(&self.slots, &self.places, &mut self.hints, thread.0) else {
+            return;
+        };
+        let Some(slot) = self.slots.get_mut(place) else {
+            unreachable!();
+        };
+        slot.kept.owned -= 1;
     }
 
     /// This thread, if there is one, owns one object more.
@@ -153,25 +189,32 @@ impl Threads {
         ensures { self.new ≡ owning_one_more self.old owner }
     {
         let Some(thread) = owner else { return };
-        if let Some(record) = self.by_number.get_mut(&thread.0) {
-            record.owned += 1;
-        }
+        let Some(place) = place_noting(&self.slots, &self.places, &mut self.hints, thread.0) else {
+            return;
+        };
+        let Some(slot) = self.slots.get_mut(place) else {
+            unreachable!();
+        };
+        slot.kept.owned += 1;
     }
 
     pub(crate) fn remove(&mut self, thread: ThreadId)
         ensures { self.new ≡ without_live self.old thread }
     {
-        self.by_number.remove(&thread.0);
+        let Some(place) = self.places.remove(&thread.0) else {
+            return;
+        };
+        let _ = self.slots.swap_remove(place);
+        follow(&self.slots, &mut self.places, &mut self.hints, place);
+        fit_slots(&mut self.slots);
+        fit_hints(&mut self.hints, &self.slots);
     }
 
     /// Every thread that waits on the object is back, notified. This looks at every live thread.
     pub(crate) fn notify_all(&mut self, object: ObjectId)
         ensures { self.new ≡ all_back self.old object }
     {
-        self.by_number.retain(|_, record| {
-            record.live.act = after_notify_all(record.live.act, object);
-            true
-        });
+        notify_slots(&mut self.slots, object);
     }
 }
 
@@ -202,23 +245,5 @@ fn after_turn(turn: Turn, act: Doing) -> Option<Doing>
                 None
             }
         }
-    }
-}
-
-/// What a thread does once all have been taken out of the wait set of the object.
-fn after_notify_all(act: Doing, object: ObjectId) -> Doing
-    ensures { result ≡ after_notify_all object act }
-{
-    match act {
-        Doing::Waits {
-            object: awaited,
-            holds,
-            ..
-        } if awaited.0 == object.0 => Doing::Back {
-            object: awaited,
-            holds,
-            why: Why::Notified,
-        },
-        _ => act,
     }
 }

@@ -1,33 +1,60 @@
-use Rattle.std.proofs.Common.{◌≡◌, ◌+◌, ◌<◌, ◌^◌, ap, ◌∙◌, IsSome, Option, Some, None, refl, subst, sym, arith, ℕ}
-use Rattle.std.specs.Option.{option_copied_mut}
-use Rattle.std.specs.BTreeMap.{BTreeMap}
-use Rattle.std.specs.FinMap as map
+use Rattle.std.proofs.Common.{◌+◌, ◌<◌, ◌^◌, Option, ap, sym, ◌∙◌, refl, subst, arith}
 use Rattle.jls_check.specs.declared.threads.ThreadRecord.{ThreadRecord}
+use Rattle.jls_check.specs.declared.slots.Slot.{Slot}
 use Rattle.jls_check.specs.LiveThreads.{owned_in, with_owned_in}
-use Rattle.jls_check.proofs.LiveMaps.{get_shown, shown_inserted, shown_map}
+use Rattle.jls_check.specs.Slots.{records_in}
+use Rattle.jls_check.proofs.Places.{record_found, no_record, slot_read, place_within, leads-written, haves-written, records-written}
 use Rattle.jls_check.proofs.threads.Threads.gain.Goals as goal
-use Rattle.jls_check.proofs.threads.Threads.gain.Goals.{in-Some-get_mut, in_default-get_mut}
 
-pub overflow_add-record : goal.overflow_add-record
-overflow_add-record c =
-    let value = sym (ap option_copied_mut c.in-Some-get_mut.is) ∙ c.get_mut.ensures.value in
-    let found : map.get c.args.self.now c.in-Some.thread.0 ≡ Some c.in-Some-get_mut.record.now = rw (← c.self.view_is) (get_shown c.self.inside.by_number.entries c.in-Some.thread.0 ∙ sym value) in
-    let owned = subst (λ (o : Option ThreadRecord). owned_in o < 2 ^ 32) found (rw c.in-Some.is at c.requires) in
+pub returns-in_default-place_noting : goal.returns-in_default-place_noting
+returns-in_default-place_noting c =
+    let shown = records_in c.self.inside.slots.items c.self.inside.places.entries in
+    let none = no_record c.self.inside.slots.items c.self.inside.places.entries c.in-Some.thread.0 (sym c.in_default-place_noting.ensures) in
+    rw (c.in-Some.is, ← c.self.view_is) (ap (λ (o : Option ThreadRecord). with_owned_in shown c.in-Some.thread (owned_in o + 1) o) (sym none))
+
+pub unreachable-requires : goal.unreachable-requires
+unreachable-requires c =
+    let within = place_within c.self.inside.slots.items c.self.inside.places.entries c.in-Some.thread.0 c.in-Some-place_noting.place c.self.invariant.0 (sym c.in-Some-place_noting.ensures) in
+    let past = c.in_default-get_mut.ensures.item.3 in
+    omega arith
+
+pub overflow_add-slot : goal.overflow_add-slot
+overflow_add-slot c =
+    let slots = c.self.inside.slots.items in
+    let places = c.self.inside.places.entries in
+    let t = c.in-Some.thread.0 in
+    let k = c.in-Some-place_noting.place in
+    let old = c.in-Some-get_mut.slot.now in
+    let found = sym c.in-Some-place_noting.ensures in
+    let there = slot_read slots places t k old c.self.invariant.0 found c.in-Some-get_mut.ensures.value in
+    let is = record_found slots places t k old found there in
+    let owned = subst (λ (o : Option ThreadRecord). owned_in o < 2 ^ 32) is (rw (c.in-Some.is, ← c.self.view_is) at c.requires) in
     omega (arith, owned)
 
+pub invariant_of-self-2 : goal.invariant_of-self-2
+invariant_of-self-2 c =
+    let slots = c.self.inside.slots.items in
+    let places = c.self.inside.places.entries in
+    let t = c.in-Some.thread.0 in
+    let k = c.in-Some-place_noting.place in
+    let old = c.in-Some-get_mut.slot.now in
+    let found = sym c.in-Some-place_noting.ensures in
+    let there = slot_read slots places t k old c.self.invariant.0 found c.in-Some-get_mut.ensures.value in
+    let new : Slot = record { number = old.number; kept = record { live = old.kept.live; owned = old.kept.owned + 1 } } in (
+      leads-written slots places t k old new c.self.invariant.0 c.self.invariant.1 found there refl,
+      haves-written slots places t k old new c.self.invariant.0 c.self.invariant.1 found there refl,
+    )
+
 pub returns : goal.returns
-returns c = rw c.in-Some.is (elim c.match-get_mut.branch [
-  | in-Some-get_mut w ↦
-      let value = sym (ap option_copied_mut w.in-Some-get_mut.is) ∙ c.get_mut.ensures.value in
-      let there = subst IsSome value refl in
-      let old = w.in-Some-get_mut.record.now in
-      let new : ThreadRecord = record { live = old.live; owned = old.owned + 1 } in
-      let found : map.get (shown_map c.self.inside.by_number.entries) c.in-Some.thread.0 ≡ Some old = get_shown c.self.inside.by_number.entries c.in-Some.thread.0 ∙ sym value in
-      rw (w.self-inside-is, ← c.self.view_is) (shown_inserted c.self.inside.by_number (c.get_mut.follows.lender new) c.in-Some.thread.0 new ((c.get_mut.follows.holds new).3 there)
-      ∙ ap (λ (o : Option ThreadRecord). with_owned_in (shown_map c.self.inside.by_number.entries) c.in-Some.thread (owned_in o + 1) o) (sym found))
-  | in_default-get_mut w ↦
-      let none : map.get c.args.self.now c.in-Some.thread.0 ≡ None =
-      rw (← c.self.view_is) (get_shown c.self.inside.by_number.entries c.in-Some.thread.0 ∙ sym (sym (ap option_copied_mut w.in_default-get_mut.is) ∙ c.get_mut.ensures.value)) in
-      rw w.self-inside-is (ap (λ (m : BTreeMap ℕ ThreadRecord). shown_map m.entries) c.get_mut.follows.holds-at-none ∙ c.self.view_is
-      ∙ sym (ap (λ (o : Option ThreadRecord). with_owned_in c.args.self.now c.in-Some.thread (owned_in o + 1) o) none))
-])
+returns c =
+    let slots = c.self.inside.slots.items in
+    let places = c.self.inside.places.entries in
+    let t = c.in-Some.thread.0 in
+    let k = c.in-Some-place_noting.place in
+    let old = c.in-Some-get_mut.slot.now in
+    let found = sym c.in-Some-place_noting.ensures in
+    let there = slot_read slots places t k old c.self.invariant.0 found c.in-Some-get_mut.ensures.value in
+    let new : Slot = record { number = old.number; kept = record { live = old.kept.live; owned = old.kept.owned + 1 } } in
+    let is = record_found slots places t k old found there in
+    rw (c.in-Some.is, ← c.self.view_is) (records-written slots places t k old new c.self.invariant.0 c.self.invariant.1 found there refl
+    ∙ ap (λ (o : Option ThreadRecord). with_owned_in (records_in slots places) c.in-Some.thread (owned_in o + 1) o) (sym is))

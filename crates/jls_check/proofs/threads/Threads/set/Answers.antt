@@ -1,36 +1,65 @@
-use Rattle.std.proofs.Common.{◌≡◌, ap, ◌∙◌, IsSome, Option, Some, None, refl, false, true, subst, sym}
-use Rattle.std.specs.Option.{option_copied_mut}
+use Rattle.std.proofs.Common.{◌≡◌, Option, true, false, ap, sym, ◌∙◌, refl, arith}
 use Rattle.std.specs.FinMap as map
 use Rattle.jls_check.specs.declared.threads.ThreadRecord.{ThreadRecord}
+use Rattle.jls_check.specs.declared.slots.Slot.{Slot}
 use Rattle.jls_check.specs.LiveThreads.{live_in, owned_in}
-use Rattle.jls_check.proofs.LiveMaps.{get_shown, shown_inserted, shown_map}
+use Rattle.jls_check.specs.Slots.{records_in}
+use Rattle.jls_check.proofs.Places.{record_found, no_record, slot_read, place_within, leads-written, haves-written, records-written}
 use Rattle.jls_check.proofs.threads.Threads.set.Goals as goal
-use Rattle.jls_check.proofs.threads.Threads.set.Goals.{in-Some, in-None}
+
+pub returns-in_err-place-clause-was : goal.returns-in_err-place-clause-was
+returns-in_err-place-clause-was c =
+    let none = no_record c.self.inside.slots.items c.self.inside.places.entries c.args.thread.0 (sym c.in_err-place.ensures) in
+    let never : false ≡ true = rw (← c.self.view_is, none) at c.requires in
+    absurd (cc)
+
+pub returns-in_err-place-clause-set : goal.returns-in_err-place-clause-set
+returns-in_err-place-clause-set c =
+    let none = no_record c.self.inside.slots.items c.self.inside.places.entries c.args.thread.0 (sym c.in_err-place.ensures) in
+    let never : false ≡ true = rw (← c.self.view_is, none) at c.requires in
+    absurd (cc)
+
+pub unreachable-requires : goal.unreachable-requires
+unreachable-requires c =
+    let within = place_within c.self.inside.slots.items c.self.inside.places.entries c.args.thread.0 c.in_ok-place.place c.self.invariant.0 (sym c.in_ok-place.ensures) in
+    let past = c.in_default.ensures.item.3 in
+    omega arith
+
+pub invariant_of-self-2 : goal.invariant_of-self-2
+invariant_of-self-2 c =
+    let slots = c.self.inside.slots.items in
+    let places = c.self.inside.places.entries in
+    let t = c.args.thread.0 in
+    let k = c.in_ok-place.place in
+    let old = c.in-Some.slot.now in
+    let found = sym c.in_ok-place.ensures in
+    let there = slot_read slots places t k old c.self.invariant.0 found c.in-Some.ensures.value in
+    let new : Slot = record { number = old.number; kept = record { live = c.args.live; owned = old.kept.owned } } in (
+      leads-written slots places t k old new c.self.invariant.0 c.self.invariant.1 found there refl,
+      haves-written slots places t k old new c.self.invariant.0 c.self.invariant.1 found there refl,
+    )
 
 pub returns-clause-was : goal.returns-clause-was
-returns-clause-was c = elim c.match-get_mut.branch [
-  | in-Some w ↦
-      let found : map.get c.args.self.now c.args.thread.0 ≡ Some w.in-Some.record.now =
-      rw (← c.self.view_is) (get_shown c.self.inside.by_number.entries c.args.thread.0 ∙ sym (sym (ap option_copied_mut w.in-Some.is) ∙ c.get_mut.ensures.value)) in
-      w.result-is ∙ sym (ap live_in found)
-  | in-None w ↦
-      let none : map.get c.args.self.now c.args.thread.0 ≡ None =
-      rw (← c.self.view_is) (get_shown c.self.inside.by_number.entries c.args.thread.0 ∙ sym (sym (ap option_copied_mut w.in-None.is) ∙ c.get_mut.ensures.value)) in
-      w.result-is ∙ sym (ap live_in none)
-]
+returns-clause-was c =
+    let slots = c.self.inside.slots.items in
+    let places = c.self.inside.places.entries in
+    let t = c.args.thread.0 in
+    let k = c.in_ok-place.place in
+    let old = c.in-Some.slot.now in
+    let found = sym c.in_ok-place.ensures in
+    let there = slot_read slots places t k old c.self.invariant.0 found c.in-Some.ensures.value in
+    rw (← c.self.view_is) (sym (ap live_in (record_found slots places t k old found there)))
 
 pub returns-clause-set : goal.returns-clause-set
-returns-clause-set c = elim c.match-get_mut.branch [
-  | in-Some w ↦
-      let value = sym (ap option_copied_mut w.in-Some.is) ∙ c.get_mut.ensures.value in
-      let there = subst IsSome value refl in
-      let new : ThreadRecord = record { live = c.args.live; owned = w.in-Some.record.now.owned } in
-      let found : map.get (shown_map c.self.inside.by_number.entries) c.args.thread.0 ≡ Some w.in-Some.record.now = get_shown c.self.inside.by_number.entries c.args.thread.0 ∙ sym value in
-      rw (w.self-inside-is, ← c.self.view_is) (shown_inserted c.self.inside.by_number (c.get_mut.follows.lender new) c.args.thread.0 new ((c.get_mut.follows.holds new).3 there)
-      ∙ ap (λ (o : Option ThreadRecord). map.insert (shown_map c.self.inside.by_number.entries) c.args.thread.0 (record { live = c.args.live; owned = owned_in o })) (sym found))
-  | in-None w ↦
-      let none : map.get c.args.self.now c.args.thread.0 ≡ None =
-      rw (← c.self.view_is) (get_shown c.self.inside.by_number.entries c.args.thread.0 ∙ sym (sym (ap option_copied_mut w.in-None.is) ∙ c.get_mut.ensures.value)) in
-      let never : false ≡ true = rw (none) at c.requires in
-      absurd (cc)
-]
+returns-clause-set c =
+    let slots = c.self.inside.slots.items in
+    let places = c.self.inside.places.entries in
+    let t = c.args.thread.0 in
+    let k = c.in_ok-place.place in
+    let old = c.in-Some.slot.now in
+    let found = sym c.in_ok-place.ensures in
+    let there = slot_read slots places t k old c.self.invariant.0 found c.in-Some.ensures.value in
+    let new : Slot = record { number = old.number; kept = record { live = c.args.live; owned = old.kept.owned } } in
+    let is = record_found slots places t k old found there in
+    rw (← c.self.view_is) (records-written slots places t k old new c.self.invariant.0 c.self.invariant.1 found there refl
+    ∙ ap (λ (o : Option ThreadRecord). map.insert (records_in slots places) t (record { live = c.args.live; owned = owned_in o })) (sym is))

@@ -1,39 +1,67 @@
-use Rattle.std.proofs.Common.{◌≡◌, ℕ, ap, ◌∙◌, IsSome, Option, Some, None, refl, subst, sym}
-use Rattle.std.specs.Option.{option_copied_mut}
+use Rattle.std.proofs.Common.{Option, ap, sym, ◌∙◌, refl, arith}
 use Rattle.std.specs.Prelude.{is_some}
-use Rattle.std.specs.BTreeMap.{BTreeMap}
 use Rattle.std.specs.FinMap as map
 use Rattle.jls_check.specs.declared.threads.ThreadRecord.{ThreadRecord}
+use Rattle.jls_check.specs.declared.slots.Slot.{Slot}
 use Rattle.jls_check.specs.Turns.{turn_in, turned_in}
-use Rattle.jls_check.proofs.LiveMaps.{get_shown, shown_inserted, shown_map}
+use Rattle.jls_check.specs.Slots.{records_in}
+use Rattle.jls_check.proofs.Places.{record_found, no_record, slot_read, place_within, leads-written, haves-written, records-written}
 use Rattle.jls_check.proofs.threads.Threads.turn.Goals as goal
-use Rattle.jls_check.proofs.threads.Threads.turn.Goals.{in-Some, in-None}
+
+pub returns-in_default-clause-answer : goal.returns-in_default-clause-answer
+returns-in_default-clause-answer c =
+    let none = no_record c.self.inside.slots.items c.self.inside.places.entries c.args.thread.0 (sym c.in_default.ensures) in
+    rw (← c.self.view_is) (ap (λ (o : Option ThreadRecord). is_some (turn_in c.args.turn o)) (sym none))
+
+pub returns-in_default-clause-turned : goal.returns-in_default-clause-turned
+returns-in_default-clause-turned c =
+    let shown = records_in c.self.inside.slots.items c.self.inside.places.entries in
+    let none = no_record c.self.inside.slots.items c.self.inside.places.entries c.args.thread.0 (sym c.in_default.ensures) in
+    rw (← c.self.view_is) (ap (turned_in shown c.args.thread c.args.turn) (sym none))
+
+pub unreachable-requires : goal.unreachable-requires
+unreachable-requires c =
+    let within = place_within c.self.inside.slots.items c.self.inside.places.entries c.args.thread.0 c.in-Some.place c.self.invariant.0 (sym c.in-Some.ensures) in
+    let past = c.in_default-get_mut.ensures.item.3 in
+    omega arith
+
+pub invariant_of-self-2 : goal.invariant_of-self-2
+invariant_of-self-2 c =
+    let slots = c.self.inside.slots.items in
+    let places = c.self.inside.places.entries in
+    let t = c.args.thread.0 in
+    let k = c.in-Some.place in
+    let old = c.in-Some-get_mut.slot.now in
+    let found = sym c.in-Some.ensures in
+    let there = slot_read slots places t k old c.self.invariant.0 found c.in-Some-get_mut.ensures.value in
+    let new : Slot = record { number = old.number; kept = c.take_turn.new.kept } in (
+      leads-written slots places t k old new c.self.invariant.0 c.self.invariant.1 found there refl,
+      haves-written slots places t k old new c.self.invariant.0 c.self.invariant.1 found there refl,
+    )
 
 pub returns-clause-answer : goal.returns-clause-answer
-returns-clause-answer c = elim c.match-get_mut.branch [
-  | in-Some w ↦
-      let found : map.get c.args.self.now c.args.thread.0 ≡ Some w.in-Some.record.now =
-      rw (← c.self.view_is) (get_shown c.self.inside.by_number.entries c.args.thread.0 ∙ sym (sym (ap option_copied_mut w.in-Some.is) ∙ c.get_mut.ensures.value)) in
-      w.result-is ∙ w.take_turn.ensures.answer ∙ sym (ap (λ (o : Option ThreadRecord). is_some (turn_in c.args.turn o)) found)
-  | in-None w ↦
-      let none : map.get c.args.self.now c.args.thread.0 ≡ None =
-      rw (← c.self.view_is) (get_shown c.self.inside.by_number.entries c.args.thread.0 ∙ sym (sym (ap option_copied_mut w.in-None.is) ∙ c.get_mut.ensures.value)) in
-      w.result-is ∙ sym (ap (λ (o : Option ThreadRecord). is_some (turn_in c.args.turn o)) none)
-]
+returns-clause-answer c =
+    let slots = c.self.inside.slots.items in
+    let places = c.self.inside.places.entries in
+    let t = c.args.thread.0 in
+    let k = c.in-Some.place in
+    let old = c.in-Some-get_mut.slot.now in
+    let found = sym c.in-Some.ensures in
+    let there = slot_read slots places t k old c.self.invariant.0 found c.in-Some-get_mut.ensures.value in
+    rw (← c.self.view_is) (c.take_turn.ensures.answer
+    ∙ sym (ap (λ (o : Option ThreadRecord). is_some (turn_in c.args.turn o)) (record_found slots places t k old found there)))
 
 pub returns-clause-turned : goal.returns-clause-turned
-returns-clause-turned c = elim c.match-get_mut.branch [
-  | in-Some w ↦
-      let value = sym (ap option_copied_mut w.in-Some.is) ∙ c.get_mut.ensures.value in
-      let there = subst IsSome value refl in
-      let new : ThreadRecord = w.take_turn.new.kept in
-      let found : map.get (shown_map c.self.inside.by_number.entries) c.args.thread.0 ≡ Some w.in-Some.record.now = get_shown c.self.inside.by_number.entries c.args.thread.0 ∙ sym value in
-      rw (w.self-inside-is, ← c.self.view_is) (shown_inserted c.self.inside.by_number (c.get_mut.follows.lender new) c.args.thread.0 new ((c.get_mut.follows.holds new).3 there)
-      ∙ ap (λ (r : ThreadRecord). map.insert (shown_map c.self.inside.by_number.entries) c.args.thread.0 r) w.take_turn.ensures.turned
-      ∙ ap (turned_in (shown_map c.self.inside.by_number.entries) c.args.thread c.args.turn) (sym found))
-  | in-None w ↦
-      let none : map.get c.args.self.now c.args.thread.0 ≡ None =
-      rw (← c.self.view_is) (get_shown c.self.inside.by_number.entries c.args.thread.0 ∙ sym (sym (ap option_copied_mut w.in-None.is) ∙ c.get_mut.ensures.value)) in
-      rw w.self-inside-is (ap (λ (m : BTreeMap ℕ ThreadRecord). shown_map m.entries) c.get_mut.follows.holds-at-none ∙ c.self.view_is
-      ∙ ap (turned_in c.args.self.now c.args.thread c.args.turn) (sym none))
-]
+returns-clause-turned c =
+    let slots = c.self.inside.slots.items in
+    let places = c.self.inside.places.entries in
+    let t = c.args.thread.0 in
+    let k = c.in-Some.place in
+    let old = c.in-Some-get_mut.slot.now in
+    let found = sym c.in-Some.ensures in
+    let there = slot_read slots places t k old c.self.invariant.0 found c.in-Some-get_mut.ensures.value in
+    let new : Slot = record { number = old.number; kept = c.take_turn.new.kept } in
+    let is = record_found slots places t k old found there in
+    rw (← c.self.view_is) (records-written slots places t k old new c.self.invariant.0 c.self.invariant.1 found there refl
+    ∙ ap (λ (r : ThreadRecord). map.insert (records_in slots places) t r) c.take_turn.ensures.turned
+    ∙ ap (turned_in (records_in slots places) c.args.thread c.args.turn) (sym is))

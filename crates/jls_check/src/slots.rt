@@ -1,0 +1,211 @@
+//! Where the record of each live thread stands, and hints by which it is mostly found at once.
+
+ghost use Rattle.std.specs.Prelude.{◌≡◌, IsTrue, IsSome, IfSome, MatchOption, Some, slice_get};
+ghost use Rattle.std.specs.Prelude.{map as list_map};
+ghost use Rattle.std.specs.Map.{lookup};
+ghost use Rattle.std.specs.BTreeMap.{is_at, Updates};
+ghost use Rattle.std.specs.Ordering.{nat_cmp};
+ghost use Rattle.jls_check.specs.Slots.{LeadsTo, HavePlaces, notified_slot};
+
+use crate::threads::ThreadRecord;
+use fat_monitor::Why;
+use lock_word::ObjectId;
+use std::collections::BTreeMap;
+use step_core::Doing;
+
+/// The record of the live thread with this number.
+#[derive(Clone, Copy)]
+pub(crate) struct Slot {
+    pub(crate) number: u32,
+    pub(crate) kept: ThreadRecord,
+}
+
+/// Where the slot of a number is; None where it has none.
+pub(crate) fn place_of(
+    slots: &[Slot],
+    places: &BTreeMap<u32, usize>,
+    hints: &[u32],
+    number: u32,
+) -> Option<usize>
+    requires { HavePlaces slots.now places.now.entries }
+    ensures { result ≡ lookup (is_at (nat_cmp number)) places.now.entries }
+{
+    if let Some(place) = hinted(slots, hints, number) {
+        return Some(place);
+    }
+    places.get(&number).copied()
+}
+
+/// The same, and where no hint leads there, there is one from now on.
+pub(crate) fn place_noting(
+    slots: &[Slot],
+    places: &BTreeMap<u32, usize>,
+    hints: &mut [u32],
+    number: u32,
+) -> Option<usize>
+    requires { HavePlaces slots.now places.now.entries }
+    ensures { result ≡ lookup (is_at (nat_cmp number)) places.now.entries }
+{
+    if let Some(place) = hinted(slots, hints, number) {
+        return Some(place);
+    }
+    let place = places.get(&number).copied()?;
+    note(hints, number, place);
+    Some(place)
+}
+
+/// Whether the slot at this place is that of the number.
+fn is_of(slots: &[Slot], place: usize, number: u32) -> bool
+    ensures { IsTrue result → LeadsTo slots.now number place }
+{
+    match slots.get(place) {
+        Some(slot) => slot.number == number,
+        None => false,
+    }
+}
+
+/// The place that this hint names, where the slot there is that of the number.
+fn hint_at(slots: &[Slot], hints: &[u32], at: usize, number: u32) -> Option<usize>
+    ensures { IfSome result (λ place. LeadsTo slots.now number place) }
+{
+    let place = hints.get(at).copied()? as usize;
+    if is_of(slots, place, number) {
+        Some(place)
+    } else {
+        None
+    }
+}
+
+/// A place that a hint names, where the slot there is that of the number. Hints may be old, missing
+/// or another number's; nothing is proved of them.
+fn hinted(slots: &[Slot], hints: &[u32], number: u32) -> Option<usize>
+    ensures { IfSome result (λ place. LeadsTo slots.now number place) }
+{
+    let first = pair_of(hints.len(), number);
+    match hint_at(slots, hints, first, number) {
+        Some(place) => Some(place),
+        None => hint_at(slots, hints, first | 1, number),
+    }
+}
+
+/// The first of the two hints for a number, where there are so many hints. Numbers that follow one
+/// another, lie at equal distances or have low bits in common are spread (multiplicative hashing,
+/// as Knuth has it, of a number whose high bits are mixed with its low ones).
+fn pair_of(hints: usize, number: u32) -> usize {
+    let mixed = (number ^ (number >> 15)).wrapping_mul(0x9E37_79B1) as usize;
+    (mixed.wrapping_mul(hints) >> 32) & !1
+}
+
+/// Notes where the slot of a number is. Of the two hints that were there, the older goes.
+pub(crate) fn note(hints: &mut [u32], number: u32, place: usize) {
+    let Ok(place) = u32::try_from(place) else {
+        return;
+    };
+    let first = pair_of(hints.len(), number);
+    let second = first | 1;
+    if first < hints.len() && second < hints.len() {
+        hints[second] = hints[first];
+        hints[first] = place;
+    }
+}
+
+/// Where a slot has come to this place from the end, its number's place follows.
+pub(crate) fn follow(
+    slots: &[Slot],
+    places: &mut BTreeMap<u32, usize>,
+    hints: &mut [u32],
+    place: usize,
+)
+    requires { IfSome (slice_get slots.now place)
+        (λ slot. IsSome (lookup (is_at (nat_cmp slot.number)) places.old.entries)) }
+    ensures { MatchOption (slice_get slots.now place)
+        (places.new.entries ≡ places.old.entries)
+        (λ slot. Updates nat_cmp places.old places.new slot.number (Some place)) }
+{
+    let Some(slot) = slots.get(place) else {
+        return;
+    };
+    let Some(moved) = places.get_mut(&slot.number) else {
+        unreachable!();
+    };
+    *moved = place;
+    note_moved(hints, slot.number, slots.len(), place);
+}
+
+/// Notes that the slot of a number has gone from one place to another, where a hint led there.
+fn note_moved(hints: &mut [u32], number: u32, from: usize, to: usize) {
+    let Ok(to) = u32::try_from(to) else {
+        return;
+    };
+    let first = pair_of(hints.len(), number);
+    change_hint(hints, first, from, to);
+    change_hint(hints, first | 1, from, to);
+}
+
+/// Makes this hint, if it names one place, name another.
+fn change_hint(hints: &mut [u32], at: usize, from: usize, to: u32) {
+    if at < hints.len() && hints[at] as usize == from {
+        hints[at] = to;
+    }
+}
+
+/// Keeps at least 4 hints for each slot, and at most 32 and some. A table of another size is
+/// filled anew, which the slots that came or went since have paid for. Without memory for it the
+/// hints stay as they are.
+pub(crate) fn fit_hints(hints: &mut Vec<u32>, slots: &[Slot]) {
+    let count = hints.len();
+    let wanted = if count / 4 < slots.len() {
+        count.saturating_mul(2).max(16)
+    } else if count / 32 > slots.len() {
+        count / 4
+    } else {
+        return;
+    };
+    let Ok(fresh) = vec![in *hints.allocator(); 0; wanted] else {
+        return;
+    };
+    *hints = fresh;
+    for (place, slot) in slots.iter().enumerate() {
+        note(hints, slot.number, place);
+    }
+}
+
+/// Gives memory of slots back where they take less than a quarter of it. Where the system refuses
+/// to make it smaller, it stays.
+pub(crate) fn fit_slots(slots: &mut Vec<Slot>)
+    ensures { slots.new.items ≡ slots.old.items }
+{
+    let capacity = slots.capacity();
+    if capacity / 4 > slots.len().saturating_add(4) {
+        slots.shrink_to(capacity / 2);
+    }
+}
+
+/// Every thread that waits on the object is back, notified.
+pub(crate) fn notify_slots(slots: &mut [Slot], object: ObjectId)
+    ensures { slots.new ≡ list_map (notified_slot object) slots.old }
+{
+    for slot in slots.iter_mut() {
+        notify_slot(slot, object);
+    }
+}
+
+/// The thread is back, notified, if it waits on the object. Else nothing is written.
+fn notify_slot(slot: &mut Slot, object: ObjectId)
+    ensures { slot.new ≡ notified_slot object slot.old }
+{
+    match slot.kept.live.act {
+        Doing::Waits {
+            object: awaited,
+            holds,
+            ..
+        } if awaited.0 == object.0 => {
+            slot.kept.live.act = Doing::Back {
+                object: awaited,
+                holds,
+                why: Why::Notified,
+            };
+        }
+        _ => {}
+    }
+}
