@@ -11,3 +11,4 @@ pub mod Judged
 pub mod Woken
 pub mod Turned
 pub mod Places
+pub mod SameOwner

@@ -10,7 +10,7 @@ ghost use Rattle.jls_check.specs.Taking.{all_left};
 ghost use Rattle.jls_check.specs.Emptied.{emptied};
 
 use crate::machine::Machine;
-use crate::monitors::{Held, count_waits};
+use crate::monitors::{Held, count_waits, is_same_owner};
 use crate::threads::Live;
 use fat_monitor::{Reply, Why};
 use lock_word::{ObjectId, ThreadId};
@@ -51,6 +51,10 @@ impl Machine {
         }
         let before = self.objects[position].held.owner;
         self.objects[position].held = held;
+        // Who keeps the object owns as many as before.
+        if is_same_owner(before, held.owner) {
+            return;
+        }
         self.threads.lose(before);
         self.threads.gain(held.owner);
     }

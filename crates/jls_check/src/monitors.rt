@@ -1,6 +1,6 @@
 //! What is kept of each object: its monitor, and how many threads wait on it.
 
-ghost use Rattle.std.specs.Prelude.{◌≡◌, ◌≤◌, MatchOption};
+ghost use Rattle.std.specs.Prelude.{◌≡◌, ◌≤◌, ◌↔◌, IsTrue, MatchOption};
 ghost use Rattle.jls_check.specs.Monitors.{is_owned_by, joined, HasWaiter, CanCountOneMore};
 ghost use Rattle.jls_check.specs.MachineState.{left_by};
 ghost use Rattle.jls_check.specs.Taking.{may_be_locked, less_held, held_by};
@@ -74,6 +74,12 @@ impl Held {
             Held::by(thread, self.count - 1)
         }
     }
+}
+
+pub(crate) fn is_same_owner(one: Option<ThreadId>, other: Option<ThreadId>) -> bool
+    ensures { IsTrue result ↔ (one ≡ other) }
+{
+    one == other
 }
 
 /// A thread did this, if it was live, and does that from now on: it leaves the wait set that it was
