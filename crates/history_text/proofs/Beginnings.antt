@@ -30,11 +30,11 @@ cut_text part after rest cut = let p = parts_cons after in
     sym (join_with_byte-slice_split 10 rest) ∙ ap (join_with_byte 10) (cut ∙ ap (λ (ps : List (List ℕ)). part ∷ ps) p.2)
     ∙ ap (λ (xs : List ℕ). part ++ (10 ∷ xs)) (ap (join_with_byte 10) (sym p.2) ∙ join_with_byte-slice_split 10 after)
 
-right_more : (ls : List Line) (part : List ℕ) (l : Line) → Some l ≡ next_from ls part → Continues [] ls → Continues [] (ls ++ l ∷ [])
+pub right_more : (ls : List Line) (part : List ℕ) (l : Line) → Some l ≡ next_from ls part → Continues [] ls → Continues [] (ls ++ l ∷ [])
 right_more ls part l next right = let p = next_takes ls part l (sym next) in
     Continues-append ls (l ∷ []) [] right (p.0, p.1, tt)
 
-text_more : (bytes rest part after : List ℕ) (ls : List Line) (l : Line) → bytes ≡ script_text ls ++ rest → Some l ≡ next_from ls part → parts_of rest ≡ part ∷ parts_of after
+pub text_more : (bytes rest part after : List ℕ) (ls : List Line) (l : Line) → bytes ≡ script_text ls ++ rest → Some l ≡ next_from ls part → parts_of rest ≡ part ∷ parts_of after
     → bytes ≡ script_text (ls ++ l ∷ []) ++ after
 text_more bytes rest part after ls l text next cut =
     let p = next_takes ls part l (sym next) in

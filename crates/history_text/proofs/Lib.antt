@@ -9,3 +9,4 @@ pub mod NameText
 pub mod Signed
 pub mod BadLaws
 pub mod Beginnings
+pub mod Coming

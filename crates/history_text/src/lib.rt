@@ -5,6 +5,7 @@
 //! lines exactly where the bytes are their text, and else the first line that breaks a rule.
 #![tactic(auto)]
 
+mod declared;
 mod lines;
 mod names;
 mod numbering;
@@ -12,8 +13,11 @@ mod printing;
 mod quick;
 mod reading;
 mod scripts;
+mod walking;
 
+pub use declared::Declared;
 pub use history_streams::FileFault;
 pub use lines::{Call, Line, StepLine};
 pub use names::Name;
 pub use scripts::{MOST_BYTES, Script, one_fault, print_script, read_beginning, read_script};
+pub use walking::LineReader;

@@ -3,16 +3,14 @@
 ghost use Rattle.std.specs.Prelude.{◌≡◌, ◌<◌, ◌≤◌, ◌++◌, ◌∷◌, ◌==◌, ◌&&◌, ◌||◌, [], ℕ, List, true};
 ghost use Rattle.std.specs.Prelude.{length, map, string_bytes, IfErr, IfOk, IfSome};
 ghost use Rattle.std.specs.Prelude.{MatchOption, OnOk, Err, None, Ok, Some, option_map};
-ghost use Rattle.std.specs.List.{list_any};
-ghost use Rattle.std.specs.Str.{bytes_eq};
 ghost use Rattle.history_text.specs.declared.lines.Line.{Line as LineData};
 ghost use Rattle.history_text.specs.Lines.{is_object, may_follow, next_from, lines_from, parts_of};
 ghost use Rattle.history_text.specs.Lines.{script_text, IsBeginning, IsFirstBad, IsScript};
 ghost use Rattle.history_text.specs.Noted.{IsNoted, may_follow_by, with_object};
 ghost use Rattle.history_text.specs.Scripts.{Gives, IsReasonFor};
 
+use crate::declared::Declared;
 use crate::lines::Line;
-use crate::names::Name;
 use crate::numbering::number_of_name;
 use crate::printing::print_lines;
 use crate::reading::line_of;
@@ -62,20 +60,19 @@ fn is_object_line(line: &Line<'_>) -> bool
     matches!(line, Line::Object { .. })
 }
 
-fn has_name(names: &IndexSet<String>, name: &Name<'_>) -> bool
-    ensures { result ≡ list_any (bytes_eq name.now) (map string_bytes names.now.keys) }
-{
-    names.contains(name.as_str())
-}
-
 /// Whether a line may follow those that the three values note.
-fn follows(first: bool, declaring: bool, objects: &IndexSet<String>, line: &Line<'_>) -> bool
-    ensures { result ≡ may_follow_by first declaring (map string_bytes objects.now.keys) line.now }
+pub(crate) fn follows<D: Declared>(
+    first: bool,
+    declaring: bool,
+    objects: &D,
+    line: &Line<'_>,
+) -> bool
+    ensures { result ≡ may_follow_by first declaring (D.names objects.now) line.now }
 {
     match line {
         Line::World { .. } => first,
         Line::Object { name, .. } => {
-            !first && declaring && !has_name(objects, name) && objects.len() < MOST_OBJECTS
+            !first && declaring && !objects.has(name) && objects.count() < MOST_OBJECTS
         }
         Line::Step(_) => !first,
     }
@@ -118,10 +115,11 @@ fn next_of<'a>(
     if may_stand { Ok(Some(line)) } else { Ok(None) }
 }
 
-fn still_declaring(lines: &[Line<'_>], declaring: bool, line: &Line<'_>) -> bool
-    ensures { result ≡ (declaring && (length lines.now == 0 || is_object line.now)) }
+/// Whether objects may follow a line.
+pub(crate) fn still_declaring(first: bool, declaring: bool, line: &Line<'_>) -> bool
+    ensures { result ≡ (declaring && (first || is_object line.now)) }
 {
-    declaring && (lines.is_empty() || is_object_line(line))
+    declaring && (first || is_object_line(line))
 }
 
 /// Takes a line that follows the others, and tells whether objects may follow it.
@@ -140,13 +138,13 @@ fn take_line<'a>(
         IsNoted (lines.old.items ++ line.entry ∷ []) d (map string_bytes objects.new.keys)) }
 {
     note_object(alloc, objects, &line)?;
-    let declaring = still_declaring(lines, declaring, &line);
+    let declaring = still_declaring(lines.is_empty(), declaring, &line);
     lines.push(line)?;
     Ok(declaring)
 }
 
 /// The bytes before the first line feed, and those after it.
-fn cut_line(bytes: &[u8]) -> Option<(&[u8], &[u8])>
+pub(crate) fn cut_line(bytes: &[u8]) -> Option<(&[u8], &[u8])>
     ensures parts { MatchOption result (parts_of bytes.now ≡ bytes.now ∷ [])
         (λ cut. parts_of bytes.now ≡ cut.0.now ∷ parts_of cut.1.now) }
     ensures shorter { IfSome result (λ cut. length cut.1.now < length bytes.now) }
