@@ -1,10 +1,13 @@
 -- Names in a set of texts.
-use Rattle.std.proofs.Common.{◌≡◌, ℕ, ◌+◌, ◌≤◌, List, [], ◌∷◌, ◌++◌, map, length, Bool, true, false, not, ◌||◌, cond, nat_lt, Some, None, refl, sym, ap, ◌∙◌, string_bytes, arith}
+use Rattle.std.proofs.Common.{◌≡◌, ℕ, zero, suc, ◌+◌, ◌<◌, ◌≤◌, get_or, subst, List, [], ◌∷◌, ◌++◌, map, length, Bool, true, false, not, ◌||◌, cond, nat_lt, Some, None, refl, sym, ap, ◌∙◌, string_bytes, arith}
 use Rattle.std.specs.Prelude.{String}
 use Rattle.std.specs.declared.alloc.Global.{Global}
-use Rattle.std.specs.List.{list_any, position, position_or_len}
+use Rattle.std.specs.List.{IsDistinct, list_any, position, position_or_len}
 use Rattle.std.specs.Str.{bytes_eq}
-use Rattle.std.proofs.lemmas.Bool.{ltb-false}
+use Rattle.std.specs.String.{string_eq}
+use Rattle.std.proofs.lemmas.Bool.{ltb-false, false≢true}
+use Rattle.std.proofs.lemmas.Map.Keys.{apart_from_distinct, IsDistinct-tail}
+use Rattle.std.proofs.lemmas.Slice.Eq.{bytes_eq-Decides}
 use Rattle.std.proofs.lemmas.List.Sums.{prefix_len-le-length}
 use Rattle.std.proofs.lemmas.Option.{cond_some}
 use Rattle.history_text.specs.Names.{is_named, position_of, with_name}
@@ -50,3 +53,33 @@ names_kept texts new text name same e =
     ap (map string_bytes) e ∙ chosen_names (list_any (is_text (string_bytes text)) texts) texts text
     ∙ ap (λ (b : Bool). cond b (map string_bytes texts) (map string_bytes texts ++ string_bytes text ∷ [])) (any_named (string_bytes text) texts)
     ∙ ap (with_name (map string_bytes texts)) same
+
+differs_too : (a b : List ℕ) → bytes_eq a b ≡ false → bytes_eq b a ≡ false
+differs_too a b differ = by (bytes_eq b a) refl
+  where
+    by : (r : Bool) → bytes_eq b a ≡ r → r ≡ false
+    by true same = absurd (false≢true (sym differ ∙ (bytes_eq-Decides a b).1 (sym ((bytes_eq-Decides b a).0 same))))
+    by false same = refl
+
+-- where no two names are equal, a name stands at no other place than its own
+own_place : (texts : List (String Global)) (n : ℕ) (d : String Global) → IsDistinct string_eq texts → n < length texts
+    → (n ≡ position_or_len (is_text (string_bytes (get_or texts n d))) texts) × (list_any (is_text (string_bytes (get_or texts n d))) texts ≡ true)
+own_place [] n d apart within = absurd (omega (arith, within))
+own_place (x ∷ xs) zero d apart within =
+    let same = (bytes_eq-Decides (string_bytes x) (string_bytes x)).1 refl in
+    (rw same refl, rw same refl)
+own_place (x ∷ xs) (suc n) d apart within =
+    let rest = own_place xs n d (IsDistinct-tail string_eq x xs apart) (omega (arith, within)) in
+    let differ = differs_too (string_bytes x) (string_bytes (get_or xs n d)) (apart_from_distinct string_eq (x ∷ xs) 0 (suc n) d apart (omega arith) within) in
+    (rw differ (add-one-left n ∙ ap (λ (m : ℕ). 1 + m) rest.0), rw differ rest.1)
+  where
+    add-one-left : (m : ℕ) → suc m ≡ 1 + m
+    add-one-left m = omega arith
+
+-- what a hint says is right where the name with its number is the one
+pub hint_is : (name : List ℕ) (texts : List (String Global)) (n : ℕ) (text : String Global) → IsDistinct string_eq texts → n < length texts → text ≡ get_or texts n text
+    → bytes_eq (string_bytes text) name ≡ true → (n ≡ position_of (map string_bytes texts) name) × (is_named (map string_bytes texts) name ≡ true)
+hint_is name texts n text apart within there same =
+    let P : List ℕ → Type 0 = λ word. (n ≡ position_or_len (is_text word) texts) × (list_any (is_text word) texts ≡ true) in
+    let found = subst P (sym (ap string_bytes there) ∙ (bytes_eq-Decides (string_bytes text) name).0 same) (own_place texts n text apart within) in
+    (found.0 ∙ position_named name texts, sym (any_named name texts) ∙ found.1)

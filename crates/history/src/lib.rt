@@ -4,6 +4,7 @@
 //! `docs/FORMATS.md` has the forms of all three.
 #![tactic(auto)]
 
+mod hints;
 mod histories;
 mod names;
 mod plans;

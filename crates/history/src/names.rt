@@ -1,10 +1,11 @@
 //! The names of threads and objects, and their numbers.
 
-ghost use Rattle.std.specs.Prelude.{◌≡◌, ◌≤◌, ◌++◌, ◌∷◌, [], false, length, map, string_bytes};
-ghost use Rattle.std.specs.Prelude.{IfOk, OnErr, OnOk};
+ghost use Rattle.std.specs.Prelude.{◌≡◌, ◌≤◌, ◌++◌, ◌∷◌, [], false, true, length, map};
+ghost use Rattle.std.specs.Prelude.{string_bytes, IfOk, IfSome, MatchOption, OnErr, OnOk};
 ghost use Rattle.history_text.specs.Names.{is_named, position_of, with_name};
 ghost use Rattle.history.specs.NameLists.{name_at};
 
+use crate::hints::Hints;
 use history_text::Name;
 use indexmap::IndexSet;
 use lock_word::{Memory, ObjectId, ThreadId};
@@ -20,8 +21,15 @@ const MOST_NAMES: usize = 4_294_967_295;
 #[derive(Drop)]
 pub struct Names {
     alloc: Global,
-    threads: IndexSet<String>,
-    objects: IndexSet<String>,
+    threads: NameSet,
+    objects: NameSet,
+}
+
+/// Some names in order of their numbers, and hints of the numbers.
+#[derive(Drop)]
+struct NameSet {
+    names: IndexSet<String>,
+    hints: Hints,
 }
 
 impl Model for Names {
@@ -31,12 +39,12 @@ impl Model for Names {
     ghost Value = { NameLists };
 
     ghost view = { λ n. record {
-      threads = map string_bytes n.threads.keys;
-      objects = map string_bytes n.objects.keys;
+      threads = map string_bytes n.threads.names.keys;
+      objects = map string_bytes n.objects.names.keys;
     } };
 
-    ghost invariant = { λ n. (length n.threads.keys ≤ 4294967295)
-        × (length n.objects.keys ≤ 4294967295) };
+    ghost invariant = { λ n. (length n.threads.names.keys ≤ 4294967295)
+        × (length n.objects.names.keys ≤ 4294967295) };
 }
 
 impl Names {
@@ -46,8 +54,8 @@ impl Names {
     {
         Names {
             alloc,
-            threads: IndexSet::new(alloc),
-            objects: IndexSet::new(alloc),
+            threads: NameSet::new(alloc),
+            objects: NameSet::new(alloc),
         }
     }
 
@@ -70,69 +78,137 @@ impl Names {
             ≡ record self.old { objects = self.old.objects ++ name.now ∷ [] }) }
         ensures err { OnErr result (self.new ≡ self.old) }
     {
-        number_of_name(self.alloc, &mut self.objects, name.as_str())?;
+        add_name(self.alloc, &mut self.objects, name.as_str())?;
         Ok(())
     }
 
     /// The object with a name. A name that was not declared stands for the number of the objects,
     /// which no object has.
-    pub(crate) fn object(&self, name: &Name<'_>) -> ObjectId
-        ensures { result ≡ record { 0 = position_of self.now.objects name.now } }
+    pub(crate) fn object(&mut self, name: &Name<'_>) -> ObjectId
+        ensures found { result ≡ record { 0 = position_of self.old.objects name.now } }
+        ensures same { self.new ≡ self.old }
     {
-        ObjectId(position_of(&self.objects, name.as_str()))
+        ObjectId(position_of(&mut self.objects, name.as_str()))
     }
 
     /// How many threads have a name: they are numbered from 0.
     pub fn thread_count(&self) -> u32
         ensures { result ≡ length self.now.threads }
     {
-        self.threads.len() as u32
+        self.threads.names.len() as u32
     }
 
     /// The name of a thread, or `-` where it has none.
     pub fn name_of_thread(&self, thread: ThreadId) -> &str
         ensures { result.now ≡ name_at self.now.threads thread.0 }
     {
-        name_with_number(&self.threads, thread.0)
+        name_with_number(&self.threads.names, thread.0)
     }
 
     /// The name of an object, or `-` where it has none.
     pub fn name_of_object(&self, object: ObjectId) -> &str
         ensures { result.now ≡ name_at self.now.objects object.0 }
     {
-        name_with_number(&self.objects, object.0)
+        name_with_number(&self.objects.names, object.0)
+    }
+}
+
+impl NameSet {
+    /// No name.
+    fn new(alloc: Global) -> NameSet
+        ensures { result.names.keys ≡ [] }
+    {
+        NameSet {
+            names: IndexSet::new(alloc),
+            hints: Hints::new(alloc),
+        }
     }
 }
 
 /// The number of a name among some, to which it is added where it is new.
-fn number_of_name(alloc: Global, names: &mut IndexSet<String>, word: &str) -> Result<u32, Memory>
-    requires { length names.old.keys ≤ MOST_NAMES }
-    ensures fits { length names.new.keys ≤ MOST_NAMES }
+fn number_of_name(alloc: Global, names: &mut NameSet, word: &str) -> Result<u32, Memory>
+    requires { length names.old.names.keys ≤ MOST_NAMES }
+    ensures fits { length names.new.names.keys ≤ MOST_NAMES }
     ensures number { IfOk result (λ number.
-        number ≡ position_of (map string_bytes names.old.keys) word.now) }
-    ensures names { OnOk result (map string_bytes names.new.keys
-        ≡ with_name (map string_bytes names.old.keys) word.now) }
-    ensures err { OnErr result (map string_bytes names.new.keys ≡ map string_bytes names.old.keys) }
+        number ≡ position_of (map string_bytes names.old.names.keys) word.now) }
+    ensures names { OnOk result (map string_bytes names.new.names.keys
+        ≡ with_name (map string_bytes names.old.names.keys) word.now) }
+    ensures err { OnErr result
+        (map string_bytes names.new.names.keys ≡ map string_bytes names.old.names.keys) }
 {
-    if let Some(number) = names.get_index_of(word) {
-        return Ok(number as u32);
+    match found_name(names, word) {
+        Some(number) => Ok(number),
+        None => add_name(alloc, names, word),
     }
-    if names.len() >= MOST_NAMES {
+}
+
+/// Adds a name to some, unless it is there, and tells its number.
+fn add_name(alloc: Global, names: &mut NameSet, word: &str) -> Result<u32, Memory>
+    requires { length names.old.names.keys ≤ MOST_NAMES }
+    ensures fits { length names.new.names.keys ≤ MOST_NAMES }
+    ensures number { IfOk result (λ number.
+        number ≡ position_of (map string_bytes names.old.names.keys) word.now) }
+    ensures names { OnOk result (map string_bytes names.new.names.keys
+        ≡ with_name (map string_bytes names.old.names.keys) word.now) }
+    ensures err { OnErr result
+        (map string_bytes names.new.names.keys ≡ map string_bytes names.old.names.keys) }
+{
+    if names.names.len() >= MOST_NAMES {
         return Err(Memory);
     }
     let name = String::from_str(alloc, word)?;
-    let (number, _) = names.insert_full(name)?;
+    let (number, _) = names.names.insert_full(name)?;
+    names
+        .hints
+        .add(alloc, names.names.as_slice(), word, number as u32);
     Ok(number as u32)
 }
 
 /// The number of a name among some: for one that is not there, how many there are.
-fn position_of(names: &IndexSet<String>, word: &str) -> u32
-    requires { length names.now.keys ≤ MOST_NAMES }
-    ensures { result ≡ position_of (map string_bytes names.now.keys) word.now }
+fn position_of(names: &mut NameSet, word: &str) -> u32
+    requires { length names.old.names.keys ≤ MOST_NAMES }
+    ensures position { result ≡ position_of (map string_bytes names.old.names.keys) word.now }
+    ensures same { names.new.names ≡ names.old.names }
 {
-    match names.get_index_of(word) {
-        Some(number) => number as u32,
-        None => names.len() as u32,
+    match found_name(names, word) {
+        Some(number) => number,
+        None => names.names.len() as u32,
+    }
+}
+
+/// The number of a name among some, if it is there: that of the hint, where the name with that
+/// number is the one.
+fn found_name(names: &mut NameSet, word: &str) -> Option<u32>
+    requires { length names.old.names.keys ≤ MOST_NAMES }
+    ensures number { MatchOption result
+        ((position_of (map string_bytes names.old.names.keys) word.now
+        ≡ length names.old.names.keys)
+        × (is_named (map string_bytes names.old.names.keys) word.now ≡ false))
+        (λ number. (number ≡ position_of (map string_bytes names.old.names.keys) word.now)
+        × (is_named (map string_bytes names.old.names.keys) word.now ≡ true)) }
+    ensures same { names.new.names ≡ names.old.names }
+{
+    let place = names.hints.place_of(word);
+    if let Some(number) = hinted(&names.names, names.hints.at(place), word) {
+        return Some(number);
+    }
+    let number = names.names.get_index_of(word)? as u32;
+    names.hints.put(place, number);
+    Some(number)
+}
+
+/// A number that a hint gave, where it is that of the name.
+fn hinted(names: &IndexSet<String>, hint: Option<u32>, word: &str) -> Option<u32>
+    ensures { IfSome result (λ number.
+        (number ≡ position_of (map string_bytes names.now.keys) word.now)
+        × (is_named (map string_bytes names.now.keys) word.now ≡ true)) }
+{
+    let number = hint?;
+    let name = names.as_slice().get(number as usize)?;
+    if name.as_str() == word {
+        Some(number)
+    } else {
+        None
     }
 }
 
