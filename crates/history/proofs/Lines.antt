@@ -19,7 +19,7 @@ follows_at (l ∷ ls) earlier zero d c within = subst (λ (e : List Line). may_f
 follows_at (l ∷ ls) earlier (suc i) d c within =
     subst (λ (e : List Line). may_follow e (get_or ls i d) ≡ true) (append_assoc earlier (l ∷ []) (take i ls)) (follows_at ls (earlier ++ l ∷ []) i d c.2 (omega (arith, within)))
 
-may_take : (m k : ℕ) (s : Split) (more : List Line) (l : Line) → may_follow (World m k s ∷ more) l ≡ true → MayTake (object_names more) l
+pub may_take : (m k : ℕ) (s : Split) (more : List Line) (l : Line) → may_follow (World m k s ∷ more) l ≡ true → MayTake (object_names more) l
 may_take m k s more (World n j r) follows = tt
 may_take m k s more (Object name low) follows =
     let parts = and_parts (list_all is_object more && not (list_any (is_object_named name) more)) _ follows in
@@ -49,7 +49,7 @@ one_low low lows (World m k s) = refl
 one_low low lows (Object n j) = refl
 one_low low lows (Step step) = refl
 
-lows_append : (ls : List Line) (l : Line) → low_bytes (ls ++ l ∷ []) ≡ with_low (low_bytes ls) l
+pub lows_append : (ls : List Line) (l : Line) → low_bytes (ls ++ l ∷ []) ≡ with_low (low_bytes ls) l
 lows_append [] (World m k s) = refl
 lows_append [] (Object n j) = refl
 lows_append [] (Step step) = refl
@@ -65,11 +65,11 @@ lows_next ls i x lows new within is same e =
 
 -- ---- names and steps
 
-names_after-one : (ls : List Line) (l : Line) (names : NameLists) → names_after names (ls ++ l ∷ []) ≡ names_then (names_after names ls) l
+pub names_after-one : (ls : List Line) (l : Line) (names : NameLists) → names_after names (ls ++ l ∷ []) ≡ names_then (names_after names ls) l
 names_after-one [] l names = refl
 names_after-one (k ∷ ls) l names = names_after-one ls l (names_then names k)
 
-requests_after-one : (ls : List Line) (l : Line) (names : NameLists) → requests_after names (ls ++ l ∷ []) ≡ requests_after names ls ++ requests_then (names_after names ls) l
+pub requests_after-one : (ls : List Line) (l : Line) (names : NameLists) → requests_after names (ls ++ l ∷ []) ≡ requests_after names ls ++ requests_then (names_after names ls) l
 requests_after-one [] l names = append-nil (requests_then names l)
 requests_after-one (k ∷ ls) l names =
     ap (λ (r : List Request). requests_then names k ++ r) (requests_after-one ls l (names_then names k))

@@ -5,3 +5,4 @@ pub mod Histories
 pub mod Plans
 pub mod Plays
 pub mod Reports
+pub mod SoFar

@@ -6,7 +6,7 @@ ghost use Rattle.history_text.specs.Names.{is_named, position_of, with_name};
 ghost use Rattle.history.specs.NameLists.{name_at};
 
 use crate::hints::Hints;
-use history_text::Name;
+use history_text::{Declared, Name};
 use indexmap::IndexSet;
 use lock_word::{Memory, ObjectId, ThreadId};
 use std::alloc::Global;
@@ -123,6 +123,27 @@ impl NameSet {
             hints: Hints::new(alloc),
         }
     }
+}
+
+impl Declared for Names {
+    ghost use Rattle.std.specs.Prelude.{List, ℕ};
+    ghost use Rattle.history.specs.NameLists.{NameLists};
+
+    ghost names = { λ n. n.objects };
+
+    fn has(&self, name: &Name<'_>) -> bool {
+        has_name(&self.objects.names, name.as_str())
+    }
+
+    fn count(&self) -> usize {
+        self.objects.names.len()
+    }
+}
+
+fn has_name(names: &IndexSet<String>, word: &str) -> bool
+    ensures { result ≡ is_named (map string_bytes names.now.keys) word.now }
+{
+    names.contains(word)
 }
 
 /// The number of a name among some, to which it is added where it is new.

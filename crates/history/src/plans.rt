@@ -38,7 +38,7 @@ pub struct Plan {
 
 impl Plan {
     /// A world without objects and steps.
-    fn new(alloc: Global, monitors: u32, indices: u16, split: Split) -> Plan
+    pub(crate) fn new(alloc: Global, monitors: u32, indices: u16, split: Split) -> Plan
         requires monitors { monitors ≤ 8388608 }
         requires some { 1 ≤ indices }
         requires few { indices ≤ greatest_index split }
@@ -58,7 +58,7 @@ impl Plan {
     }
 
     /// Takes a line behind the first.
-    fn take_line(&mut self, line: &Line<'_>) -> Result<(), Memory>
+    pub(crate) fn take_line(&mut self, line: &Line<'_>) -> Result<(), Memory>
         requires { MayTake self.old.names.objects line.now }
         ensures objects { OnOk result (self.new.names.objects
             ≡ with_object self.old.names.objects line.now) }

@@ -1,11 +1,13 @@
 //! Running a script: from a reader's bytes to a writer's report.
 
-ghost use Rattle.std.specs.Prelude.{◌≡◌, ◌+◌, ◌<◌, ◌≤◌, ◌⊎◌, ℕ, List, length, take, IsErrOf};
+ghost use Rattle.std.specs.Prelude.{◌≡◌, ◌+◌, ◌<◌, ◌≤◌, ◌⊎◌, [], ℕ, List, length, take, IsErrOf};
 ghost use Rattle.std.specs.Prelude.{string_bytes};
 ghost use Rattle.std.specs.Prelude.{IfSome, OnOk, OnErr, IfOk, IfErr, Err};
 ghost use Rattle.std.specs.Io.KnownBytes.{Keeps, Appends};
 ghost use Rattle.history_text.specs.Lines.{IsFirstBad};
+ghost use Rattle.history_text.specs.Places.{HasCome};
 ghost use Rattle.history_text.specs.Scripts.{IsReasonFor, IsScriptText};
+ghost use Rattle.history.specs.SoFar.{IsPlanSoFar};
 ghost use Rattle.history.specs.Plans.{IsPlanOf};
 ghost use Rattle.history.specs.Reports.{IsReportOf};
 ghost use Rattle.history.specs.declared.plans.Plan.{Plan as PlanData};
@@ -15,10 +17,11 @@ ghost use Rattle.history_streams.specs.declared.faults.FileFault.TheVariants.{Re
 ghost use Rattle.history_streams.specs.declared.faults.FileFault.TheVariants.{Write as WriteFault};
 ghost use Rattle.history_streams.specs.declared.faults.FileFault.TheVariants.{Memory};
 
-use crate::plans::{Plan, plan_of};
+use crate::names::Names;
+use crate::plans::Plan;
 use crate::reports::report_of;
 use history_streams::{FileFault, Sink, Source, write_out};
-use history_text::{MOST_BYTES, read_script};
+use history_text::{Line, LineReader, MOST_BYTES};
 use std::alloc::Global;
 
 /// How many bytes are read at once.
@@ -80,15 +83,39 @@ fn report_or_fault(alloc: Global, plan: &Plan) -> Result<String, FileFault>
     Ok(report)
 }
 
-/// What the script plays that some bytes are the text of.
+/// What the script plays that some bytes are the text of: each line is taken as it is read.
 pub(crate) fn plan_in(alloc: Global, bytes: &[u8]) -> Result<Plan, FileFault>
     ensures a_script { OnOk result (IsScriptText bytes.now) }
     ensures a_plan { IfOk result (λ plan. IsPlanOf plan bytes.now) }
     ensures fault { IfErr result (IsReasonFor bytes.now) }
 {
-    let script = read_script(alloc, bytes)?;
-    let plan = plan_of(alloc, script.lines())?;
+    let mut lines = LineReader::new(bytes)?;
+    let mut plan = first_plan(alloc, &mut lines)?;
+    'lines: while let Some(line) = lines.next(alloc, &plan.names)? {
+        plan.take_line(&line)?;
+    }
     Ok(plan)
+}
+
+/// The world of the first line, without objects and steps.
+fn first_plan(alloc: Global, lines: &mut LineReader<'_>) -> Result<Plan, FileFault>
+    requires { HasCome lines.old.rest [] [] lines.old }
+    ensures plan { IfOk result (λ plan. IsPlanSoFar lines.old.rest plan lines.new) }
+    ensures fault { IfErr result (IsReasonFor lines.old.rest) }
+{
+    let names = Names::new(alloc);
+    let Some(line) = lines.next(alloc, &names)? else {
+        unreachable!()
+    };
+    let Line::World {
+        monitors,
+        indices,
+        split,
+    } = line
+    else {
+        unreachable!()
+    };
+    Ok(Plan::new(alloc, monitors, indices, split))
 }
 
 /// Reads a source to its end, which must come within the bytes that a script may have.

@@ -1,0 +1,9 @@
+use Rattle.std.proofs.Common.{length}
+use Rattle.history.specs.SoFar.{IsPlanSoFar}
+use Rattle.history.proofs.running.plan_in.Given as goal
+
+abbrev pub invariant-lines : goal.invariant-lines
+invariant-lines l = IsPlanSoFar l.bytes l.plan l.lines
+
+abbrev pub decreases-lines : goal.decreases-lines
+decreases-lines l = length l.lines.rest

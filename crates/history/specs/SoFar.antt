@@ -1,0 +1,15 @@
+-- What a script plays, as far as its lines came.
+use Rattle.std.specs.Prelude.{◌≡◌, ℕ, List}
+use Rattle.history_text.specs.declared.lines.Line.{Line}
+use Rattle.history_text.specs.Places.{HasCome, Place}
+use Rattle.history.specs.Numbering.{IsWorldWith, low_bytes, names_of, requests_of}
+use Rattle.history.specs.declared.plans.Plan.{Plan}
+
+-- The reader of the bytes stands here, behind lines that play this.
+pub record IsPlanSoFar (bytes : List ℕ) (plan : Plan) (place : Place) : Type 0 where
+  pub came : List Line
+  pub come : HasCome bytes came plan.names.objects place
+  pub world : IsWorldWith plan.monitors plan.indices plan.split came
+  pub lows : plan.lows.items ≡ low_bytes came
+  pub names : plan.names ≡ names_of came
+  pub steps : plan.steps.items ≡ requests_of came
