@@ -140,6 +140,7 @@ impl Declared for Names {
     }
 }
 
+#[inline(never)]
 fn has_name(names: &IndexSet<String>, word: &str) -> bool
     ensures { result ≡ is_named (map string_bytes names.now.keys) word.now }
 {

@@ -58,6 +58,7 @@ impl Plan {
     }
 
     /// Takes a line behind the first.
+    #[inline(always)]
     pub(crate) fn take_line(&mut self, line: &Line<'_>) -> Result<(), Memory>
         requires { MayTake self.old.names.objects line.now }
         ensures objects { OnOk result (self.new.names.objects
@@ -76,6 +77,7 @@ impl Plan {
         }
     }
 
+    #[inline(never)]
     fn take_object(&mut self, name: &Name<'_>, low: u8) -> Result<(), Memory>
         requires new { is_named self.old.names.objects name.now ≡ false }
         requires room { length self.old.names.objects < 65535 }

@@ -31,6 +31,7 @@ fn word_in(bytes: &[u8]) -> Option<(&[u8], &[u8])>
 
 /// The line that some bytes are, where it is a `go` or one of the most usual `begin`s; None of any
 /// other, which is left to the reader of all lines.
+#[inline(always)]
 pub(crate) fn quick_line(bytes: &[u8]) -> Option<Line<'_>>
     ensures { IfSome result (SaysLine bytes.now) }
 {

@@ -294,13 +294,23 @@ fn line_of_text<'a>(alloc: Global, text: &'a str) -> Result<Option<Line<'a>>, Al
 }
 
 /// The line that some bytes are, with no line feed.
-#[tactic(auto, using(crate::proofs::LineLaws::line_at_text, crate::proofs::LineLaws::not_text, crate::proofs::LineLaws::line_again))]
+#[inline(always)]
+#[tactic(auto, using(crate::proofs::LineLaws::line_again))]
 pub fn line_of<'a>(alloc: Global, bytes: &'a [u8]) -> Result<Option<Line<'a>>, AllocError>
     ensures { IfOk result (λ line. line ≡ line_at bytes.now) }
 {
-    if let Some(line) = quick_line(bytes) {
-        return Ok(Some(line));
+    match quick_line(bytes) {
+        Some(line) => Ok(Some(line)),
+        None => line_by_words(alloc, bytes),
     }
+}
+
+/// The line that some bytes are, by a list of their words.
+#[inline(never)]
+#[tactic(auto, using(crate::proofs::LineLaws::line_at_text, crate::proofs::LineLaws::not_text))]
+fn line_by_words<'a>(alloc: Global, bytes: &'a [u8]) -> Result<Option<Line<'a>>, AllocError>
+    ensures { IfOk result (λ line. line ≡ line_at bytes.now) }
+{
     match str::from_utf8(bytes) {
         Ok(text) => line_of_text(alloc, text),
         Err(_) => Ok(None),

@@ -58,6 +58,7 @@ impl<'a> LineReader<'a> {
 
     /// The next line, or None behind the last line of a script. Else a fault tells why the bytes
     /// are no script: the next line is the first that is bad.
+    #[inline(always)]
     pub fn next<D: Declared>(
         &mut self,
         alloc: Global,
@@ -90,6 +91,7 @@ impl<'a> LineReader<'a> {
     }
 
     /// Whether the lines are a script, where no line is ended behind them.
+    #[inline(never)]
     fn end(&self) -> Result<(), FileFault>
         ensures { (bytes : List ℕ) (came : List LineData) (names : List (List ℕ))
             → HasCome bytes came names self.now
