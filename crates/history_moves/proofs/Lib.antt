@@ -9,3 +9,5 @@ pub mod LineLaws
 pub mod QuickLaws
 pub mod Told
 pub mod Fronts
+pub mod GatheredLaws
+pub mod TokenLaws

@@ -42,18 +42,18 @@ past_first k d no_members ms below found = tt
 past_first k d (member l e ns) ms below found =
     (sym (ap (λ (o : Ordering). match_ordering o (get_member l ms) (Some d) (get_member l ms)) (turned k l below.0)) ∙ found.0, past_first k d ns ms below.1 found.1)
 
-below_all : (k l : List ℕ) (ns : Members) → slice_cmp nat_cmp k l ≡ Less → IsBelow l ns → IsBelow k ns
+pub below_all : (k l : List ℕ) (ns : Members) → slice_cmp nat_cmp k l ≡ Less → IsBelow l ns → IsBelow k ns
 below_all k l no_members h below = tt
 below_all k l (member m d ns) h below = (nat_list_cmp_total.trans k l m h below.0, below_all k l ns h below.1)
 
-absent : (q : List ℕ) (ms : Members) → IsBelow q ms → get_member q ms ≡ None
+pub absent : (q : List ℕ) (ms : Members) → IsBelow q ms → get_member q ms ≡ None
 absent q no_members below = refl
 absent q (member k d ms) below = ap (λ (o : Ordering). match_ordering o (get_member q ms) (Some d) (get_member q ms)) below.0 ∙ absent q ms below.1
 
 abbrev Fewer : Members → Members → Type 0
 Fewer ns ms = (count ns ≤ count ms) × (count ns ≡ count ms → ms ≡ ns)
 
-same_key : (q k : List ℕ) → slice_cmp nat_cmp q k ≡ Equal → q ≡ k
+pub same_key : (q k : List ℕ) → slice_cmp nat_cmp q k ≡ Equal → q ≡ k
 same_key q k is = (bytes_eq-Decides q k).0 (sym (is_eq-slice_cmp q k) ∙ ap is_eq is)
 
 fewer_step : (k q : List ℕ) (d e : Data) (ms ns : Members) (o : Ordering) → slice_cmp nat_cmp q k ≡ o → AreInOrder (member k d ms) → AreInOrder (member q e ns)

@@ -1,6 +1,6 @@
 //! The lines of a history, with no line feed.
 
-ghost use Rattle.std.specs.Prelude.{◌≡◌, ℕ, List, IfOk, IfSome, IfNone, string_bytes};
+ghost use Rattle.std.specs.Prelude.{◌≡◌, ℕ, List, None, IfOk, IfSome, IfNone, string_bytes};
 ghost use Rattle.serde_json.specs.Data.{Data};
 ghost use Rattle.serde_json.specs.View.{view};
 ghost use Rattle.serde_json.specs.Written.{compact_text};
@@ -10,10 +10,13 @@ ghost use Rattle.history_moves.specs.Lines.{IsFirst, IsMove, IsTextOf};
 
 use crate::quick::quick_move;
 use crate::reading::{read_first, read_move};
+use crate::tokens::token_move;
 use crate::writing::{write_first, write_move};
+use json::Scratch;
 use lock_word::Memory;
 use serde_json::Value;
 use std::alloc::Global;
+use std::str;
 use step_core::Move;
 
 /// The line of a move: its compact text, with its keys in byte order. [`line_move`] reads it as
@@ -61,7 +64,6 @@ fn written_line(line: &[u8]) -> Option<Move>
 
 /// The move that a line is, as serde_json reads a value: with any white space between its tokens,
 /// its keys in any order, and the last one of a key that is written twice.
-#[tactic(auto, unfolding(crate::specs::Lines::IsMove))]
 pub fn line_move(alloc: Global, line: &[u8]) -> Result<Option<Move>, Memory>
     ensures found { IfOk result (λ o. IfSome o (IsMove line.now)) }
     ensures none { IfOk result (λ o. IfNone o ((m : MoveData) → IsMove line.now m → ⊥)) }
@@ -69,9 +71,80 @@ pub fn line_move(alloc: Global, line: &[u8]) -> Result<Option<Move>, Memory>
     if let Some(made) = written_line(line) {
         return Ok(Some(made));
     }
+    value_move(alloc, line)
+}
+
+/// The move that a line is, by the value that it is the text of.
+#[tactic(auto, unfolding(crate::specs::Lines::IsMove))]
+fn value_move(alloc: Global, line: &[u8]) -> Result<Option<Move>, Memory>
+    ensures found { IfOk result (λ o. IfSome o (IsMove line.now)) }
+    ensures none { IfOk result (λ o. IfNone o ((m : MoveData) → IsMove line.now m → ⊥)) }
+{
     match value_of(alloc, line)? {
         Some(value) => Ok(read_move(&value)),
         None => Ok(None),
+    }
+}
+
+/// A line of this many bytes or more is read by its value, so that no room is kept for it.
+const LONG: usize = 4096;
+
+/// A reader of lines, which keeps from line to line what it needs for those that are not written as
+/// [`move_line`] writes them: room for a line below 4,096 bytes, from the first such line on.
+#[derive(Drop)]
+pub struct LineReader {
+    alloc: Global,
+    scratch: Option<Box<Scratch>>,
+}
+
+/// What is kept of a reader.
+#[cold]
+#[inline(never)]
+fn new_scratch(alloc: Global) -> Option<Box<Scratch>> {
+    Box::new(alloc, Scratch::new(alloc)).ok()
+}
+
+impl LineReader {
+    /// A reader of lines. It asks for no memory yet.
+    pub fn new(alloc: Global) -> LineReader
+        ensures { result ≡ record { alloc = alloc; scratch = None } }
+    {
+        LineReader {
+            alloc,
+            scratch: None,
+        }
+    }
+
+    /// The move that a line is, as [`line_move`] finds it.
+    pub fn line_move(&mut self, line: &[u8]) -> Result<Option<Move>, Memory>
+        ensures found { IfOk result (λ o. IfSome o (IsMove line.now)) }
+        ensures none { IfOk result (λ o. IfNone o ((m : MoveData) → IsMove line.now m → ⊥)) }
+    {
+        if let Some(made) = written_line(line) {
+            return Ok(Some(made));
+        }
+        if let Some(made) = self.spelled_line(line) {
+            return Ok(Some(made));
+        }
+        value_move(self.alloc, line)
+    }
+
+    /// The move that a line is, by its tokens: a way for most lines of any spelling.
+    #[inline(never)]
+    fn spelled_line(&mut self, line: &[u8]) -> Option<Move>
+        ensures { IfSome result (IsMove line.now) }
+    {
+        if line.len() >= LONG {
+            return None;
+        }
+        let text = str::from_utf8(line).ok()?;
+        if self.scratch.is_none() {
+            self.scratch = new_scratch(self.alloc);
+        }
+        match &mut self.scratch {
+            Some(scratch) => token_move(text, scratch),
+            None => None,
+        }
     }
 }
 

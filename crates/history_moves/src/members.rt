@@ -1,13 +1,58 @@
-//! The members of a value, by their keys.
+//! The members of an object, by their keys.
 
-ghost use Rattle.std.specs.Prelude.{◌≡◌, option_map, IfSome};
+ghost use Rattle.std.specs.Prelude.{◌≡◌, ◌^◌, nat_lt, if◌then◌else◌, None, Some, option_map, IfSome};
+ghost use Rattle.std.specs.Prelude.{codes};
+ghost use Rattle.serde_json.specs.Data.{Data};
 ghost use Rattle.serde_json.specs.View.{view};
 ghost use Rattle.history_moves.specs.Members.{IsOrderedData, count_in, text_at, whole_at};
-ghost use Rattle.history_moves.specs.Members.{number_at, signed_at, small_signed, nanos_at};
-ghost use Rattle.history_moves.specs.Members.{thread_number, object_at, chosen_at};
+ghost use Rattle.history_moves.specs.Members.{now_at, signed_at, small_signed, millis_at, nanos_at};
+ghost use Rattle.history_moves.specs.Members.{thread_number, thread_at, object_at, chosen_at};
 
 use lock_word::{ObjectId, ThreadId};
 use serde_json::Value;
+
+/// What has the members of a move.
+pub(crate) trait Fields {
+    // The object that has these members.
+    ghost seen: { Self → Data };
+
+    /// The name of the move.
+    fn name(&self) -> Option<&str>
+        ensures { option_map (λ text. text.now) result ≡ text_at (codes "move") (seen self.now) };
+
+    /// The verb of a call.
+    fn verb(&self) -> Option<&str>
+        ensures { option_map (λ text. text.now) result ≡ text_at (codes "call") (seen self.now) };
+
+    fn reply(&self) -> Option<&str>
+        ensures { option_map (λ text. text.now) result ≡ text_at (codes "reply") (seen self.now) };
+
+    fn cause(&self) -> Option<&str>
+        ensures { option_map (λ text. text.now) result ≡ text_at (codes "cause") (seen self.now) };
+
+    fn thread(&self) -> Option<u64>
+        ensures { result ≡ whole_at (codes "thread") (seen self.now) };
+
+    fn object(&self) -> Option<u64>
+        ensures { result ≡ whole_at (codes "object") (seen self.now) };
+
+    fn target(&self) -> Option<u64>
+        ensures { result ≡ whole_at (codes "target") (seen self.now) };
+
+    /// A moment.
+    fn now(&self) -> Option<u64>
+        ensures { result ≡ now_at (seen self.now) };
+
+    fn millis(&self) -> Option<i64>
+        ensures { result ≡ millis_at (seen self.now) };
+
+    fn nanos(&self) -> Option<i64>
+        ensures { result ≡ signed_at (codes "nanos") (seen self.now) };
+
+    /// The thread that was chosen, which may be null.
+    fn chosen(&self) -> Option<Option<ThreadId>>
+        ensures { result ≡ chosen_at (seen self.now) };
+}
 
 /// How many members an object has.
 pub(crate) fn count_in(value: &Value) -> Option<usize>
@@ -18,7 +63,7 @@ pub(crate) fn count_in(value: &Value) -> Option<usize>
     Some(members.len())
 }
 
-pub(crate) fn text_at<'a>(value: &'a Value, key: &str) -> Option<&'a str>
+fn text_at<'a>(value: &'a Value, key: &str) -> Option<&'a str>
     ensures { option_map (λ text. text.now) result ≡ text_at key.now (view value.now) }
 {
     value.get(key).and_then(Value::as_str)
@@ -30,10 +75,69 @@ pub(crate) fn whole_at(value: &Value, key: &str) -> Option<u64>
     value.get(key).and_then(Value::as_u64)
 }
 
-fn number_at(value: &Value, key: &str) -> Option<u32>
-    ensures { result ≡ number_at key.now (view value.now) }
+/// A number of 64 bits that may be negative.
+fn signed_at(value: &Value, key: &str) -> Option<i64>
+    ensures { result ≡ signed_at key.now (view value.now) }
 {
-    let number = whole_at(value, key)?;
+    value.get(key).and_then(Value::as_i64)
+}
+
+impl Fields for Value {
+    ghost seen = { view };
+
+    fn name(&self) -> Option<&str> {
+        text_at(self, "move")
+    }
+
+    fn verb(&self) -> Option<&str> {
+        text_at(self, "call")
+    }
+
+    fn reply(&self) -> Option<&str> {
+        text_at(self, "reply")
+    }
+
+    fn cause(&self) -> Option<&str> {
+        text_at(self, "cause")
+    }
+
+    fn thread(&self) -> Option<u64> {
+        whole_at(self, "thread")
+    }
+
+    fn object(&self) -> Option<u64> {
+        whole_at(self, "object")
+    }
+
+    fn target(&self) -> Option<u64> {
+        whole_at(self, "target")
+    }
+
+    fn now(&self) -> Option<u64> {
+        whole_at(self, "now")
+    }
+
+    fn millis(&self) -> Option<i64> {
+        signed_at(self, "millis")
+    }
+
+    fn nanos(&self) -> Option<i64> {
+        signed_at(self, "nanos")
+    }
+
+    fn chosen(&self) -> Option<Option<ThreadId>> {
+        let member = self.get("chosen")?;
+        if member.is_null() {
+            return Some(None);
+        }
+        Some(Some(ThreadId(small_number(whole_at(self, "chosen")?)?)))
+    }
+}
+
+/// A number of 32 bits.
+pub(crate) fn small_number(number: u64) -> Option<u32>
+    ensures { result ≡ (if nat_lt number (2 ^ 32) then Some number else None) }
+{
     if number < 0x1_0000_0000 {
         Some(number as u32)
     } else {
@@ -41,23 +145,22 @@ fn number_at(value: &Value, key: &str) -> Option<u32>
     }
 }
 
-pub(crate) fn thread_number(value: &Value, key: &str) -> Option<ThreadId>
-    ensures { result ≡ thread_number key.now (view value.now) }
+pub(crate) fn thread_at<F: Fields>(fields: &F) -> Option<ThreadId>
+    ensures { result ≡ thread_at (F.seen fields.now) }
 {
-    Some(ThreadId(number_at(value, key)?))
+    Some(ThreadId(small_number(fields.thread()?)?))
 }
 
-pub(crate) fn object_at(value: &Value) -> Option<ObjectId>
-    ensures { result ≡ object_at (view value.now) }
+pub(crate) fn target_at<F: Fields>(fields: &F) -> Option<ThreadId>
+    ensures { result ≡ thread_number (codes "target") (F.seen fields.now) }
 {
-    Some(ObjectId(number_at(value, "object")?))
+    Some(ThreadId(small_number(fields.target()?)?))
 }
 
-/// A number of 64 bits that may be negative.
-pub(crate) fn signed_at(value: &Value, key: &str) -> Option<i64>
-    ensures { result ≡ signed_at key.now (view value.now) }
+pub(crate) fn object_at<F: Fields>(fields: &F) -> Option<ObjectId>
+    ensures { result ≡ object_at (F.seen fields.now) }
 {
-    value.get(key).and_then(Value::as_i64)
+    Some(ObjectId(small_number(fields.object()?)?))
 }
 
 fn small_signed(number: i64) -> Option<i32>
@@ -70,19 +173,8 @@ fn small_signed(number: i64) -> Option<i32>
     }
 }
 
-pub(crate) fn nanos_at(value: &Value) -> Option<i32>
-    ensures { result ≡ nanos_at (view value.now) }
+pub(crate) fn nanos_at<F: Fields>(fields: &F) -> Option<i32>
+    ensures { result ≡ nanos_at (F.seen fields.now) }
 {
-    small_signed(signed_at(value, "nanos")?)
-}
-
-/// The thread that was chosen, which may be null.
-pub(crate) fn chosen_at(value: &Value) -> Option<Option<ThreadId>>
-    ensures { result ≡ chosen_at (view value.now) }
-{
-    let member = value.get("chosen")?;
-    if member.is_null() {
-        return Some(None);
-    }
-    Some(Some(thread_number(value, "chosen")?))
+    small_signed(fields.nanos()?)
 }

@@ -10,9 +10,7 @@ ghost use Rattle.history_moves.specs.Reading.{cause_at, wait_call, is_targeted, 
 ghost use Rattle.history_moves.specs.Reading.{reply_from, refused_from, three_from, thread_move};
 ghost use Rattle.history_moves.specs.Reading.{move_named, move_from, first_from};
 
-use crate::members::{
-    chosen_at, count_in, nanos_at, object_at, signed_at, text_at, thread_number, whole_at,
-};
+use crate::members::{Fields, count_in, nanos_at, object_at, target_at, thread_at, whole_at};
 use crate::words::{
     bare_call_named, cause_named, object_call_named, plain_named, reply_named, target_call_named,
 };
@@ -25,10 +23,10 @@ use step_core::Move;
 /// The most objects that a history has.
 const MOST_OBJECTS: u64 = 65_535;
 
-fn cause_at(value: &Value) -> Option<Cause>
-    ensures { result ≡ cause_at (view value.now) }
+fn cause_at<F: Fields>(fields: &F) -> Option<Cause>
+    ensures { result ≡ cause_at (F.seen fields.now) }
 {
-    cause_named(text_at(value, "cause")?.as_bytes())
+    cause_named(fields.cause()?.as_bytes())
 }
 
 fn is_targeted(verb: &str) -> bool
@@ -37,12 +35,12 @@ fn is_targeted(verb: &str) -> bool
     verb == "Interrupt" || verb == "IsInterrupted"
 }
 
-fn wait_call(value: &Value) -> Option<Call>
-    ensures { result ≡ wait_call (view value.now) }
+fn wait_call<F: Fields>(fields: &F) -> Option<Call>
+    ensures { result ≡ wait_call (F.seen fields.now) }
 {
-    let object = object_at(value)?;
-    let millis = signed_at(value, "millis")?;
-    let nanos = nanos_at(value)?;
+    let object = object_at(fields)?;
+    let millis = fields.millis()?;
+    let nanos = nanos_at(fields)?;
     Some(Call::Wait {
         object,
         millis,
@@ -51,47 +49,47 @@ fn wait_call(value: &Value) -> Option<Call>
 }
 
 /// The call with this name in a move of so many members.
-fn call_of(count: usize, value: &Value, verb: &str) -> Option<Call>
-    ensures { result ≡ call_of count (view value.now) verb.now }
+fn call_of<F: Fields>(count: usize, fields: &F, verb: &str) -> Option<Call>
+    ensures { result ≡ call_of count (F.seen fields.now) verb.now }
 {
     if count == 3 {
         return bare_call_named(verb.as_bytes());
     }
     if count == 4 && is_targeted(verb) {
-        return target_call_named(verb.as_bytes(), thread_number(value, "target")?);
+        return target_call_named(verb.as_bytes(), target_at(fields)?);
     }
     if count == 4 {
-        return object_call_named(verb.as_bytes(), object_at(value)?);
+        return object_call_named(verb.as_bytes(), object_at(fields)?);
     }
     if count == 6 && verb == "Wait" {
-        return wait_call(value);
+        return wait_call(fields);
     }
     None
 }
 
-fn call_from(count: usize, value: &Value, thread: ThreadId) -> Option<Move>
-    ensures { result ≡ call_from count (view value.now) thread }
+fn call_from<F: Fields>(count: usize, fields: &F, thread: ThreadId) -> Option<Move>
+    ensures { result ≡ call_from count (F.seen fields.now) thread }
 {
-    let verb = text_at(value, "call")?;
-    let call = call_of(count, value, verb)?;
+    let verb = fields.verb()?;
+    let call = call_of(count, fields, verb)?;
     Some(Move::Call { thread, call })
 }
 
-fn reply_from(value: &Value, thread: ThreadId) -> Option<Move>
-    ensures { result ≡ reply_from (view value.now) thread }
+fn reply_from<F: Fields>(fields: &F, thread: ThreadId) -> Option<Move>
+    ensures { result ≡ reply_from (F.seen fields.now) thread }
 {
-    let reply = reply_named(text_at(value, "reply")?.as_bytes())?;
+    let reply = reply_named(fields.reply()?.as_bytes())?;
     Some(Move::Return { thread, reply })
 }
 
-fn refused_from(value: &Value, thread: ThreadId) -> Option<Move>
-    ensures { result ≡ refused_from (view value.now) thread }
+fn refused_from<F: Fields>(fields: &F, thread: ThreadId) -> Option<Move>
+    ensures { result ≡ refused_from (F.seen fields.now) thread }
 {
-    let word = text_at(value, "reply")?;
+    let word = fields.reply()?;
     if word != "Refused" {
         return None;
     }
-    let cause = cause_at(value)?;
+    let cause = cause_at(fields)?;
     Some(Move::Return {
         thread,
         reply: Reply::Refused(cause),
@@ -99,17 +97,17 @@ fn refused_from(value: &Value, thread: ThreadId) -> Option<Move>
 }
 
 /// The move of a thread with this name and three members.
-fn move_of_three(value: &Value, name: &str, thread: ThreadId) -> Option<Move>
-    ensures { result ≡ three_from (view value.now) name.now thread }
+fn move_of_three<F: Fields>(fields: &F, name: &str, thread: ThreadId) -> Option<Move>
+    ensures { result ≡ three_from (F.seen fields.now) name.now thread }
 {
     match name {
-        "Return" => reply_from(value, thread),
+        "Return" => reply_from(fields, thread),
         "Notify" => {
-            let chosen = chosen_at(value)?;
+            let chosen = fields.chosen()?;
             Some(Move::Notify { thread, chosen })
         }
         "Refuse" => {
-            let cause = cause_at(value)?;
+            let cause = cause_at(fields)?;
             Some(Move::Refuse { thread, cause })
         }
         _ => None,
@@ -117,32 +115,32 @@ fn move_of_three(value: &Value, name: &str, thread: ThreadId) -> Option<Move>
 }
 
 /// The move of a thread with this name and so many members.
-fn thread_move(count: usize, value: &Value, name: &str, thread: ThreadId) -> Option<Move>
-    ensures { result ≡ thread_move count (view value.now) name.now thread }
+fn thread_move<F: Fields>(count: usize, fields: &F, name: &str, thread: ThreadId) -> Option<Move>
+    ensures { result ≡ thread_move count (F.seen fields.now) name.now thread }
 {
     if count == 2 {
         return plain_named(name.as_bytes(), thread);
     }
     if name == "Call" {
-        return call_from(count, value, thread);
+        return call_from(count, fields, thread);
     }
     if count == 3 {
-        return move_of_three(value, name, thread);
+        return move_of_three(fields, name, thread);
     }
     if count == 4 && name == "Return" {
-        return refused_from(value, thread);
+        return refused_from(fields, thread);
     }
     None
 }
 
-fn move_named(count: usize, value: &Value, name: &str) -> Option<Move>
-    ensures { result ≡ move_named count (view value.now) name.now }
+pub(crate) fn move_named<F: Fields>(count: usize, fields: &F, name: &str) -> Option<Move>
+    ensures { result ≡ move_named count (F.seen fields.now) name.now }
 {
     if count == 2 && name == "Time" {
-        let now = whole_at(value, "now")?;
+        let now = fields.now()?;
         return Some(Move::Time { now });
     }
-    thread_move(count, value, name, thread_number(value, "thread")?)
+    thread_move(count, fields, name, thread_at(fields)?)
 }
 
 #[tactic(auto, unfolding(crate::specs::Reading::move_from))]
@@ -151,7 +149,7 @@ fn found_move(value: &Value) -> Option<Move>
     ensures ordered { IfSome result (λ _. IsOrderedData (view value.now)) }
 {
     let count = count_in(value)?;
-    let name = text_at(value, "move")?;
+    let name = value.name()?;
     move_named(count, value, name)
 }
 
