@@ -236,32 +236,20 @@ finish_none came count (Some state) line none s = absurd (no_none none)
     no_none : true ≡ false → ⊥
     no_none e = cc
 
--- what adding a piece to the line gave
-abbrev pub Added : ℕ → Option State → List ℕ → List ℕ → ℕ → Option State → List ℕ → Type 0
-Added count reached line piece count2 reached2 line2 = (line2 ≡ line ++ piece) × (count2 ≡ count) × (reached2 ≡ reached)
-
-pub fed_refused_by : (count : ℕ) (reached : Option State) (line bytes : List ℕ) (count' : ℕ) (reached' : Option State) (line' rest piece after : List ℕ) (e : FileFault)
-    (count2 : ℕ) (reached2 : Option State) (line2 : List ℕ)
-    → Fed count reached line bytes count' reached' line' rest → NoFeed piece × (rest ≡ piece ++ (10 ∷ after)) → Added count' reached' line' piece count2 reached2 line2 → length line' + length piece < 4096
-    → Refuses reached2 line2 (count2 + 1) e
+-- the line was ended by a piece, or not
+pub fed_ended : (count : ℕ) (reached : Option State) (line bytes : List ℕ) (count' : ℕ) (reached' : Option State) (line' rest piece after : List ℕ) (e : FileFault)
+    → Fed count reached line bytes count' reached' line' rest → NoFeed piece × (rest ≡ piece ++ (10 ∷ after))
+    → ((e ≡ Memory) ⊎ ((e ≡ BadMove (count' + 1)) × (4096 ≤ length line' + length piece))) ⊎ ((length line' + length piece < 4096) × Refuses reached' (line' ++ piece) (count' + 1) e)
     → (came : List ℕ) → IsRightSoFar came count reached line → IsFaultOf (came ++ bytes) ⊥ ⊥ e
-fed_refused_by count reached line bytes count' reached' line' rest piece after e count2 reached2 line2 f cut a small r =
-    fed_refused count reached line bytes count' reached' line' rest piece after e f cut.0 cut.1 small (same_refusal count' count2 reached' reached2 (line' ++ piece) line2 a.1 a.2 a.0 r)
-  where
-    same_refusal : (m n : ℕ) (p q : Option State) (k l : List ℕ) → n ≡ m → q ≡ p → l ≡ k → Refuses q l (n + 1) e → Refuses p k (m + 1) e
-    same_refusal m n p q k l f g h r = subst (λ (x : ℕ). Refuses p k (x + 1) e) f (subst (λ (x : Option State). Refuses x k (n + 1) e) g (subst (λ (x : List ℕ). Refuses q x (n + 1) e) h r))
+fed_ended count reached line bytes count' reached' line' rest piece after e f cut (inl long) = fed_long count reached line bytes count' reached' line' rest piece (10 ∷ after) e f cut.0 cut.1 long
+fed_ended count reached line bytes count' reached' line' rest piece after e f cut (inr refused) = fed_refused count reached line bytes count' reached' line' rest piece after e f cut.0 cut.1 refused.0 refused.1
 
-pub Fed-line_by : (count : ℕ) (reached : Option State) (line bytes : List ℕ) (count' : ℕ) (reached' : Option State) (line' rest piece after : List ℕ)
-    (count2 : ℕ) (reached2 : Option State) (line2 : List ℕ) (count3 : ℕ) (reached3 : Option State) (line3 : List ℕ)
-    → Fed count reached line bytes count' reached' line' rest → NoFeed piece × (rest ≡ piece ++ (10 ∷ after)) → Added count' reached' line' piece count2 reached2 line2 → length line' + length piece < 4096
-    → LineLeads reached2 line2 reached3 × (count3 ≡ count2 + 1) × (line3 ≡ [])
-    → Fed count reached line bytes count3 reached3 line3 after
-Fed-line_by count reached line bytes count' reached' line' rest piece after count2 reached2 line2 count3 reached3 line3 f cut a small r =
-    same_fed (count' + 1) count3 [] line3 (r.1 ∙ ap (λ (n : ℕ). n + 1) a.1) r.2
-    (Fed-line count reached line bytes count' reached' line' rest piece after reached3 f cut.0 cut.1 small (subst (λ (x : Option State). LineLeads x (line' ++ piece) reached3) a.2 (subst (λ (x : List ℕ). LineLeads reached2 x reached3) a.0 r.0)))
-  where
-    same_fed : (m n : ℕ) (k l : List ℕ) → n ≡ m → l ≡ k → Fed count reached line bytes m reached3 k after → Fed count reached line bytes n reached3 l after
-    same_fed m n k l e g h = rw (e, g) h
+pub Fed-ended : (count : ℕ) (reached : Option State) (line bytes : List ℕ) (count' : ℕ) (reached' : Option State) (line' rest piece after : List ℕ) (count2 : ℕ) (next : Option State) (line2 : List ℕ)
+    → Fed count reached line bytes count' reached' line' rest → NoFeed piece × (rest ≡ piece ++ (10 ∷ after)) → length line' + length piece < 4096
+    → LineLeads reached' (line' ++ piece) next × (count2 ≡ count' + 1) × (line2 ≡ [])
+    → Fed count reached line bytes count2 next line2 after
+Fed-ended count reached line bytes count' reached' line' rest piece after count2 next line2 f cut small r =
+    rw (r.1, r.2) (Fed-line count reached line bytes count' reached' line' rest piece after next f cut.0 cut.1 small r.0)
 
 pub counted_line : (count bytes count' rest piece after : ℕ) → count' + rest ≤ count + bytes → rest ≡ piece + (1 + after) → (count' + 1) + after ≤ count + bytes
 counted_line count bytes count' rest piece after le e = omega arith

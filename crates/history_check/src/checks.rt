@@ -9,7 +9,7 @@ ghost use Rattle.history_check.specs.Behind.{state_of};
 ghost use Rattle.history_check.specs.Histories.{NoFeed, LineLeads, Refuses, IsRightSoFar, IsRunOf};
 ghost use Rattle.history_check.specs.Histories.{IsFaultOf};
 
-use history_moves::{line_first, line_move};
+use history_moves::{LineReader, line_first};
 use history_streams::{FileFault, line_end};
 use jls_check::{Machine, MoveFault};
 use std::alloc::Global;
@@ -26,6 +26,7 @@ pub(crate) struct Check {
     // The whole lines.
     count: u64,
     line: Vec<u8>,
+    reader: LineReader,
 }
 
 impl Check {
@@ -39,6 +40,7 @@ impl Check {
             machine: None,
             count: 0,
             line: Vec::new(alloc),
+            reader: LineReader::new(alloc),
         }
     }
 
@@ -56,8 +58,7 @@ impl Check {
     {
         let mut rest = bytes;
         'pieces: while let Some((piece, after)) = cut_line(rest) {
-            self.add(piece)?;
-            self.end_line()?;
+            self.end_with(piece)?;
             rest = after;
         }
         self.add(rest)
@@ -100,6 +101,56 @@ impl Check {
         Ok(())
     }
 
+    /// Ends the line with these bytes. Where they are the whole line, they are judged where they are.
+    fn end_with(&mut self, piece: &[u8]) -> Result<(), FileFault>
+        requires { self.old.count + 1 < 2 ^ 64 }
+        ensures ok { OnOk result
+            (LineLeads (option_map state_of self.old.machine) (self.old.line.items ++ piece.now)
+            (option_map state_of self.new.machine)
+            × (self.new.count ≡ self.old.count + 1) × (self.new.line.items ≡ [])) }
+        ensures small { OnOk result (length self.old.line.items + length piece.now < LINE) }
+        ensures fault { IfErr result (λ e. ((e ≡ Memory)
+            ⊎ ((e ≡ BadMove (self.old.count + 1))
+            × (LINE ≤ length self.old.line.items + length piece.now)))
+            ⊎ ((length self.old.line.items + length piece.now < LINE)
+            × Refuses (option_map state_of self.old.machine) (self.old.line.items ++ piece.now)
+            (self.old.count + 1) e)) }
+    {
+        if self.line.is_empty() {
+            return self.take_line(piece);
+        }
+        self.add(piece)?;
+        self.end_line()
+    }
+
+    /// Takes a whole line.
+    fn take_line(&mut self, line: &[u8]) -> Result<(), FileFault>
+        requires counted { self.old.count + 1 < 2 ^ 64 }
+        requires empty { self.old.line.items ≡ [] }
+        ensures ok { OnOk result
+            (LineLeads (option_map state_of self.old.machine) line.now
+            (option_map state_of self.new.machine)
+            × (self.new.count ≡ self.old.count + 1) × (self.new.line.items ≡ [])) }
+        ensures small { OnOk result (length line.now < LINE) }
+        ensures fault { IfErr result (λ e. ((e ≡ BadMove (self.old.count + 1))
+            × (LINE ≤ length line.now))
+            ⊎ ((length line.now < LINE)
+            × Refuses (option_map state_of self.old.machine) line.now (self.old.count + 1) e)) }
+    {
+        if line.len() >= LINE {
+            return Err(FileFault::BadMove(self.count + 1));
+        }
+        judge(
+            self.alloc,
+            &mut self.reader,
+            &mut self.machine,
+            line,
+            self.count + 1,
+        )?;
+        self.count += 1;
+        Ok(())
+    }
+
     /// Ends the line.
     fn end_line(&mut self) -> Result<(), FileFault>
         requires { self.old.count + 1 < 2 ^ 64 }
@@ -110,7 +161,13 @@ impl Check {
         ensures fault { IfErr result (Refuses (option_map state_of self.old.machine)
             self.old.line.items (self.old.count + 1)) }
     {
-        judge(self.alloc, &mut self.machine, &self.line, self.count + 1)?;
+        judge(
+            self.alloc,
+            &mut self.reader,
+            &mut self.machine,
+            &self.line,
+            self.count + 1,
+        )?;
         self.line.clear();
         self.count += 1;
         Ok(())
@@ -121,6 +178,7 @@ impl Check {
 #[tactic(auto, unfolding(crate::specs::Behind::state_of))]
 fn judge(
     alloc: Global,
+    reader: &mut LineReader,
     machine: &mut Option<Machine>,
     line: &[u8],
     number: u64,
@@ -138,7 +196,7 @@ fn judge(
             Ok(())
         }
         Some(machine) => {
-            let Some(made) = line_move(alloc, line)? else {
+            let Some(made) = reader.line_move(line)? else {
                 return Err(FileFault::BadMove(number));
             };
             match machine.take(made) {
