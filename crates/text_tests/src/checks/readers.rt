@@ -54,3 +54,21 @@ fn no_more_is_read_than_the_fault_needs(rt: HostRuntime) {
     assert!(rt; given_until(&rt, rt.alloc(), LOCKS_TWICE, FileFault::Broken(5)) <= 16_384);
     assert!(rt; given_until(&rt, rt.alloc(), b"", FileFault::BadMove(1)) == 4096);
 }
+
+/// The history of [`ENTERS`], as another hand writes it: with blanks, its keys in another order, and
+/// escapes.
+const ENTERS_SPELLED: &[u8] = br#" { "objects" : 1 }
+{ "thread" : 0, "move" : "Attach" }
+{ "thread" : 0, "call" : "Enter", "object" : 0, "move" : "C\u0061ll" }
+{"move":"Lock","thread":0}
+{"thread":0,"m\u006fve":"Lock","move":"Return","reply":"Entered"}
+"#;
+
+#[test]
+fn readers_that_give_a_little_of_other_spellings(rt: HostRuntime) -> Result<(), Fail> {
+    for at_once in 1..=220 {
+        let reader = PiecesReader::new(ENTERS_SPELLED, at_once, Then::Ends);
+        tells(&rt, rt.alloc(), reader, b"run of 4 moves\n")?;
+    }
+    Ok(())
+}

@@ -1,0 +1,230 @@
+//! Lines in many spellings. One reader, which goes through all of them, reads each as it is read
+//! alone.
+
+use history_moves::{LineReader, line_move};
+use std::alloc::{AllocError, Global};
+use std::process::Abort;
+use std::test::Fail;
+
+/// The members of a move of each kind.
+const KINDS: [&str; 33] = [
+    r#""move":"Attach"|"thread":7"#,
+    r#""move":"Lock"|"thread":0"#,
+    r#""move":"Unlock"|"thread":4294967295"#,
+    r#""move":"Illegal"|"thread":1"#,
+    r#""move":"BadArgument"|"thread":1"#,
+    r#""move":"Early"|"thread":1"#,
+    r#""move":"Wait"|"thread":1"#,
+    r#""move":"NotifyAll"|"thread":1"#,
+    r#""move":"Interrupt"|"thread":1"#,
+    r#""move":"TestClear"|"thread":1"#,
+    r#""move":"Ask"|"thread":1"#,
+    r#""move":"Expire"|"thread":1"#,
+    r#""move":"Spurious"|"thread":1"#,
+    r#""move":"Relock"|"thread":1"#,
+    r#""move":"End"|"thread":1"#,
+    r#""move":"Time"|"now":12345678901234567890"#,
+    r#""move":"Time"|"now":1234567890123456789"#,
+    r#""move":"Notify"|"thread":1|"chosen":null"#,
+    r#""move":"Notify"|"thread":1|"chosen":2"#,
+    r#""move":"Refuse"|"thread":1|"cause":"TooDeep""#,
+    r#""move":"Return"|"thread":1|"reply":"Entered""#,
+    r#""move":"\u0052eturn"|"thread":1|"reply":"D\u006fne""#,
+    r#""move":"Return"|"thread":1|"reply":"Refused"|"cause":"Memory""#,
+    r#""move":"Call"|"thread":1|"call":"Enter"|"object":3"#,
+    r#""\u006dove":"Call"|"thread":1|"call":"NotifyAll"|"\u006fbject":3"#,
+    r#""move":"Call"|"thread":1|"call":"Holds"|"object":4294967296"#,
+    r#""move":"Call"|"thread":1|"call":"Interrupt"|"target":5"#,
+    r#""move":"Call"|"thread":1|"call":"IsInterrupted"|"target":1"#,
+    r#""move":"Call"|"thread":1|"call":"Interrupted""#,
+    r#""move":"Call"|"thread":1|"call":"End""#,
+    r#""move":"Call"|"thread":1|"call":"Wait"|"millis":9|"nanos":8|"object":7"#,
+    r#""move":"Call"|"thread":1|"call":"Wait"|"millis":-9|"nanos":-8|"object":7"#,
+    r#""move":"Call"|"thread":1|"call":"Wait"|"millis":9223372036854775808|"nanos":2147483648|"object":7"#,
+];
+
+/// A member more: none, one that came before, one that no move has, or one of another move.
+const MORE: [&str; 10] = [
+    "",
+    r#""thread":1"#,
+    r#""move":"Lock""#,
+    r#""\u006dove":"Attach""#,
+    r#""move":1"#,
+    r#""other":1"#,
+    r#""now":5"#,
+    r#""chosen":null"#,
+    r#""call":"Enter""#,
+    r#""":"""#,
+];
+
+/// What stands before, between and behind members.
+const BLANKS: [(&str, &str, &str); 5] = [
+    ("{", ",", "}"),
+    (" { ", " , ", " } \r"),
+    ("{\t", ",\n", "\n}"),
+    ("{", ",,", "}"),
+    ("{", ",", "} {}"),
+];
+
+/// Values of any kind, as a member may have them.
+const VALUES: [&str; 24] = [
+    "0",
+    "00",
+    "01",
+    "-0",
+    "-1",
+    "1.0",
+    "1e0",
+    "1E400",
+    "4294967296",
+    "999999999999999999",
+    "1000000000000000000",
+    "9999999999999999999",
+    "18446744073709551615",
+    "18446744073709551616",
+    r#""1""#,
+    r#""\ud834\udd1e""#,
+    r#""\ud834""#,
+    r#""Call""#,
+    "null",
+    "nul",
+    "true",
+    "[1]",
+    "{}",
+    r#"{"thread":1}"#,
+];
+
+/// The begin of a move in which the value of one member is open, and its end.
+const OPEN: [(&str, &str); 10] = [
+    (r#"{"thread":"#, r#","move":"Attach"}"#),
+    (r#"{"thread":1,"move":"#, "}"),
+    (r#"{"thread":1,"move":"Call","call":"Enter","object":"#, "}"),
+    (r#"{"thread":1,"move":"Call","call":"End","object":"#, "}"),
+    (r#"{"thread":1,"move":"Call","call":"#, r#","object":1}"#),
+    (r#"{"thread":1,"move":"Notify","chosen":"#, "}"),
+    (r#"{"move":"Time" ,"now":"#, "}"),
+    (r#"{"thread":1,"move":"Refuse","cause":"#, "}"),
+    (
+        r#"{"thread":1,"move":"Call","call":"Wait","object":1,"nanos":0,"millis":"#,
+        "}",
+    ),
+    (
+        r#"{"thread":1,"move":"Call","call":"Wait","object":1,"millis":0,"nanos":"#,
+        "}",
+    ),
+];
+
+fn agrees(rt: &impl Abort, alloc: Global, reader: &mut LineReader, line: &[u8]) {
+    let read = reader.line_move(line);
+    assert!(rt; read == line_move(alloc, line));
+}
+
+/// Members from a place on, and then those before it.
+fn push_turned(
+    line: &mut String,
+    members: &[&str],
+    first: usize,
+    blanks: (&str, &str, &str),
+) -> Result<(), AllocError> {
+    let (begin, between, end) = blanks;
+    let mut before = begin;
+    for member in members.iter().skip(first) {
+        line.push_str(before)?;
+        line.push_str(member)?;
+        before = between;
+    }
+    for member in members.iter().take(first) {
+        line.push_str(before)?;
+        line.push_str(member)?;
+        before = between;
+    }
+    line.push_str(end)
+}
+
+/// The lines of a kind of move, with one member more, in each order that turns it.
+fn turned_agree(
+    rt: &impl Abort,
+    alloc: Global,
+    reader: &mut LineReader,
+    kind: &str,
+    more: &str,
+) -> Result<(), AllocError> {
+    let mut members = Vec::new(alloc);
+    for member in kind.split('|') {
+        members.push(member)?;
+    }
+    if !more.is_empty() {
+        members.push(more)?;
+    }
+    for &blanks in &BLANKS {
+        for first in 0..members.len() {
+            let mut line = String::new(alloc);
+            push_turned(&mut line, &members, first, blanks)?;
+            agrees(rt, alloc, reader, line.as_bytes());
+        }
+    }
+    Ok(())
+}
+
+#[test]
+fn orders_blanks_and_members_more(rt: HostRuntime) -> Result<(), Fail> {
+    let alloc = rt.alloc();
+    let mut reader = LineReader::new(alloc);
+    for &kind in &KINDS {
+        for &more in &MORE {
+            turned_agree(&rt, alloc, &mut reader, kind, more)?;
+        }
+    }
+    Ok(())
+}
+
+#[test]
+fn values_of_any_kind(rt: HostRuntime) -> Result<(), Fail> {
+    let alloc = rt.alloc();
+    let mut reader = LineReader::new(alloc);
+    for &(begin, end) in &OPEN {
+        for &value in &VALUES {
+            let line = format!(in alloc; "{begin}{value}{end}")?;
+            agrees(&rt, alloc, &mut reader, line.as_bytes());
+        }
+    }
+    Ok(())
+}
+
+const NOTIFY: &str = r#"{"thread":1, "move":"N\u006ftify", "chosen":null}"#;
+
+/// A line that is cut anywhere, and one of which any byte is no text, or ends a text.
+#[test]
+fn cut_lines_and_other_bytes(rt: HostRuntime) -> Result<(), Fail> {
+    let alloc = rt.alloc();
+    let mut reader = LineReader::new(alloc);
+    for count in 0..=NOTIFY.len() {
+        let (front, back) = NOTIFY.as_bytes().split_at(count);
+        agrees(&rt, alloc, &mut reader, front);
+        for byte in b"\xff\"\\ 1" {
+            let mut line = Vec::new(alloc);
+            line.extend_from_slice(front)?;
+            line.push(*byte)?;
+            line.extend_from_slice(back)?;
+            agrees(&rt, alloc, &mut reader, &line);
+        }
+    }
+    Ok(())
+}
+
+/// Lines on both sides of the longest that a reader keeps room for, and short ones between them.
+#[test]
+fn long_lines_and_short_ones(rt: HostRuntime) -> Result<(), Fail> {
+    let alloc = rt.alloc();
+    let mut reader = LineReader::new(alloc);
+    for &bytes in &[49usize, 4094, 4095, 4096, 60, 4097, 9000, 49] {
+        let mut line = Vec::new(alloc);
+        line.extend_from_slice(NOTIFY.as_bytes())?;
+        for _ in NOTIFY.len()..bytes {
+            line.push(b' ')?;
+        }
+        agrees(&rt, alloc, &mut reader, &line);
+        assert!(rt; matches!(reader.line_move(&line), Ok(Some(_))));
+    }
+    Ok(())
+}
