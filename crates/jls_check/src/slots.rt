@@ -149,18 +149,15 @@ fn change_hint(hints: &mut [u32], at: usize, from: usize, to: u32) {
     }
 }
 
-/// Keeps at least 4 hints for each slot, and at most 32 and some. A table of another size is
-/// filled anew, which the slots that came or went since have paid for. Without memory for it the
-/// hints stay as they are.
+/// Keeps at least 4 hints for each slot, and at most 32 and some. Else there are 8 for each from now
+/// on, filled anew: the slots that came or went since the last time have paid for that. Without
+/// memory for it the hints stay as they are.
 pub(crate) fn fit_hints(hints: &mut Vec<u32>, slots: &[Slot]) {
     let count = hints.len();
-    let wanted = if count / 4 < slots.len() {
-        count.saturating_mul(2).max(16)
-    } else if count / 32 > slots.len() {
-        count / 4
-    } else {
+    if count / 4 >= slots.len() && count / 32 <= slots.len() {
         return;
-    };
+    }
+    let wanted = slots.len().saturating_mul(8).max(16);
     let Ok(fresh) = vec![in *hints.allocator(); 0; wanted] else {
         return;
     };
