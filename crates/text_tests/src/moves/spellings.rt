@@ -1,6 +1,8 @@
 //! Lines in many spellings. One reader, which goes through all of them, reads each as it is read
 //! alone.
 
+ghost use Rattle.std.specs.Prelude.{◌≤◌, length};
+
 use history_moves::{LineReader, line_move};
 use std::alloc::{AllocError, Global};
 use std::process::Abort;
@@ -119,25 +121,32 @@ fn agrees(rt: &impl Abort, alloc: Global, reader: &mut LineReader, line: &[u8]) 
     assert!(rt; read == line_move(alloc, line));
 }
 
+/// Adds members, each behind a separator.
+fn push_each(line: &mut String, members: &[&str], between: &str) -> Result<(), AllocError> {
+    for member in members {
+        line.push_str(between)?;
+        line.push_str(member)?;
+    }
+    Ok(())
+}
+
 /// Members from a place on, and then those before it.
 fn push_turned(
     line: &mut String,
     members: &[&str],
     first: usize,
     blanks: (&str, &str, &str),
-) -> Result<(), AllocError> {
+) -> Result<(), AllocError>
+    requires { first ≤ length members.now }
+{
     let (begin, between, end) = blanks;
-    let mut before = begin;
-    for member in members.iter().skip(first) {
-        line.push_str(before)?;
-        line.push_str(member)?;
-        before = between;
+    line.push_str(begin)?;
+    let (front, back) = members.split_at(first);
+    if let Some((head, rest)) = back.split_first() {
+        line.push_str(head)?;
+        push_each(line, rest, between)?;
     }
-    for member in members.iter().take(first) {
-        line.push_str(before)?;
-        line.push_str(member)?;
-        before = between;
-    }
+    push_each(line, front, between)?;
     line.push_str(end)
 }
 
