@@ -1,9 +1,9 @@
 -- Lines that come one by one.
-use Rattle.std.proofs.Common.{◌≡◌, ◌≤◌, ◌<◌, ◌+◌, ℕ, List, [], ◌∷◌, ◌++◌, length, Bool, true, false, ◌&&◌, ◌||◌, ◌==◌, None, Some, refl, sym, ap, ◌∙◌, subst, arith, inl, inr, ◌⊎◌, append-nil, length-append}
+use Rattle.std.proofs.Common.{◌≡◌, ◌≤◌, ◌<◌, ◌+◌, ℕ, List, [], ◌∷◌, ◌++◌, length, true, false, ◌&&◌, ◌||◌, ◌==◌, None, Some, refl, sym, ap, ◌∙◌, subst, arith, inl, inr, ◌⊎◌, append-nil, length-append}
 use Rattle.std.proofs.lemmas.Bool.{eqb-true}
 use Rattle.history_streams.specs.declared.faults.FileFault.TheVariants as faults
 use Rattle.history_text.specs.declared.lines.Line.{Line}
-use Rattle.history_text.specs.Lines.{is_object, next_from, line_at, may_follow, parts_of, line_text, script_text, Fits, Continues, IsFirstBad, IsScript}
+use Rattle.history_text.specs.Lines.{is_object, next_from, line_at, may_follow, parts_of, script_text, IsScript}
 use Rattle.history_text.specs.Noted.{IsNoted, may_follow_by, with_object}
 use Rattle.history_text.specs.Places.{HasCome, Place}
 use Rattle.history_text.specs.Scripts.{IsReasonFor}

@@ -1,4 +1,4 @@
-use Rattle.std.proofs.Common.{◌≡◌, ◌<◌, ◌+◌, ◌==◌, ◌∷◌, length, true, false, sym, ◌∙◌, subst}
+use Rattle.std.proofs.Common.{◌≡◌, ◌<◌, ◌==◌, ◌∷◌, length, false, sym, ◌∙◌, subst}
 use Rattle.history_text.specs.Lines.{parts_of}
 use Rattle.history_text.specs.Noted.{may_follow_by}
 use Rattle.history_text.specs.Places.{HasCome, Place}
