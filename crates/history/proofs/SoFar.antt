@@ -1,5 +1,5 @@
 -- A plan that is made as its lines come.
-use Rattle.std.proofs.Common.{◌≡◌, ◌<◌, ℕ, List, [], ◌∷◌, ◌++◌, length, drop, true, refl, sym, ap, ◌∙◌, subst, arith, Option, None, Some, MatchOption}
+use Rattle.std.proofs.Common.{◌≡◌, ◌<◌, ℕ, List, [], ◌∷◌, ◌++◌, drop, true, refl, sym, ap, ◌∙◌, subst, arith, Option, None, Some, MatchOption}
 use Rattle.lock_word.specs.declared.Split.{Split}
 use Rattle.history_text.specs.declared.lines.Line.{Line}
 use Rattle.history_text.specs.declared.lines.Line.TheVariants.{World, Object, Step}
@@ -8,7 +8,7 @@ use Rattle.history_text.specs.Noted.{object_names, with_object}
 use Rattle.history_text.specs.Places.{HasCome, Place}
 use Rattle.step_core.specs.declared.steps.Request.{Request}
 use Rattle.history.specs.NameLists.{NameLists}
-use Rattle.history.specs.Numbering.{IsWorldWith, MayTake, low_bytes, names_of, names_then, no_names, requests_of, requests_then, with_low}
+use Rattle.history.specs.Numbering.{IsWorldWith, MayTake, names_then, no_names, requests_of, requests_then, with_low}
 use Rattle.history.specs.Plans.{IsPlanOf}
 use Rattle.history.specs.SoFar.{IsPlanSoFar}
 use Rattle.history.specs.declared.plans.Plan.{Plan}

@@ -1,4 +1,3 @@
-use Rattle.std.proofs.Common.{List, ℕ, subst, sym}
 use Rattle.history.proofs.SoFar.{at_line, may_take_next, more_so_far}
 use Rattle.history.proofs.running.plan_in.Goals as goal
 
