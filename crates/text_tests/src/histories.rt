@@ -1,6 +1,8 @@
 //! Histories of scripts whose reader fails; and scripts that `run` reads line by line, beside what
 //! `read_script` says of them.
 
+mod names;
+
 use super::pieces::{PiecesReader, Then};
 use history::{FileFault, ReaderSource, WriterSink, moves, read_script, run};
 use std::alloc::Global;
