@@ -139,7 +139,10 @@ fn takes_and_gives_in_no_order(rt: HostRuntime) {
     for round in 0..8_000 {
         state = state.wrapping_mul(1_664_525).wrapping_add(1_013_904_223);
         let thread = ThreadId((state >> 16) % 200);
-        assert!(rt; is_as_plain(&mut indices, &mut plain, thread, state), "{round}");
+        assert!(rt;
+            is_as_plain(&mut indices, &mut plain, thread, state),
+            "{round}"
+        );
     }
 }
 
@@ -153,7 +156,10 @@ fn threads_whose_numbers_end_alike(rt: HostRuntime) {
         state = state.wrapping_mul(1_664_525).wrapping_add(1_013_904_223);
         let number = (state >> 16) % 700;
         let thread = ThreadId(if number < 350 { number } else { number << 16 });
-        assert!(rt; is_as_plain(&mut indices, &mut plain, thread, state), "{round}");
+        assert!(rt;
+            is_as_plain(&mut indices, &mut plain, thread, state),
+            "{round}"
+        );
     }
 }
 
