@@ -186,7 +186,9 @@ impl Crowd {
         let thread = self.thread(index);
         if self.stands(index) == Stands::Gone {
             self.check(rt, calls!(thread, Call::End), BROKEN);
-            if self.machine.take(Move::Attach { thread }) != LAWFUL {
+            let answer = self.machine.take(Move::Attach { thread });
+            assert!(rt; answer == LAWFUL || answer == Err(MoveFault::Memory));
+            if answer != LAWFUL {
                 // It was refused memory, and is not live.
                 self.check(rt, calls!(thread, Call::End), BROKEN);
                 self.check(rt, Move::Attach { thread }, LAWFUL);

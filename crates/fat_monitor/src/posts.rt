@@ -1,7 +1,7 @@
 //! The attached threads: where each stands, and whether it is interrupted.
 
-ghost use Rattle.std.specs.Prelude.{◌≡◌, ◌<◌, ◌↔◌, OnOk, OnErr, IsErrOf, IsSome, Some, None, false};
-ghost use Rattle.std.specs.Prelude.{IsTrue, cond, nat_eq};
+ghost use Rattle.std.specs.Prelude.{◌≡◌, ◌<◌, ◌↔◌, OnOk, OnErr, IfSome, IsErrOf, IsSome, Some, None};
+ghost use Rattle.std.specs.Prelude.{IsTrue, cond, false, nat_eq};
 ghost use Rattle.std.specs.Map.{lookup};
 ghost use Rattle.std.specs.Option.{unwrap_or};
 ghost use Rattle.std.specs.FinMap as map;
@@ -75,6 +75,19 @@ fn is_at(records: &Slab<Record>, key: usize, thread: ThreadId) -> bool
     }
 }
 
+// The key that a hint names, where the record there is that of the thread.
+#[inline(always)]
+fn hinted_key_of(records: &Slab<Record>, hints: &Hints, thread: ThreadId) -> Option<usize>
+    ensures { IfSome result (λ key. LeadsTo records.now thread.0 key) }
+{
+    let hint = hints.place(thread.0) as usize;
+    if is_at(records, hint, thread) {
+        Some(hint)
+    } else {
+        None
+    }
+}
+
 // The key of a thread's record; None where the thread is not attached.
 #[inline(always)]
 fn key_of(
@@ -86,11 +99,30 @@ fn key_of(
     requires { HaveKeys records.now keys.now.entries }
     ensures { result ≡ lookup (nat_eq thread.0) keys.now.entries }
 {
-    let hint = hints.place(thread.0) as usize;
-    if is_at(records, hint, thread) {
-        return Some(hint);
+    if let Some(key) = hinted_key_of(records, hints, thread) {
+        return Some(key);
     }
     listed_key_of(keys, thread)
+}
+
+// The same, and where no hint leads there, there is one from now on: the thread may have lost it to
+// another whose number has the same low bits.
+#[inline(always)]
+fn key_noting(
+    records: &Slab<Record>,
+    keys: &HashMap<u32, usize>,
+    hints: &mut Hints,
+    thread: ThreadId,
+) -> Option<usize>
+    requires { HaveKeys records.now keys.now.entries }
+    ensures { result ≡ lookup (nat_eq thread.0) keys.now.entries }
+{
+    if let Some(key) = hinted_key_of(records, hints, thread) {
+        return Some(key);
+    }
+    let key = listed_key_of(keys, thread)?;
+    note_one(hints, thread, key);
+    Some(key)
 }
 
 // The key of a thread's record by the table of keys. It is a function of its own, so that a look by
@@ -230,7 +262,7 @@ impl Posts {
         requires { IsSome (map.get self.old.posts thread.0) }
         ensures { self.new ≡ record self.old { posts = map.insert self.old.posts thread.0 post } }
     {
-        let Some(key) = key_of(&self.records, &self.keys, &self.hints, thread) else {
+        let Some(key) = key_noting(&self.records, &self.keys, &mut self.hints, thread) else {
             unreachable!();
         };
         let Some(record) = self.records.get_mut(key) else {
@@ -262,7 +294,7 @@ impl Posts {
         requires { IsSome (map.get self.old.posts thread.0) }
         ensures { self.new ≡ with_parked self.old thread post node.0 }
     {
-        let Some(key) = key_of(&self.records, &self.keys, &self.hints, thread) else {
+        let Some(key) = key_noting(&self.records, &self.keys, &mut self.hints, thread) else {
             unreachable!();
         };
         let Some(record) = self.records.get_mut(key) else {
@@ -286,7 +318,7 @@ impl Posts {
         requires { IsSome (map.get self.old.posts thread.0) }
         ensures { self.new ≡ record self.old { flags = map.insert self.old.flags thread.0 flag } }
     {
-        let Some(key) = key_of(&self.records, &self.keys, &self.hints, thread) else {
+        let Some(key) = key_noting(&self.records, &self.keys, &mut self.hints, thread) else {
             unreachable!();
         };
         let Some(record) = self.records.get_mut(key) else {
@@ -332,7 +364,7 @@ impl Posts {
         requires { IsSome (map.get self.old.posts thread.0) }
         ensures { self.new ≡ record self.old { owned = map.insert self.old.owned thread.0 count } }
     {
-        let Some(key) = key_of(&self.records, &self.keys, &self.hints, thread) else {
+        let Some(key) = key_noting(&self.records, &self.keys, &mut self.hints, thread) else {
             unreachable!();
         };
         let Some(record) = self.records.get_mut(key) else {

@@ -101,7 +101,8 @@ impl Check {
         Ok(())
     }
 
-    /// Ends the line with these bytes. Where they are the whole line, they are judged where they are.
+    /// Ends the line with these bytes. Where they are the whole line, they are judged where they
+    /// are.
     fn end_with(&mut self, piece: &[u8]) -> Result<(), FileFault>
         requires { self.old.count + 1 < 2 ^ 64 }
         ensures ok { OnOk result

@@ -36,7 +36,8 @@ pub(crate) struct Gathered<'a> {
     chosen: Option<Option<u64>>,
 }
 
-/// The number that a text is; None of one that is negative, or no integer, or has 20 digits or more.
+/// The number that a text is; None of one that is negative, or no integer, or has 20 digits or
+/// more.
 fn whole_of(text: &str) -> Option<u64>
     ensures { IfSome result (λ n. number_of text.now ≡ Some (unsigned n)) }
 {

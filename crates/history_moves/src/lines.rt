@@ -97,7 +97,7 @@ pub struct LineReader {
     scratch: Option<Box<Scratch>>,
 }
 
-/// What is kept of a reader.
+/// Room for the tokens of a line; None without memory.
 #[cold]
 #[inline(never)]
 fn new_scratch(alloc: Global) -> Option<Box<Scratch>> {

@@ -1,7 +1,7 @@
 //! The members of an object, by their keys.
 
-ghost use Rattle.std.specs.Prelude.{◌≡◌, ◌^◌, nat_lt, if◌then◌else◌, None, Some, option_map, IfSome};
-ghost use Rattle.std.specs.Prelude.{codes};
+ghost use Rattle.std.specs.Prelude.{◌≡◌, ◌^◌, nat_lt, if◌then◌else◌, None, Some, option_map};
+ghost use Rattle.std.specs.Prelude.{IfSome, codes};
 ghost use Rattle.serde_json.specs.Data.{Data};
 ghost use Rattle.serde_json.specs.View.{view};
 ghost use Rattle.history_moves.specs.Members.{IsOrderedData, count_in, text_at, whole_at};

@@ -1,7 +1,8 @@
 //! The lines of a script, handed out one by one.
 
-ghost use Rattle.std.specs.Prelude.{◌≡◌, ◌<◌, ◌+◌, ◌++◌, ◌∷◌, [], ℕ, List, true, length};
-ghost use Rattle.std.specs.Prelude.{Err, IfErr, IfOk, IfSome, MatchOption, MatchResult};
+ghost use Rattle.std.specs.Prelude.{◌≡◌, ◌<◌, ◌≤◌, ◌+◌, ◌++◌, ◌∷◌, [], ℕ, List, true, length};
+ghost use Rattle.std.specs.Prelude.{Err, IfErr, IfOk, IfSome, IsOk, MatchOption, MatchResult};
+ghost use Rattle.std.specs.Prelude.{None, Ok, OnErr};
 ghost use Rattle.history_streams.specs.declared.faults.FileFault.TheVariants.{BadLine};
 ghost use Rattle.history_text.specs.declared.lines.Line.{Line as LineData};
 ghost use Rattle.history_text.specs.Lines.{IsScript, may_follow, parts_of, script_text};
@@ -43,6 +44,7 @@ impl<'a> LineReader<'a> {
     /// A reader of the lines of some bytes, which are to be no more than a script has.
     pub fn new(bytes: &'a [u8]) -> Result<LineReader<'a>, FileFault>
         ensures start { IfOk result (HasCome bytes.now [] []) }
+        ensures short { length bytes.now ≤ MOST_BYTES → IsOk result }
         ensures too_long { MOST_BYTES < length bytes.now → result ≡ Err FileFault.Read }
         ensures fault { IfErr result (IsReasonFor bytes.now) }
     {
@@ -73,6 +75,8 @@ impl<'a> LineReader<'a> {
             (IsReasonFor bytes) }
         ensures shorter { IfOk result
             (λ next. IfSome next (λ _. length self.new.rest < length self.old.rest)) }
+        ensures end { result ≡ Ok None → self.new ≡ self.old }
+        ensures err { OnErr result (self.new ≡ self.old) }
     {
         let Some((part, after)) = cut_line(self.rest) else {
             self.end()?;

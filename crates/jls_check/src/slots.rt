@@ -36,7 +36,7 @@ pub(crate) fn place_of(
     places.get(&number).copied()
 }
 
-/// The same, and where no hint leads there, there is one from now on.
+/// The same, and where no hint leads there, there is one from now on, if there are hints at all.
 pub(crate) fn place_noting(
     slots: &[Slot],
     places: &BTreeMap<u32, usize>,
@@ -149,8 +149,8 @@ fn change_hint(hints: &mut [u32], at: usize, from: usize, to: u32) {
     }
 }
 
-/// Keeps at least 4 hints for each slot, and at most 32 and some. Else there are 8 for each from now
-/// on, filled anew: the slots that came or went since the last time have paid for that. Without
+/// Keeps at least 4 hints for each slot, and at most 32 and some. Else there are 8 for each from
+/// now on, filled anew: the slots that came or went since the last time have paid for that. Without
 /// memory for it the hints stay as they are.
 pub(crate) fn fit_hints(hints: &mut Vec<u32>, slots: &[Slot]) {
     let count = hints.len();

@@ -55,8 +55,8 @@ fn no_more_is_read_than_the_fault_needs(rt: HostRuntime) {
     assert!(rt; given_until(&rt, rt.alloc(), b"", FileFault::BadMove(1)) == 4096);
 }
 
-/// The history of [`ENTERS`], as another hand writes it: with blanks, its keys in another order, and
-/// escapes.
+/// The history of [`ENTERS`], as another hand writes it: with blanks, its keys in another order,
+/// and escapes.
 const ENTERS_SPELLED: &[u8] = br#" { "objects" : 1 }
 { "thread" : 0, "move" : "Attach" }
 { "thread" : 0, "call" : "Enter", "object" : 0, "move" : "C\u0061ll" }

@@ -6,8 +6,8 @@ use std::alloc::Global;
 use std::fmt::Write;
 use std::test::Fail;
 
-/// Names that differ in a digit in the middle; in the last of 32 bytes; and in two of 16 bytes,
-/// such that their bytes, joined word by word, are the same.
+/// Names that differ in a digit in the middle; in the last of 32 bytes; and such that all of them
+/// have one hint together, since what is mixed of their two halves is the same.
 #[derive(Clone, Copy)]
 enum Kind {
     Middle,
@@ -15,7 +15,7 @@ enum Kind {
     Joined,
 }
 
-/// The name with this number, of 300, 27 or 256.
+/// The name with this number, of 300, 26 or 256.
 fn name_of(alloc: Global, kind: Kind, number: u32) -> Result<String, Fail> {
     match kind {
         Kind::Middle => Ok(format!(in alloc; "thread_number_{number}_of_many")?),
