@@ -60,6 +60,7 @@ impl Names {
     }
 
     /// The thread with a name, which gets the next number where the name is new.
+    #[inline(always)]
     pub(crate) fn thread(&mut self, name: &Name<'_>) -> Result<ThreadId, Memory>
         ensures found { IfOk result (λ thread.
             thread ≡ record { 0 = position_of self.old.threads name.now }) }
@@ -84,6 +85,7 @@ impl Names {
 
     /// The object with a name. A name that was not declared stands for the number of the objects,
     /// which no object has.
+    #[inline(always)]
     pub(crate) fn object(&mut self, name: &Name<'_>) -> ObjectId
         ensures found { result ≡ record { 0 = position_of self.old.objects name.now } }
         ensures same { self.new ≡ self.old }

@@ -37,8 +37,9 @@ pub struct Plan {
 }
 
 impl Plan {
-    /// A world without objects and steps.
-    pub(crate) fn new(alloc: Global, monitors: u32, indices: u16, split: Split) -> Plan
+    /// A world without objects and steps. There is to be room for this many steps; without memory
+    /// for it there is none, and each step asks for its own.
+    pub(crate) fn new(alloc: Global, monitors: u32, indices: u16, split: Split, room: usize) -> Plan
         requires monitors { monitors ≤ 8388608 }
         requires some { 1 ≤ indices }
         requires few { indices ≤ greatest_index split }
@@ -47,18 +48,20 @@ impl Plan {
         ensures none { (result.names ≡ no_names) × (result.lows.items ≡ []) }
         ensures no_steps { result.steps.items ≡ [] }
     {
+        let mut steps = Vec::new(alloc);
+        let _ = steps.reserve(room);
         Plan {
             names: Names::new(alloc),
             monitors,
             indices,
             split,
             lows: Vec::new(alloc),
-            steps: Vec::new(alloc),
+            steps,
         }
     }
 
     /// Takes a line behind the first.
-    #[inline(always)]
+    #[inline(never)]
     pub(crate) fn take_line(&mut self, line: &Line<'_>) -> Result<(), Memory>
         requires { MayTake self.old.names.objects line.now }
         ensures objects { OnOk result (self.new.names.objects
@@ -95,7 +98,10 @@ impl Plan {
         Ok(())
     }
 
-    fn take_step(&mut self, step: &StepLine<'_>) -> Result<(), Memory>
+    /// Takes a step. All that it calls up to the look for a name is in place, so that the step of
+    /// a usual line is never written to memory as a line.
+    #[inline(always)]
+    pub(crate) fn take_step(&mut self, step: &StepLine<'_>) -> Result<(), Memory>
         ensures objects { OnOk result (self.new.names.objects ≡ self.old.names.objects) }
         ensures lows { OnOk result (self.new.lows.items ≡ self.old.lows.items) }
         ensures names { OnOk result (self.new.names ≡ names_in_step self.old.names step.now) }
@@ -111,6 +117,7 @@ impl Plan {
 }
 
 /// The step or relayout that a line is, by the numbers of its names.
+#[inline(always)]
 fn request_of(names: &mut Names, line: &StepLine<'_>) -> Result<Request, Memory>
     ensures request { IfOk result (λ r. r ≡ request_in names.old line.now) }
     ensures noted { OnOk result (names.new ≡ names_in_step names.old line.now) }
@@ -140,6 +147,7 @@ fn request_of(names: &mut Names, line: &StepLine<'_>) -> Result<Request, Memory>
 }
 
 /// The call that a line has, by the numbers of its names.
+#[inline(always)]
 fn call_of(names: &mut Names, call: &history_text::Call<'_>) -> Result<Call, Memory>
     ensures call { IfOk result (λ c. c ≡ call_in names.old call.now) }
     ensures noted { OnOk result (names.new ≡ names_with names.old call.now) }
@@ -208,7 +216,7 @@ pub fn plan_of(alloc: Global, lines: &[Line<'_>]) -> Result<Plan, Memory>
     else {
         unreachable!()
     };
-    let mut plan = Plan::new(alloc, *monitors, *indices, *split);
+    let mut plan = Plan::new(alloc, *monitors, *indices, *split, 0);
     take_lines(&mut plan, rest)?;
     Ok(plan)
 }

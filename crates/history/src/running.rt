@@ -27,6 +27,10 @@ use std::alloc::Global;
 /// How many bytes are read at once.
 const CHUNK: usize = 4096;
 
+/// How many bytes a step line has in a script of short names: a guess, by which there is room for
+/// the steps before they come.
+const STEP_BYTES: usize = 8;
+
 /// Reads a script to its end, plays it, and writes its report.
 ///
 /// The whole script is read and played before the first byte of the report is written.
@@ -83,22 +87,29 @@ fn report_or_fault(alloc: Global, plan: &Plan) -> Result<String, FileFault>
     Ok(report)
 }
 
-/// What the script plays that some bytes are the text of: each line is taken as it is read.
+/// What the script plays that some bytes are the text of: each line is taken as it is read, and the
+/// steps that most lines are take a way of their own.
 pub(crate) fn plan_in(alloc: Global, bytes: &[u8]) -> Result<Plan, FileFault>
     ensures a_script { OnOk result (IsScriptText bytes.now) }
     ensures a_plan { IfOk result (λ plan. IsPlanOf plan bytes.now) }
     ensures fault { IfErr result (IsReasonFor bytes.now) }
 {
     let mut lines = LineReader::new(bytes)?;
-    let mut plan = first_plan(alloc, &mut lines)?;
-    'lines: while let Some(line) = lines.next(alloc, &plan.names)? {
+    let mut plan = first_plan(alloc, &mut lines, bytes.len() / STEP_BYTES)?;
+    'lines: loop {
+        if let Some(step) = lines.next_usual() {
+            plan.take_step(&step)?;
+            continue;
+        }
+        let Some(line) = lines.next(alloc, &plan.names)? else {
+            return Ok(plan);
+        };
         plan.take_line(&line)?;
     }
-    Ok(plan)
 }
 
-/// The world of the first line, without objects and steps.
-fn first_plan(alloc: Global, lines: &mut LineReader<'_>) -> Result<Plan, FileFault>
+/// The world of the first line, without objects and steps, and with room for this many steps.
+fn first_plan(alloc: Global, lines: &mut LineReader<'_>, room: usize) -> Result<Plan, FileFault>
     requires { HasCome lines.old.rest [] [] lines.old }
     ensures plan { IfOk result (λ plan. IsPlanSoFar lines.old.rest plan lines.new) }
     ensures fault { IfErr result (IsReasonFor lines.old.rest) }
@@ -115,7 +126,7 @@ fn first_plan(alloc: Global, lines: &mut LineReader<'_>) -> Result<Plan, FileFau
     else {
         unreachable!()
     };
-    Ok(Plan::new(alloc, monitors, indices, split))
+    Ok(Plan::new(alloc, monitors, indices, split, room))
 }
 
 /// Reads a source to its end, which must come within the bytes that a script may have.

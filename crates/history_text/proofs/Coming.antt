@@ -1,13 +1,18 @@
 -- Lines that come one by one.
-use Rattle.std.proofs.Common.{◌≡◌, ◌≤◌, ◌<◌, ◌+◌, ℕ, List, [], ◌∷◌, ◌++◌, length, true, false, ◌&&◌, ◌||◌, ◌==◌, None, Some, refl, sym, ap, ◌∙◌, subst, arith, inl, inr, ◌⊎◌, append-nil, length-append}
-use Rattle.std.proofs.lemmas.Bool.{eqb-true}
+use Rattle.std.proofs.Common.{◌≡◌, ◌≤◌, ◌<◌, ◌+◌, ℕ, List, [], ◌∷◌, ◌++◌, length, Bool, true, false, not, ◌&&◌, ◌||◌, ◌==◌, None, Some, refl, sym, ap, ◌∙◌, subst, arith, inl, inr, ◌⊎◌, append-nil, length-append}
+use Rattle.std.proofs.lemmas.Bool.{eqb-true, ne_eqb}
 use Rattle.history_streams.specs.declared.faults.FileFault.TheVariants as faults
 use Rattle.history_text.specs.declared.lines.Line.{Line}
-use Rattle.history_text.specs.Lines.{is_object, next_from, line_at, may_follow, parts_of, script_text, IsScript}
+use Rattle.history_text.specs.declared.lines.Line.TheVariants.{Step}
+use Rattle.history_text.specs.declared.lines.StepLine.{StepLine}
+use Rattle.history_text.specs.Lines.{is_object, next_from, line_at, line_text, may_follow, parts_of, script_text, IsScript}
 use Rattle.history_text.specs.Noted.{IsNoted, may_follow_by, with_object}
 use Rattle.history_text.specs.Places.{HasCome, Place}
+use Rattle.history_text.specs.Quick.{BeginsWithLine}
 use Rattle.history_text.specs.Scripts.{IsReasonFor}
 use Rattle.history_text.proofs.Beginnings.{IsStuck, right_more, text_more, stuck_end, stuck_next}
+use Rattle.history_text.proofs.LineLaws.{line_again}
+use Rattle.history_text.proofs.ScriptLaws.{parts_of_line}
 use Rattle.history_text.proofs.NotedLaws.{follows_note, next_is, next_none, next_refused, noted_more}
 
 pub come_first : (bytes : List ℕ) → length bytes ≤ 16777216 → HasCome bytes [] [] (record { count = 0; declaring = true; rest = bytes })
@@ -33,6 +38,20 @@ come_more bytes came names place part after l come at may cut =
         noted = subst (λ (n : ℕ). IsNoted (came ++ l ∷ []) (place.declaring && (n == 0 || is_object l)) (with_object names l)) (sym come.count) (noted_more came place.declaring names l come.noted follows);
       },
     )
+
+-- the next line is a step, and its text is there
+pub come_step : (bytes : List ℕ) (came : List Line) (names : List (List ℕ)) (place : Place) (after : List ℕ) (s : StepLine) → HasCome bytes came names place
+    → BeginsWithLine place.rest (Step s) after → (place.count ≡ 0 → ⊥)
+    → (may_follow came (Step s) ≡ true) × HasCome bytes (came ++ Step s ∷ []) names (record { count = place.count + 1; declaring = false; rest = after })
+come_step bytes came names place after s come begins some =
+    let behind = ne_eqb place.count 0 some in
+    let more = come_more bytes came names place (line_text (Step s)) after (Step s) come (sym (line_again (Step s) begins.fits)) (ap not behind)
+    (ap parts_of begins.text ∙ parts_of_line (Step s) after begins.fits) in
+    (more.0, subst (λ (b : Bool). HasCome bytes (came ++ Step s ∷ []) names (record { count = place.count + 1; declaring = b; rest = after })) (over place.declaring (place.count == 0) behind) more.1)
+  where
+    over : (declaring first : Bool) → first ≡ false → (declaring && (first || false)) ≡ false
+    over true first e = rw e refl
+    over false first e = refl
 
 -- what is left begins with no line that may follow
 stuck_bad : (bytes : List ℕ) (came : List Line) (names : List (List ℕ)) (place : Place) → HasCome bytes came names place

@@ -3,6 +3,7 @@ pub mod Numerals
 pub mod Plain
 pub mod LineLaws
 pub mod ScriptLaws
+pub mod NameFront
 pub mod NameLaws
 pub mod NotedLaws
 pub mod NameText

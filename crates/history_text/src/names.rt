@@ -1,6 +1,6 @@
 //! The names of threads and objects.
 
-ghost use Rattle.std.specs.Prelude.{◌≡◌, Some};
+ghost use Rattle.std.specs.Prelude.{◌≡◌, ◌++◌, IfSome, Some, not, position};
 ghost use Rattle.std.specs.Int.{is_in_range};
 ghost use Rattle.std.specs.List.{list_all};
 ghost use Rattle.history_text.specs.Words.{is_name_byte, is_name, name_from};
@@ -56,6 +56,14 @@ fn is_right(bytes: &[u8]) -> bool
     }
 }
 
+/// How many bytes come before the first that stands in no name, if there is such a byte.
+#[inline(always)]
+fn name_len(bytes: &[u8]) -> Option<usize>
+    ensures { result ≡ position (λ b. not (is_name_byte b)) bytes.now }
+{
+    bytes.iter().position(|byte| !may_stand_in_name(*byte))
+}
+
 impl<'a> Name<'a> {
     /// The name that a text is.
     pub fn from_text(text: &'a str) -> Option<Name<'a>>
@@ -78,6 +86,25 @@ impl<'a> Name<'a> {
         // The bytes of a name are ASCII.
         let text = unsafe { str::from_utf8_unchecked(bytes) };
         Some(Name { text })
+    }
+
+    /// The name in front of some bytes, up to the first byte that stands in no name, and what is
+    /// left of them. None where there is no such byte.
+    #[inline(always)]
+    pub(crate) fn at_front(bytes: &'a [u8]) -> Option<(Name<'a>, &'a [u8])>
+        ensures { IfSome result (λ front. bytes.now ≡ front.0 ++ front.1.now) }
+    {
+        let len = name_len(bytes)?;
+        let (word, rest) = bytes.split_at(len);
+        let [first, ..] = word else {
+            return None;
+        };
+        if !is_letter(*first) || len > LONGEST_NAME {
+            return None;
+        }
+        // The bytes of a name are ASCII.
+        let text = unsafe { str::from_utf8_unchecked(word) };
+        Some((Name { text }, rest))
     }
 
     /// The text of the name.

@@ -1,11 +1,12 @@
-//! Reading the lines that a script has most of, with no list of their words: a `go`, and a `begin`
-//! of a call that names an object or a thread.
+//! Reading the lines that a script has most of, with no list of their words.
 
-ghost use Rattle.std.specs.Prelude.{◌≡◌, ◌++◌, ◌∷◌, IfSome};
-ghost use Rattle.history_text.specs.Quick.{SaysCall, SaysLine};
+ghost use Rattle.std.specs.Prelude.{◌≡◌, ◌++◌, ◌∷◌, IfSome, codes};
+ghost use Rattle.history_text.specs.declared.lines.Line.TheVariants.{Step};
+ghost use Rattle.history_text.specs.Quick.{BeginsWithCall, BeginsWithLine, SaysCall, SaysLine};
 
 use crate::lines::{Call, Line, StepLine};
 use crate::names::Name;
+use crate::reading::low_of;
 
 /// What stands behind these bytes, where they come first.
 #[inline(always)]
@@ -29,8 +30,49 @@ fn word_in(bytes: &[u8]) -> Option<(&[u8], &[u8])>
     Some((word, rest))
 }
 
-/// The line that some bytes are, where it is a `go` or one of the most usual `begin`s; None of any
-/// other, which is left to the reader of all lines.
+/// A name up to this byte, and what stands behind that.
+#[inline(always)]
+fn name_before(bytes: &[u8], end: u8) -> Option<(Name<'_>, &[u8])>
+    ensures { IfSome result (λ r. bytes.now ≡ r.0 ++ end ∷ r.1.now) }
+{
+    let (name, rest) = Name::at_front(bytes)?;
+    match rest {
+        [first, after @ ..] if *first == end => Some((name, after)),
+        _ => None,
+    }
+}
+
+/// The step in front of some bytes, with its line feed, and what stands behind that: a `go`, or the
+/// `begin` of an enter or an exit. None of anything else.
+#[inline(always)]
+pub(crate) fn usual_step(bytes: &[u8]) -> Option<(StepLine<'_>, &[u8])>
+    ensures { IfSome result (λ r. BeginsWithLine bytes.now (Step r.0) r.1.now) }
+{
+    if let Some(rest) = behind(bytes, b"go ") {
+        let (thread, rest) = name_before(rest, b'\n')?;
+        return Some((StepLine::Go(thread), rest));
+    }
+    let (thread, rest) = name_before(behind(bytes, b"begin ")?, b' ')?;
+    let (call, rest) = usual_call(rest)?;
+    Some((StepLine::Begin { thread, call }, rest))
+}
+
+/// The enter or exit in front of some bytes, with its line feed, and what stands behind that.
+#[inline(always)]
+fn usual_call(bytes: &[u8]) -> Option<(Call<'_>, &[u8])>
+    ensures { IfSome result (λ r. BeginsWithCall bytes.now r.0 r.1.now) }
+{
+    if let Some(rest) = behind(bytes, b"enter ") {
+        let (object, rest) = name_before(rest, b'\n')?;
+        return Some((Call::Enter(object), rest));
+    }
+    let (object, rest) = name_before(behind(bytes, b"exit ")?, b'\n')?;
+    Some((Call::Exit(object), rest))
+}
+
+/// The line that some bytes are, where it is one of the most usual: a `go`, a `begin` of a call
+/// that names one object or thread or of a wait without limit, an `object` or an `attach`. None of
+/// any other, which is left to the reader of all lines.
 #[inline(always)]
 pub(crate) fn quick_line(bytes: &[u8]) -> Option<Line<'_>>
     ensures { IfSome result (SaysLine bytes.now) }
@@ -39,19 +81,47 @@ pub(crate) fn quick_line(bytes: &[u8]) -> Option<Line<'_>>
         let thread = Name::from_bytes(rest)?;
         return Some(Line::Step(StepLine::Go(thread)));
     }
-    let (word, rest) = word_in(behind(bytes, b"begin ")?)?;
-    let thread = Name::from_bytes(word)?;
-    let call = quick_call(rest)?;
-    Some(Line::Step(StepLine::Begin { thread, call }))
+    if let Some(rest) = behind(bytes, b"begin ") {
+        let (thread, rest) = name_before(rest, b' ')?;
+        let call = quick_call(rest)?;
+        return Some(Line::Step(StepLine::Begin { thread, call }));
+    }
+    if let Some(rest) = behind(bytes, b"object ") {
+        let (name, rest) = name_before(rest, b' ')?;
+        let low = low_of(rest)?;
+        return Some(Line::Object { name, low });
+    }
+    let thread = Name::from_bytes(behind(bytes, b"attach ")?)?;
+    Some(Line::Step(StepLine::Attach(thread)))
 }
 
-/// The call at the end of a `begin`, where it names one object or thread and nothing else.
+/// The call at the end of a `begin`, where it names one object or thread and nothing else, or is a
+/// wait without limit.
 fn quick_call(bytes: &[u8]) -> Option<Call<'_>>
     ensures { IfSome result (SaysCall bytes.now) }
 {
     let (verb, rest) = word_in(bytes)?;
+    if verb == b"wait".as_slice() {
+        return quick_wait(rest);
+    }
     let name = Name::from_bytes(rest)?;
     call_named(verb, name)
+}
+
+/// The wait with these words behind its verb, where it has no limit.
+fn quick_wait(bytes: &[u8]) -> Option<Call<'_>>
+    ensures { IfSome result (SaysCall (codes "wait " ++ bytes.now)) }
+{
+    let (object, rest) = name_before(bytes, b' ')?;
+    if rest == b"0 0".as_slice() {
+        Some(Call::Wait {
+            object,
+            millis: 0,
+            nanos: 0,
+        })
+    } else {
+        None
+    }
 }
 
 /// The call with this verb.

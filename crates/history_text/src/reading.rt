@@ -30,10 +30,11 @@ fn hex_of(digit: u8) -> Option<u8>
     }
 }
 
-fn low_of(word: &str) -> Option<u8>
+/// The low byte that some bytes are, two upper-case hexadecimal digits.
+pub(crate) fn low_of(word: &[u8]) -> Option<u8>
     ensures { result ≡ low_from word.now }
 {
-    match word.as_bytes() {
+    match word {
         [high, low] => {
             let high = hex_of(*high)?;
             let low = hex_of(*low)?;
@@ -235,7 +236,7 @@ fn object_of<'a>(name: &'a str, low: &str) -> Option<Line<'a>>
         (name_from name.now) }
 {
     let name = Name::from_text(name)?;
-    let low = low_of(low)?;
+    let low = low_of(low.as_bytes())?;
     Some(Line::Object { name, low })
 }
 

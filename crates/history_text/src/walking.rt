@@ -5,13 +5,15 @@ ghost use Rattle.std.specs.Prelude.{Err, IfErr, IfOk, IfSome, IsOk, MatchOption,
 ghost use Rattle.std.specs.Prelude.{None, Ok, OnErr};
 ghost use Rattle.history_streams.specs.declared.faults.FileFault.TheVariants.{BadLine};
 ghost use Rattle.history_text.specs.declared.lines.Line.{Line as LineData};
+ghost use Rattle.history_text.specs.declared.lines.Line.TheVariants.{Step};
 ghost use Rattle.history_text.specs.Lines.{IsScript, may_follow, parts_of, script_text};
 ghost use Rattle.history_text.specs.Noted.{with_object};
 ghost use Rattle.history_text.specs.Places.{HasCome};
 ghost use Rattle.history_text.specs.Scripts.{IsReasonFor};
 
 use crate::declared::Declared;
-use crate::lines::Line;
+use crate::lines::{Line, StepLine};
+use crate::quick::usual_step;
 use crate::reading::line_of;
 use crate::scripts::{MOST_BYTES, cut_line, follows, still_declaring};
 use history_streams::FileFault;
@@ -92,6 +94,28 @@ impl<'a> LineReader<'a> {
         self.count += 1;
         self.rest = after;
         Ok(Some(line))
+    }
+
+    /// The next line, where it is one of the steps that a script has most of: a `go`, or the `begin`
+    /// of an enter or an exit. Nothing is taken where it is none of these, or is the first, or is
+    /// bad; [`next`](LineReader::next) tells then what it is.
+    #[inline(always)]
+    pub fn next_usual(&mut self) -> Option<StepLine<'a>>
+        ensures told { (bytes : List ℕ) (came : List LineData) (names : List (List ℕ))
+            → HasCome bytes came names self.old
+            → IfSome result (λ step. (may_follow came (Step step) ≡ true)
+            × HasCome bytes (came ++ Step step ∷ []) names self.new) }
+        ensures shorter { IfSome result (λ _. length self.new.rest < length self.old.rest) }
+        ensures none { result ≡ None → self.new ≡ self.old }
+    {
+        if self.count == 0 {
+            return None;
+        }
+        let (step, after) = usual_step(self.rest)?;
+        self.declaring = false;
+        self.count += 1;
+        self.rest = after;
+        Some(step)
     }
 
     /// Whether the lines are a script, where no line is ended behind them.
