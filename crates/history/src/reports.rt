@@ -20,7 +20,7 @@ ghost use Rattle.history.specs.Reports.{threads_text};
 
 use crate::names::Names;
 use crate::plans::Plan;
-use crate::words::{action_word, put_digits, put_reply, put_verb_and_name};
+use crate::words::{act_text, put_reply, put_word, put_words};
 use fat_monitor::Answer;
 use lock_word::{Memory, ObjectId, Split, ThreadId, Word};
 use std::alloc::{AllocError, Global};
@@ -162,21 +162,23 @@ fn put_step(
 {
     match step {
         Step::Attach { thread } => put_attach(report, names, world, thread),
-        Step::Begin { thread, .. } => put_verb(report, "begin", names.name_of_thread(thread)),
-        Step::Expire { thread } => put_verb(report, "expire", names.name_of_thread(thread)),
-        Step::Spurious { thread } => put_verb(report, "spurious", names.name_of_thread(thread)),
+        Step::Begin { thread, .. } => put_verb(report, "begin ", names.name_of_thread(thread)),
+        Step::Expire { thread } => put_verb(report, "expire ", names.name_of_thread(thread)),
+        Step::Spurious { thread } => put_verb(report, "spurious ", names.name_of_thread(thread)),
         Step::Tick { now } => writeln!(report, "tick {now}"),
         Step::Go { thread } => put_go(report, names, thread, did),
     }
 }
 
-/// Writes the line of a step of which no more is told than its thread.
-fn put_verb(report: &mut String, verb: &str, name: &str) -> Result<(), AllocError>
+/// Writes the line of a step of which no more is told than its thread. The verb has its blank.
+///
+/// In place, so that the verb is a constant where it is pushed, and moves copy it.
+#[inline(always)]
+fn put_verb(report: &mut String, verb: &'static str, name: &str) -> Result<(), AllocError>
     ensures { OnOk result (string_bytes report.new
-        ≡ string_bytes report.old ++ verb.now ++ 32 ∷ name.now ++ 10 ∷ []) }
+        ≡ string_bytes report.old ++ verb.now ++ name.now ++ 10 ∷ []) }
 {
     report.push_str(verb)?;
-    report.push_str(" ")?;
     report.push_str(name)?;
     report.push_str("\n")
 }
@@ -205,7 +207,6 @@ fn put_go(report: &mut String, names: &Names, thread: ThreadId, did: Did) -> Res
 {
     report.push_str("go ")?;
     report.push_str(names.name_of_thread(thread))?;
-    report.push_str(" ")?;
     put_atomic(report, names, did.atomic)?;
     put_ending(report, did)
 }
@@ -232,80 +233,69 @@ fn put_ending(report: &mut String, did: Did) -> Result<(), AllocError>
     }
 }
 
-/// Writes what a step did to the words or the fat monitors.
+/// Writes a blank, and what a step did to the words or the fat monitors.
 fn put_atomic(report: &mut String, names: &Names, atomic: Atomic) -> Result<(), AllocError>
     ensures { OnOk result (string_bytes report.new
-        ≡ string_bytes report.old ++ atomic_text names.now atomic) }
+        ≡ string_bytes report.old ++ 32 ∷ atomic_text names.now atomic) }
 {
     match atomic {
-        Atomic::Label => Ok(()),
-        Atomic::Load { object, word } => put_seen(report, names, "load", object, word),
-        Atomic::Won { object, old, new } => put_written(report, names, "won", object, old, new),
-        Atomic::Lost { object, word } => put_seen(report, names, "lost", object, word),
+        Atomic::Label => report.push_str(" "),
+        Atomic::Load { object, word } => put_seen(report, names, " load ", object, word),
+        Atomic::Won { object, old, new } => put_written(report, names, " won ", object, old, new),
+        Atomic::Lost { object, word } => put_seen(report, names, " lost ", object, word),
         Atomic::Stored { object, old, new } => {
-            put_written(report, names, "store", object, old, new)
+            put_written(report, names, " store ", object, old, new)
         }
         Atomic::Bound { object, monitor } => {
             let object = names.name_of_object(object);
-            write!(report, "bind {object} {monitor}")
+            write!(report, " bind {object} {monitor}")
         }
         Atomic::NotBound { object, cause } => {
             let object = names.name_of_object(object);
-            write!(report, "nobind {object} {cause}")
+            write!(report, " nobind {object} {cause}")
         }
-        Atomic::Acted { action, .. } => {
-            report.push_str("act ")?;
-            report.push_str(action_word(action))
-        }
+        Atomic::Acted { action, .. } => report.push_str(act_text(action)),
     }
 }
 
-/// Writes that a step saw a word of an object.
+/// Writes that a step saw a word of an object. The verb has its blanks.
+///
+/// In place, so that the verb is a constant where it is pushed, and moves copy it.
+#[inline(always)]
 fn put_seen(
     report: &mut String,
     names: &Names,
-    verb: &str,
+    verb: &'static str,
     object: ObjectId,
     word: Word,
 ) -> Result<(), AllocError>
     ensures { OnOk result (string_bytes report.new ≡ string_bytes report.old
-        ++ verb.now ++ 32 ∷ name_at names.now.objects object.0 ++ 32 ∷ word_text word.0) }
+        ++ verb.now ++ name_at names.now.objects object.0 ++ 32 ∷ word_text word.0) }
 {
-    put_verb_and_name(report, verb, names.name_of_object(object))?;
-    put_digits(report, word)
+    report.push_str(verb)?;
+    report.push_str(names.name_of_object(object))?;
+    put_word(report, word)
 }
 
-/// Writes that a step wrote the word of an object.
+/// Writes that a step wrote the word of an object. The verb has its blanks.
+///
+/// In place, as `put_seen` is.
+#[inline(always)]
+#[tactic(auto, unfolding(crate::specs::Reports::shown_word))]
 fn put_written(
     report: &mut String,
     names: &Names,
-    verb: &str,
+    verb: &'static str,
     object: ObjectId,
     old: Word,
     new: Word,
 ) -> Result<(), AllocError>
     ensures { OnOk result (string_bytes report.new ≡ string_bytes report.old
-        ++ verb.now ++ 32 ∷ name_at names.now.objects object.0 ++ 32 ∷ exchange_text old new) }
+        ++ verb.now ++ name_at names.now.objects object.0 ++ 32 ∷ exchange_text old new) }
 {
-    put_verb_and_name(report, verb, names.name_of_object(object))?;
-    put_exchange(report, old, new)
-}
-
-/// Writes the words before and after an exchange or a store.
-fn put_exchange(report: &mut String, old: Word, new: Word) -> Result<(), AllocError>
-    ensures { OnOk result (string_bytes report.new
-        ≡ string_bytes report.old ++ exchange_text old new) }
-{
-    put_word(report, old)?;
-    report.push_str(" ")?;
-    put_word(report, new)
-}
-
-#[tactic(auto, unfolding(crate::specs::Reports::shown_word))]
-fn put_word(report: &mut String, word: Word) -> Result<(), AllocError>
-    ensures { OnOk result (string_bytes report.new ≡ string_bytes report.old ++ shown_word word) }
-{
-    put_digits(report, word)
+    report.push_str(verb)?;
+    report.push_str(names.name_of_object(object))?;
+    put_words(report, old, new)
 }
 
 /// Writes a line for each object of a world.
@@ -327,6 +317,7 @@ fn put_objects(
 }
 
 /// Writes the line of an object, in whose wait set these threads are.
+#[tactic(auto, unfolding(crate::specs::Reports::shown_word))]
 fn put_object(
     report: &mut String,
     names: &Names,
@@ -338,8 +329,7 @@ fn put_object(
     ensures { OnOk result (string_bytes report.new ≡ string_bytes report.old
         ++ object_text names.now world.now object waiting.now) }
 {
-    put_verb_and_name(report, "object", names.name_of_object(object))?;
-    put_word(report, world.word(object))?;
+    put_seen(report, names, "object ", object, world.word(object))?;
     put_standing(report, names, world, object)?;
     report.push_str(" waiting ")?;
     put_threads(report, names, waiting)?;

@@ -1,6 +1,6 @@
-//! Words and digits that are written without a formatter, since a report has some in each line.
+//! Texts and digits that are written without a formatter, since a report has some in each line.
 
-ghost use Rattle.std.specs.Prelude.{◌≡◌, ◌<◌, ◌++◌, ◌∷◌, [], IfSome, OnOk, codes, string_bytes};
+ghost use Rattle.std.specs.Prelude.{◌≡◌, ◌<◌, ◌++◌, ◌∷◌, [], OnOk, codes, string_bytes};
 ghost use Rattle.fat_monitor.specs.Names.{action_name, reply_name};
 ghost use Rattle.lock_word.specs.Names.{hex_digit, word_text};
 
@@ -11,80 +11,71 @@ use std::fmt::Write;
 use std::str;
 
 /// Ends the line of a `go` with a reply.
+///
+/// Each text is a constant where it is pushed, so that moves copy it and no call does. Out of line:
+/// in place, the arms make the doing and telling of a step too large for the loop over the steps,
+/// and each step is then copied for a call.
+#[inline(never)]
 pub(crate) fn put_reply(report: &mut String, reply: Reply) -> Result<(), AllocError>
     ensures { OnOk result (string_bytes report.new
         ≡ string_bytes report.old ++ codes " = " ++ reply_name reply ++ 10 ∷ []) }
 {
-    let Some(word) = short_word(reply) else {
-        return writeln!(report, " = {reply}");
-    };
-    report.push_str(" = ")?;
-    report.push_str(word)?;
-    report.push_str("\n")
-}
-
-/// Writes a verb and a name, and a space behind each.
-pub(crate) fn put_verb_and_name(
-    report: &mut String,
-    verb: &str,
-    name: &str,
-) -> Result<(), AllocError>
-    ensures { OnOk result (string_bytes report.new
-        ≡ string_bytes report.old ++ verb.now ++ 32 ∷ name.now ++ 32 ∷ []) }
-{
-    report.push_str(verb)?;
-    report.push_str(" ")?;
-    report.push_str(name)?;
-    report.push_str(" ")
-}
-
-/// The text of a reply that is no refusal.
-fn short_word(reply: Reply) -> Option<&'static str>
-    ensures { IfSome result (λ word. word.now ≡ reply_name reply) }
-{
-    Some(match reply {
-        Reply::Entered => "Entered",
-        Reply::Exited => "Exited",
-        Reply::WaitOver => "WaitOver",
-        Reply::Interrupted => "Interrupted",
-        Reply::Notified => "Notified",
-        Reply::Yes => "Yes",
-        Reply::No => "No",
-        Reply::Done => "Done",
-        Reply::Ended => "Ended",
-        Reply::IllegalMonitorState => "IllegalMonitorState",
-        Reply::IllegalArgument => "IllegalArgument",
-        Reply::Refused(_) => return None,
-    })
-}
-
-/// The text of an action.
-pub(crate) fn action_word(action: Action) -> &'static str
-    ensures { result.now ≡ action_name action }
-{
-    match action {
-        Action::Enter { .. } => "Enter",
-        Action::Exit { .. } => "Exit",
-        Action::Wait { .. } => "Wait",
-        Action::Notify { .. } => "Notify",
-        Action::NotifyAll { .. } => "NotifyAll",
-        Action::Holds { .. } => "Holds",
-        Action::Interrupt { .. } => "Interrupt",
-        Action::Interrupted => "Interrupted",
-        Action::IsInterrupted { .. } => "IsInterrupted",
-        Action::Expire => "Expire",
-        Action::Spurious => "Spurious",
-        Action::Collect => "Collect",
-        Action::End => "End",
+    match reply {
+        Reply::Entered => report.push_str(" = Entered\n"),
+        Reply::Exited => report.push_str(" = Exited\n"),
+        Reply::WaitOver => report.push_str(" = WaitOver\n"),
+        Reply::Interrupted => report.push_str(" = Interrupted\n"),
+        Reply::Notified => report.push_str(" = Notified\n"),
+        Reply::Yes => report.push_str(" = Yes\n"),
+        Reply::No => report.push_str(" = No\n"),
+        Reply::Done => report.push_str(" = Done\n"),
+        Reply::Ended => report.push_str(" = Ended\n"),
+        Reply::IllegalMonitorState => report.push_str(" = IllegalMonitorState\n"),
+        Reply::IllegalArgument => report.push_str(" = IllegalArgument\n"),
+        Reply::Refused(_) => put_refusal(report, reply),
     }
 }
 
-/// Writes the eight digits of a word.
-pub(crate) fn put_digits(report: &mut String, word: Word) -> Result<(), AllocError>
-    ensures { OnOk result (string_bytes report.new ≡ string_bytes report.old ++ word_text word.0) }
+/// Ends the line of a `go` with a reply whose text takes a formatter.
+///
+/// Out of line, so that the other replies need not keep registers for the formatter.
+#[inline(never)]
+fn put_refusal(report: &mut String, reply: Reply) -> Result<(), AllocError>
+    ensures { OnOk result (string_bytes report.new
+        ≡ string_bytes report.old ++ codes " = " ++ reply_name reply ++ 10 ∷ []) }
+{
+    writeln!(report, " = {reply}")
+}
+
+/// What a line says of an action on a fat monitor, with the blank before it.
+pub(crate) fn act_text(action: Action) -> &'static str
+    ensures { result.now ≡ codes " act " ++ action_name action }
+{
+    match action {
+        Action::Enter { .. } => " act Enter",
+        Action::Exit { .. } => " act Exit",
+        Action::Wait { .. } => " act Wait",
+        Action::Notify { .. } => " act Notify",
+        Action::NotifyAll { .. } => " act NotifyAll",
+        Action::Holds { .. } => " act Holds",
+        Action::Interrupt { .. } => " act Interrupt",
+        Action::Interrupted => " act Interrupted",
+        Action::IsInterrupted { .. } => " act IsInterrupted",
+        Action::Expire => " act Expire",
+        Action::Spurious => " act Spurious",
+        Action::Collect => " act Collect",
+        Action::End => " act End",
+    }
+}
+
+/// Writes a blank and the eight digits of a word.
+pub(crate) fn put_word(report: &mut String, word: Word) -> Result<(), AllocError>
+    ensures { OnOk result (string_bytes report.new
+        ≡ string_bytes report.old ++ 32 ∷ word_text word.0) }
 {
     let bits = word.0;
-    let digits = [
+    let text = [
+        b' ',
         hex_digit(bits / 0x1000_0000),
         hex_digit(bits / 0x100_0000 % 16),
         hex_digit(bits / 0x10_0000 % 16),
@@ -94,8 +85,38 @@ pub(crate) fn put_digits(report: &mut String, word: Word) -> Result<(), AllocErr
         hex_digit(bits / 0x10 % 16),
         hex_digit(bits % 16),
     ];
-    // Digits are ASCII.
-    report.push_str(unsafe { str::from_utf8_unchecked(&digits) })
+    // Digits and blanks are ASCII.
+    report.push_str(unsafe { str::from_utf8_unchecked(&text) })
+}
+
+/// Writes the words before and after an exchange or a store, each behind a blank.
+pub(crate) fn put_words(report: &mut String, old: Word, new: Word) -> Result<(), AllocError>
+    ensures { OnOk result (string_bytes report.new ≡ string_bytes report.old
+        ++ 32 ∷ word_text old.0 ++ 32 ∷ word_text new.0) }
+{
+    let (before, after) = (old.0, new.0);
+    let text = [
+        b' ',
+        hex_digit(before / 0x1000_0000),
+        hex_digit(before / 0x100_0000 % 16),
+        hex_digit(before / 0x10_0000 % 16),
+        hex_digit(before / 0x1_0000 % 16),
+        hex_digit(before / 0x1000 % 16),
+        hex_digit(before / 0x100 % 16),
+        hex_digit(before / 0x10 % 16),
+        hex_digit(before % 16),
+        b' ',
+        hex_digit(after / 0x1000_0000),
+        hex_digit(after / 0x100_0000 % 16),
+        hex_digit(after / 0x10_0000 % 16),
+        hex_digit(after / 0x1_0000 % 16),
+        hex_digit(after / 0x1000 % 16),
+        hex_digit(after / 0x100 % 16),
+        hex_digit(after / 0x10 % 16),
+        hex_digit(after % 16),
+    ];
+    // Digits and blanks are ASCII.
+    report.push_str(unsafe { str::from_utf8_unchecked(&text) })
 }
 
 /// An upper-case hexadecimal digit, in ASCII.
