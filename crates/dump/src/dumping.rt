@@ -3,23 +3,20 @@
 ghost use Rattle.std.specs.Prelude.{◌≡◌, ◌<◌, ◌≤◌, ◌⊎◌, ℕ, List, length, string_bytes, take};
 ghost use Rattle.std.specs.Prelude.{IsErrOf, IfSome, OnOk, IfErr, IfOk, Err};
 ghost use Rattle.std.specs.Io.KnownBytes.{Keeps, Appends};
-ghost use Rattle.history_text.specs.declared.lines.Line.{Line};
-ghost use Rattle.history_text.specs.Lines.{IsFirstBad, IsScript, script_text};
+ghost use Rattle.history_text.specs.Lines.{IsFirstBad};
 ghost use Rattle.history_text.specs.Scripts.{IsReasonFor};
 ghost use Rattle.history_streams.specs.declared.faults.FileFault.TheVariants.{BadLine, BadMove};
 ghost use Rattle.history_streams.specs.declared.faults.FileFault.TheVariants.{Broken};
 ghost use Rattle.history_streams.specs.declared.faults.FileFault.TheVariants.{Read as ReadFault};
 ghost use Rattle.history_streams.specs.declared.faults.FileFault.TheVariants.{Write as WriteFault};
-ghost use Rattle.history.specs.Plays.{IsPlayOf};
 ghost use Rattle.dump.specs.Dumps.{IsDumpOf};
 
 use crate::reports::report;
-use history::{FileFault, Names, Sink, Source, play, read_all, read_script};
+use history::{FileFault, Sink, Source, play_text, read_all};
 use history_streams::write_out;
 use history_text::MOST_BYTES;
 use lock_word::Memory;
 use std::alloc::Global;
-use step_core::World;
 
 /// Reads a script to its end, plays it, and writes a dump of the world that it leads to.
 ///
@@ -64,20 +61,9 @@ fn dump_in(alloc: Global, bytes: &[u8]) -> Result<String, FileFault>
     ensures dump { IfOk result (λ text. IsDumpOf bytes.now (string_bytes text)) }
     ensures fault { IfErr result (IsReasonFor bytes.now) }
 {
-    let (world, names) = world_in(alloc, bytes)?;
+    let (world, names) = play_text(alloc, bytes)?;
     match report(alloc, &world, &names) {
         Ok(text) => Ok(text),
         Err(Memory) => Err(FileFault::Memory),
     }
-}
-
-/// The world that the script leads to which some bytes are the text of, with the names of its
-/// threads and objects.
-fn world_in(alloc: Global, bytes: &[u8]) -> Result<(World, Names), FileFault>
-    ensures played { IfOk result (λ made. (lines : List Line) × IsScript lines
-        × (bytes.now ≡ script_text lines) × IsPlayOf lines made.0 made.1) }
-    ensures fault { IfErr result (IsReasonFor bytes.now) }
-{
-    let script = read_script(alloc, bytes)?;
-    play(alloc, &script)
 }

@@ -1,13 +1,17 @@
 //! Playing a script, for the world that it leads to.
 
-ghost use Rattle.std.specs.Prelude.{◌≡◌, IfErr, IfOk, OnOk, Some};
+ghost use Rattle.std.specs.Prelude.{◌≡◌, List, IfErr, IfOk, OnOk, Some};
 ghost use Rattle.history_streams.specs.declared.faults.FileFault.TheVariants.{Memory as WantOfMemory};
+ghost use Rattle.history_text.specs.declared.lines.Line.{Line as LineData};
+ghost use Rattle.history_text.specs.Lines.{IsScript, script_text};
+ghost use Rattle.history_text.specs.Scripts.{IsReasonFor};
 ghost use Rattle.step_core.specs.declared.steps.Fault.TheVariants.{Memory as OutOfMemory};
 ghost use Rattle.history.specs.Histories.{first_world};
 ghost use Rattle.history.specs.Plays.{PlaysOne, IsPlayOf, Plays};
 
 use crate::names::Names;
 use crate::plans::{Plan, plan_of};
+use crate::running::plan_in;
 use history_streams::FileFault;
 use history_text::Script;
 use lock_word::Memory;
@@ -23,6 +27,21 @@ pub fn play(alloc: Global, script: &Script<'_>) -> Result<(World, Names), FileFa
     ensures memory { IfErr result (λ fault. fault ≡ WantOfMemory) }
 {
     let plan = plan_of(alloc, script.lines())?;
+    let world = world_of(alloc, &plan)?;
+    Ok((world, plan.names))
+}
+
+/// Plays the script that some bytes are the text of: the world behind its last step, with the names
+/// of its threads and objects. Else a fault tells why there is none.
+///
+/// It is [`play`] of what [`read_script`](history_text::read_script) answers, with no list of the
+/// lines.
+pub fn play_text(alloc: Global, bytes: &[u8]) -> Result<(World, Names), FileFault>
+    ensures played { IfOk result (λ play. (lines : List LineData) × IsScript lines
+        × (bytes.now ≡ script_text lines) × IsPlayOf lines play.0 play.1) }
+    ensures fault { IfErr result (IsReasonFor bytes.now) }
+{
+    let plan = plan_in(alloc, bytes)?;
     let world = world_of(alloc, &plan)?;
     Ok((world, plan.names))
 }
