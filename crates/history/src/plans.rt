@@ -37,8 +37,8 @@ pub struct Plan {
 }
 
 impl Plan {
-    /// A world without objects and steps. There is to be room for this many steps; without memory
-    /// for it there is none, and each step asks for its own.
+    /// A world without objects and steps. Room for this many steps is asked for; where it is
+    /// refused, each step asks for its own.
     pub(crate) fn new(alloc: Global, monitors: u32, indices: u16, split: Split, room: usize) -> Plan
         requires monitors { monitors ≤ 8388608 }
         requires some { 1 ≤ indices }

@@ -1,6 +1,6 @@
 //! Playing a script, for the world that it leads to.
 
-ghost use Rattle.std.specs.Prelude.{◌≡◌, List, IfErr, IfOk, OnOk, Some};
+ghost use Rattle.std.specs.Prelude.{◌≡◌, ◌<◌, List, Err, IfErr, IfOk, OnOk, Some, length};
 ghost use Rattle.history_streams.specs.declared.faults.FileFault.TheVariants.{Memory as WantOfMemory};
 ghost use Rattle.history_text.specs.declared.lines.Line.{Line as LineData};
 ghost use Rattle.history_text.specs.Lines.{IsScript, script_text};
@@ -13,7 +13,7 @@ use crate::names::Names;
 use crate::plans::{Plan, plan_of};
 use crate::running::plan_in;
 use history_streams::FileFault;
-use history_text::Script;
+use history_text::{MOST_BYTES, Script};
 use lock_word::Memory;
 use std::alloc::Global;
 use step_core::{Fault, RelayoutFault, Request, World};
@@ -39,6 +39,7 @@ pub fn play(alloc: Global, script: &Script<'_>) -> Result<(World, Names), FileFa
 pub fn play_text(alloc: Global, bytes: &[u8]) -> Result<(World, Names), FileFault>
     ensures played { IfOk result (λ play. (lines : List LineData) × IsScript lines
         × (bytes.now ≡ script_text lines) × IsPlayOf lines play.0 play.1) }
+    ensures too_long { MOST_BYTES < length bytes.now → result ≡ Err FileFault.Read }
     ensures fault { IfErr result (IsReasonFor bytes.now) }
 {
     let plan = plan_in(alloc, bytes)?;

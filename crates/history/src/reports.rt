@@ -172,7 +172,8 @@ fn put_step(
 
 /// Writes the line of a step of which no more is told than its thread. The verb has its blank.
 ///
-/// In place, so that the verb is a constant where it is pushed, and moves copy it.
+/// In place, so that the verb is a constant where it is pushed: a few instructions copy it, and no
+/// call.
 #[inline(always)]
 fn put_verb(report: &mut String, verb: &'static str, name: &str) -> Result<(), AllocError>
     ensures { OnOk result (string_bytes report.new
@@ -260,7 +261,8 @@ fn put_atomic(report: &mut String, names: &Names, atomic: Atomic) -> Result<(), 
 
 /// Writes that a step saw a word of an object. The verb has its blanks.
 ///
-/// In place, so that the verb is a constant where it is pushed, and moves copy it.
+/// In place, so that the verb is a constant where it is pushed: a few instructions copy it, and no
+/// call.
 #[inline(always)]
 fn put_seen(
     report: &mut String,

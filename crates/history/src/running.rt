@@ -27,8 +27,8 @@ use std::alloc::Global;
 /// How many bytes are read at once.
 const CHUNK: usize = 4096;
 
-/// How many bytes a step line has in a script of short names: a guess, by which there is room for
-/// the steps before they come.
+/// How many bytes a step line has in a script of short names: a guess, by which room for the steps
+/// is asked for before they come.
 const STEP_BYTES: usize = 8;
 
 /// Reads a script to its end, plays it, and writes its report.
@@ -92,6 +92,7 @@ fn report_or_fault(alloc: Global, plan: &Plan) -> Result<String, FileFault>
 pub(crate) fn plan_in(alloc: Global, bytes: &[u8]) -> Result<Plan, FileFault>
     ensures a_script { OnOk result (IsScriptText bytes.now) }
     ensures a_plan { IfOk result (λ plan. IsPlanOf plan bytes.now) }
+    ensures too_long { MOST_BYTES < length bytes.now → result ≡ Err FileFault.Read }
     ensures fault { IfErr result (IsReasonFor bytes.now) }
 {
     let mut lines = LineReader::new(bytes)?;
@@ -108,7 +109,7 @@ pub(crate) fn plan_in(alloc: Global, bytes: &[u8]) -> Result<Plan, FileFault>
     }
 }
 
-/// The world of the first line, without objects and steps, and with room for this many steps.
+/// The world of the first line, without objects and steps; room for this many steps is asked for.
 fn first_plan(alloc: Global, lines: &mut LineReader<'_>, room: usize) -> Result<Plan, FileFault>
     requires { HasCome lines.old.rest [] [] lines.old }
     ensures plan { IfOk result (λ plan. IsPlanSoFar lines.old.rest plan lines.new) }

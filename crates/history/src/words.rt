@@ -1,4 +1,5 @@
-//! Texts and digits that are written without a formatter, since a report has some in each line.
+//! Texts and digits that are written without a formatter, since a report has some in each line; and
+//! the one reply that takes a formatter.
 
 ghost use Rattle.std.specs.Prelude.{◌≡◌, ◌<◌, ◌++◌, ◌∷◌, [], OnOk, codes, string_bytes};
 ghost use Rattle.fat_monitor.specs.Names.{action_name, reply_name};
@@ -12,9 +13,9 @@ use std::str;
 
 /// Ends the line of a `go` with a reply.
 ///
-/// Each text is a constant where it is pushed, so that moves copy it and no call does. Out of line:
-/// in place, the arms make the doing and telling of a step too large for the loop over the steps,
-/// and each step is then copied for a call.
+/// Each text is a constant where it is pushed, so that a few instructions copy it, and no call. The
+/// function is called, since its arms in place would make the body of the loop over the steps so
+/// large that the compiler calls that instead, and copies each step for it.
 #[inline(never)]
 pub(crate) fn put_reply(report: &mut String, reply: Reply) -> Result<(), AllocError>
     ensures { OnOk result (string_bytes report.new

@@ -1,4 +1,4 @@
--- A line, or the call at its end, as it is written.
+-- A line, or the call at its end, as it is written; and bytes that begin with one.
 use Rattle.std.specs.Prelude.{◌≡◌, ℕ, List, ◌∷◌, ◌++◌}
 use Rattle.std.specs.List.{join_with_byte}
 use Rattle.history_text.specs.declared.lines.Line.{Line}

@@ -89,7 +89,7 @@ impl<'a> Name<'a> {
     }
 
     /// The name in front of some bytes, up to the first byte that stands in no name, and what is
-    /// left of them. None where there is no such byte.
+    /// left of them. None where there is no such byte, or what comes before it is no name.
     #[inline(always)]
     pub(crate) fn at_front(bytes: &'a [u8]) -> Option<(Name<'a>, &'a [u8])>
         ensures { IfSome result (λ front. bytes.now ≡ front.0 ++ front.1.now) }

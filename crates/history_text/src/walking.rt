@@ -98,7 +98,7 @@ impl<'a> LineReader<'a> {
 
     /// The next line, where it is one of the steps that a script has most of: a `go`, or the `begin`
     /// of an enter or an exit. Nothing is taken where it is none of these, or is the first, or is
-    /// bad; [`next`](LineReader::next) tells then what it is.
+    /// bad; [`next`](LineReader::next) then tells what it is.
     #[inline(always)]
     pub fn next_usual(&mut self) -> Option<StepLine<'a>>
         ensures told { (bytes : List ℕ) (came : List LineData) (names : List (List ℕ))

@@ -1,9 +1,10 @@
-//! Histories of scripts whose reader fails; and scripts that `run` reads line by line, beside what
-//! `read_script` says of them.
+//! Histories of scripts whose reader fails; and scripts that `run` and `dump_script` read line by
+//! line, beside what `read_script` says of them.
 
 mod names;
 
 use super::pieces::{PiecesReader, Then};
+use dump::dump_script;
 use history::{FileFault, ReaderSource, WriterSink, moves, read_script, run};
 use std::alloc::Global;
 
@@ -29,7 +30,7 @@ fn a_history_whose_reader_fails(rt: HostRuntime) {
 
 /// Texts that are no script, each with a bad line of another kind or in another place, and some
 /// that are one.
-const TEXTS: [&[u8]; 22] = [
+const TEXTS: [&[u8]; 32] = [
     b"",
     b"\n",
     b"world 4 4",
@@ -52,6 +53,16 @@ const TEXTS: [&[u8]; 22] = [
     b"world 4 4\nobject a_name_of_thirty_two_bytes_here1 00\nobject a_name_of_thirty_two_bytes_here1 00\n",
     b"world 4 4\nobject a_name_of_thirty_three_bytes_is_1 00\n",
     b"world 1 1\ntick 1\ntick 2\ngo nobody\n",
+    b"go x\n",
+    b"world 4 4\nobject a 00\nattach x\ngo x\r\n",
+    b"world 4 4\nobject a 00\nattach x\ngo x \n",
+    b"world 4 4\nobject a 00\nattach x\ngo a_name_of_thirty_three_bytes_is_1\n",
+    b"world 4 4\nobject a 00\nattach x\nbegin x exit a",
+    b"world 4 4\nobject a 00\nattach x\nbegin x enter A\n",
+    b"world 4 4\nobject a 00\nattach x\nbegin x exit a b\n",
+    b"world 4 4\nobject a 00\nattach x\nbegin x enter a\nobject b 00\n",
+    b"world 4 4\nobject a 00\nattach x\nbegin x wait a 0 0\nbegin x wait a 0 00\n",
+    b"world 4 4\nobject a 00\nattach x\nbegin x enter a\ngo x\ngo x\nbegin x exit a\ngo x\ngo x\n",
 ];
 
 /// Whether `run` finds the fault that `read_script` finds, and writes nothing where there is one.
@@ -62,9 +73,18 @@ fn is_judged_alike(alloc: Global, bytes: &[u8]) -> bool {
     outcome.err() == fault && (fault.is_none() || sink.into_inner().is_empty())
 }
 
+/// The same of `dump_script`.
+fn is_dumped_alike(alloc: Global, bytes: &[u8]) -> bool {
+    let fault = read_script(alloc, bytes).err();
+    let mut sink = WriterSink::new(Vec::new(alloc));
+    let outcome = dump_script(alloc, &mut ReaderSource::new(bytes), &mut sink);
+    outcome.err() == fault && (fault.is_none() || sink.into_inner().is_empty())
+}
+
 #[test]
 fn bad_lines_of_each_kind(rt: HostRuntime) {
     for (number, text) in TEXTS.iter().enumerate() {
         assert!(rt; is_judged_alike(rt.alloc(), text), "text {number}");
+        assert!(rt; is_dumped_alike(rt.alloc(), text), "text {number}, dumped");
     }
 }
