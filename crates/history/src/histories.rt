@@ -66,7 +66,7 @@ pub fn moves<S: Source, W: Sink>(
     ensures kinds { (line : ℕ) → (result ≡ Err (BadMove line) ⊎ result ≡ Err (Broken line)) → ⊥ }
 {
     let bytes = read_all(alloc, source)?;
-    let history = history_in(alloc, &bytes)?;
+    let history = history_in(alloc, bytes)?;
     write_out(sink, &history)
 }
 
@@ -90,13 +90,15 @@ fn history_from(alloc: Global, plan: &Plan, world: &mut World) -> Result<Vec<u8>
     Ok(history)
 }
 
-/// The history of the script that some bytes are the text of.
-fn history_in(alloc: Global, bytes: &[u8]) -> Result<Vec<u8>, FileFault>
-    ensures history { IfOk result (λ history. (plan : PlanData) × IsPlanOf plan bytes.now
+/// The history of the script that some bytes are the text of. The bytes are given back before it is
+/// played.
+fn history_in(alloc: Global, bytes: Vec<u8>) -> Result<Vec<u8>, FileFault>
+    ensures history { IfOk result (λ history. (plan : PlanData) × IsPlanOf plan bytes.items
         × IsHistoryOf plan history.items) }
-    ensures fault { IfErr result (IsReasonFor bytes.now) }
+    ensures fault { IfErr result (IsReasonFor bytes.items) }
 {
-    let plan = plan_in(alloc, bytes)?;
+    let plan = plan_in(alloc, &bytes)?;
+    drop(bytes);
     history_or_fault(alloc, &plan)
 }
 

@@ -63,18 +63,20 @@ pub fn run<S: Source, W: Sink>(alloc: Global, source: &mut S, sink: &mut W) -> R
     ensures kinds { (line : ℕ) → (result ≡ Err (BadMove line) ⊎ result ≡ Err (Broken line)) → ⊥ }
 {
     let bytes = read_all(alloc, source)?;
-    let report = report_in(alloc, &bytes)?;
+    let report = report_in(alloc, bytes)?;
     write_out(sink, report.as_bytes())
 }
 
-/// The report of the script that some bytes are the text of.
-fn report_in(alloc: Global, bytes: &[u8]) -> Result<String, FileFault>
-    ensures a_script { OnOk result (IsScriptText bytes.now) }
-    ensures report { IfOk result (λ report. (plan : PlanData) × IsPlanOf plan bytes.now
+/// The report of the script that some bytes are the text of. The bytes are given back before it is
+/// played.
+fn report_in(alloc: Global, bytes: Vec<u8>) -> Result<String, FileFault>
+    ensures a_script { OnOk result (IsScriptText bytes.items) }
+    ensures report { IfOk result (λ report. (plan : PlanData) × IsPlanOf plan bytes.items
         × IsReportOf plan (string_bytes report)) }
-    ensures fault { IfErr result (IsReasonFor bytes.now) }
+    ensures fault { IfErr result (IsReasonFor bytes.items) }
 {
-    let plan = plan_in(alloc, bytes)?;
+    let plan = plan_in(alloc, &bytes)?;
+    drop(bytes);
     report_or_fault(alloc, &plan)
 }
 
