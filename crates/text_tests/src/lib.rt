@@ -1,6 +1,6 @@
 //! Tests of what reads and writes texts: the moves of histories (`moves`), their checks (`checks`), dumps
-//! (`dumps`), the words of the command line (`words`); readers and writers that fail (`streams`,
-//! `histories`), and want of memory (`memory`).
+//! (`dumps`), the words of the command line (`words`), the lines of a script (`lines`); readers and
+//! writers that fail (`streams`, `histories`), and want of memory (`memory`).
 #![tactic(auto)]
 
 #[cfg(test)]
@@ -9,6 +9,8 @@ mod checks;
 mod dumps;
 #[cfg(test)]
 mod histories;
+#[cfg(test)]
+mod lines;
 #[cfg(test)]
 mod memory;
 #[cfg(test)]
