@@ -6,6 +6,7 @@
 //! written.
 #![tactic(auto)]
 
+mod bytes;
 mod gathered;
 mod lines;
 mod members;

@@ -74,7 +74,9 @@ pub fn line_move(alloc: Global, line: &[u8]) -> Result<Option<Move>, Memory>
     value_move(alloc, line)
 }
 
-/// The move that a line is, by the value that it is the text of.
+/// The move that a line is, by the value that it is the text of. It is kept out of line, so that the
+/// readers of usual lines need no room for it.
+#[inline(never)]
 #[tactic(auto, unfolding(crate::specs::Lines::IsMove))]
 fn value_move(alloc: Global, line: &[u8]) -> Result<Option<Move>, Memory>
     ensures found { IfOk result (λ o. IfSome o (IsMove line.now)) }

@@ -3,6 +3,7 @@
 ghost use Rattle.std.specs.Prelude.{◌≡◌, ◌+◌, ◌++◌, ◌∷◌, ◌<◌, ◌^◌, codes, decimal, IfSome, IsTrue};
 ghost use Rattle.history_moves.specs.Texts.{thread_text};
 
+use crate::bytes::same_bytes;
 use lock_word::ThreadId;
 
 /// Where a number that has one more digit may no longer fit 64 bits.
@@ -17,7 +18,11 @@ pub(crate) fn behind<'a>(bytes: &'a [u8], front: &[u8]) -> Option<&'a [u8]>
         return None;
     }
     let (begin, rest) = bytes.split_at(front.len());
-    if begin == front { Some(rest) } else { None }
+    if same_bytes(begin, front) {
+        Some(rest)
+    } else {
+        None
+    }
 }
 
 /// A word up to its quotation mark, and what stands behind that.

@@ -3,6 +3,7 @@
 ghost use Rattle.std.specs.Prelude.{◌≡◌, ◌++◌, codes, IfSome};
 ghost use Rattle.history_moves.specs.Texts.{Reads};
 
+use crate::bytes::same_bytes;
 use crate::pieces::{behind, is_end, number_in, small_number_in, thread_in, word_in};
 use crate::words::{
     bare_call_named, cause_named, object_call_named, plain_named, reply_named, target_call_named,
@@ -38,11 +39,13 @@ fn named_move(rest: &[u8]) -> Option<Move>
     if let Some(thread) = thread_in(after) {
         return plain_named(name, thread);
     }
-    match name {
-        b"Return" => return_move(after),
-        b"Time" => time_move(after),
-        _ => None,
+    if same_bytes(name, b"Return") {
+        return return_move(after);
     }
+    if same_bytes(name, b"Time") {
+        return time_move(after);
+    }
+    None
 }
 
 /// A return with a reply that no cause belongs to.
@@ -75,10 +78,10 @@ fn call_move(rest: &[u8]) -> Option<Move>
     if let Some(after) = behind(after, b",\"move\":\"Call\"") {
         return plain_call_move(verb, after);
     }
-    match verb {
-        b"Wait" => wait_move(after),
-        _ => None,
+    if same_bytes(verb, b"Wait") {
+        return wait_move(after);
     }
+    None
 }
 
 /// A call that is no wait.

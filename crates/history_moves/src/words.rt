@@ -1,11 +1,13 @@
 //! What the words stand for that name moves, calls, replies and causes. They are told apart by
-//! comparisons, one after the other, since the proof of a `match` on a slice would go byte by byte.
+//! comparisons, one after the other, since a `match` on a slice goes byte by byte, both in its
+//! proof and in what is compiled.
 
 ghost use Rattle.std.specs.Prelude.{◌≡◌, option_map};
 ghost use Rattle.fat_monitor.specs.Names.{cause_name};
 ghost use Rattle.history_moves.specs.Words.{among, object_calls, target_calls, bare_calls};
 ghost use Rattle.history_moves.specs.Words.{short_replies, causes, plain_from};
 
+use crate::bytes::same_bytes;
 use fast_path::Call;
 use fat_monitor::{Cause, Reply};
 use lock_word::{ObjectId, ThreadId};
@@ -14,19 +16,19 @@ use step_core::Move;
 pub(crate) fn object_call_named(verb: &[u8], object: ObjectId) -> Option<Call>
     ensures { result ≡ option_map (λ made. made object) (among object_calls verb.now) }
 {
-    if verb == b"Enter".as_slice() {
+    if same_bytes(verb, b"Enter") {
         return Some(Call::Enter(object));
     }
-    if verb == b"Exit".as_slice() {
+    if same_bytes(verb, b"Exit") {
         return Some(Call::Exit(object));
     }
-    if verb == b"Notify".as_slice() {
+    if same_bytes(verb, b"Notify") {
         return Some(Call::Notify(object));
     }
-    if verb == b"NotifyAll".as_slice() {
+    if same_bytes(verb, b"NotifyAll") {
         return Some(Call::NotifyAll(object));
     }
-    if verb == b"Holds".as_slice() {
+    if same_bytes(verb, b"Holds") {
         return Some(Call::Holds(object));
     }
     None
@@ -35,10 +37,10 @@ pub(crate) fn object_call_named(verb: &[u8], object: ObjectId) -> Option<Call>
 pub(crate) fn target_call_named(verb: &[u8], target: ThreadId) -> Option<Call>
     ensures { result ≡ option_map (λ made. made target) (among target_calls verb.now) }
 {
-    if verb == b"Interrupt".as_slice() {
+    if same_bytes(verb, b"Interrupt") {
         return Some(Call::Interrupt(target));
     }
-    if verb == b"IsInterrupted".as_slice() {
+    if same_bytes(verb, b"IsInterrupted") {
         return Some(Call::IsInterrupted(target));
     }
     None
@@ -47,10 +49,10 @@ pub(crate) fn target_call_named(verb: &[u8], target: ThreadId) -> Option<Call>
 pub(crate) fn bare_call_named(verb: &[u8]) -> Option<Call>
     ensures { result ≡ among bare_calls verb.now }
 {
-    if verb == b"Interrupted".as_slice() {
+    if same_bytes(verb, b"Interrupted") {
         return Some(Call::Interrupted);
     }
-    if verb == b"End".as_slice() {
+    if same_bytes(verb, b"End") {
         return Some(Call::End);
     }
     None
@@ -60,37 +62,37 @@ pub(crate) fn bare_call_named(verb: &[u8]) -> Option<Call>
 pub(crate) fn reply_named(word: &[u8]) -> Option<Reply>
     ensures { result ≡ among short_replies word.now }
 {
-    if word == b"Entered".as_slice() {
+    if same_bytes(word, b"Entered") {
         return Some(Reply::Entered);
     }
-    if word == b"Exited".as_slice() {
+    if same_bytes(word, b"Exited") {
         return Some(Reply::Exited);
     }
-    if word == b"WaitOver".as_slice() {
+    if same_bytes(word, b"WaitOver") {
         return Some(Reply::WaitOver);
     }
-    if word == b"Interrupted".as_slice() {
+    if same_bytes(word, b"Interrupted") {
         return Some(Reply::Interrupted);
     }
-    if word == b"Notified".as_slice() {
+    if same_bytes(word, b"Notified") {
         return Some(Reply::Notified);
     }
-    if word == b"Yes".as_slice() {
+    if same_bytes(word, b"Yes") {
         return Some(Reply::Yes);
     }
-    if word == b"No".as_slice() {
+    if same_bytes(word, b"No") {
         return Some(Reply::No);
     }
-    if word == b"Done".as_slice() {
+    if same_bytes(word, b"Done") {
         return Some(Reply::Done);
     }
-    if word == b"Ended".as_slice() {
+    if same_bytes(word, b"Ended") {
         return Some(Reply::Ended);
     }
-    if word == b"IllegalMonitorState".as_slice() {
+    if same_bytes(word, b"IllegalMonitorState") {
         return Some(Reply::IllegalMonitorState);
     }
-    if word == b"IllegalArgument".as_slice() {
+    if same_bytes(word, b"IllegalArgument") {
         return Some(Reply::IllegalArgument);
     }
     None
@@ -99,19 +101,19 @@ pub(crate) fn reply_named(word: &[u8]) -> Option<Reply>
 pub(crate) fn cause_named(word: &[u8]) -> Option<Cause>
     ensures { result ≡ among causes word.now }
 {
-    if word == b"NoMonitor".as_slice() {
+    if same_bytes(word, b"NoMonitor") {
         return Some(Cause::NoMonitor);
     }
-    if word == b"Memory".as_slice() {
+    if same_bytes(word, b"Memory") {
         return Some(Cause::Memory);
     }
-    if word == b"TooDeep".as_slice() {
+    if same_bytes(word, b"TooDeep") {
         return Some(Cause::TooDeep);
     }
-    if word == b"StillOwner".as_slice() {
+    if same_bytes(word, b"StillOwner") {
         return Some(Cause::StillOwner);
     }
-    if word == b"NoThread".as_slice() {
+    if same_bytes(word, b"NoThread") {
         return Some(Cause::NoThread);
     }
     None
@@ -133,49 +135,49 @@ pub(crate) fn name_of_cause(cause: Cause) -> &'static str
 pub(crate) fn plain_named(name: &[u8], thread: ThreadId) -> Option<Move>
     ensures { result ≡ plain_from name.now thread }
 {
-    if name == b"Attach".as_slice() {
+    if same_bytes(name, b"Attach") {
         return Some(Move::Attach { thread });
     }
-    if name == b"Lock".as_slice() {
+    if same_bytes(name, b"Lock") {
         return Some(Move::Lock { thread });
     }
-    if name == b"Unlock".as_slice() {
+    if same_bytes(name, b"Unlock") {
         return Some(Move::Unlock { thread });
     }
-    if name == b"Illegal".as_slice() {
+    if same_bytes(name, b"Illegal") {
         return Some(Move::Illegal { thread });
     }
-    if name == b"BadArgument".as_slice() {
+    if same_bytes(name, b"BadArgument") {
         return Some(Move::BadArgument { thread });
     }
-    if name == b"Early".as_slice() {
+    if same_bytes(name, b"Early") {
         return Some(Move::Early { thread });
     }
-    if name == b"Wait".as_slice() {
+    if same_bytes(name, b"Wait") {
         return Some(Move::Wait { thread });
     }
-    if name == b"NotifyAll".as_slice() {
+    if same_bytes(name, b"NotifyAll") {
         return Some(Move::NotifyAll { thread });
     }
-    if name == b"Interrupt".as_slice() {
+    if same_bytes(name, b"Interrupt") {
         return Some(Move::Interrupt { thread });
     }
-    if name == b"TestClear".as_slice() {
+    if same_bytes(name, b"TestClear") {
         return Some(Move::TestClear { thread });
     }
-    if name == b"Ask".as_slice() {
+    if same_bytes(name, b"Ask") {
         return Some(Move::Ask { thread });
     }
-    if name == b"Expire".as_slice() {
+    if same_bytes(name, b"Expire") {
         return Some(Move::Expire { thread });
     }
-    if name == b"Spurious".as_slice() {
+    if same_bytes(name, b"Spurious") {
         return Some(Move::Spurious { thread });
     }
-    if name == b"Relock".as_slice() {
+    if same_bytes(name, b"Relock") {
         return Some(Move::Relock { thread });
     }
-    if name == b"End".as_slice() {
+    if same_bytes(name, b"End") {
         return Some(Move::End { thread });
     }
     None
