@@ -3,15 +3,16 @@ use Rattle.std.proofs.Common.{◌≡◌, ℕ, ◌+◌, List, [], ◌∷◌, Opti
 use Rattle.std.specs.Borrow.{Bor}
 use Rattle.std.specs.Cmp.Lexicographic.{slice_cmp}
 use Rattle.std.specs.Ordering.{match_ordering}
-use Rattle.json.specs.Token as json
-use Rattle.serde_json.specs.Data.{Data, Members, no_members, member, object, put}
+use Rattle.serde_json.specs.Data.{Data, null, Members, no_members, member, object, put}
 use Rattle.serde_json.specs.Find.{get_member, as_str, as_number, as_u64, as_null}
 use Rattle.history_moves.specs.Moves.{of_number}
 use Rattle.lock_word.specs.declared.ThreadId.{ThreadId}
 use Rattle.history_moves.specs.Members.{count, IsBelow, AreInOrder, text_at, whole_at, signed_of, signed_at, chosen_at}
 use Rattle.history_moves.specs.Words.{Row}
-use Rattle.history_moves.specs.Gathered.{maybe, members_of, rows_of, members_in, nothing, of_text, of_choice, IsCounted, Takes, token_data, SetsText, SetsWhole, SetsChosen, short, short_signed, thread_of, choice}
+use Rattle.history_moves.specs.Gathered.{maybe, members_of, rows_of, members_in, nothing, of_text, of_choice, IsCounted, Takes, Fills, Adds, scalar_data, short, short_signed, thread_of, choice}
 use Rattle.history_moves.specs.declared.gathered.Gathered.{Gathered}
+use Rattle.history_moves.specs.declared.gathered.Scalar.{Scalar}
+use Rattle.history_moves.specs.declared.gathered.Scalar.TheVariants as scalar
 use Rattle.history_moves.proofs.MemberLaws.{below_all, absent, same_key}
 
 abbrev Rows : Type 0
@@ -129,82 +130,91 @@ pub nothing_counted : IsCounted nothing
 unfolding IsCounted members_in
 nothing_counted = refl
 
-taken : (g h : Gathered) (k : List ℕ) (t : json.Token) (d : Data) → token_data t ≡ Some d → IsFree k (rows_of g) → rows_of h ≡ with_row k d (rows_of g) → h.count ≡ g.count + 1 → Takes g k t h
-unfolding Takes IsCounted members_in
-taken g h k t d value free rows more = (
-  d,
-  value,
+added : (g h : Gathered) (k : List ℕ) (d : Data) → IsFree k (rows_of g) → rows_of h ≡ with_row k d (rows_of g) → h.count ≡ g.count → Adds g k d h
+unfolding Adds members_in
+added g h k d free rows same = (
   ap members_of rows ∙ sym (put_rows k d (rows_of g) (sorted g) free),
-  λ counted. more ∙ ap (λ (n : ℕ). n + 1) counted ∙ sym (count_rows k d (rows_of g) free) ∙ ap (λ (rs : Rows). count (members_of rs)) (sym rows),
+  ap (λ (rs : Rows). count (members_of rs)) rows ∙ count_rows k d (rows_of g) free,
+  same,
 )
+
+-- a member is taken where it is added to what has the count of one more
+pub taken : (g h : Gathered) (k : List ℕ) (d : Data) → Adds (record { count = g.count + 1; name = g.name; verb = g.verb; reply = g.reply; cause = g.cause; thread = g.thread; object = g.object; target = g.target; now = g.now; millis = g.millis; nanos = g.nanos; chosen = g.chosen }) k d h → Takes g k d h
+unfolding Takes IsCounted Adds members_in
+taken g h k d adds = (adds.0, λ counted. adds.2 ∙ ap (λ (n : ℕ). n + 1) counted ∙ sym adds.1)
 
 -- ---- each key
 
-pub verb_taken : (g : Gathered) (k : List ℕ) (t : json.Token) (v : Option (Bor (List ℕ))) → k ≡ codes "call" → SetsText g.verb t v → Takes g k t (record { count = g.count + 1; name = g.name; verb = v; reply = g.reply; cause = g.cause; thread = g.thread; object = g.object; target = g.target; now = g.now; millis = g.millis; nanos = g.nanos; chosen = g.chosen })
-verb_taken g k t v is sets =
-    let P : List ℕ → Option (Bor (List ℕ)) → Type 0 = λ l w. Takes g l t (record { count = g.count + 1; name = g.name; verb = w; reply = g.reply; cause = g.cause; thread = g.thread; object = g.object; target = g.target; now = g.now; millis = g.millis; nanos = g.nanos; chosen = g.chosen }) in
-    let at : P (codes "call") (Some sets.0) = taken g _ (codes "call") t (of_text sets.0) sets.2 (ap (option_map of_text) sets.1) refl refl in
-    subst (λ (l : List ℕ). P l v) (sym is) (subst (λ (w : Option (Bor (List ℕ))). P (codes "call") w) (sym sets.3) at)
+pub verb_added : (g : Gathered) (k : List ℕ) (a : Bor (List ℕ)) (v : Option (Bor (List ℕ))) → k ≡ codes "call" → Fills g.verb a v → Adds g k (of_text a) (record { count = g.count; name = g.name; verb = v; reply = g.reply; cause = g.cause; thread = g.thread; object = g.object; target = g.target; now = g.now; millis = g.millis; nanos = g.nanos; chosen = g.chosen })
+verb_added g k a v is fills =
+    let P : List ℕ → Option (Bor (List ℕ)) → Type 0 = λ l w. Adds g l (of_text a) (record { count = g.count; name = g.name; verb = w; reply = g.reply; cause = g.cause; thread = g.thread; object = g.object; target = g.target; now = g.now; millis = g.millis; nanos = g.nanos; chosen = g.chosen }) in
+    let at : P (codes "call") (Some a) = added g _ (codes "call") (of_text a) (ap (option_map of_text) fills.0) refl refl in
+    subst (λ (l : List ℕ). P l v) (sym is) (subst (λ (w : Option (Bor (List ℕ))). P (codes "call") w) (sym fills.1) at)
 
-pub cause_taken : (g : Gathered) (k : List ℕ) (t : json.Token) (v : Option (Bor (List ℕ))) → k ≡ codes "cause" → SetsText g.cause t v → Takes g k t (record { count = g.count + 1; name = g.name; verb = g.verb; reply = g.reply; cause = v; thread = g.thread; object = g.object; target = g.target; now = g.now; millis = g.millis; nanos = g.nanos; chosen = g.chosen })
-cause_taken g k t v is sets =
-    let P : List ℕ → Option (Bor (List ℕ)) → Type 0 = λ l w. Takes g l t (record { count = g.count + 1; name = g.name; verb = g.verb; reply = g.reply; cause = w; thread = g.thread; object = g.object; target = g.target; now = g.now; millis = g.millis; nanos = g.nanos; chosen = g.chosen }) in
-    let at : P (codes "cause") (Some sets.0) = taken g _ (codes "cause") t (of_text sets.0) sets.2 (ap (option_map of_text) sets.1) refl refl in
-    subst (λ (l : List ℕ). P l v) (sym is) (subst (λ (w : Option (Bor (List ℕ))). P (codes "cause") w) (sym sets.3) at)
+pub cause_added : (g : Gathered) (k : List ℕ) (a : Bor (List ℕ)) (v : Option (Bor (List ℕ))) → k ≡ codes "cause" → Fills g.cause a v → Adds g k (of_text a) (record { count = g.count; name = g.name; verb = g.verb; reply = g.reply; cause = v; thread = g.thread; object = g.object; target = g.target; now = g.now; millis = g.millis; nanos = g.nanos; chosen = g.chosen })
+cause_added g k a v is fills =
+    let P : List ℕ → Option (Bor (List ℕ)) → Type 0 = λ l w. Adds g l (of_text a) (record { count = g.count; name = g.name; verb = g.verb; reply = g.reply; cause = w; thread = g.thread; object = g.object; target = g.target; now = g.now; millis = g.millis; nanos = g.nanos; chosen = g.chosen }) in
+    let at : P (codes "cause") (Some a) = added g _ (codes "cause") (of_text a) (ap (option_map of_text) fills.0) refl refl in
+    subst (λ (l : List ℕ). P l v) (sym is) (subst (λ (w : Option (Bor (List ℕ))). P (codes "cause") w) (sym fills.1) at)
 
-pub chosen_taken : (g : Gathered) (k : List ℕ) (t : json.Token) (v : Option (Option ℕ)) → k ≡ codes "chosen" → SetsChosen g.chosen t v → Takes g k t (record { count = g.count + 1; name = g.name; verb = g.verb; reply = g.reply; cause = g.cause; thread = g.thread; object = g.object; target = g.target; now = g.now; millis = g.millis; nanos = g.nanos; chosen = v })
-chosen_taken g k t v is sets =
-    let P : List ℕ → Option (Option ℕ) → Type 0 = λ l w. Takes g l t (record { count = g.count + 1; name = g.name; verb = g.verb; reply = g.reply; cause = g.cause; thread = g.thread; object = g.object; target = g.target; now = g.now; millis = g.millis; nanos = g.nanos; chosen = w }) in
-    let at : P (codes "chosen") (Some sets.0) = taken g _ (codes "chosen") t (of_choice sets.0) sets.2 (ap (option_map of_choice) sets.1) refl refl in
-    subst (λ (l : List ℕ). P l v) (sym is) (subst (λ (w : Option (Option ℕ)). P (codes "chosen") w) (sym sets.3) at)
+pub chosen_added : (g : Gathered) (k : List ℕ) (a : Option ℕ) (v : Option (Option ℕ)) → k ≡ codes "chosen" → Fills g.chosen a v → Adds g k (of_choice a) (record { count = g.count; name = g.name; verb = g.verb; reply = g.reply; cause = g.cause; thread = g.thread; object = g.object; target = g.target; now = g.now; millis = g.millis; nanos = g.nanos; chosen = v })
+chosen_added g k a v is fills =
+    let P : List ℕ → Option (Option ℕ) → Type 0 = λ l w. Adds g l (of_choice a) (record { count = g.count; name = g.name; verb = g.verb; reply = g.reply; cause = g.cause; thread = g.thread; object = g.object; target = g.target; now = g.now; millis = g.millis; nanos = g.nanos; chosen = w }) in
+    let at : P (codes "chosen") (Some a) = added g _ (codes "chosen") (of_choice a) (ap (option_map of_choice) fills.0) refl refl in
+    subst (λ (l : List ℕ). P l v) (sym is) (subst (λ (w : Option (Option ℕ)). P (codes "chosen") w) (sym fills.1) at)
 
-pub millis_taken : (g : Gathered) (k : List ℕ) (t : json.Token) (v : Option ℕ) → k ≡ codes "millis" → SetsWhole g.millis t v → Takes g k t (record { count = g.count + 1; name = g.name; verb = g.verb; reply = g.reply; cause = g.cause; thread = g.thread; object = g.object; target = g.target; now = g.now; millis = v; nanos = g.nanos; chosen = g.chosen })
-millis_taken g k t v is sets =
-    let P : List ℕ → Option ℕ → Type 0 = λ l w. Takes g l t (record { count = g.count + 1; name = g.name; verb = g.verb; reply = g.reply; cause = g.cause; thread = g.thread; object = g.object; target = g.target; now = g.now; millis = w; nanos = g.nanos; chosen = g.chosen }) in
-    let at : P (codes "millis") (Some sets.0) = taken g _ (codes "millis") t (of_number sets.0) sets.2 (ap (option_map of_number) sets.1) refl refl in
-    subst (λ (l : List ℕ). P l v) (sym is) (subst (λ (w : Option ℕ). P (codes "millis") w) (sym sets.3) at)
+pub millis_added : (g : Gathered) (k : List ℕ) (a : ℕ) (v : Option ℕ) → k ≡ codes "millis" → Fills g.millis a v → Adds g k (of_number a) (record { count = g.count; name = g.name; verb = g.verb; reply = g.reply; cause = g.cause; thread = g.thread; object = g.object; target = g.target; now = g.now; millis = v; nanos = g.nanos; chosen = g.chosen })
+millis_added g k a v is fills =
+    let P : List ℕ → Option ℕ → Type 0 = λ l w. Adds g l (of_number a) (record { count = g.count; name = g.name; verb = g.verb; reply = g.reply; cause = g.cause; thread = g.thread; object = g.object; target = g.target; now = g.now; millis = w; nanos = g.nanos; chosen = g.chosen }) in
+    let at : P (codes "millis") (Some a) = added g _ (codes "millis") (of_number a) (ap (option_map of_number) fills.0) refl refl in
+    subst (λ (l : List ℕ). P l v) (sym is) (subst (λ (w : Option ℕ). P (codes "millis") w) (sym fills.1) at)
 
-pub name_taken : (g : Gathered) (k : List ℕ) (t : json.Token) (v : Option (Bor (List ℕ))) → k ≡ codes "move" → SetsText g.name t v → Takes g k t (record { count = g.count + 1; name = v; verb = g.verb; reply = g.reply; cause = g.cause; thread = g.thread; object = g.object; target = g.target; now = g.now; millis = g.millis; nanos = g.nanos; chosen = g.chosen })
-name_taken g k t v is sets =
-    let P : List ℕ → Option (Bor (List ℕ)) → Type 0 = λ l w. Takes g l t (record { count = g.count + 1; name = w; verb = g.verb; reply = g.reply; cause = g.cause; thread = g.thread; object = g.object; target = g.target; now = g.now; millis = g.millis; nanos = g.nanos; chosen = g.chosen }) in
-    let at : P (codes "move") (Some sets.0) = taken g _ (codes "move") t (of_text sets.0) sets.2 (ap (option_map of_text) sets.1) refl refl in
-    subst (λ (l : List ℕ). P l v) (sym is) (subst (λ (w : Option (Bor (List ℕ))). P (codes "move") w) (sym sets.3) at)
+pub name_added : (g : Gathered) (k : List ℕ) (a : Bor (List ℕ)) (v : Option (Bor (List ℕ))) → k ≡ codes "move" → Fills g.name a v → Adds g k (of_text a) (record { count = g.count; name = v; verb = g.verb; reply = g.reply; cause = g.cause; thread = g.thread; object = g.object; target = g.target; now = g.now; millis = g.millis; nanos = g.nanos; chosen = g.chosen })
+name_added g k a v is fills =
+    let P : List ℕ → Option (Bor (List ℕ)) → Type 0 = λ l w. Adds g l (of_text a) (record { count = g.count; name = w; verb = g.verb; reply = g.reply; cause = g.cause; thread = g.thread; object = g.object; target = g.target; now = g.now; millis = g.millis; nanos = g.nanos; chosen = g.chosen }) in
+    let at : P (codes "move") (Some a) = added g _ (codes "move") (of_text a) (ap (option_map of_text) fills.0) refl refl in
+    subst (λ (l : List ℕ). P l v) (sym is) (subst (λ (w : Option (Bor (List ℕ))). P (codes "move") w) (sym fills.1) at)
 
-pub nanos_taken : (g : Gathered) (k : List ℕ) (t : json.Token) (v : Option ℕ) → k ≡ codes "nanos" → SetsWhole g.nanos t v → Takes g k t (record { count = g.count + 1; name = g.name; verb = g.verb; reply = g.reply; cause = g.cause; thread = g.thread; object = g.object; target = g.target; now = g.now; millis = g.millis; nanos = v; chosen = g.chosen })
-nanos_taken g k t v is sets =
-    let P : List ℕ → Option ℕ → Type 0 = λ l w. Takes g l t (record { count = g.count + 1; name = g.name; verb = g.verb; reply = g.reply; cause = g.cause; thread = g.thread; object = g.object; target = g.target; now = g.now; millis = g.millis; nanos = w; chosen = g.chosen }) in
-    let at : P (codes "nanos") (Some sets.0) = taken g _ (codes "nanos") t (of_number sets.0) sets.2 (ap (option_map of_number) sets.1) refl refl in
-    subst (λ (l : List ℕ). P l v) (sym is) (subst (λ (w : Option ℕ). P (codes "nanos") w) (sym sets.3) at)
+pub nanos_added : (g : Gathered) (k : List ℕ) (a : ℕ) (v : Option ℕ) → k ≡ codes "nanos" → Fills g.nanos a v → Adds g k (of_number a) (record { count = g.count; name = g.name; verb = g.verb; reply = g.reply; cause = g.cause; thread = g.thread; object = g.object; target = g.target; now = g.now; millis = g.millis; nanos = v; chosen = g.chosen })
+nanos_added g k a v is fills =
+    let P : List ℕ → Option ℕ → Type 0 = λ l w. Adds g l (of_number a) (record { count = g.count; name = g.name; verb = g.verb; reply = g.reply; cause = g.cause; thread = g.thread; object = g.object; target = g.target; now = g.now; millis = g.millis; nanos = w; chosen = g.chosen }) in
+    let at : P (codes "nanos") (Some a) = added g _ (codes "nanos") (of_number a) (ap (option_map of_number) fills.0) refl refl in
+    subst (λ (l : List ℕ). P l v) (sym is) (subst (λ (w : Option ℕ). P (codes "nanos") w) (sym fills.1) at)
 
-pub now_taken : (g : Gathered) (k : List ℕ) (t : json.Token) (v : Option ℕ) → k ≡ codes "now" → SetsWhole g.now t v → Takes g k t (record { count = g.count + 1; name = g.name; verb = g.verb; reply = g.reply; cause = g.cause; thread = g.thread; object = g.object; target = g.target; now = v; millis = g.millis; nanos = g.nanos; chosen = g.chosen })
-now_taken g k t v is sets =
-    let P : List ℕ → Option ℕ → Type 0 = λ l w. Takes g l t (record { count = g.count + 1; name = g.name; verb = g.verb; reply = g.reply; cause = g.cause; thread = g.thread; object = g.object; target = g.target; now = w; millis = g.millis; nanos = g.nanos; chosen = g.chosen }) in
-    let at : P (codes "now") (Some sets.0) = taken g _ (codes "now") t (of_number sets.0) sets.2 (ap (option_map of_number) sets.1) refl refl in
-    subst (λ (l : List ℕ). P l v) (sym is) (subst (λ (w : Option ℕ). P (codes "now") w) (sym sets.3) at)
+pub now_added : (g : Gathered) (k : List ℕ) (a : ℕ) (v : Option ℕ) → k ≡ codes "now" → Fills g.now a v → Adds g k (of_number a) (record { count = g.count; name = g.name; verb = g.verb; reply = g.reply; cause = g.cause; thread = g.thread; object = g.object; target = g.target; now = v; millis = g.millis; nanos = g.nanos; chosen = g.chosen })
+now_added g k a v is fills =
+    let P : List ℕ → Option ℕ → Type 0 = λ l w. Adds g l (of_number a) (record { count = g.count; name = g.name; verb = g.verb; reply = g.reply; cause = g.cause; thread = g.thread; object = g.object; target = g.target; now = w; millis = g.millis; nanos = g.nanos; chosen = g.chosen }) in
+    let at : P (codes "now") (Some a) = added g _ (codes "now") (of_number a) (ap (option_map of_number) fills.0) refl refl in
+    subst (λ (l : List ℕ). P l v) (sym is) (subst (λ (w : Option ℕ). P (codes "now") w) (sym fills.1) at)
 
-pub object_taken : (g : Gathered) (k : List ℕ) (t : json.Token) (v : Option ℕ) → k ≡ codes "object" → SetsWhole g.object t v → Takes g k t (record { count = g.count + 1; name = g.name; verb = g.verb; reply = g.reply; cause = g.cause; thread = g.thread; object = v; target = g.target; now = g.now; millis = g.millis; nanos = g.nanos; chosen = g.chosen })
-object_taken g k t v is sets =
-    let P : List ℕ → Option ℕ → Type 0 = λ l w. Takes g l t (record { count = g.count + 1; name = g.name; verb = g.verb; reply = g.reply; cause = g.cause; thread = g.thread; object = w; target = g.target; now = g.now; millis = g.millis; nanos = g.nanos; chosen = g.chosen }) in
-    let at : P (codes "object") (Some sets.0) = taken g _ (codes "object") t (of_number sets.0) sets.2 (ap (option_map of_number) sets.1) refl refl in
-    subst (λ (l : List ℕ). P l v) (sym is) (subst (λ (w : Option ℕ). P (codes "object") w) (sym sets.3) at)
+pub object_added : (g : Gathered) (k : List ℕ) (a : ℕ) (v : Option ℕ) → k ≡ codes "object" → Fills g.object a v → Adds g k (of_number a) (record { count = g.count; name = g.name; verb = g.verb; reply = g.reply; cause = g.cause; thread = g.thread; object = v; target = g.target; now = g.now; millis = g.millis; nanos = g.nanos; chosen = g.chosen })
+object_added g k a v is fills =
+    let P : List ℕ → Option ℕ → Type 0 = λ l w. Adds g l (of_number a) (record { count = g.count; name = g.name; verb = g.verb; reply = g.reply; cause = g.cause; thread = g.thread; object = w; target = g.target; now = g.now; millis = g.millis; nanos = g.nanos; chosen = g.chosen }) in
+    let at : P (codes "object") (Some a) = added g _ (codes "object") (of_number a) (ap (option_map of_number) fills.0) refl refl in
+    subst (λ (l : List ℕ). P l v) (sym is) (subst (λ (w : Option ℕ). P (codes "object") w) (sym fills.1) at)
 
-pub reply_taken : (g : Gathered) (k : List ℕ) (t : json.Token) (v : Option (Bor (List ℕ))) → k ≡ codes "reply" → SetsText g.reply t v → Takes g k t (record { count = g.count + 1; name = g.name; verb = g.verb; reply = v; cause = g.cause; thread = g.thread; object = g.object; target = g.target; now = g.now; millis = g.millis; nanos = g.nanos; chosen = g.chosen })
-reply_taken g k t v is sets =
-    let P : List ℕ → Option (Bor (List ℕ)) → Type 0 = λ l w. Takes g l t (record { count = g.count + 1; name = g.name; verb = g.verb; reply = w; cause = g.cause; thread = g.thread; object = g.object; target = g.target; now = g.now; millis = g.millis; nanos = g.nanos; chosen = g.chosen }) in
-    let at : P (codes "reply") (Some sets.0) = taken g _ (codes "reply") t (of_text sets.0) sets.2 (ap (option_map of_text) sets.1) refl refl in
-    subst (λ (l : List ℕ). P l v) (sym is) (subst (λ (w : Option (Bor (List ℕ))). P (codes "reply") w) (sym sets.3) at)
+pub reply_added : (g : Gathered) (k : List ℕ) (a : Bor (List ℕ)) (v : Option (Bor (List ℕ))) → k ≡ codes "reply" → Fills g.reply a v → Adds g k (of_text a) (record { count = g.count; name = g.name; verb = g.verb; reply = v; cause = g.cause; thread = g.thread; object = g.object; target = g.target; now = g.now; millis = g.millis; nanos = g.nanos; chosen = g.chosen })
+reply_added g k a v is fills =
+    let P : List ℕ → Option (Bor (List ℕ)) → Type 0 = λ l w. Adds g l (of_text a) (record { count = g.count; name = g.name; verb = g.verb; reply = w; cause = g.cause; thread = g.thread; object = g.object; target = g.target; now = g.now; millis = g.millis; nanos = g.nanos; chosen = g.chosen }) in
+    let at : P (codes "reply") (Some a) = added g _ (codes "reply") (of_text a) (ap (option_map of_text) fills.0) refl refl in
+    subst (λ (l : List ℕ). P l v) (sym is) (subst (λ (w : Option (Bor (List ℕ))). P (codes "reply") w) (sym fills.1) at)
 
-pub target_taken : (g : Gathered) (k : List ℕ) (t : json.Token) (v : Option ℕ) → k ≡ codes "target" → SetsWhole g.target t v → Takes g k t (record { count = g.count + 1; name = g.name; verb = g.verb; reply = g.reply; cause = g.cause; thread = g.thread; object = g.object; target = v; now = g.now; millis = g.millis; nanos = g.nanos; chosen = g.chosen })
-target_taken g k t v is sets =
-    let P : List ℕ → Option ℕ → Type 0 = λ l w. Takes g l t (record { count = g.count + 1; name = g.name; verb = g.verb; reply = g.reply; cause = g.cause; thread = g.thread; object = g.object; target = w; now = g.now; millis = g.millis; nanos = g.nanos; chosen = g.chosen }) in
-    let at : P (codes "target") (Some sets.0) = taken g _ (codes "target") t (of_number sets.0) sets.2 (ap (option_map of_number) sets.1) refl refl in
-    subst (λ (l : List ℕ). P l v) (sym is) (subst (λ (w : Option ℕ). P (codes "target") w) (sym sets.3) at)
+pub target_added : (g : Gathered) (k : List ℕ) (a : ℕ) (v : Option ℕ) → k ≡ codes "target" → Fills g.target a v → Adds g k (of_number a) (record { count = g.count; name = g.name; verb = g.verb; reply = g.reply; cause = g.cause; thread = g.thread; object = g.object; target = v; now = g.now; millis = g.millis; nanos = g.nanos; chosen = g.chosen })
+target_added g k a v is fills =
+    let P : List ℕ → Option ℕ → Type 0 = λ l w. Adds g l (of_number a) (record { count = g.count; name = g.name; verb = g.verb; reply = g.reply; cause = g.cause; thread = g.thread; object = g.object; target = w; now = g.now; millis = g.millis; nanos = g.nanos; chosen = g.chosen }) in
+    let at : P (codes "target") (Some a) = added g _ (codes "target") (of_number a) (ap (option_map of_number) fills.0) refl refl in
+    subst (λ (l : List ℕ). P l v) (sym is) (subst (λ (w : Option ℕ). P (codes "target") w) (sym fills.1) at)
 
-pub thread_taken : (g : Gathered) (k : List ℕ) (t : json.Token) (v : Option ℕ) → k ≡ codes "thread" → SetsWhole g.thread t v → Takes g k t (record { count = g.count + 1; name = g.name; verb = g.verb; reply = g.reply; cause = g.cause; thread = v; object = g.object; target = g.target; now = g.now; millis = g.millis; nanos = g.nanos; chosen = g.chosen })
-thread_taken g k t v is sets =
-    let P : List ℕ → Option ℕ → Type 0 = λ l w. Takes g l t (record { count = g.count + 1; name = g.name; verb = g.verb; reply = g.reply; cause = g.cause; thread = w; object = g.object; target = g.target; now = g.now; millis = g.millis; nanos = g.nanos; chosen = g.chosen }) in
-    let at : P (codes "thread") (Some sets.0) = taken g _ (codes "thread") t (of_number sets.0) sets.2 (ap (option_map of_number) sets.1) refl refl in
-    subst (λ (l : List ℕ). P l v) (sym is) (subst (λ (w : Option ℕ). P (codes "thread") w) (sym sets.3) at)
+pub thread_added : (g : Gathered) (k : List ℕ) (a : ℕ) (v : Option ℕ) → k ≡ codes "thread" → Fills g.thread a v → Adds g k (of_number a) (record { count = g.count; name = g.name; verb = g.verb; reply = g.reply; cause = g.cause; thread = v; object = g.object; target = g.target; now = g.now; millis = g.millis; nanos = g.nanos; chosen = g.chosen })
+thread_added g k a v is fills =
+    let P : List ℕ → Option ℕ → Type 0 = λ l w. Adds g l (of_number a) (record { count = g.count; name = g.name; verb = g.verb; reply = g.reply; cause = g.cause; thread = w; object = g.object; target = g.target; now = g.now; millis = g.millis; nanos = g.nanos; chosen = g.chosen }) in
+    let at : P (codes "thread") (Some a) = added g _ (codes "thread") (of_number a) (ap (option_map of_number) fills.0) refl refl in
+    subst (λ (l : List ℕ). P l v) (sym is) (subst (λ (w : Option ℕ). P (codes "thread") w) (sym fills.1) at)
+
+pub null_taken : (g : Gathered) (k : List ℕ) (s : Scalar) (v : Option (Option ℕ)) → s ≡ scalar.Null → k ≡ codes "chosen" → Fills g.chosen None v → Takes g k (scalar_data s) (record { count = g.count + 1; name = g.name; verb = g.verb; reply = g.reply; cause = g.cause; thread = g.thread; object = g.object; target = g.target; now = g.now; millis = g.millis; nanos = g.nanos; chosen = v })
+null_taken g k s v null_is is fills =
+    subst (λ (t : Scalar). Takes g k (scalar_data t) (record { count = g.count + 1; name = g.name; verb = g.verb; reply = g.reply; cause = g.cause; thread = g.thread; object = g.object; target = g.target; now = g.now; millis = g.millis; nanos = g.nanos; chosen = v })) (sym null_is)
+    (taken g _ k null (chosen_added (record { count = g.count + 1; name = g.name; verb = g.verb; reply = g.reply; cause = g.cause; thread = g.thread; object = g.object; target = g.target; now = g.now; millis = g.millis; nanos = g.nanos; chosen = g.chosen }) k None v is fills))
 
 -- ---- what is found of each
 

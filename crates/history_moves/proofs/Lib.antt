@@ -11,3 +11,4 @@ pub mod Told
 pub mod Fronts
 pub mod GatheredLaws
 pub mod TokenLaws
+pub mod Lexing

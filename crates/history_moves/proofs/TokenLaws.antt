@@ -82,6 +82,10 @@ named_move g name counted is =
     ap (λ (n : ℕ). move_named n (object (members_in g)) name) counted
     ∙ ap (option_and_then (move_named _ (object (members_in g)))) is
 
+pub nameless : (g : Gathered) → None ≡ text_at (codes "move") (object (members_in g)) → None ≡ move_from (object (members_in g))
+unfolding move_from
+nameless g is = ap (option_and_then (move_named _ (object (members_in g)))) is
+
 pub object_move : (text : List ℕ) (g : Gathered) (o : Option Move) → IsUtf8 text → read text ≡ Some (object (members_in g)) → o ≡ move_from (object (members_in g)) → IfSome o (IsMove text)
 object_move text g None valid read_is e = tt
 object_move text g (Some m) valid read_is e =

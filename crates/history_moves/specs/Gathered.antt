@@ -1,7 +1,8 @@
 -- Members that were gathered from tokens, each under its own key.
-use Rattle.std.specs.Prelude.{◌≡◌, ℕ, List, [], ◌∷◌, codes, Option, None, Some, option_map, ◌^◌, nat_lt, if◌then◌else◌, ℤ, pos}
+use Rattle.std.specs.Prelude.{◌≡◌, ℕ, ◌+◌, List, [], ◌∷◌, codes, Option, None, Some, option_map, ◌^◌, nat_lt, if◌then◌else◌, ℤ, pos, decimal}
 use Rattle.std.specs.Borrow.{Bor}
 use Rattle.json.specs.Token as json
+use Rattle.json.specs.Lex.{lex, between, token}
 use Rattle.serde_json.specs.Data.{Data, null, number, string, Members, no_members, member, put}
 use Rattle.serde_json.specs.Read.{number_of}
 use Rattle.lock_word.specs.declared.ThreadId.{ThreadId}
@@ -9,6 +10,10 @@ use Rattle.history_moves.specs.Moves.{of_number}
 use Rattle.history_moves.specs.Members.{count}
 use Rattle.history_moves.specs.Words.{Row}
 use Rattle.history_moves.specs.declared.gathered.Gathered.{Gathered}
+use Rattle.history_moves.specs.declared.gathered.Key.{Key}
+use Rattle.history_moves.specs.declared.gathered.Key.TheVariants as key
+use Rattle.history_moves.specs.declared.gathered.Scalar.{Scalar}
+use Rattle.history_moves.specs.declared.gathered.Scalar.TheVariants as scalar
 
 -- a member, where there is a value
 abbrev pub maybe : List ℕ → Option Data → Members → Members
@@ -77,21 +82,51 @@ token_data (json.boolean b) = None
 token_data json.null = Some null
 token_data json.bad = None
 
+-- ---- keys and values
+
+abbrev pub key_text : Key → List ℕ
+key_text key.Thread = codes "thread"
+key_text key.Move = codes "move"
+key_text key.Call = codes "call"
+key_text key.Object = codes "object"
+key_text key.Reply = codes "reply"
+key_text key.Target = codes "target"
+key_text key.Millis = codes "millis"
+key_text key.Nanos = codes "nanos"
+key_text key.Cause = codes "cause"
+key_text key.Chosen = codes "chosen"
+key_text key.Now = codes "now"
+
+
+abbrev pub scalar_data : Scalar → Data
+scalar_data (scalar.Text s) = string s.now
+scalar_data (scalar.Number n) = of_number n
+scalar_data scalar.Null = null
+
+abbrev pub scalar_token : Scalar → json.Token
+scalar_token (scalar.Text s) = json.string s.now
+scalar_token (scalar.Number n) = json.number (decimal n)
+scalar_token scalar.Null = json.null
+
+-- the text begins with this value, and the rest follows it
+abbrev pub BeginsWith : List ℕ → Scalar → List ℕ → Type 0
+BeginsWith text s rest =
+    (lex between text ≡ token (scalar_token s) ∷ lex between rest) × (token_data (scalar_token s) ≡ Some (scalar_data s))
+
 -- ---- one member more
 
-abbrev pub SetsText : Option (Bor (List ℕ)) → json.Token → Option (Bor (List ℕ)) → Type 0
-SetsText old t new = (s : Bor (List ℕ)) × (old ≡ None) × (token_data t ≡ Some (of_text s)) × (new ≡ Some s)
+-- what was empty has the value
+abbrev pub Fills : {A : Type 0} → Option A → A → Option A → Type 0
+Fills old a new = (old ≡ None) × (new ≡ Some a)
 
-abbrev pub SetsWhole : Option ℕ → json.Token → Option ℕ → Type 0
-SetsWhole old t new = (n : ℕ) × (old ≡ None) × (token_data t ≡ Some (of_number n)) × (new ≡ Some n)
+-- the value is put among the members under the key, where there was none, and the count stays
+unfoldable pub Adds : Gathered → List ℕ → Data → Gathered → Type 0
+Adds old k d new =
+    (members_in new ≡ put k d (members_in old)) × (count (members_in new) ≡ count (members_in old) + 1) × (new.count ≡ old.count)
 
-abbrev pub SetsChosen : Option (Option ℕ) → json.Token → Option (Option ℕ) → Type 0
-SetsChosen old t new = (n : Option ℕ) × (old ≡ None) × (token_data t ≡ Some (of_choice n)) × (new ≡ Some n)
-
--- the token's value is put among the members under the key
-unfoldable pub Takes : Gathered → List ℕ → json.Token → Gathered → Type 0
-Takes old k t new =
-    (d : Data) × (token_data t ≡ Some d) × (members_in new ≡ put k d (members_in old)) × (IsCounted old → IsCounted new)
+-- the same, and one more is counted
+unfoldable pub Takes : Gathered → List ℕ → Data → Gathered → Type 0
+Takes old k d new = (members_in new ≡ put k d (members_in old)) × (IsCounted old → IsCounted new)
 
 -- ---- numbers
 

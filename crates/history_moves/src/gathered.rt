@@ -1,31 +1,53 @@
-//! The members of an object that were gathered from its tokens, with no value on the heap.
+//! The members of an object that were gathered one by one, with no value on the heap.
 
-ghost use Rattle.std.specs.Prelude.{◌≡◌, IsTrue, IfSome};
-ghost use Rattle.serde_json.specs.Data.{object as object_data};
-ghost use Rattle.json.specs.Reads.{token_of};
-ghost use Rattle.serde_json.specs.Read.{number_of};
-ghost use Rattle.serde_json.specs.Data.{unsigned};
-ghost use Rattle.std.specs.Prelude.{Some};
-ghost use Rattle.history_moves.specs.Gathered.{members_in, nothing, Takes, SetsText, SetsWhole};
-ghost use Rattle.history_moves.specs.Gathered.{SetsChosen, short_signed, choice};
+ghost use Rattle.std.specs.Prelude.{◌≡◌, IsTrue};
+ghost use Rattle.serde_json.specs.Data.{object as object_data, string};
+ghost use Rattle.history_moves.specs.Moves.{of_number};
+ghost use Rattle.history_moves.specs.Reading.{move_from};
+ghost use Rattle.history_moves.specs.Gathered.{members_in, nothing, Takes, Adds, Fills, IsCounted};
+ghost use Rattle.history_moves.specs.Gathered.{key_text, scalar_data, short_signed, choice};
 
 use crate::members::{Fields, small_number};
-use crate::pieces::number_in;
-use json::Token;
+use crate::reading::move_named;
 use lock_word::ThreadId;
+use step_core::Move;
 
 /// The most members of a move.
 const MOST_MEMBERS: usize = 6;
+
+/// The keys that members of moves have.
+#[derive(Clone, Copy, Drop)]
+pub(crate) enum Key {
+    Thread,
+    Move,
+    Call,
+    Object,
+    Reply,
+    Target,
+    Millis,
+    Nanos,
+    Cause,
+    Chosen,
+    Now,
+}
+
+/// The value of a member, as moves have them.
+#[derive(Clone, Copy, Drop)]
+pub(crate) enum Scalar<'a> {
+    Text(&'a [u8]),
+    Number(u64),
+    Null,
+}
 
 /// The members of an object as far as they were read. Each has its key once, and a value of the
 /// kind that a move has there.
 #[derive(Clone, Copy, Drop)]
 pub(crate) struct Gathered<'a> {
     count: usize,
-    name: Option<&'a str>,
-    verb: Option<&'a str>,
-    reply: Option<&'a str>,
-    cause: Option<&'a str>,
+    name: Option<&'a [u8]>,
+    verb: Option<&'a [u8]>,
+    reply: Option<&'a [u8]>,
+    cause: Option<&'a [u8]>,
     thread: Option<u64>,
     object: Option<u64>,
     target: Option<u64>,
@@ -36,68 +58,21 @@ pub(crate) struct Gathered<'a> {
     chosen: Option<Option<u64>>,
 }
 
-/// The number that a text is; None of one that is negative, or no integer, or has 20 digits or
-/// more.
-fn whole_of(text: &str) -> Option<u64>
-    ensures { IfSome result (λ n. number_of text.now ≡ Some (unsigned n)) }
+/// Puts a value where there is none yet. False: there is one.
+#[inline(always)]
+fn put<T: Copy>(slot: &mut Option<T>, value: T) -> bool
+    ensures { IsTrue result → Fills slot.old value slot.new }
 {
-    let (number, rest) = number_in(text.as_bytes())?;
-    if rest.is_empty() { Some(number) } else { None }
-}
-
-/// Puts a text where there is none yet. False: there is one, or the token is no text.
-fn set_text<'a>(slot: &mut Option<&'a str>, token: Token<'a>) -> bool
-    ensures { IsTrue result → SetsText slot.old (token_of token.entry) slot.new }
-{
-    let Token::String(text) = token else {
-        return false;
-    };
     if slot.is_some() {
         return false;
     }
-    *slot = Some(text);
+    *slot = Some(value);
     true
-}
-
-/// Puts a number where there is none yet.
-fn set_whole(slot: &mut Option<u64>, token: Token<'_>) -> bool
-    ensures { IsTrue result → SetsWhole slot.old (token_of token.entry) slot.new }
-{
-    let Token::Number(text) = token else {
-        return false;
-    };
-    if slot.is_some() {
-        return false;
-    }
-    *slot = whole_of(text);
-    slot.is_some()
-}
-
-/// Puts a number or null where there is none yet.
-fn set_chosen(slot: &mut Option<Option<u64>>, token: Token<'_>) -> bool
-    ensures { IsTrue result → SetsChosen slot.old (token_of token.entry) slot.new }
-{
-    if slot.is_some() {
-        return false;
-    }
-    match token {
-        Token::Null => {
-            *slot = Some(None);
-            true
-        }
-        Token::Number(text) => {
-            let Some(number) = whole_of(text) else {
-                return false;
-            };
-            *slot = Some(Some(number));
-            true
-        }
-        _ => false,
-    }
 }
 
 impl<'a> Gathered<'a> {
     /// No member.
+    #[inline(always)]
     pub(crate) fn new() -> Gathered<'a>
         ensures { result ≡ nothing }
     {
@@ -117,36 +92,61 @@ impl<'a> Gathered<'a> {
         }
     }
 
-    /// How many members there are.
-    pub(crate) fn count(&self) -> usize
-        ensures { result ≡ self.entry.now.count }
-    {
-        self.count
-    }
-
-    /// Takes a member. False where it is no member of a move, or its key came before, or its value
-    /// is of no kind that is gathered; the members are not to be used then.
-    pub(crate) fn take(&mut self, key: &str, token: Token<'a>) -> bool
-        ensures { IsTrue result → Takes self.old key.now (token_of token.entry) self.new }
+    /// Takes a member. False where its key came before, or its value is of another kind than a move
+    /// has there; the members are not to be used then.
+    #[inline(always)]
+    pub(crate) fn take(&mut self, key: Key, value: Scalar<'a>) -> bool
+        ensures { IsTrue result → Takes self.old (key_text key) (scalar_data value.entry) self.new }
     {
         if self.count >= MOST_MEMBERS {
             return false;
         }
         self.count += 1;
+        match value {
+            Scalar::Text(text) => self.add_text(key, text),
+            Scalar::Number(number) => self.add_number(key, number),
+            Scalar::Null => match key {
+                Key::Chosen => put(&mut self.chosen, None),
+                _ => false,
+            },
+        }
+    }
+
+    #[inline(always)]
+    fn add_text(&mut self, key: Key, text: &'a [u8]) -> bool
+        ensures { IsTrue result → Adds self.old (key_text key) (string text.now) self.new }
+    {
         match key {
-            "thread" => set_whole(&mut self.thread, token),
-            "move" => set_text(&mut self.name, token),
-            "call" => set_text(&mut self.verb, token),
-            "object" => set_whole(&mut self.object, token),
-            "reply" => set_text(&mut self.reply, token),
-            "target" => set_whole(&mut self.target, token),
-            "millis" => set_whole(&mut self.millis, token),
-            "nanos" => set_whole(&mut self.nanos, token),
-            "cause" => set_text(&mut self.cause, token),
-            "chosen" => set_chosen(&mut self.chosen, token),
-            "now" => set_whole(&mut self.now, token),
+            Key::Move => put(&mut self.name, text),
+            Key::Call => put(&mut self.verb, text),
+            Key::Reply => put(&mut self.reply, text),
+            Key::Cause => put(&mut self.cause, text),
             _ => false,
         }
+    }
+
+    #[inline(always)]
+    fn add_number(&mut self, key: Key, number: u64) -> bool
+        ensures { IsTrue result → Adds self.old (key_text key) (of_number number) self.new }
+    {
+        match key {
+            Key::Thread => put(&mut self.thread, number),
+            Key::Object => put(&mut self.object, number),
+            Key::Target => put(&mut self.target, number),
+            Key::Millis => put(&mut self.millis, number),
+            Key::Nanos => put(&mut self.nanos, number),
+            Key::Chosen => put(&mut self.chosen, Some(number)),
+            Key::Now => put(&mut self.now, number),
+            _ => false,
+        }
+    }
+
+    /// The move that has these members, and no others.
+    pub(crate) fn made_move(&self) -> Option<Move>
+        ensures { IsCounted self.entry.now
+            → result ≡ move_from (object_data (members_in self.entry.now)) }
+    {
+        move_named(self.count, self, self.name?)
     }
 }
 
@@ -174,19 +174,19 @@ fn choice(number: Option<u64>) -> Option<Option<ThreadId>>
 impl<'a> Fields for Gathered<'a> {
     ghost seen = { λ g. object_data (members_in g) };
 
-    fn name(&self) -> Option<&str> {
+    fn name(&self) -> Option<&[u8]> {
         self.name
     }
 
-    fn verb(&self) -> Option<&str> {
+    fn verb(&self) -> Option<&[u8]> {
         self.verb
     }
 
-    fn reply(&self) -> Option<&str> {
+    fn reply(&self) -> Option<&[u8]> {
         self.reply
     }
 
-    fn cause(&self) -> Option<&str> {
+    fn cause(&self) -> Option<&[u8]> {
         self.cause
     }
 

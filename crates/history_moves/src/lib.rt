@@ -14,6 +14,7 @@ mod pieces;
 mod pushing;
 mod quick;
 mod reading;
+mod spelled;
 mod tokens;
 mod words;
 mod writing;

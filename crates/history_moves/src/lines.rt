@@ -10,6 +10,7 @@ ghost use Rattle.history_moves.specs.Lines.{IsFirst, IsMove, IsTextOf};
 
 use crate::quick::quick_move;
 use crate::reading::{read_first, read_move};
+use crate::spelled::spelled_move;
 use crate::tokens::token_move;
 use crate::writing::{write_first, write_move};
 use json::Scratch;
@@ -91,8 +92,9 @@ fn value_move(alloc: Global, line: &[u8]) -> Result<Option<Move>, Memory>
 /// A line of this many bytes or more is read by its value, so that no room is kept for it.
 const LONG: usize = 4096;
 
-/// A reader of lines, which keeps from line to line what it needs for those that are not written as
-/// [`move_line`] writes them: room for a line below 4,096 bytes, from the first such line on.
+/// A reader of lines, which keeps from line to line what it needs for those that have an escape, or
+/// are read by their tokens for another reason: room for a line below 4,096 bytes, from the first
+/// such line on.
 #[derive(Drop)]
 pub struct LineReader {
     alloc: Global,
@@ -131,7 +133,7 @@ impl LineReader {
         value_move(self.alloc, line)
     }
 
-    /// The move that a line is, by its tokens: a way for most lines of any spelling.
+    /// The move that a line is, from its bytes or its tokens: a way for most lines of any spelling.
     #[inline(never)]
     fn spelled_line(&mut self, line: &[u8]) -> Option<Move>
         ensures { IfSome result (IsMove line.now) }
@@ -140,6 +142,9 @@ impl LineReader {
             return None;
         }
         let text = str::from_utf8(line).ok()?;
+        if let Some(made) = spelled_move(text) {
+            return Some(made);
+        }
         if self.scratch.is_none() {
             self.scratch = new_scratch(self.alloc);
         }

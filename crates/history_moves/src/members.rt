@@ -17,17 +17,17 @@ pub(crate) trait Fields {
     ghost seen: { Self → Data };
 
     /// The name of the move.
-    fn name(&self) -> Option<&str>
+    fn name(&self) -> Option<&[u8]>
         ensures { option_map (λ text. text.now) result ≡ text_at (codes "move") (seen self.now) };
 
     /// The verb of a call.
-    fn verb(&self) -> Option<&str>
+    fn verb(&self) -> Option<&[u8]>
         ensures { option_map (λ text. text.now) result ≡ text_at (codes "call") (seen self.now) };
 
-    fn reply(&self) -> Option<&str>
+    fn reply(&self) -> Option<&[u8]>
         ensures { option_map (λ text. text.now) result ≡ text_at (codes "reply") (seen self.now) };
 
-    fn cause(&self) -> Option<&str>
+    fn cause(&self) -> Option<&[u8]>
         ensures { option_map (λ text. text.now) result ≡ text_at (codes "cause") (seen self.now) };
 
     fn thread(&self) -> Option<u64>
@@ -63,10 +63,10 @@ pub(crate) fn count_in(value: &Value) -> Option<usize>
     Some(members.len())
 }
 
-fn text_at<'a>(value: &'a Value, key: &str) -> Option<&'a str>
+fn text_at<'a>(value: &'a Value, key: &str) -> Option<&'a [u8]>
     ensures { option_map (λ text. text.now) result ≡ text_at key.now (view value.now) }
 {
-    value.get(key).and_then(Value::as_str)
+    Some(value.get(key)?.as_str()?.as_bytes())
 }
 
 pub(crate) fn whole_at(value: &Value, key: &str) -> Option<u64>
@@ -85,19 +85,19 @@ fn signed_at(value: &Value, key: &str) -> Option<i64>
 impl Fields for Value {
     ghost seen = { view };
 
-    fn name(&self) -> Option<&str> {
+    fn name(&self) -> Option<&[u8]> {
         text_at(self, "move")
     }
 
-    fn verb(&self) -> Option<&str> {
+    fn verb(&self) -> Option<&[u8]> {
         text_at(self, "call")
     }
 
-    fn reply(&self) -> Option<&str> {
+    fn reply(&self) -> Option<&[u8]> {
         text_at(self, "reply")
     }
 
-    fn cause(&self) -> Option<&str> {
+    fn cause(&self) -> Option<&[u8]> {
         text_at(self, "cause")
     }
 

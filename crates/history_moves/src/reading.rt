@@ -10,6 +10,7 @@ ghost use Rattle.history_moves.specs.Reading.{cause_at, wait_call, is_targeted, 
 ghost use Rattle.history_moves.specs.Reading.{reply_from, refused_from, three_from, thread_move};
 ghost use Rattle.history_moves.specs.Reading.{move_named, move_from, first_from};
 
+use crate::bytes::same_bytes;
 use crate::members::{Fields, count_in, nanos_at, object_at, target_at, thread_at, whole_at};
 use crate::words::{
     bare_call_named, cause_named, object_call_named, plain_named, reply_named, target_call_named,
@@ -26,13 +27,13 @@ const MOST_OBJECTS: u64 = 65_535;
 fn cause_at<F: Fields>(fields: &F) -> Option<Cause>
     ensures { result ≡ cause_at (F.seen fields.now) }
 {
-    cause_named(fields.cause()?.as_bytes())
+    cause_named(fields.cause()?)
 }
 
-fn is_targeted(verb: &str) -> bool
+fn is_targeted(verb: &[u8]) -> bool
     ensures { result ≡ is_targeted verb.now }
 {
-    verb == "Interrupt" || verb == "IsInterrupted"
+    same_bytes(verb, b"Interrupt") || same_bytes(verb, b"IsInterrupted")
 }
 
 fn wait_call<F: Fields>(fields: &F) -> Option<Call>
@@ -49,19 +50,19 @@ fn wait_call<F: Fields>(fields: &F) -> Option<Call>
 }
 
 /// The call with this name in a move of so many members.
-fn call_of<F: Fields>(count: usize, fields: &F, verb: &str) -> Option<Call>
+fn call_of<F: Fields>(count: usize, fields: &F, verb: &[u8]) -> Option<Call>
     ensures { result ≡ call_of count (F.seen fields.now) verb.now }
 {
     if count == 3 {
-        return bare_call_named(verb.as_bytes());
+        return bare_call_named(verb);
     }
     if count == 4 && is_targeted(verb) {
-        return target_call_named(verb.as_bytes(), target_at(fields)?);
+        return target_call_named(verb, target_at(fields)?);
     }
     if count == 4 {
-        return object_call_named(verb.as_bytes(), object_at(fields)?);
+        return object_call_named(verb, object_at(fields)?);
     }
-    if count == 6 && verb == "Wait" {
+    if count == 6 && same_bytes(verb, b"Wait") {
         return wait_call(fields);
     }
     None
@@ -78,7 +79,7 @@ fn call_from<F: Fields>(count: usize, fields: &F, thread: ThreadId) -> Option<Mo
 fn reply_from<F: Fields>(fields: &F, thread: ThreadId) -> Option<Move>
     ensures { result ≡ reply_from (F.seen fields.now) thread }
 {
-    let reply = reply_named(fields.reply()?.as_bytes())?;
+    let reply = reply_named(fields.reply()?)?;
     Some(Move::Return { thread, reply })
 }
 
@@ -86,7 +87,7 @@ fn refused_from<F: Fields>(fields: &F, thread: ThreadId) -> Option<Move>
     ensures { result ≡ refused_from (F.seen fields.now) thread }
 {
     let word = fields.reply()?;
-    if word != "Refused" {
+    if !same_bytes(word, b"Refused") {
         return None;
     }
     let cause = cause_at(fields)?;
@@ -97,46 +98,46 @@ fn refused_from<F: Fields>(fields: &F, thread: ThreadId) -> Option<Move>
 }
 
 /// The move of a thread with this name and three members.
-fn move_of_three<F: Fields>(fields: &F, name: &str, thread: ThreadId) -> Option<Move>
+fn move_of_three<F: Fields>(fields: &F, name: &[u8], thread: ThreadId) -> Option<Move>
     ensures { result ≡ three_from (F.seen fields.now) name.now thread }
 {
-    match name {
-        "Return" => reply_from(fields, thread),
-        "Notify" => {
-            let chosen = fields.chosen()?;
-            Some(Move::Notify { thread, chosen })
-        }
-        "Refuse" => {
-            let cause = cause_at(fields)?;
-            Some(Move::Refuse { thread, cause })
-        }
-        _ => None,
+    if same_bytes(name, b"Return") {
+        return reply_from(fields, thread);
     }
+    if same_bytes(name, b"Notify") {
+        let chosen = fields.chosen()?;
+        return Some(Move::Notify { thread, chosen });
+    }
+    if same_bytes(name, b"Refuse") {
+        let cause = cause_at(fields)?;
+        return Some(Move::Refuse { thread, cause });
+    }
+    None
 }
 
 /// The move of a thread with this name and so many members.
-fn thread_move<F: Fields>(count: usize, fields: &F, name: &str, thread: ThreadId) -> Option<Move>
+fn thread_move<F: Fields>(count: usize, fields: &F, name: &[u8], thread: ThreadId) -> Option<Move>
     ensures { result ≡ thread_move count (F.seen fields.now) name.now thread }
 {
     if count == 2 {
-        return plain_named(name.as_bytes(), thread);
+        return plain_named(name, thread);
     }
-    if name == "Call" {
+    if same_bytes(name, b"Call") {
         return call_from(count, fields, thread);
     }
     if count == 3 {
         return move_of_three(fields, name, thread);
     }
-    if count == 4 && name == "Return" {
+    if count == 4 && same_bytes(name, b"Return") {
         return refused_from(fields, thread);
     }
     None
 }
 
-pub(crate) fn move_named<F: Fields>(count: usize, fields: &F, name: &str) -> Option<Move>
+pub(crate) fn move_named<F: Fields>(count: usize, fields: &F, name: &[u8]) -> Option<Move>
     ensures { result ≡ move_named count (F.seen fields.now) name.now }
 {
-    if count == 2 && name == "Time" {
+    if count == 2 && same_bytes(name, b"Time") {
         let now = fields.now()?;
         return Some(Move::Time { now });
     }

@@ -1,34 +1,45 @@
 //! Reading a line of any spelling from its tokens.
 
-ghost use Rattle.std.specs.Prelude.{◌≡◌, Some, IfOk, IfSome, length};
-ghost use Rattle.json.specs.Json.{value, members};
-ghost use Rattle.serde_json.specs.Data.{no_members};
-ghost use Rattle.serde_json.specs.Read.{of_members, converted};
+ghost use Rattle.std.specs.Prelude.{◌≡◌, Some, IfSome};
+ghost use Rattle.json.specs.Reads.{token_of};
+ghost use Rattle.serde_json.specs.Data.{unsigned};
+ghost use Rattle.serde_json.specs.Read.{number_of};
 ghost use Rattle.history_moves.specs.Lines.{IsMove};
-ghost use Rattle.history_moves.specs.Gathered.{IsCounted, members_in};
+ghost use Rattle.history_moves.specs.Gathered.{key_text, scalar_data, token_data};
 
-use crate::gathered::Gathered;
-use crate::members::Fields;
-use crate::reading::move_named;
-use json::{Invalid, Reader, Scratch, Token};
+use crate::gathered::{Gathered, Key, Scalar};
+use crate::pieces::number_in;
+use crate::spelled::key_front;
+use json::{Reader, Scratch, Token};
 use step_core::Move;
 
-/// The members of an object whose brace was read. An error is no answer: the text may have another
-/// reading.
-fn gather<'a>(reader: &mut Reader<'a>) -> Result<Gathered<'a>, Invalid>
-    ensures { IfOk result (λ found. (converted (λ ms. of_members ms no_members)
-        (members (value 126) (length reader.old) reader.old)
-        ≡ Some (members_in found, reader.new))
-        × IsCounted found) }
+/// The number that a text is; None of one that is negative, or no integer, or has 20 digits or
+/// more.
+fn whole_of(text: &str) -> Option<u64>
+    ensures { IfSome result (λ n. number_of text.now ≡ Some (unsigned n)) }
 {
-    let mut found = Gathered::new();
-    'members: while let Some(key) = reader.next_key()? {
-        let token = reader.next().ok_or(Invalid)?;
-        if !found.take(key, token) {
-            return Err(Invalid);
-        }
+    let (number, rest) = number_in(text.as_bytes())?;
+    if rest.is_empty() { Some(number) } else { None }
+}
+
+/// The key that a text is.
+fn key_named(text: &[u8]) -> Option<Key>
+    ensures { IfSome result (λ key. text.now ≡ key_text key) }
+{
+    let (key, rest) = key_front(text)?;
+    if rest.is_empty() { Some(key) } else { None }
+}
+
+/// The value that a token is; None of one that no move has.
+fn scalar_of<'a>(token: Token<'a>) -> Option<Scalar<'a>>
+    ensures { IfSome result (λ s. token_data (token_of token.entry) ≡ Some (scalar_data s)) }
+{
+    match token {
+        Token::String(text) => Some(Scalar::Text(text.as_bytes())),
+        Token::Number(text) => Some(Scalar::Number(whole_of(text)?)),
+        Token::Null => Some(Scalar::Null),
+        _ => None,
     }
-    Ok(found)
 }
 
 /// The move that a text is, where it is an object with no key twice, whose values are texts, null
@@ -41,12 +52,15 @@ pub(crate) fn token_move(text: &str, scratch: &mut Scratch) -> Option<Move>
     let Some(Token::BeginObject) = reader.next() else {
         return None;
     };
-    let Ok(found) = gather(&mut reader) else {
-        return None;
-    };
+    let mut found = Gathered::new();
+    'members: while let Some(key) = reader.next_key().ok()? {
+        let value = scalar_of(reader.next()?)?;
+        if !found.take(key_named(key.as_bytes())?, value) {
+            return None;
+        }
+    }
     if reader.next().is_some() {
         return None;
     }
-    let name = found.name()?;
-    move_named(found.count(), &found, name)
+    found.made_move()
 }

@@ -3,7 +3,7 @@ use Rattle.json.specs.Json.{members, value}
 use Rattle.serde_json.specs.Data.{no_members}
 use Rattle.serde_json.specs.Read.{of_members, converted}
 use Rattle.history_moves.specs.Gathered.{members_in, IsCounted}
-use Rattle.history_moves.proofs.tokens.gather.Given as goal
+use Rattle.history_moves.proofs.tokens.token_move.Given as goal
 
 -- The rest of the tokens, put to the members that were gathered, gives what all tokens give.
 abbrev pub invariant-members : goal.invariant-members

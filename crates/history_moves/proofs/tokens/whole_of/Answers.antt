@@ -1,7 +1,7 @@
 use Rattle.std.proofs.Common.{◌≡◌, ℕ, List, [], ◌∷◌, ◌++◌, length, decimal, append-nil, refl, sym, ap, ◌∙◌, arith, rules}
 use Rattle.serde_json.specs.Read.{number_of}
 use Rattle.serde_json.proofs.Numbers.{number_of-decimal}
-use Rattle.history_moves.proofs.gathered.whole_of.Goals as goal
+use Rattle.history_moves.proofs.tokens.whole_of.Goals as goal
 
 empty : (l : List ℕ) → length l ≡ 0 → l ≡ []
 empty [] h = refl
