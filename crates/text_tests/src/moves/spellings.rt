@@ -200,23 +200,49 @@ fn values_of_any_kind(rt: HostRuntime) -> Result<(), Fail> {
     Ok(())
 }
 
+/// One line with an escape and one with none, with null and with numbers.
 const NOTIFY: &str = r#"{"thread":1, "move":"N\u006ftify", "chosen":null}"#;
+const PLAIN: [&str; 3] = [
+    r#"{"thread":1, "move":"Notify", "chosen":null}"#,
+    r#"{"thread":12 , "move":"Notify", "chosen":34}"#,
+    r#"{ "thread" : 1 , "call":"Wait", "move":"Call", "millis":0 , "nanos":5, "object":6 }"#,
+];
 
-/// A line that is cut anywhere, and one of which any byte is no text, or ends a text.
+/// A line that is cut anywhere, and one of which any byte is no text, ends a text, or stands where
+/// a value or an object may end.
+fn cut_and_filled(
+    rt: &impl Abort,
+    alloc: Global,
+    reader: &mut LineReader,
+    whole: &str,
+) -> Result<(), AllocError> {
+    let mut back = whole.as_bytes();
+    let mut front = Vec::new(alloc);
+    'bytes: loop {
+        agrees(rt, alloc, reader, &front);
+        for byte in b"\xff\"\\ 1,:}{.e-\x00\r" {
+            let mut line = Vec::new(alloc);
+            line.extend_from_slice(&front)?;
+            line.push(*byte)?;
+            line.extend_from_slice(back)?;
+            agrees(rt, alloc, reader, &line);
+        }
+        let Some((first, rest)) = back.split_first() else {
+            return Ok(());
+        };
+        front.push(*first)?;
+        back = rest;
+    }
+}
+
 #[test]
 fn cut_lines_and_other_bytes(rt: HostRuntime) -> Result<(), Fail> {
     let alloc = rt.alloc();
     let mut reader = LineReader::new(alloc);
-    for count in 0..=NOTIFY.len() {
-        let (front, back) = NOTIFY.as_bytes().split_at(count);
-        agrees(&rt, alloc, &mut reader, front);
-        for byte in b"\xff\"\\ 1" {
-            let mut line = Vec::new(alloc);
-            line.extend_from_slice(front)?;
-            line.push(*byte)?;
-            line.extend_from_slice(back)?;
-            agrees(&rt, alloc, &mut reader, &line);
-        }
+    cut_and_filled(&rt, alloc, &mut reader, NOTIFY)?;
+    for &whole in &PLAIN {
+        cut_and_filled(&rt, alloc, &mut reader, whole)?;
+        assert!(rt; matches!(reader.line_move(whole.as_bytes()), Ok(Some(_))));
     }
     Ok(())
 }
