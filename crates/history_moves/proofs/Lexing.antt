@@ -135,7 +135,7 @@ begun start g none =
     }
 
 -- a key and its value, which stand first in what is left
-record Turn (start rest : List ℕ) (g : Gathered) (k : List ℕ) (s : Scalar) (r : List Token) (h : Gathered) : Type 0 where
+record Turn (start : List ℕ) (r : List Token) (h : Gathered) : Type 0 where
   fuel : ℕ
   enough : length r ≤ fuel
   same : all_of start ≡ converted (λ ms. of_members ms (members_in h)) (members (value 126) fuel r)
@@ -144,7 +144,7 @@ record Turn (start rest : List ℕ) (g : Gathered) (k : List ℕ) (s : Scalar) (
 turn : (start rest after : List ℕ) (g h : Gathered) (k : List ℕ) (s : Scalar) (ls : List Lexeme) (r : List Token) → SoFar start rest g
     → lex between rest ≡ token (json.string k) ∷ colon ∷ lex between after → lex between after ≡ token (scalar_token s) ∷ ls
     → punctuate fresh (token (scalar_token s) ∷ ls) ≡ scalar_token s ∷ r
-    → token_data (scalar_token s) ≡ Some (scalar_data s) → Takes g k (scalar_data s) h → Turn start rest g k s r h
+    → token_data (scalar_token s) ≡ Some (scalar_data s) → Takes g k (scalar_data s) h → Turn start r h
 unfolding Takes
 turn start rest after g h k s ls r so key_is value_is tokens data_is takes =
     let t = scalar_token s in

@@ -1,4 +1,4 @@
--- Members that were gathered from tokens, each under its own key.
+-- Members that were gathered from the bytes or the tokens of a line, each under its own key.
 use Rattle.std.specs.Prelude.{◌≡◌, ℕ, ◌+◌, List, [], ◌∷◌, codes, Option, None, Some, option_map, ◌^◌, nat_lt, if◌then◌else◌, ℤ, pos, decimal}
 use Rattle.std.specs.Borrow.{Bor}
 use Rattle.json.specs.Token as json
@@ -97,7 +97,6 @@ key_text key.Cause = codes "cause"
 key_text key.Chosen = codes "chosen"
 key_text key.Now = codes "now"
 
-
 abbrev pub scalar_data : Scalar → Data
 scalar_data (scalar.Text s) = string s.now
 scalar_data (scalar.Number n) = of_number n
@@ -124,7 +123,7 @@ unfoldable pub Adds : Gathered → List ℕ → Data → Gathered → Type 0
 Adds old k d new =
     (members_in new ≡ put k d (members_in old)) × (count (members_in new) ≡ count (members_in old) + 1) × (new.count ≡ old.count)
 
--- the same, and one more is counted
+-- the value is put among the members, and where the old ones were counted, the new ones are
 unfoldable pub Takes : Gathered → List ℕ → Data → Gathered → Type 0
 Takes old k d new = (members_in new ≡ put k d (members_in old)) × (IsCounted old → IsCounted new)
 

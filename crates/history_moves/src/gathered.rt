@@ -1,6 +1,6 @@
 //! The members of an object that were gathered one by one, with no value on the heap.
 
-ghost use Rattle.std.specs.Prelude.{◌≡◌, IsTrue};
+ghost use Rattle.std.specs.Prelude.{◌≡◌, ◌++◌, IfSome, IsTrue};
 ghost use Rattle.serde_json.specs.Data.{object as object_data, string};
 ghost use Rattle.history_moves.specs.Moves.{of_number};
 ghost use Rattle.history_moves.specs.Reading.{move_from};
@@ -8,6 +8,7 @@ ghost use Rattle.history_moves.specs.Gathered.{members_in, nothing, Takes, Adds,
 ghost use Rattle.history_moves.specs.Gathered.{key_text, scalar_data, short_signed, choice};
 
 use crate::members::{Fields, small_number};
+use crate::pieces::behind;
 use crate::reading::move_named;
 use lock_word::ThreadId;
 use step_core::Move;
@@ -58,9 +59,48 @@ pub(crate) struct Gathered<'a> {
     chosen: Option<Option<u64>>,
 }
 
-/// Puts a value where there is none yet. False: there is one.
+/// The key that comes first, and what stands behind it. No key begins with another, so the first
+/// that fits is the only one.
 #[inline(always)]
-fn put<T: Copy>(slot: &mut Option<T>, value: T) -> bool
+pub(crate) fn key_front(bytes: &[u8]) -> Option<(Key, &[u8])>
+    ensures { IfSome result (λ r. bytes.now ≡ key_text r.0 ++ r.1.now) }
+{
+    if let Some(rest) = behind(bytes, b"thread") {
+        return Some((Key::Thread, rest));
+    }
+    if let Some(rest) = behind(bytes, b"move") {
+        return Some((Key::Move, rest));
+    }
+    if let Some(rest) = behind(bytes, b"call") {
+        return Some((Key::Call, rest));
+    }
+    if let Some(rest) = behind(bytes, b"object") {
+        return Some((Key::Object, rest));
+    }
+    if let Some(rest) = behind(bytes, b"reply") {
+        return Some((Key::Reply, rest));
+    }
+    if let Some(rest) = behind(bytes, b"target") {
+        return Some((Key::Target, rest));
+    }
+    if let Some(rest) = behind(bytes, b"millis") {
+        return Some((Key::Millis, rest));
+    }
+    if let Some(rest) = behind(bytes, b"nanos") {
+        return Some((Key::Nanos, rest));
+    }
+    if let Some(rest) = behind(bytes, b"cause") {
+        return Some((Key::Cause, rest));
+    }
+    if let Some(rest) = behind(bytes, b"chosen") {
+        return Some((Key::Chosen, rest));
+    }
+    Some((Key::Now, behind(bytes, b"now")?))
+}
+
+/// Fills a field with a value. False: there is one already.
+#[inline(always)]
+fn fill<T: Copy>(slot: &mut Option<T>, value: T) -> bool
     ensures { IsTrue result → Fills slot.old value slot.new }
 {
     if slot.is_some() {
@@ -92,8 +132,8 @@ impl<'a> Gathered<'a> {
         }
     }
 
-    /// Takes a member. False where its key came before, or its value is of another kind than a move
-    /// has there; the members are not to be used then.
+    /// Takes a member. False where there are as many as a move can have, or its key came before, or
+    /// its value is of another kind than a move has there; the members are not to be used then.
     #[inline(always)]
     pub(crate) fn take(&mut self, key: Key, value: Scalar<'a>) -> bool
         ensures { IsTrue result → Takes self.old (key_text key) (scalar_data value.entry) self.new }
@@ -106,7 +146,7 @@ impl<'a> Gathered<'a> {
             Scalar::Text(text) => self.add_text(key, text),
             Scalar::Number(number) => self.add_number(key, number),
             Scalar::Null => match key {
-                Key::Chosen => put(&mut self.chosen, None),
+                Key::Chosen => fill(&mut self.chosen, None),
                 _ => false,
             },
         }
@@ -117,10 +157,10 @@ impl<'a> Gathered<'a> {
         ensures { IsTrue result → Adds self.old (key_text key) (string text.now) self.new }
     {
         match key {
-            Key::Move => put(&mut self.name, text),
-            Key::Call => put(&mut self.verb, text),
-            Key::Reply => put(&mut self.reply, text),
-            Key::Cause => put(&mut self.cause, text),
+            Key::Move => fill(&mut self.name, text),
+            Key::Call => fill(&mut self.verb, text),
+            Key::Reply => fill(&mut self.reply, text),
+            Key::Cause => fill(&mut self.cause, text),
             _ => false,
         }
     }
@@ -130,13 +170,13 @@ impl<'a> Gathered<'a> {
         ensures { IsTrue result → Adds self.old (key_text key) (of_number number) self.new }
     {
         match key {
-            Key::Thread => put(&mut self.thread, number),
-            Key::Object => put(&mut self.object, number),
-            Key::Target => put(&mut self.target, number),
-            Key::Millis => put(&mut self.millis, number),
-            Key::Nanos => put(&mut self.nanos, number),
-            Key::Chosen => put(&mut self.chosen, Some(number)),
-            Key::Now => put(&mut self.now, number),
+            Key::Thread => fill(&mut self.thread, number),
+            Key::Object => fill(&mut self.object, number),
+            Key::Target => fill(&mut self.target, number),
+            Key::Millis => fill(&mut self.millis, number),
+            Key::Nanos => fill(&mut self.nanos, number),
+            Key::Chosen => fill(&mut self.chosen, Some(number)),
+            Key::Now => fill(&mut self.now, number),
             _ => false,
         }
     }

@@ -75,8 +75,8 @@ pub fn line_move(alloc: Global, line: &[u8]) -> Result<Option<Move>, Memory>
     value_move(alloc, line)
 }
 
-/// The move that a line is, by the value that it is the text of. It is kept out of line, so that the
-/// readers of usual lines need no room for it.
+/// The move that a line is, by the value that it is the text of. It is kept out of line, so that
+/// the readers of usual lines need no room for it.
 #[inline(never)]
 #[tactic(auto, unfolding(crate::specs::Lines::IsMove))]
 fn value_move(alloc: Global, line: &[u8]) -> Result<Option<Move>, Memory>
@@ -92,9 +92,13 @@ fn value_move(alloc: Global, line: &[u8]) -> Result<Option<Move>, Memory>
 /// A line of this many bytes or more is read by its value, so that no room is kept for it.
 const LONG: usize = 4096;
 
-/// A reader of lines, which keeps from line to line what it needs for those that have an escape, or
-/// are read by their tokens for another reason: room for a line below 4,096 bytes, from the first
-/// such line on.
+/// A line of this many bytes or more is not read straight from its bytes: it is mostly blanks, which
+/// the reader of tokens passes over faster.
+const BLANK: usize = 512;
+
+/// A reader of lines, which keeps from line to line what it needs for lines that are read from their
+/// tokens, most of them lines with an escape: room for a line below 4,096 bytes, from the first such
+/// line on.
 #[derive(Drop)]
 pub struct LineReader {
     alloc: Global,
@@ -142,7 +146,9 @@ impl LineReader {
             return None;
         }
         let text = str::from_utf8(line).ok()?;
-        if let Some(made) = spelled_move(text) {
+        if line.len() < BLANK
+            && let Some(made) = spelled_move(text)
+        {
             return Some(made);
         }
         if self.scratch.is_none() {

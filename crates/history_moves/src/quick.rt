@@ -15,7 +15,7 @@ use step_core::Move;
 
 /// The move that a line is, where the line is the one text that the move is written with. None
 /// where it is not, and of a wait for less than no time, and of numbers of 20 digits: these lines
-/// are left to the reader of any spelling.
+/// are left to the readers of any spelling.
 pub(crate) fn quick_move(line: &[u8]) -> Option<Move>
     ensures { IfSome result (Reads line.now) }
 {

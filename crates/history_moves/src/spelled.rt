@@ -3,16 +3,15 @@
 //! What is read from the front of a line is told by what the lexer of JSON makes of the line, and
 //! of what stands behind.
 
-ghost use Rattle.std.specs.Prelude.{◌≡◌, ◌∷◌, [], ◌++◌, IfSome, IsTrue};
+ghost use Rattle.std.specs.Prelude.{◌≡◌, ◌∷◌, [], ◌++◌, true, IfSome, IsTrue};
 ghost use Rattle.json.specs.Token.{string, end_object};
+ghost use Rattle.json.specs.Word.{ends_word as ends_a_word};
 ghost use Rattle.json.specs.Lex.{lex, between, class, space, token, colon};
 ghost use Rattle.json.specs.Print.{escape, escape_byte};
 ghost use Rattle.history_moves.specs.Lines.{IsMove};
 ghost use Rattle.history_moves.specs.Gathered.{key_text, BeginsWith};
-ghost use Rattle.json.specs.Word.{ends_word as ends_a_word};
-ghost use Rattle.std.specs.Prelude.{true};
 
-use crate::gathered::{Gathered, Key, Scalar};
+use crate::gathered::{Gathered, Key, Scalar, key_front};
 use crate::pieces::{behind, number_in};
 use step_core::Move;
 
@@ -23,7 +22,8 @@ fn is_blank(byte: u8) -> bool
     matches!(byte, b' ' | b'\t' | b'\n' | b'\r')
 }
 
-/// What stands behind the blanks that come first.
+/// What stands behind the blanks that come first. Most often there is none, which the first
+/// comparison tells.
 #[inline(always)]
 fn past_blanks(bytes: &[u8]) -> &[u8]
     ensures { lex between result.now ≡ lex between bytes.now }
@@ -58,44 +58,6 @@ fn letters_in(bytes: &[u8]) -> Option<(&[u8], &[u8])>
     }
     let (word, rest) = bytes.split_at(count);
     Some((word, behind(rest, b"\"")?))
-}
-
-/// The key that comes first, and what stands behind it. No key begins with another.
-#[inline(always)]
-pub(crate) fn key_front(bytes: &[u8]) -> Option<(Key, &[u8])>
-    ensures { IfSome result (λ r. bytes.now ≡ key_text r.0 ++ r.1.now) }
-{
-    if let Some(rest) = behind(bytes, b"thread") {
-        return Some((Key::Thread, rest));
-    }
-    if let Some(rest) = behind(bytes, b"move") {
-        return Some((Key::Move, rest));
-    }
-    if let Some(rest) = behind(bytes, b"call") {
-        return Some((Key::Call, rest));
-    }
-    if let Some(rest) = behind(bytes, b"object") {
-        return Some((Key::Object, rest));
-    }
-    if let Some(rest) = behind(bytes, b"reply") {
-        return Some((Key::Reply, rest));
-    }
-    if let Some(rest) = behind(bytes, b"target") {
-        return Some((Key::Target, rest));
-    }
-    if let Some(rest) = behind(bytes, b"millis") {
-        return Some((Key::Millis, rest));
-    }
-    if let Some(rest) = behind(bytes, b"nanos") {
-        return Some((Key::Nanos, rest));
-    }
-    if let Some(rest) = behind(bytes, b"cause") {
-        return Some((Key::Cause, rest));
-    }
-    if let Some(rest) = behind(bytes, b"chosen") {
-        return Some((Key::Chosen, rest));
-    }
-    Some((Key::Now, behind(bytes, b"now")?))
 }
 
 /// A key with its quotation marks, and what stands behind its colon.
@@ -156,9 +118,9 @@ fn is_last(bytes: &[u8]) -> bool
     }
 }
 
-/// The move that a text is, where it is an object with no key twice, whose values are words of
-/// letters, null and integers that are not negative and have at most 19 digits. None also of other
-/// texts, which may be moves.
+/// The move that a text is, where it is an object with no key twice and no escape in a key, whose
+/// values are words of letters, null and integers that are not negative and have at most 19 digits.
+/// None also of other texts, which may be moves.
 pub(crate) fn spelled_move(text: &str) -> Option<Move>
     ensures { IfSome result (IsMove text.now) }
 {

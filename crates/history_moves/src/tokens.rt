@@ -7,9 +7,8 @@ ghost use Rattle.serde_json.specs.Read.{number_of};
 ghost use Rattle.history_moves.specs.Lines.{IsMove};
 ghost use Rattle.history_moves.specs.Gathered.{key_text, scalar_data, token_data};
 
-use crate::gathered::{Gathered, Key, Scalar};
+use crate::gathered::{Gathered, Key, Scalar, key_front};
 use crate::pieces::number_in;
-use crate::spelled::key_front;
 use json::{Reader, Scratch, Token};
 use step_core::Move;
 

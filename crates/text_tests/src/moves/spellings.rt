@@ -121,6 +121,21 @@ fn agrees(rt: &impl Abort, alloc: Global, reader: &mut LineReader, line: &[u8]) 
     assert!(rt; read == line_move(alloc, line));
 }
 
+/// The same, and for the line with an escape in the first key that may have one here.
+fn agrees_escaped(
+    rt: &impl Abort,
+    alloc: Global,
+    reader: &mut LineReader,
+    line: &str,
+) -> Result<(), AllocError> {
+    agrees(rt, alloc, reader, line.as_bytes());
+    if let Some((front, back)) = line.split_once("\"move\"") {
+        let escaped = format!(in alloc; "{front}\"\\u006dove\"{back}")?;
+        agrees(rt, alloc, reader, escaped.as_bytes());
+    }
+    Ok(())
+}
+
 /// Adds members, each behind a separator.
 fn push_each(line: &mut String, members: &[&str], between: &str) -> Result<(), AllocError> {
     for member in members {
@@ -169,7 +184,7 @@ fn turned_agree(
         for first in 0..members.len() {
             let mut line = String::new(alloc);
             push_turned(&mut line, &members, first, blanks)?;
-            agrees(rt, alloc, reader, line.as_bytes());
+            agrees_escaped(rt, alloc, reader, &line)?;
         }
     }
     Ok(())
@@ -194,7 +209,7 @@ fn values_of_any_kind(rt: HostRuntime) -> Result<(), Fail> {
     for &(begin, end) in &OPEN {
         for &value in &VALUES {
             let line = format!(in alloc; "{begin}{value}{end}")?;
-            agrees(&rt, alloc, &mut reader, line.as_bytes());
+            agrees_escaped(&rt, alloc, &mut reader, &line)?;
         }
     }
     Ok(())
@@ -208,8 +223,10 @@ const PLAIN: [&str; 3] = [
     r#"{ "thread" : 1 , "call":"Wait", "move":"Call", "millis":0 , "nanos":5, "object":6 }"#,
 ];
 
-/// A line that is cut anywhere, and one of which any byte is no text, ends a text, or stands where
-/// a value or an object may end.
+/// Bytes that end a text or a value, that are no text, or that are blanks somewhere.
+const OTHERS: &[u8] = b"\xff\"\\ 1,:}{.e-\x00\r\t\n\x0b\x0c\x7fa";
+
+/// A line with a byte more anywhere, or another byte there, or cut there.
 fn cut_and_filled(
     rt: &impl Abort,
     alloc: Global,
@@ -220,10 +237,13 @@ fn cut_and_filled(
     let mut front = Vec::new(alloc);
     'bytes: loop {
         agrees(rt, alloc, reader, &front);
-        for byte in b"\xff\"\\ 1,:}{.e-\x00\r" {
+        for byte in OTHERS {
             let mut line = Vec::new(alloc);
             line.extend_from_slice(&front)?;
             line.push(*byte)?;
+            line.extend_from_slice(back.get(1..).unwrap_or(&[]))?;
+            agrees(rt, alloc, reader, &line);
+            line.truncate(front.len() + 1);
             line.extend_from_slice(back)?;
             agrees(rt, alloc, reader, &line);
         }
@@ -232,6 +252,32 @@ fn cut_and_filled(
         };
         front.push(*first)?;
         back = rest;
+    }
+}
+
+/// Lines that lack a member or a value, and lines with bytes that are blanks elsewhere.
+const ODD: [&str; 12] = [
+    "",
+    " ",
+    "{",
+    "{}",
+    r#"{"thread":1}"#,
+    r#"{"thread"}"#,
+    r#"{"thread":}"#,
+    r#"{"thread":1,}"#,
+    r#"{"thread":1 "move":"Lock"}"#,
+    "\u{feff}{\"thread\":1,\"move\":\"Lock\"}",
+    "{\u{85}\"thread\":1,\"move\":\"Lock\"}",
+    r#"[{"thread":1,"move":"Lock"}]"#,
+];
+
+#[test]
+fn odd_lines(rt: HostRuntime) {
+    let alloc = rt.alloc();
+    let mut reader = LineReader::new(alloc);
+    for line in &ODD {
+        agrees(&rt, alloc, &mut reader, line.as_bytes());
+        assert!(rt; matches!(reader.line_move(line.as_bytes()), Ok(None)));
     }
 }
 
@@ -247,19 +293,38 @@ fn cut_lines_and_other_bytes(rt: HostRuntime) -> Result<(), Fail> {
     Ok(())
 }
 
-/// Lines on both sides of the longest that a reader keeps room for, and short ones between them.
+/// A line with blanks behind it, or behind its brace, up to so many bytes.
+fn padded(alloc: Global, line: &str, bytes: usize, first: bool) -> Result<Vec<u8>, AllocError> {
+    let mut padded = Vec::new(alloc);
+    let count = bytes.saturating_sub(line.len());
+    let (brace, rest) = line.split_at(1);
+    padded.extend_from_slice(brace.as_bytes())?;
+    if first {
+        for _ in 0..count {
+            padded.push(b' ')?;
+        }
+    }
+    padded.extend_from_slice(rest.as_bytes())?;
+    for _ in padded.len()..bytes {
+        padded.push(b' ')?;
+    }
+    Ok(padded)
+}
+
+/// Lines on both sides of the longest that a reader keeps room for, and of the longest that it reads
+/// straight from the bytes, and short ones between them.
 #[test]
 fn long_lines_and_short_ones(rt: HostRuntime) -> Result<(), Fail> {
     let alloc = rt.alloc();
     let mut reader = LineReader::new(alloc);
-    for &bytes in &[49usize, 4094, 4095, 4096, 60, 4097, 9000, 49] {
-        let mut line = Vec::new(alloc);
-        line.extend_from_slice(NOTIFY.as_bytes())?;
-        for _ in NOTIFY.len()..bytes {
-            line.push(b' ')?;
+    for &bytes in &[49usize, 4094, 4095, 4096, 60, 4097, 9000, 49, 511, 512, 513] {
+        for line in [NOTIFY, PLAIN[0]] {
+            for first in [false, true] {
+                let line = padded(alloc, line, bytes, first)?;
+                agrees(&rt, alloc, &mut reader, &line);
+                assert!(rt; matches!(reader.line_move(&line), Ok(Some(_))));
+            }
         }
-        agrees(&rt, alloc, &mut reader, &line);
-        assert!(rt; matches!(reader.line_move(&line), Ok(Some(_))));
     }
     Ok(())
 }

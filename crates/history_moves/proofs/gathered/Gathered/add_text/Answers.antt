@@ -4,13 +4,13 @@ use Rattle.history_moves.proofs.GatheredLaws.{name_added, verb_added, reply_adde
 use Rattle.history_moves.proofs.gathered.Gathered.add_text.Goals as goal
 
 pub returns-in-Move : goal.returns-in-Move
-returns-in-Move c = λ done. name_added c.args.self.now (key_text c.args.key) c.args.text _ (ap key_text c.in-Move.is) (c.put.ensures done)
+returns-in-Move c = λ done. name_added c.args.self.now (key_text c.args.key) c.args.text _ (ap key_text c.in-Move.is) (c.fill.ensures done)
 
 pub returns-in-Call : goal.returns-in-Call
-returns-in-Call c = λ done. verb_added c.args.self.now (key_text c.args.key) c.args.text _ (ap key_text c.in-Call.is) (c.put-in-Call.ensures done)
+returns-in-Call c = λ done. verb_added c.args.self.now (key_text c.args.key) c.args.text _ (ap key_text c.in-Call.is) (c.fill-in-Call.ensures done)
 
 pub returns-in-Reply : goal.returns-in-Reply
-returns-in-Reply c = λ done. reply_added c.args.self.now (key_text c.args.key) c.args.text _ (ap key_text c.in-Reply.is) (c.put-in-Reply.ensures done)
+returns-in-Reply c = λ done. reply_added c.args.self.now (key_text c.args.key) c.args.text _ (ap key_text c.in-Reply.is) (c.fill-in-Reply.ensures done)
 
 pub returns-in-Cause : goal.returns-in-Cause
-returns-in-Cause c = λ done. cause_added c.args.self.now (key_text c.args.key) c.args.text _ (ap key_text c.in-Cause.is) (c.put-in-Cause.ensures done)
+returns-in-Cause c = λ done. cause_added c.args.self.now (key_text c.args.key) c.args.text _ (ap key_text c.in-Cause.is) (c.fill-in-Cause.ensures done)

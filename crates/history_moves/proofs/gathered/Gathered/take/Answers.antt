@@ -17,4 +17,4 @@ returns-in-Number c =
     (taken c.args.self.now _ (key_text c.args.key) (of_number c.in-Number.number) (c.add_number.ensures done))
 
 pub returns-in-Chosen : goal.returns-in-Chosen
-returns-in-Chosen c = λ done. null_taken c.args.self.now (key_text c.args.key) c.args.value _ c.in-Null.is (ap key_text c.in-Chosen.is) (c.put.ensures done)
+returns-in-Chosen c = λ done. null_taken c.args.self.now (key_text c.args.key) c.args.value _ c.in-Null.is (ap key_text c.in-Chosen.is) (c.fill.ensures done)
