@@ -101,6 +101,23 @@ fn a_refused_check_succeeds_when_tried_again(rt: HostRuntime) {
     assert!(rt; checks(&rt, rt.alloc()) || checks(&rt, rt.alloc()));
 }
 
+/// A history with an escape, for which its reader keeps room.
+const ESCAPED: &[u8] = b"{\"objects\":1}
+{ \"thread\" : 0 , \"move\" : \"\\u0041ttach\" }
+{ \"thread\" : 1 , \"move\" : \"\\u0041ttach\" }
+";
+
+fn checks_escapes(rt: &impl Abort, alloc: Global) -> bool {
+    let mut sink = WriterSink::new(Vec::new(alloc));
+    let outcome = replay(alloc, &mut ReaderSource::new(ESCAPED), &mut sink);
+    is_written(rt, outcome, sink, b"run of 2 moves\n")
+}
+
+#[test]
+fn a_refused_check_of_escapes_succeeds_when_tried_again(rt: HostRuntime) {
+    assert!(rt; checks_escapes(&rt, rt.alloc()) || checks_escapes(&rt, rt.alloc()));
+}
+
 fn lives<R: Threads + Wait + Clock + Sync + Abort>(rt: &R, alloc: Global) -> bool {
     let mut sink = WriterSink::new(Vec::new(alloc));
     let outcome = match run_live(rt, alloc, &mut ReaderSource::new(LIVE), &mut sink) {
