@@ -215,8 +215,10 @@ fn values_of_any_kind(rt: HostRuntime) -> Result<(), Fail> {
     Ok(())
 }
 
-/// One line with an escape and one with none, with null and with numbers.
+/// A line with an escape.
 const NOTIFY: &str = r#"{"thread":1, "move":"N\u006ftify", "chosen":null}"#;
+
+/// Lines with none, with null and with numbers.
 const PLAIN: [&str; 3] = [
     r#"{"thread":1, "move":"Notify", "chosen":null}"#,
     r#"{"thread":12 , "move":"Notify", "chosen":34}"#,
