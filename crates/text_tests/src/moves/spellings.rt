@@ -235,26 +235,26 @@ fn cut_and_filled(
     reader: &mut LineReader,
     whole: &str,
 ) -> Result<(), AllocError> {
-    let mut back = whole.as_bytes();
-    let mut front = Vec::new(alloc);
-    'bytes: loop {
-        agrees(rt, alloc, reader, &front);
+    let bytes = whole.as_bytes();
+    for count in 0..=bytes.len() {
+        let (front, back) = bytes.split_at(count);
+        agrees(rt, alloc, reader, front);
         for byte in OTHERS {
             let mut line = Vec::new(alloc);
-            line.extend_from_slice(&front)?;
+            line.extend_from_slice(front)?;
             line.push(*byte)?;
-            line.extend_from_slice(back.get(1..).unwrap_or(&[]))?;
-            agrees(rt, alloc, reader, &line);
-            line.truncate(front.len() + 1);
             line.extend_from_slice(back)?;
             agrees(rt, alloc, reader, &line);
+            if let Some((_, rest)) = back.split_first() {
+                let mut line = Vec::new(alloc);
+                line.extend_from_slice(front)?;
+                line.push(*byte)?;
+                line.extend_from_slice(rest)?;
+                agrees(rt, alloc, reader, &line);
+            }
         }
-        let Some((first, rest)) = back.split_first() else {
-            return Ok(());
-        };
-        front.push(*first)?;
-        back = rest;
     }
+    Ok(())
 }
 
 /// Lines that lack a member or a value, and lines with bytes that are blanks elsewhere.
@@ -298,15 +298,16 @@ fn cut_lines_and_other_bytes(rt: HostRuntime) -> Result<(), Fail> {
 /// A line with blanks behind it, or behind its brace, up to so many bytes.
 fn padded(alloc: Global, line: &str, bytes: usize, first: bool) -> Result<Vec<u8>, AllocError> {
     let mut padded = Vec::new(alloc);
-    let count = bytes.saturating_sub(line.len());
-    let (brace, rest) = line.split_at(1);
-    padded.extend_from_slice(brace.as_bytes())?;
+    let Some((brace, rest)) = line.as_bytes().split_first() else {
+        return Ok(padded);
+    };
+    padded.push(*brace)?;
     if first {
-        for _ in 0..count {
+        for _ in line.len()..bytes {
             padded.push(b' ')?;
         }
     }
-    padded.extend_from_slice(rest.as_bytes())?;
+    padded.extend_from_slice(rest)?;
     for _ in padded.len()..bytes {
         padded.push(b' ')?;
     }
