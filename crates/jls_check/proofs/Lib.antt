@@ -11,4 +11,5 @@ pub mod Judged
 pub mod Woken
 pub mod Turned
 pub mod Places
+pub mod TakenOut
 pub mod SameOwner

@@ -1,5 +1,6 @@
 use Rattle.std.proofs.Common.{sym}
-use Rattle.jls_check.proofs.Places.{place_within, taken_out, still_there, records-without, records-absent}
+use Rattle.jls_check.proofs.Places.{place_within}
+use Rattle.jls_check.proofs.TakenOut.{taken_out, still_there, records-without, records-absent}
 use Rattle.jls_check.proofs.threads.Threads.remove.Goals as goal
 
 pub returns-in_default : goal.returns-in_default
