@@ -1,5 +1,5 @@
 -- How many monitors a thread owns, and the count that is kept of it.
-use Rattle.std.specs.Prelude.{◌≡◌, ◌⊎◌, ℕ, ◌+◌, ◌-◌, ◌<◌, ◌≤◌, ◌==◌, Bool, true, false, not, cond, List, [], ◌∷◌, ◌++◌, length, slice_index_or, slice_set, Option, Some, None}
+use Rattle.std.specs.Prelude.{◌≡◌, ◌⊎◌, ℕ, ◌+◌, ◌-◌, ◌<◌, ◌≤◌, ◌==◌, Bool, true, false, not, cond, List, [], ◌∷◌, ◌++◌, length, slice_index_or, slice_set, Option, Some, None, nat_eq}
 use Rattle.std.specs.Option.{unwrap_or}
 use Rattle.std.specs.Ordering.{nat_cmp}
 use Rattle.std.specs.FinMap as map
@@ -11,10 +11,13 @@ use Rattle.lock_word.specs.declared.ThreadId.{ThreadId}
 use Rattle.wait_lines.proofs.ThreadLemmas.{same_thread}
 use Rattle.fat_monitor.specs.declared.monitors.Monitor.{Monitor}
 use Rattle.fat_monitor.specs.FatState.{FatState, IsSound, unbound, is_owned_by, owns_one}
-use Rattle.fat_monitor.specs.Slots.{count_of, one_less, one_more, handed_over}
+use Rattle.slab.specs.Slab.{Slab, get}
+use Rattle.std.specs.Map.{lookup}
+use Rattle.fat_monitor.specs.declared.posts.Record.{Record}
+use Rattle.fat_monitor.specs.Slots.{count_of, one_less, one_more, handed_over, posted_in}
 use Rattle.fat_monitor.specs.Fats.{owned_count, AreCounted}
 use Rattle.fat_monitor.proofs.Counts.{count-set, count-has, count-none}
-use Rattle.fat_monitor.proofs.PostMaps.{get-insert_by, get-remove_by}
+use Rattle.fat_monitor.proofs.PostMaps.{get-insert_by, get-remove_by, value-values_of, no_value-values_of}
 
 abbrev Counts : Type 0
 Counts = map.FinMap nat_cmp ℕ
@@ -22,6 +25,14 @@ Counts = map.FinMap nat_cmp ℕ
 -- one for the owner, nothing for another
 abbrev pub share : Option ThreadId → ThreadId → ℕ
 share o t = cond (is_owned_by o t) 1 0
+
+-- ---- the count of a thread is that of its record, and none where it has no record
+
+pub count-recorded : (records : Slab Record) (keys : List (ℕ × ℕ)) (t : ThreadId) (key : ℕ) (r : Record) → lookup (nat_eq t.0) keys ≡ Some key → get records key ≡ Some r → count_of (posted_in records keys).owned t ≡ r.owned
+count-recorded records keys t key r found there = ap (λ (o : Option ℕ). unwrap_or o 0) (value-values_of (λ r. r.owned) 0 records keys t.0 key r found there)
+
+pub count-unrecorded : (records : Slab Record) (keys : List (ℕ × ℕ)) (t : ThreadId) → lookup (nat_eq t.0) keys ≡ None → count_of (posted_in records keys).owned t ≡ 0
+count-unrecorded records keys t absent = ap (λ (o : Option ℕ). unwrap_or o 0) (no_value-values_of (λ r. r.owned) 0 records keys t.0 absent)
 
 -- the count of a thread after a count was written
 count-written : (counts : Counts) (u t : ThreadId) (n : ℕ) → count_of (map.insert counts u.0 n) t ≡ cond (u.0 == t.0) n (count_of counts t)

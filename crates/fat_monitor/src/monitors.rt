@@ -262,9 +262,26 @@ impl Fats {
         ensures behind { StandBehindOwners self.new }
         ensures sound { IsSound self.new }
     {
+        self.act_in_place(thread, action)
+    }
+
+    /// The same, in place where it is called, with its enter and exit: where a caller knows which
+    /// action it makes, nothing is left of the others, and no answer is copied. It is long for a
+    /// caller that does not know.
+    #[inline(always)]
+    pub fn act_in_place(&mut self, thread: ThreadId, action: Action) -> Result<Done, ActFault>
+        requires ready { MayAct self.old thread action }
+        requires bound { NamesBound self.old action }
+        ensures table { record { answer = result; after = self.new }
+            ≡ outcome_of self.old thread action }
+        ensures objects { objects_of self.new ≡ objects_of self.old }
+        ensures behind { StandBehindOwners self.new }
+        ensures sound { IsSound self.new }
+    {
         self.make(thread, action)
     }
 
+    #[inline(always)]
     fn make(&mut self, thread: ThreadId, action: Action) -> Result<Done, ActFault>
         requires ready { MayAct self.old thread action }
         requires bound { NamesBound self.old action }

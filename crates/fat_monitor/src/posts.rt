@@ -188,7 +188,9 @@ impl Posts {
         self.keys.len()
     }
 
-    /// The post of an attached thread.
+    /// The post of an attached thread. It is found in place, so that a caller who asks for a part of
+    /// the post copies no more than that.
+    #[inline(always)]
     pub(crate) fn get(&self, thread: ThreadId) -> Option<Post>
         ensures { result ≡ map.get self.now.posts thread.0 }
     {
@@ -329,6 +331,7 @@ impl Posts {
 
     /// Counts a monitor that goes from one owner to another: one less for the thread that owned it,
     /// and one more for the thread that owns it now.
+    #[inline(always)]
     pub(crate) fn hand_over(&mut self, from: Option<ThreadId>, to: Option<ThreadId>)
         requires owned { (t : ThreadId) → from ≡ Some t → 0 < count_of self.old.owned t }
         requires attached { (t : ThreadId) → to ≡ Some t → IsSome (map.get self.old.posts t.0) }
@@ -339,38 +342,39 @@ impl Posts {
         self.count_one_more(to);
     }
 
+    #[inline(always)]
     fn count_one_less(&mut self, owner: Option<ThreadId>)
         requires { (t : ThreadId) → owner ≡ Some t → 0 < count_of self.old.owned t }
         ensures { self.new ≡ record self.old { owned = one_less self.old.owned owner } }
     {
-        if let Some(thread) = owner {
-            let count = self.owned(thread);
-            self.set_owned(thread, count - 1);
-        }
-    }
-
-    fn count_one_more(&mut self, owner: Option<ThreadId>)
-        requires attached { (t : ThreadId) → owner ≡ Some t → IsSome (map.get self.old.posts t.0) }
-        requires few { (t : ThreadId) → owner ≡ Some t → count_of self.old.owned t < 4294967295 }
-        ensures { self.new ≡ record self.old { owned = one_more self.old.owned owner } }
-    {
-        if let Some(thread) = owner {
-            let count = self.owned(thread);
-            self.set_owned(thread, count + 1);
-        }
-    }
-
-    fn set_owned(&mut self, thread: ThreadId, count: u32)
-        requires { IsSome (map.get self.old.posts thread.0) }
-        ensures { self.new ≡ record self.old { owned = map.insert self.old.owned thread.0 count } }
-    {
+        let Some(thread) = owner else {
+            return;
+        };
         let Some(key) = key_noting(&self.records, &self.keys, &mut self.hints, thread) else {
             unreachable!();
         };
         let Some(record) = self.records.get_mut(key) else {
             unreachable!();
         };
-        record.owned = count;
+        record.owned -= 1;
+    }
+
+    #[inline(always)]
+    fn count_one_more(&mut self, owner: Option<ThreadId>)
+        requires attached { (t : ThreadId) → owner ≡ Some t → IsSome (map.get self.old.posts t.0) }
+        requires few { (t : ThreadId) → owner ≡ Some t → count_of self.old.owned t < 4294967295 }
+        ensures { self.new ≡ record self.old { owned = one_more self.old.owned owner } }
+    {
+        let Some(thread) = owner else {
+            return;
+        };
+        let Some(key) = key_noting(&self.records, &self.keys, &mut self.hints, thread) else {
+            unreachable!();
+        };
+        let Some(record) = self.records.get_mut(key) else {
+            unreachable!();
+        };
+        record.owned += 1;
     }
 
     /// Drops an attached thread.

@@ -145,6 +145,7 @@ impl Book {
 
     /// One action of a thread. An enter and a wait need 3 free places; an exit of the owner, an
     /// expire and a collect need none; any other action needs 1.
+    #[inline(always)]
     pub fn act(&mut self, thread: ThreadId, action: Action) -> Result<Done, BookFault>
         requires thread { IsThreadOf self.old.passes thread }
         requires action { IsForBook action }
@@ -161,7 +162,7 @@ impl Book {
             return Err(BookFault::RecordFull);
         }
         let waited = self.fats.waiting();
-        match self.fats.act(thread, action) {
+        match self.fats.act_in_place(thread, action) {
             Ok(done) => {
                 let answer = done.answer;
                 let gained = gained(action, answer);
@@ -200,6 +201,7 @@ impl Book {
     /// pass has a list of its own deeds with as many places as the record, and `full` says that it
     /// has none left. `Err` is [`Torn`](LiveFault::Torn): the pass is not where the book has it, or
     /// its list is full and the record is not.
+    #[inline(always)]
     pub fn check(&self, thread: ThreadId, parked: bool, full: bool) -> Result<(), LiveFault>
         ensures torn { IsErrOf result LiveFault.Torn
             ↔ (is_torn self.now thread parked full ≡ true) }
@@ -224,6 +226,7 @@ impl Book {
     }
 
     /// Where a thread stands; None where the book does not have the thread.
+    #[inline(always)]
     pub fn post(&self, thread: ThreadId) -> Option<Post>
         ensures post { result ≡ post_of self.now.fats thread }
         ensures some { IsSome result ↔ IsThreadOf self.now.passes thread }
@@ -290,6 +293,7 @@ impl Book {
     }
 
     /// How many free places an action of a thread needs.
+    #[inline(always)]
     fn need(&self, thread: ThreadId, action: Action) -> u32
         ensures { result ≡ need self.now.fats thread action }
     {

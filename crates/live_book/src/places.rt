@@ -6,6 +6,7 @@ ghost use Rattle.live_book.specs.Places.{gained, freed};
 use fat_monitor::{Action, Answer, Reply};
 
 /// How many places more are kept after an action with this answer.
+#[inline(always)]
 pub(crate) fn gained(action: Action, answer: Answer) -> u32
     ensures { result ≡ gained action answer }
 {
@@ -18,6 +19,7 @@ pub(crate) fn gained(action: Action, answer: Answer) -> u32
 
 /// How many places less are kept after an action with this answer, before which so many threads
 /// waited, and after which so many still wait.
+#[inline(always)]
 pub(crate) fn freed(action: Action, answer: Answer, waited: u16, waiting: u16) -> u32
     ensures { result ≡ freed action answer waited waiting }
 {

@@ -15,7 +15,7 @@ ghost use Rattle.live_turns.specs.Ways.{by};
 ghost use Rattle.live_book.specs.declared.deeds.Deed.TheVariants.{Bound, Acted, Ticked};
 
 use crate::{Book, BookFault, Deed, LiveFault, Logged};
-use fast_path::{InterruptCall, MonitorCall};
+use fast_path::{InterruptCall, MonitorCall, Operation};
 use fat_monitor::{Action, Cause, Done, Post, Receipt};
 use header_words::Kept;
 use lock_word::{ObjectId, ThreadId};
@@ -87,6 +87,7 @@ pub(crate) enum Refusal {
 impl<L: Crew> Desk<L> {
     // Whether the pass of the thread is where the book has it, in a call that has parked or not, and
     // its own list has room as long as the record has.
+    #[inline(always)]
     fn check(&self, own: &Own<L>, thread: ThreadId, parked: bool) -> Result<(), LiveFault>
         ensures thread { OnOk result (IsThreadOf self.now.book.passes thread) }
         ensures out { OnOk result (parked ≡ false → post_of self.now.book.fats thread ≡ Some Out) }
@@ -144,7 +145,9 @@ impl<L: Crew> Desk<L> {
         }
     }
 
-    // One fat action, as a deed of the thread's own.
+    // One fat action, as a deed of the thread's own. It stands in place where it is called, so that
+    // of an action that the caller knows nothing is left of the others, and no answer is copied.
+    #[inline(always)]
     fn make(
         &mut self,
         own: &mut Own<L>,
@@ -178,8 +181,34 @@ impl<L: Crew> Desk<L> {
         }
     }
 
+    // The same, as a function of its own, for an action that is not known beforehand.
+    #[inline(never)]
+    fn make_apart(
+        &mut self,
+        own: &mut Own<L>,
+        thread: ThreadId,
+        action: Action,
+    ) -> Result<Done, LiveFault>
+        requires thread { IsThreadOf self.old.book.passes thread }
+        requires action { IsForBook action }
+        requires ready { MayAct self.old.book.fats thread action }
+        requires named { NamesBound self.old.book.fats action }
+        requires room { length self.old.book.log < self.old.book.places →
+            vec_len own.old.list < vec_capacity own.old.list }
+        ensures own { IfOk result (λ d. own.new.list.items ≡ own.old.list.items
+            ++ by thread (Acted action d.answer) ∷ []) }
+        ensures told { IfOk result (λ d.
+            (outcome_of self.old.book.fats thread action).answer ≡ Ok d) }
+        ensures bindings { bindings self.new.book ≡ bindings self.old.book }
+        ensures none { OnErr result (own.new.list.items ≡ own.old.list.items) }
+        ensures fault { IfErr result IsDeskFault }
+    {
+        self.make(own, thread, action)
+    }
+
     #[tactic(auto, using(crate::proofs::Asking::asking))]
     /// The fat action of a call on an object, by a thread that is in no action.
+    #[inline(always)]
     pub(crate) fn act_on(
         &mut self,
         own: &mut Own<L>,
@@ -196,7 +225,11 @@ impl<L: Crew> Desk<L> {
         ensures fault { IfErr result IsDeskFault }
     {
         self.check(own, thread, false)?;
-        self.make(own, thread, action_on(call.operation, monitor))
+        match call.operation {
+            Operation::Enter => self.make(own, thread, Action::Enter { monitor }),
+            Operation::Exit => self.make(own, thread, Action::Exit { monitor }),
+            operation => self.make_apart(own, thread, action_on(operation, monitor)),
+        }
     }
 
     #[tactic(auto, using(crate::proofs::Asking::asking))]
@@ -215,7 +248,7 @@ impl<L: Crew> Desk<L> {
         ensures fault { IfErr result IsDeskFault }
     {
         self.check(own, thread, false)?;
-        self.make(own, thread, action_about(call))
+        self.make_apart(own, thread, action_about(call))
     }
 
     #[tactic(auto, using(crate::proofs::Asking::waking))]
@@ -253,7 +286,7 @@ impl<L: Crew> Desk<L> {
                 },
             ) if !expired && deadline <= now => {
                 // Its place of the record is kept, so that only a pass that is torn is refused.
-                let Ok(done) = self.make(own, thread, Action::Expire) else {
+                let Ok(done) = self.make_apart(own, thread, Action::Expire) else {
                     return Err(LiveFault::Torn);
                 };
                 Ok(Some(done))
@@ -290,6 +323,7 @@ impl<L: Crew> Desk<L> {
 }
 
 // Notes a deed of the pass, which the ledger counts.
+#[inline(always)]
 fn note<L: Crew>(total: &mut ledger::Book<L>, own: &mut Own<L>, entry: Logged)
     requires { vec_len own.old.list < vec_capacity own.old.list }
     ensures list { own.new.list.items ≡ own.old.list.items ++ entry ∷ [] }

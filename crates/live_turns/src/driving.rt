@@ -15,14 +15,15 @@ use crate::{LiveFault, TurnPass, Turned, Turns};
 use fast_path::{InterruptCall, MonitorCall};
 use step_core::{Place, Point, Stage};
 
-/// Where a pass rests after a turn: in no call once it has its reply.
+/// Writes where a pass rests after a turn: in no call once it has its reply. It is written in
+/// place, so that of a call that is over nothing is copied.
 #[inline(always)]
-fn resting(point: Point) -> Point
-    ensures { result ≡ resting point }
+fn rest(rests: &mut Point, point: &Point)
+    ensures { rests.new ≡ resting point.now }
 {
     match point {
-        Point::Said(_) => Point::At(Place::Idle),
-        _ => point,
+        Point::Said(_) => *rests = Point::At(Place::Idle),
+        _ => *rests = *point,
     }
 }
 
@@ -57,7 +58,7 @@ impl<L: Crew> Turns<L> {
         }
         match self.turn_from_load(&mut pass.holder, call, false) {
             Ok(turned) => {
-                pass.point = resting(turned.point);
+                rest(&mut pass.point, &turned.point);
                 Ok(turned)
             }
             Err(fault) => Err(fault),
@@ -93,7 +94,7 @@ impl<L: Crew> Turns<L> {
         }
         match self.act_directly(&mut pass.holder, call) {
             Ok(turned) => {
-                pass.point = resting(turned.point);
+                rest(&mut pass.point, &turned.point);
                 Ok(turned)
             }
             Err(fault) => Err(fault),
@@ -139,7 +140,7 @@ impl<L: Crew> Turns<L> {
         };
         match turned {
             Ok(turned) => {
-                pass.point = resting(turned.point);
+                rest(&mut pass.point, &turned.point);
                 Ok(turned)
             }
             Err(fault) => {

@@ -38,6 +38,7 @@ impl<L: Crew> Model for Holder<L> {
 }
 
 // What the answer to the action of a call came to.
+#[inline(always)]
 fn told(done: Done) -> Turned
     ensures point { result.point ≡ point_told done.answer }
     ensures gate { result.gate_taken ≡ false }
@@ -87,6 +88,7 @@ impl<L: Crew> Holder<L> {
     }
 
     /// The fat action of a call on an object.
+    #[inline(always)]
     pub(crate) fn act_on(
         &mut self,
         desk: &mut Box<Desk<L>>,

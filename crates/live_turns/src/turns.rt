@@ -102,8 +102,9 @@ impl<L: Crew> Turns<L> {
         self.headers.publish(&mut holder.words, desk, receipt);
     }
 
-    /// The fat action of a call whose object has this monitor.
-    #[inline(never)]
+    /// The fat action of a call whose object has this monitor. It stands in place where it is called,
+    /// down to the book's enter and exit, so that what they answer is nowhere copied.
+    #[inline(always)]
     pub(crate) fn act(
         &self,
         holder: &mut Holder<L>,

@@ -20,6 +20,7 @@ use lock_word::ThreadId;
 use wait_lines::Role;
 
 impl Fats {
+    #[inline(always)]
     pub(super) fn enter(&mut self, thread: ThreadId, monitor: u32) -> Done
         requires out { post_of self.old thread ≡ Some Post.Out }
         requires bound { monitor < length self.old.monitors }
@@ -44,6 +45,7 @@ impl Fats {
         reply_with(Reply::Entered)
     }
 
+    #[inline(always)]
     pub(super) fn exit(&mut self, thread: ThreadId, monitor: u32) -> Done
         requires out { post_of self.old thread ≡ Some Post.Out }
         requires bound { monitor < length self.old.monitors }

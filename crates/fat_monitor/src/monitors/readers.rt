@@ -10,6 +10,7 @@ use lock_word::{ObjectId, ThreadId};
 
 impl Fats {
     /// Where an attached thread stands; None where it is not attached.
+    #[inline(always)]
     pub fn post(&self, thread: ThreadId) -> Option<Post>
         ensures { result ≡ post_of self.now thread }
     {

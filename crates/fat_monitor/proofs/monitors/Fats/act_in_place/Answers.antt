@@ -1,7 +1,7 @@
 use Rattle.fat_monitor.proofs.Soundness.{stand_behind}
 use Rattle.fat_monitor.proofs.MonitorEffects.{objects_after}
 use Rattle.fat_monitor.proofs.Steps.{sound_after}
-use Rattle.fat_monitor.proofs.monitors.Fats.act.Goals as goal
+use Rattle.fat_monitor.proofs.monitors.Fats.act_in_place.Goals as goal
 
 pub returns-clause-sound : goal.returns-clause-sound
 returns-clause-sound c = sound_after c.args.self.now _ c.args.thread c.args.action _ c.make.ensures.was c.requires.ready c.requires.bound c.make.ensures.table
