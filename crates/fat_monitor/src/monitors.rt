@@ -265,9 +265,9 @@ impl Fats {
         self.act_in_place(thread, action)
     }
 
-    /// The same, in place where it is called, with its enter and exit: where a caller knows which
-    /// action it makes, nothing is left of the others, and no answer is copied. It is long for a
-    /// caller that does not know.
+    /// What [`act`](Fats::act) does, in place where it is called, with its enter and exit: where a
+    /// caller knows which action it makes, nothing is left of the others, and the answer comes by
+    /// no copy. It is long for a caller that does not know.
     #[inline(always)]
     pub fn act_in_place(&mut self, thread: ThreadId, action: Action) -> Result<Done, ActFault>
         requires ready { MayAct self.old thread action }
@@ -281,6 +281,7 @@ impl Fats {
         self.make(thread, action)
     }
 
+    // In place, as its enter and exit are, for `act_in_place`.
     #[inline(always)]
     fn make(&mut self, thread: ThreadId, action: Action) -> Result<Done, ActFault>
         requires ready { MayAct self.old thread action }

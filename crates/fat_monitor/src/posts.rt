@@ -188,8 +188,8 @@ impl Posts {
         self.keys.len()
     }
 
-    /// The post of an attached thread. It is found in place, so that a caller who asks for a part of
-    /// the post copies no more than that.
+    /// The post of an attached thread. It is found in place, so that a caller who asks for a part
+    /// of the post copies no more than that.
     #[inline(always)]
     pub(crate) fn get(&self, thread: ThreadId) -> Option<Post>
         ensures { result ≡ map.get self.now.posts thread.0 }
@@ -330,7 +330,8 @@ impl Posts {
     }
 
     /// Counts a monitor that goes from one owner to another: one less for the thread that owned it,
-    /// and one more for the thread that owns it now.
+    /// and one more for the thread that owns it now. It stands in place with both counts, since its
+    /// callers know which of the two threads there is.
     #[inline(always)]
     pub(crate) fn hand_over(&mut self, from: Option<ThreadId>, to: Option<ThreadId>)
         requires owned { (t : ThreadId) → from ≡ Some t → 0 < count_of self.old.owned t }

@@ -145,6 +145,9 @@ impl Book {
 
     /// One action of a thread. An enter and a wait need 3 free places; an exit of the owner, an
     /// expire and a collect need none; any other action needs 1.
+    ///
+    /// It stands in place where it is called: of an action that the caller knows nothing is left of
+    /// the others, and the answer comes by no copy.
     #[inline(always)]
     pub fn act(&mut self, thread: ThreadId, action: Action) -> Result<Done, BookFault>
         requires thread { IsThreadOf self.old.passes thread }

@@ -1,6 +1,6 @@
 //! What lies behind the gate, and what a pass keeps of it.
 
-ghost use Rattle.std.specs.Prelude.{◌≡◌, ◌<◌, ◌≤◌, ◌+◌, IfOk, IfErr, OnErr, OnOk, IfSome, MatchOption, ℕ, length, [], ◌∷◌, ◌++◌, vec_len, vec_capacity, Some, false, Ok};
+ghost use Rattle.std.specs.Prelude.{◌≡◌, ◌<◌, ◌≤◌, ◌+◌, IfOk, IfErr, OnErr, OnOk, MatchOption, ℕ, length, [], ◌∷◌, ◌++◌, vec_len, vec_capacity, Some, false, Ok};
 ghost use Rattle.fat_monitor.specs.FatState.{post_of};
 ghost use Rattle.fat_monitor.specs.Acting.{outcome_of, MayAct, NamesBound};
 ghost use Rattle.fat_monitor.specs.declared.actions.Post.TheVariants.{Out};
@@ -146,7 +146,8 @@ impl<L: Crew> Desk<L> {
     }
 
     // One fat action, as a deed of the thread's own. It stands in place where it is called, so that
-    // of an action that the caller knows nothing is left of the others, and no answer is copied.
+    // of an action that the caller knows nothing is left of the others, and its answer comes by no
+    // copy.
     #[inline(always)]
     fn make(
         &mut self,
@@ -181,7 +182,8 @@ impl<L: Crew> Desk<L> {
         }
     }
 
-    // The same, as a function of its own, for an action that is not known beforehand.
+    // The same, as a function of its own, for an action that is not known beforehand or is seldom
+    // made.
     #[inline(never)]
     fn make_apart(
         &mut self,
@@ -207,7 +209,8 @@ impl<L: Crew> Desk<L> {
     }
 
     #[tactic(auto, using(crate::proofs::Asking::asking))]
-    /// The fat action of a call on an object, by a thread that is in no action.
+    /// The fat action of a call on an object, by a thread that is in no action. It stands in place,
+    /// as [`make`](Desk::make) does.
     #[inline(always)]
     pub(crate) fn act_on(
         &mut self,
@@ -225,6 +228,8 @@ impl<L: Crew> Desk<L> {
         ensures fault { IfErr result IsDeskFault }
     {
         self.check(own, thread, false)?;
+        // An enter and an exit name their action, so that each is made in place; it is that of
+        // `action_on`.
         match call.operation {
             Operation::Enter => self.make(own, thread, Action::Enter { monitor }),
             Operation::Exit => self.make(own, thread, Action::Exit { monitor }),

@@ -1,6 +1,6 @@
 //! Calls that are driven by turns.
 
-ghost use Rattle.std.specs.Prelude.{◌≡◌, ◌≢◌, ◌<◌, IfOk, IfErr, MatchBool, OnErr, OnOk, Bool, length, ◌++◌, false, None};
+ghost use Rattle.std.specs.Prelude.{◌≡◌, ◌≢◌, ◌<◌, IfOk, IfErr, MatchBool, OnErr, OnOk, length, ◌++◌, false, None};
 ghost use Rattle.step_core.specs.declared.places.Place.TheVariants.{Idle, InCall};
 ghost use Rattle.step_core.specs.declared.places.Stage.TheVariants.{Begun, Direct};
 ghost use Rattle.step_core.specs.declared.paths.Point.TheVariants.{At};
@@ -190,7 +190,7 @@ impl<L: Crew> Turns<L> {
         match stage {
             Stage::Begun { call, contended } => self.turn_from_load(holder, call, contended),
             Stage::Binding { call, count } => self.inflate(holder, call, count),
-            Stage::Acting { call, monitor } => self.act(holder, call, monitor),
+            Stage::Acting { call, monitor } => self.act_apart(holder, call, monitor),
             Stage::Won { object } => Ok(self.settle(holder, object)),
             Stage::Direct { call } => self.act_directly(holder, call),
             _ => unreachable!(),

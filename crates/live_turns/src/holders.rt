@@ -87,7 +87,8 @@ impl<L: Crew> Holder<L> {
         self.words.index()
     }
 
-    /// The fat action of a call on an object.
+    /// The fat action of a call on an object. It stands in place, so that its answer comes by no
+    /// copy.
     #[inline(always)]
     pub(crate) fn act_on(
         &mut self,

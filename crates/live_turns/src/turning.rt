@@ -153,7 +153,7 @@ impl<L: Crew> Turns<L> {
             Next::Cas(_) => Ok(self.acquire(holder, call.object, contended)),
             Next::Store(new) => Ok(Turned::said(self.store(holder, call, lock, new))),
             Next::Bind => self.inflate(holder, call, count_of(lock)),
-            Next::Fat(monitor) => self.act(holder, call, monitor),
+            Next::Fat(monitor) => self.act_apart(holder, call, monitor),
         }
     }
 }

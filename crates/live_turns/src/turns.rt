@@ -102,8 +102,9 @@ impl<L: Crew> Turns<L> {
         self.headers.publish(&mut holder.words, desk, receipt);
     }
 
-    /// The fat action of a call whose object has this monitor. It stands in place where it is called,
-    /// down to the book's enter and exit, so that what they answer is nowhere copied.
+    /// The fat action of a call whose object has this monitor. It stands in place where it is
+    /// called, down to the book's enter and exit, so that no answer goes from one function to
+    /// another by a copy.
     #[inline(always)]
     pub(crate) fn act(
         &self,
@@ -129,6 +130,30 @@ impl<L: Crew> Turns<L> {
         let told = holder.act_on(&mut desk, call, monitor);
         self.give(holder, desk);
         told
+    }
+
+    /// The same, as a function of its own, for a turn that seldom comes here: a turn on a thin word
+    /// has nothing of it.
+    #[inline(never)]
+    pub(crate) fn act_apart(
+        &self,
+        holder: &mut Holder<L>,
+        call: MonitorCall,
+        monitor: u32,
+    ) -> Result<Turned, LiveFault>
+        requires belongs { Belongs self.now false holder.old }
+        requires published { HasPublish monitor call.object.0 holder.old.words.seen }
+        ensures belongs { Belongs self.now false holder.new }
+        ensures went { IfOk result (λ t.
+            Went (At (InCall (Acting call monitor))) t.point holder.old holder.new) }
+        ensures knows { IfOk result (λ t. Knows t.point holder.new) }
+        ensures halted { IfErr result (λ f.
+            Halted f (At (InCall (Acting call monitor))) holder.old holder.new) }
+        ensures visited { IfOk result (λ t.
+            Visited t.gate_taken t.point holder.old.words holder.new.words) }
+        ensures there { OnErr result (VisitsBook 1 holder.old.words holder.new.words) }
+    {
+        self.act(holder, call, monitor)
     }
 
     /// The action of a call about interrupts.

@@ -62,15 +62,15 @@ returns-in-Bind-clause-halted g c =
 
 pub returns-in-Fat-clause-went : goal.returns-in-Fat-clause-went
 returns-in-Fat-clause-went g c =
-    ok_after c.act.result (At (InCall (Begun c.args.call c.args.contended))) (At (InCall (Acting c.args.call c.in-Fat.monitor))) c.args.holder.now c.load-lock.new.holder c.act.new.holder
+    ok_after c.act_apart.result (At (InCall (Begun c.args.call c.args.contended))) (At (InCall (Acting c.args.call c.in-Fat.monitor))) c.args.holder.now c.load-lock.new.holder c.act_apart.new.holder
     (first_way c.args.call c.args.contended c.load-lock.result (next.Fat c.in-Fat.monitor) c.index.result c.args.holder.now c.load-lock.new.holder (c.load-lock.ensures.went c.args.call c.args.contended refl) c.index.ensures c.load-lock.ensures.index (sym c.in-Fat.is ∙ c.next.ensures))
-    c.act.ensures.went
+    c.act_apart.ensures.went
 
 pub returns-in-Fat-clause-halted : goal.returns-in-Fat-clause-halted
 returns-in-Fat-clause-halted g c =
-    err_after c.act.result (At (InCall (Begun c.args.call c.args.contended))) (At (InCall (Acting c.args.call c.in-Fat.monitor))) c.args.holder.now c.load-lock.new.holder c.act.new.holder
+    err_after c.act_apart.result (At (InCall (Begun c.args.call c.args.contended))) (At (InCall (Acting c.args.call c.in-Fat.monitor))) c.args.holder.now c.load-lock.new.holder c.act_apart.new.holder
     (first_way c.args.call c.args.contended c.load-lock.result (next.Fat c.in-Fat.monitor) c.index.result c.args.holder.now c.load-lock.new.holder (c.load-lock.ensures.went c.args.call c.args.contended refl) c.index.ensures c.load-lock.ensures.index (sym c.in-Fat.is ∙ c.next.ensures))
-    c.act.ensures.halted
+    c.act_apart.ensures.halted
 
 pub returns-in-Reply-clause-loaded : goal.returns-in-Reply-clause-loaded
 returns-in-Reply-clause-loaded g c =
@@ -99,8 +99,8 @@ returns-in-Bind-clause-there g c =
 
 pub returns-in-Fat-clause-loaded : goal.returns-in-Fat-clause-loaded
 returns-in-Fat-clause-loaded g c =
-    ok_loaded_at c.act.result c.args.holder.now.words c.load-lock.new.holder.words c.act.new.holder.words c.load-lock.ensures.visit c.act.ensures.visited
+    ok_loaded_at c.act_apart.result c.args.holder.now.words c.load-lock.new.holder.words c.act_apart.new.holder.words c.load-lock.ensures.visit c.act_apart.ensures.visited
 
 pub returns-in-Fat-clause-there : goal.returns-in-Fat-clause-there
 returns-in-Fat-clause-there g c =
-    err_visit c.act.result c.args.holder.now.words c.load-lock.new.holder.words c.act.new.holder.words c.load-lock.ensures.visit c.act.ensures.there
+    err_visit c.act_apart.result c.args.holder.now.words c.load-lock.new.holder.words c.act_apart.new.holder.words c.load-lock.ensures.visit c.act_apart.ensures.there
