@@ -231,7 +231,7 @@ pub fn history_of(alloc: Global, shape: Shape, hand: Hand, seed: u64) -> Result<
 
 /// A history in which one thread waits and another wakes all, so many times, beside threads that
 /// do nothing.
-pub fn crowd_of(alloc: Global, threads: u32, rounds: u32) -> Result<String, JobFault> {
+pub fn crowd_of(alloc: Global, threads: u32, rounds: u32, seed: u64) -> Result<String, JobFault> {
     let shape = Shape {
         mix: crate::courses::Mix::Every,
         objects: 8,
@@ -240,7 +240,7 @@ pub fn crowd_of(alloc: Global, threads: u32, rounds: u32) -> Result<String, JobF
         spread: true,
         steps: 0,
     };
-    let mut course = Course::new(alloc, shape, u64::from(rounds))?;
+    let mut course = Course::new(alloc, shape, seed)?;
     for _ in 0..rounds {
         let (waiter, thread) = course.two_threads();
         let object = course.object();

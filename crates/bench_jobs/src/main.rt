@@ -11,11 +11,14 @@ mod digests;
 mod draws;
 mod histories;
 mod hosts;
+mod results;
 mod rounds;
 mod scripts;
 mod texts;
 mod worlds;
 
+use crate::digests::Digest;
+use crate::draws::Draws;
 use fat_monitor::Reply;
 use history::FileFault;
 use live_turns::LiveFault;
@@ -79,10 +82,13 @@ fn live<R: Threads + Wait + Clock + Sync>(
     steps: u32,
     seed: u64,
 ) -> Result<u64, JobFault> {
-    let thin = hosts::run_thin::<Brand, R>(rt, alloc, Blank::new(2), steps, seed)?;
-    let fat = hosts::run_fat::<Brand, R>(rt, alloc, Blank::new(2), steps / 32)?;
-    let two = hosts::run_two::<Brand, R>(rt, alloc, Blank::new(2), steps / 256)?;
-    Ok(thin ^ fat.rotate_left(16) ^ two.rotate_left(32))
+    let mut digest = Digest::new();
+    let mut draws = Draws::new(seed);
+    let (thin, fat, two) = (draws.number(), draws.number(), draws.number());
+    digest.mix(hosts::run_thin::<Brand, R>(rt, alloc, Blank::new(2), steps, thin)?);
+    digest.mix(hosts::run_fat::<Brand, R>(rt, alloc, Blank::new(2), steps / 32, fat)?);
+    digest.mix(hosts::run_two::<Brand, R>(rt, alloc, Blank::new(2), steps / 256, two)?);
+    Ok(digest.value())
 }
 
 /// Does a job, if the word names one, and prints its digest.

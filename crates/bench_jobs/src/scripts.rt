@@ -166,8 +166,9 @@ pub fn script_of(
 }
 
 /// The script of so many threads, each of which owns an object and enters that of the next: they
-/// wait for each other in one ring. The last line refuses a step.
-pub fn ring_of(alloc: Global, threads: u32, first: u32) -> Result<String, JobFault> {
+/// wait for each other in one ring. The seed is the first moment, and says who waits first; the last
+/// line refuses a step.
+pub fn ring_of(alloc: Global, threads: u32, seed: u64) -> Result<String, JobFault> {
     let shape = Shape {
         mix: crate::courses::Mix::Thin,
         objects: threads,
@@ -176,10 +177,11 @@ pub fn ring_of(alloc: Global, threads: u32, first: u32) -> Result<String, JobFau
         spread: false,
         steps: 0,
     };
-    let mut course = Course::new(alloc, shape, 0)?;
+    let mut course = Course::new(alloc, shape, seed)?;
     for number in 0..threads {
         course.enter(ThreadId(number), ObjectId(number))?;
     }
+    let first = course.draws.below(threads);
     for number in 0..threads {
         let turned = number.wrapping_add(first);
         let turned = if turned < threads {
@@ -195,9 +197,7 @@ pub fn ring_of(alloc: Global, threads: u32, first: u32) -> Result<String, JobFau
     for step in &course.steps {
         script.put_step(*step)?;
     }
-    script.put_step(Step::Tick {
-        now: u64::from(first),
-    })?;
+    script.put_step(Step::Tick { now: seed })?;
     script.put_step(Step::Tick { now: 0 })?;
     Ok(script.text)
 }

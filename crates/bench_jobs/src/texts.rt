@@ -3,6 +3,7 @@
 use crate::JobFault;
 use crate::courses::{Mix, Shape};
 use crate::digests::{Digest, DigestSink};
+use crate::draws::Draws;
 use crate::histories::{Hand, crowd_of, history_of};
 use crate::scripts::{Spelling, ring_of, script_of};
 use dump::dump_script;
@@ -73,7 +74,7 @@ pub fn play(alloc: Global, steps: u32, seed: u64) -> Result<u64, JobFault> {
         run(alloc, &mut ReaderSource::new(script.as_bytes()), &mut sink)?;
     }
     let threads = (steps / 32).clamp(2, 32_767);
-    let ring = ring_of(alloc, threads, (seed % u64::from(threads)) as u32)?;
+    let ring = ring_of(alloc, threads, seed)?;
     dump_script(alloc, &mut ReaderSource::new(ring.as_bytes()), &mut sink)?;
     Ok(sink.digest.value())
 }
@@ -120,16 +121,21 @@ pub fn check(alloc: Global, steps: u32, seed: u64) -> Result<u64, JobFault> {
     Ok(digest.value())
 }
 
-/// Checks the histories of strangers: with other spellings, of one waiter in a large crowd, and
-/// broken in the last line.
+/// Checks the histories of strangers: with other spellings, another one that is broken in its last
+/// line, and one of few waiters in a large crowd.
 pub fn check_strangers(alloc: Global, steps: u32, seed: u64) -> Result<u64, JobFault> {
     let mut digest = Digest::new();
-    let mut strange = history_of(alloc, crowded(steps), Hand::Stranger, seed)?;
-    judge(alloc, strange.as_str(), &mut digest)?;
-    strange.push_str("{\"move\":\"Lock\",\"thread\":1}\n")?;
-    judge(alloc, strange.as_str(), &mut digest)?;
-    let rounds = (steps / 1_000).saturating_add((seed % 16) as u32);
-    let crowd = crowd_of(alloc, (steps / 16).clamp(2, 32_767), rounds)?;
+    let mut draws = Draws::new(seed);
+    let whole = history_of(alloc, crowded(steps), Hand::Stranger, draws.number())?;
+    judge(alloc, whole.as_str(), &mut digest)?;
+    let mut broken = history_of(alloc, crowded(steps), Hand::Stranger, draws.number())?;
+    broken.push_str("{\"move\":\"Lock\",\"thread\":1}\n")?;
+    judge(alloc, broken.as_str(), &mut digest)?;
+    let rounds = (steps / 1_000)
+        .saturating_add(4)
+        .saturating_add(draws.below(8));
+    let threads = (steps / 16).clamp(2, 32_767);
+    let crowd = crowd_of(alloc, threads, rounds, draws.number())?;
     judge(alloc, crowd.as_str(), &mut digest)?;
     Ok(digest.value())
 }

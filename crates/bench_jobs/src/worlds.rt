@@ -7,33 +7,13 @@ use crate::courses::{Course, Mix, Shape};
 use crate::digests::Digest;
 use lock_word::{ObjectId, Split};
 use std::alloc::Global;
-use step_core::{Atomic, Did, Fault, Step, World};
-
-/// Mixes what a step did.
-fn mix_did(digest: &mut Digest, did: &Did) {
-    match did.atomic {
-        Atomic::Label => digest.mix(1),
-        Atomic::Load { word, .. } | Atomic::Lost { word, .. } => digest.mix(u64::from(word.0)),
-        Atomic::Won { new, .. } | Atomic::Stored { new, .. } => digest.mix(u64::from(new.0)),
-        Atomic::Bound { monitor, .. } => digest.mix(u64::from(monitor)),
-        Atomic::NotBound { .. } => digest.mix(2),
-        Atomic::Acted { .. } => digest.mix(3),
-    }
-    for made in did.moves {
-        if made.is_some() {
-            digest.mix(4);
-        }
-    }
-    if did.reply.is_some() {
-        digest.mix(5);
-    }
-}
+use step_core::{Fault, Step, World};
 
 /// Does all steps, and mixes what they did.
 fn do_steps(world: &mut World, steps: &[Step], digest: &mut Digest) -> Result<(), JobFault> {
     for step in steps {
         match world.step(*step) {
-            Ok(did) => mix_did(digest, &did),
+            Ok(did) => digest.mix_did(&did),
             Err(Fault::Memory) => return Err(JobFault::Memory),
             Err(fault) => digest.mix(u64::from(fault.number())),
         }
