@@ -14,7 +14,7 @@ fn a_hint_is_the_last_place_of_a_number_that_ends_alike(rt: HostRuntime) {
     let mut hints = Hints::new(rt.alloc());
     assert!(rt; hints.place(7) == 0);
     assert!(rt; has(&mut hints, 200, 200));
-    assert!(rt; hints.widen());
+    assert!(rt; hints.widen_for(33));
     assert!(rt; hints.place(7) == 0);
     assert!(rt; has(&mut hints, 100, 200));
     assert!(rt; hints.place(7 + 256) == 100);
@@ -27,10 +27,20 @@ fn hints_widen_to_the_most(rt: HostRuntime) {
     for records in [32, 128, 512, 2_048, 8_192] {
         assert!(rt; !hints.are_few_for(records), "{records}");
         assert!(rt; hints.are_few_for(records + 1), "{records}");
-        assert!(rt; hints.widen(), "{records}");
+        assert!(rt; !hints.widen_for(records), "{records}");
+        assert!(rt; hints.widen_for(records + 1), "{records}");
     }
     assert!(rt; !hints.are_few_for(1_000_000));
     assert!(rt; has(&mut hints, 100, 200));
-    assert!(rt; !hints.widen());
+    assert!(rt; !hints.widen_for(1_000_000));
     assert!(rt; hints.place(7) == 100 && hints.place(71) == 200);
+}
+
+#[test]
+fn a_row_is_widened_at_once_for_all_that_are_there(rt: HostRuntime) {
+    let mut hints = Hints::new(rt.alloc());
+    assert!(rt; hints.widen_for(2_049));
+    assert!(rt; !hints.are_few_for(8_192) && hints.are_few_for(8_193));
+    assert!(rt; hints.place(7) == 0);
+    assert!(rt; has(&mut hints, 100, 200));
 }

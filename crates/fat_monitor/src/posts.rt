@@ -137,7 +137,7 @@ fn listed_key_of(keys: &HashMap<u32, usize>, thread: ThreadId) -> Option<usize>
 // Notes the key of a thread's record as a hint. Where there are few hints for the records there are
 // more from then on, if there is memory for them.
 fn note(hints: &mut Hints, records: &Slab<Record>, thread: ThreadId, key: usize) {
-    if hints.are_few_for(records.len()) && hints.widen() {
+    if hints.are_few_for(records.len()) && hints.widen_for(records.len()) {
         for (key, record) in records.iter() {
             note_one(hints, record.thread, key);
         }

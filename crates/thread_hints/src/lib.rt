@@ -6,10 +6,11 @@
 //! another thread's, since threads whose numbers have the same low bits share one.
 #![tactic(auto)]
 
-ghost use Rattle.std.specs.Prelude.{◌≡◌, ◌-◌, ◌*◌, ◌/◌, ◌&&◌, ◌≤◌, length, nat_lt, replicate};
+ghost use Rattle.std.specs.Prelude.{◌≡◌, ◌-◌, ◌/◌, ◌&&◌, ◌<◌, ◌≤◌, length, nat_lt, replicate};
 ghost use Rattle.std.specs.Prelude.{slice_index, slice_set};
 ghost use Rattle.std.specs.Bool.{OnTrue, OnFalse};
 ghost use Rattle.std.specs.Int.Bits.{bit_and};
+ghost use Rattle.thread_hints.specs.Hints.{width_for};
 
 use std::alloc::Global;
 use std::marker::Model;
@@ -100,22 +101,38 @@ impl Hints {
         count < MOST && count / 2 < records
     }
 
-    /// Makes four times as many hints, with place 0 for each number, and says whether it did: not
-    /// where there would be more than the most, or where the system refuses the memory.
-    pub fn widen(&mut self) -> bool
-        ensures wider { OnTrue result (self.new ≡ replicate (4 * length self.old) 0) }
+    /// Makes as many hints as so many records should have, with place 0 for each number, and says
+    /// whether it did: not where there are as many or more, or where the system refuses the memory.
+    pub fn widen_for(&mut self, records: usize) -> bool
+        ensures wider { OnTrue result (self.new ≡ replicate (width_for records) 0) }
+        ensures more { OnTrue result (length self.old < width_for records) }
         ensures same { OnFalse result (self.new ≡ self.old) }
     {
-        let count = self.places().len();
-        if count > MOST / 4 {
+        let wanted = width_for(records);
+        if wanted <= self.places().len() {
             return false;
         }
-        match vec![in self.alloc; 0; count * 4] {
+        match vec![in self.alloc; 0; wanted] {
             Ok(wider) => {
                 self.many = wider;
                 true
             }
             Err(_) => false,
         }
+    }
+}
+
+/// How many hints so many records should have: twice as many, or the most. A row grows by four
+/// times, so that its growths are few.
+fn width_for(records: usize) -> usize
+    ensures { result ≡ width_for records }
+{
+    match records {
+        0..=32 => FEW,
+        33..=128 => 256,
+        129..=512 => 1_024,
+        513..=2_048 => 4_096,
+        2_049..=8_192 => 16_384,
+        _ => MOST,
     }
 }

@@ -230,7 +230,8 @@ impl Indices {
         requires { seat < 32767 }
         ensures { self.new ≡ self.old }
     {
-        if self.hints.are_few_for(self.holders.len()) && self.hints.widen() {
+        let count = self.holders.len();
+        if self.hints.are_few_for(count) && self.hints.widen_for(count) {
             note_all(&mut self.hints, &self.holders);
         }
         self.hints.note(id.0, seat as u32);
