@@ -1,10 +1,12 @@
 //! Runs of moves where memory is ample, which no contract can say, and between them moves that are
 //! not lawful.
 
+mod memory;
+
 use fast_path::Call;
 use fat_monitor::{Cause, Reply};
 use jls_check::{Machine, MoveFault};
-use lock_word::{ObjectId, ThreadId};
+use lock_word::{Memory, ObjectId, ThreadId};
 use std::alloc::Global;
 use std::process::Abort;
 use step_core::Move;
@@ -152,12 +154,16 @@ struct Crowd {
 }
 
 impl Crowd {
-    fn new(rt: &impl Abort, alloc: Global, step: u32, count: usize) -> Crowd {
-        Crowd {
-            machine: Machine::new(alloc, 1).expect(rt, "memory"),
+    fn open(alloc: Global, step: u32, count: usize) -> Result<Crowd, Memory> {
+        Ok(Crowd {
+            machine: Machine::new(alloc, 1)?,
             step,
-            threads: vec![in alloc; Stands::Gone; count].expect(rt, "memory"),
-        }
+            threads: vec![in alloc; Stands::Gone; count]?,
+        })
+    }
+
+    fn new(rt: &impl Abort, alloc: Global, step: u32, count: usize) -> Crowd {
+        Crowd::open(alloc, step, count).expect(rt, "memory")
     }
 
     fn stands(&self, index: u32) -> Stands {
@@ -256,6 +262,20 @@ impl Crowd {
         self.check(rt, Move::Relock { thread }, BROKEN);
     }
 
+    /// So many threads are live, a few of them wait, and these are notified beside the others.
+    fn notify_few(&mut self, rt: &impl Abort, count: u32, waiting: u32) {
+        for index in 0..count {
+            self.attach(rt, index);
+        }
+        for index in 1..=waiting {
+            self.wait(rt, index);
+        }
+        self.notify_all(rt, 0);
+        for index in 0..count {
+            self.relock(rt, index);
+        }
+    }
+
     /// Threads come, some of them wait, threads go and come again, and the last ones notify.
     fn live(&mut self, rt: &impl Abort, count: u32) {
         for index in 0..count {
@@ -326,5 +346,16 @@ fn the_rest_of_a_crowd_is_notified(rt: HostRuntime) {
         for index in 0..1_200 {
             crowd.relock(&rt, index);
         }
+    }
+}
+
+/// A few threads wait among many that do not, and stay live: fewer than there are notes to look at,
+/// as many, and more.
+#[test]
+fn a_few_of_a_crowd_are_notified(rt: HostRuntime) {
+    for waiting in [1, 3, 9, 10, 11, 40] {
+        let mut crowd = Crowd::new(&rt, rt.alloc(), 65_536, 320);
+        crowd.notify_few(&rt, 320, waiting);
+        crowd.notify_few(&rt, 320, 2);
     }
 }

@@ -16,6 +16,9 @@ use fat_monitor::{Reply, Why};
 use lock_word::{ObjectId, ThreadId};
 use step_core::Doing;
 
+/// A look at one note takes as long as a look at this many live threads.
+const STEPS_A_NOTE: usize = 32;
+
 impl Machine {
     /// Writes the flag of a live thread, and what it is doing.
     pub(crate) fn put(&mut self, thread: ThreadId, flag: bool, act: Doing)
@@ -108,12 +111,18 @@ impl Machine {
     }
 
     /// Those of the noted threads that wait on the object leave its wait set, notified, the last
-    /// one first, until it is empty. A note of a thread that no longer waits is dropped.
+    /// one first, until it is empty. A note of a thread that no longer waits is dropped. No more
+    /// notes are looked at than take the time of a look at every live thread, and none where more
+    /// threads wait than that.
     fn wake_noted(&mut self, object: ObjectId)
         ensures { emptied self.new object ≡ emptied self.old object }
     {
         let mut left = self.waiters.len();
-        'noted: while left > 0 && self.waiting(object) > 0 {
+        let last = left.saturating_sub(self.threads.count() / STEPS_A_NOTE);
+        if self.waiting(object) > (left - last) as u64 {
+            return;
+        }
+        'noted: while left > last && self.waiting(object) > 0 {
             left -= 1;
             let Some(thread) = self.waiters.get(left).copied() else {
                 return;

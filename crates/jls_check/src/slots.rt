@@ -149,12 +149,11 @@ fn change_hint(hints: &mut [u32], at: usize, from: usize, to: u32) {
     }
 }
 
-/// Keeps at least 4 hints for each slot, and at most 32 and some. Else there are 8 for each from
-/// now on, filled anew: the slots that came or went since the last time have paid for that. Without
+/// Keeps at least 4 hints for each slot. Where there are fewer, there are 8 for each from now on, in
+/// new memory and noted anew: the slots that came since the last time have paid for that. Without
 /// memory for it the hints stay as they are.
-pub(crate) fn fit_hints(hints: &mut Vec<u32>, slots: &[Slot]) {
-    let count = hints.len();
-    if count / 4 >= slots.len() && count / 32 <= slots.len() {
+pub(crate) fn grow_hints(hints: &mut Vec<u32>, slots: &[Slot]) {
+    if hints.len() / 4 >= slots.len() {
         return;
     }
     let wanted = slots.len().saturating_mul(8).max(16);
@@ -162,19 +161,47 @@ pub(crate) fn fit_hints(hints: &mut Vec<u32>, slots: &[Slot]) {
         return;
     };
     *hints = fresh;
+    note_all(hints, slots);
+}
+
+/// Where there are more than 16 hints for each slot, there are 8 from now on, in the same memory and
+/// noted anew: the slots that went since the last time have paid for that. The old hints that stay
+/// beside them name other numbers' places, and so count for nothing.
+fn drop_hints(hints: &mut Vec<u32>, slots: &[Slot]) {
+    if hints.len() / 16 > slots.len() {
+        hints.truncate(slots.len().saturating_mul(8));
+        note_all(hints, slots);
+    }
+}
+
+/// Notes where each slot is.
+fn note_all(hints: &mut [u32], slots: &[Slot]) {
     for (place, slot) in slots.iter().enumerate() {
         note(hints, slot.number, place);
     }
 }
 
-/// Gives memory of slots back where they take less than a quarter of it. Where the system refuses
-/// to make it smaller, it stays.
-pub(crate) fn fit_slots(slots: &mut Vec<Slot>)
+/// Gives memory back where slots take less than a quarter of theirs. From then on there is room for
+/// as many slots again, and for no more hints than there are. Where the system refuses to make it
+/// smaller, the memory stays. Where there are no slots, all of it is freed, which asks for nothing.
+pub(crate) fn give_back(slots: &mut Vec<Slot>, hints: &mut Vec<u32>)
     ensures { slots.new.items ≡ slots.old.items }
 {
-    let capacity = slots.capacity();
-    if capacity / 4 > slots.len().saturating_add(4) {
-        slots.shrink_to(capacity / 2);
+    let count = slots.len();
+    if slots.capacity() / 4 <= count.saturating_add(4) {
+        return;
+    }
+    drop_hints(hints, slots);
+    hints.shrink_to_fit();
+    slots.shrink_to(count.saturating_mul(2));
+}
+
+/// Where there are no slots, frees their memory, if it is much. This asks the system for nothing.
+pub(crate) fn free_empty(slots: &mut Vec<Slot>, hints: &mut Vec<u32>)
+    ensures { slots.new.items ≡ slots.old.items }
+{
+    if slots.is_empty() {
+        give_back(slots, hints);
     }
 }
 

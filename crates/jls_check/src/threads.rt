@@ -9,7 +9,7 @@ ghost use Rattle.jls_check.specs.Turns.{after_turn, turned_record, turn_of, turn
 
 use crate::acts::has;
 use crate::slots::{
-    Slot, fit_hints, fit_slots, follow, note, notify_slots, place_noting, place_of,
+    Slot, follow, free_empty, give_back, grow_hints, note, notify_slots, place_noting, place_of,
 };
 use fast_path::Call;
 use fat_monitor::Reply;
@@ -133,7 +133,8 @@ impl Threads {
             kept,
         });
         note(&mut self.hints, thread.0, place);
-        fit_hints(&mut self.hints, &self.slots);
+        grow_hints(&mut self.hints, &self.slots);
+        give_back(&mut self.slots, &mut self.hints);
         Ok(())
     }
 
@@ -154,7 +155,9 @@ impl Threads {
 
     /// A live thread that does nothing begins a call, or one whose call has this reply returns; its
     /// flag stays. Answers whether there is such a thread. This looks for the thread once, where
-    /// [`get`](Threads::get) and [`set`](Threads::set) would do so twice.
+    /// [`get`](Threads::get) and [`set`](Threads::set) would do so twice. Here, and where a thread
+    /// becomes live, the memory of those that have ended is given back: an end itself asks the system
+    /// for nothing, and each is begun by a call.
     pub(crate) fn turn(&mut self, thread: ThreadId, turn: Turn) -> bool
         ensures answer { result ≡ is_some (turn_of self.old thread turn) }
         ensures turned { self.new ≡ turned self.old thread turn }
@@ -165,7 +168,9 @@ impl Threads {
         let Some(slot) = self.slots.get_mut(place) else {
             unreachable!();
         };
-        take_turn(&mut slot.kept, turn)
+        let taken = take_turn(&mut slot.kept, turn);
+        give_back(&mut self.slots, &mut self.hints);
+        taken
     }
 
     /// This thread, if there is one, owns one object less.
@@ -206,8 +211,7 @@ impl Threads {
         };
         let _ = self.slots.swap_remove(place);
         follow(&self.slots, &mut self.places, &mut self.hints, place);
-        fit_slots(&mut self.slots);
-        fit_hints(&mut self.hints, &self.slots);
+        free_empty(&mut self.slots, &mut self.hints);
     }
 
     /// Every thread that waits on the object is back, notified. This looks at every live thread.

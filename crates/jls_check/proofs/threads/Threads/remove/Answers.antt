@@ -25,7 +25,7 @@ invariant_of-self-2 c =
     let found = sym c.in-Some.ensures.value in
     let stands = taken_out slots places c.remove.new.self c.follow.new.places c.args.thread.0 c.in-Some.place c.swap_remove.result c.self.invariant.0 c.self.invariant.1 found
     c.in-Some.ensures.updates.0 (rw (c.deref.ensures.value, c.swap_remove.ensures.items) at c.follow.ensures) in
-    rw (c.fit_slots.ensures, c.swap_remove.ensures.items) (stands.0, stands.1)
+    rw (c.free_empty.ensures, c.swap_remove.ensures.items) (stands.0, stands.1)
 
 pub returns : goal.returns
 returns c =
@@ -34,4 +34,4 @@ returns c =
     let found = sym c.in-Some.ensures.value in
     let stands = taken_out slots places c.remove.new.self c.follow.new.places c.args.thread.0 c.in-Some.place c.swap_remove.result c.self.invariant.0 c.self.invariant.1 found
     c.in-Some.ensures.updates.0 (rw (c.deref.ensures.value, c.swap_remove.ensures.items) at c.follow.ensures) in
-    rw (c.fit_slots.ensures, c.swap_remove.ensures.items, ← c.self.view_is) (records-without c.args.thread.0 slots places _ c.follow.new.places.entries stands)
+    rw (c.free_empty.ensures, c.swap_remove.ensures.items, ← c.self.view_is) (records-without c.args.thread.0 slots places _ c.follow.new.places.entries stands)

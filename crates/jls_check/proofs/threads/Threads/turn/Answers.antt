@@ -34,7 +34,8 @@ invariant_of-self-2 c =
     let old = c.in-Some-get_mut.slot.now in
     let found = sym c.in-Some.ensures in
     let there = slot_read slots places t k old c.self.invariant.0 found c.in-Some-get_mut.ensures.value in
-    let new : Slot = record { number = old.number; kept = c.take_turn.new.kept } in (
+    let new : Slot = record { number = old.number; kept = c.take_turn-taken.new.kept } in
+    rw (c.give_back.ensures) (
       leads-written slots places t k old new c.self.invariant.0 c.self.invariant.1 found there refl,
       haves-written slots places t k old new c.self.invariant.0 c.self.invariant.1 found there refl,
     )
@@ -48,7 +49,7 @@ returns-clause-answer c =
     let old = c.in-Some-get_mut.slot.now in
     let found = sym c.in-Some.ensures in
     let there = slot_read slots places t k old c.self.invariant.0 found c.in-Some-get_mut.ensures.value in
-    rw (← c.self.view_is) (c.take_turn.ensures.answer
+    rw (← c.self.view_is) (c.take_turn-taken.ensures.answer
     ∙ sym (ap (λ (o : Option ThreadRecord). is_some (turn_in c.args.turn o)) (record_found slots places t k old found there)))
 
 pub returns-clause-turned : goal.returns-clause-turned
@@ -60,8 +61,8 @@ returns-clause-turned c =
     let old = c.in-Some-get_mut.slot.now in
     let found = sym c.in-Some.ensures in
     let there = slot_read slots places t k old c.self.invariant.0 found c.in-Some-get_mut.ensures.value in
-    let new : Slot = record { number = old.number; kept = c.take_turn.new.kept } in
+    let new : Slot = record { number = old.number; kept = c.take_turn-taken.new.kept } in
     let is = record_found slots places t k old found there in
-    rw (← c.self.view_is) (records-written slots places t k old new c.self.invariant.0 c.self.invariant.1 found there refl
-    ∙ ap (λ (r : ThreadRecord). map.insert (records_in slots places) t r) c.take_turn.ensures.turned
+    rw (c.give_back.ensures, ← c.self.view_is) (records-written slots places t k old new c.self.invariant.0 c.self.invariant.1 found there refl
+    ∙ ap (λ (r : ThreadRecord). map.insert (records_in slots places) t r) c.take_turn-taken.ensures.turned
     ∙ ap (turned_in (records_in slots places) c.args.thread c.args.turn) (sym is))

@@ -1,0 +1,21 @@
+//! Want of memory: an attach that was refused succeeds when tried again, and no other move is judged
+//! otherwise. Run with each allocation refused in turn, this meets every refusal that there is.
+
+use super::*;
+use std::test::Fail;
+
+const STEP: u32 = 2_654_435_769;
+
+/// Threads come, some of them wait and are notified, most of them end, and they come again: while
+/// the list of their records, the hints that lead there and the notes of who waits grow and shrink.
+#[test]
+fn a_crowd_with_refused_growths_is_judged_alike(rt: HostRuntime) -> Result<(), Fail> {
+    let mut crowd = match Crowd::open(rt.alloc(), STEP, 100) {
+        Ok(crowd) => crowd,
+        Err(_) => Crowd::open(rt.alloc(), STEP, 100)?,
+    };
+    crowd.live(&rt, 40);
+    crowd.live(&rt, 9);
+    crowd.notify_few(&rt, 100, 2);
+    Ok(())
+}
