@@ -1,15 +1,15 @@
 -- Members that were gathered, each under its own key, are those of an object in order.
-use Rattle.std.proofs.Common.{◌≡◌, ℕ, ◌+◌, List, [], ◌∷◌, Option, Some, None, option_map, option_and_then, is_some, if◌then◌else◌, codes, Ordering, Less, Equal, Greater, nat_cmp, refl, sym, ap, ◌∙◌, subst}
+use Rattle.std.proofs.Common.{◌≡◌, ℕ, ◌+◌, List, [], ◌∷◌, Option, Some, None, option_map, option_and_then, is_some, if◌then◌else◌, codes, Ordering, Less, Equal, Greater, nat_cmp, refl, sym, ap, ◌∙◌, subst, arith}
 use Rattle.std.specs.Borrow.{Bor}
 use Rattle.std.specs.Cmp.Lexicographic.{slice_cmp}
 use Rattle.std.specs.Ordering.{match_ordering}
-use Rattle.serde_json.specs.Data.{Data, null, Members, no_members, member, object, put}
+use Rattle.serde_json.specs.Data.{Data, Members, no_members, member, object, put}
 use Rattle.serde_json.specs.Find.{get_member, as_str, as_number, as_u64, as_null}
 use Rattle.history_moves.specs.Moves.{of_number}
 use Rattle.lock_word.specs.declared.ThreadId.{ThreadId}
 use Rattle.history_moves.specs.Members.{count, IsBelow, AreInOrder, text_at, whole_at, signed_of, signed_at, chosen_at}
 use Rattle.history_moves.specs.Words.{Row}
-use Rattle.history_moves.specs.Gathered.{maybe, members_of, rows_of, members_in, nothing, of_text, of_choice, IsCounted, Takes, Fills, Adds, scalar_data, short, short_signed, thread_of, choice}
+use Rattle.history_moves.specs.Gathered.{maybe, members_of, rows_of, members_in, nothing, of_text, of_choice, IsCounted, Takes, Fills, lack, scalar_data, short, short_signed, thread_of, choice}
 use Rattle.history_moves.specs.declared.gathered.Gathered.{Gathered}
 use Rattle.history_moves.specs.declared.gathered.Scalar.{Scalar}
 use Rattle.history_moves.specs.declared.gathered.Scalar.TheVariants as scalar
@@ -70,48 +70,50 @@ with_row k d [] = []
 with_row k d (r ∷ rs) =
     match_ordering (slice_cmp nat_cmp k r.name) (r ∷ rs) (record { name = r.name; made = Some d } ∷ rs) (r ∷ with_row k d rs)
 
-abbrev IsFreeAt : Ordering → Option Data → Type 0 → Type 0
-IsFreeAt Less v rest = ⊥
-IsFreeAt Equal v rest = v ≡ None
-IsFreeAt Greater v rest = rest
+abbrev GrowAt : Ordering → Option Data → ℕ → Type 0 → Type 0
+GrowAt Less v n rest = ⊥
+GrowAt Equal v n rest = n ≡ lack v
+GrowAt Greater v n rest = rest
 
--- there is such a key, with no value
-abbrev IsFree : List ℕ → Rows → Type 0
-IsFree k [] = ⊥
-IsFree k (r ∷ rs) = IsFreeAt (slice_cmp nat_cmp k r.name) r.made (IsFree k rs)
+-- there is such a key, and there are n more values where it gets one
+abbrev Grow : List ℕ → Rows → ℕ → Type 0
+Grow k [] n = ⊥
+Grow k (r ∷ rs) n = GrowAt (slice_cmp nat_cmp k r.name) r.made n (Grow k rs n)
 
 put_below : (k : List ℕ) (d : Data) (ms : Members) → IsBelow k ms → put k d ms ≡ member k d ms
 put_below k d no_members below = refl
 put_below k d (member l e ms) below = ap (λ (o : Ordering). match_ordering o (member k d (member l e ms)) (member l d ms) (member l e (put k d ms))) below.0
 
-put_row : (o : Ordering) (k l : List ℕ) (d : Data) (v : Option Data) (rs : Rows) → slice_cmp nat_cmp k l ≡ o → IsBelow l (members_of rs) → IsFreeAt o v (IsFree k rs)
-    → (IsFree k rs → put k d (members_of rs) ≡ members_of (with_row k d rs))
+put_row : (o : Ordering) (k l : List ℕ) (d : Data) (v : Option Data) (rs : Rows) (n : ℕ) → slice_cmp nat_cmp k l ≡ o → IsBelow l (members_of rs) → GrowAt o v n (Grow k rs n)
+    → (Grow k rs n → put k d (members_of rs) ≡ members_of (with_row k d rs))
     → put k d (maybe l v (members_of rs)) ≡ members_of (match_ordering o (record { name = l; made = v } ∷ rs) (record { name = l; made = Some d } ∷ rs) (record { name = l; made = v } ∷ with_row k d rs))
-put_row Less k l d v rs is below free later = absurd free
-put_row Equal k l d v rs is below free later =
+put_row Less k l d v rs n is below grow later = absurd grow
+put_row Equal k l d None rs n is below grow later =
     let same : k ≡ l = same_key k l is in
-    ap (λ (w : Option Data). put k d (maybe l w (members_of rs))) free
-    ∙ put_below k d (members_of rs) (subst (λ (x : List ℕ). IsBelow x (members_of rs)) (sym same) below)
+    put_below k d (members_of rs) (subst (λ (x : List ℕ). IsBelow x (members_of rs)) (sym same) below)
     ∙ ap (λ (x : List ℕ). member x d (members_of rs)) same
-put_row Greater k l d None rs is below free later = later free
-put_row Greater k l d (Some e) rs is below free later =
+put_row Equal k l d (Some e) rs n is below grow later =
     ap (λ (o : Ordering). match_ordering o (member k d (member l e (members_of rs))) (member l d (members_of rs)) (member l e (put k d (members_of rs)))) is
-    ∙ ap (member l e) (later free)
+put_row Greater k l d None rs n is below grow later = later grow
+put_row Greater k l d (Some e) rs n is below grow later =
+    ap (λ (o : Ordering). match_ordering o (member k d (member l e (members_of rs))) (member l d (members_of rs)) (member l e (put k d (members_of rs)))) is
+    ∙ ap (member l e) (later grow)
 
-put_rows : (k : List ℕ) (d : Data) (rs : Rows) → AreSorted rs → IsFree k rs → put k d (members_of rs) ≡ members_of (with_row k d rs)
-put_rows k d [] sorted free = absurd free
-put_rows k d (r ∷ rs) sorted free = put_row (slice_cmp nat_cmp k r.name) k r.name d r.made rs refl (below_rows r.name rs sorted.0 sorted.1) free (put_rows k d rs sorted.1)
+put_rows : (k : List ℕ) (d : Data) (rs : Rows) (n : ℕ) → AreSorted rs → Grow k rs n → put k d (members_of rs) ≡ members_of (with_row k d rs)
+put_rows k d [] n sorted grow = absurd grow
+put_rows k d (r ∷ rs) n sorted grow = put_row (slice_cmp nat_cmp k r.name) k r.name d r.made rs n refl (below_rows r.name rs sorted.0 sorted.1) grow (put_rows k d rs n sorted.1)
 
-count_row : (o : Ordering) (k l : List ℕ) (d : Data) (v : Option Data) (rs : Rows) → IsFreeAt o v (IsFree k rs) → (IsFree k rs → count (members_of (with_row k d rs)) ≡ count (members_of rs) + 1)
-    → count (members_of (match_ordering o (record { name = l; made = v } ∷ rs) (record { name = l; made = Some d } ∷ rs) (record { name = l; made = v } ∷ with_row k d rs))) ≡ count (maybe l v (members_of rs)) + 1
-count_row Less k l d v rs free later = absurd free
-count_row Equal k l d v rs free later = ap (λ (w : Option Data). count (maybe l w (members_of rs)) + 1) (sym free)
-count_row Greater k l d None rs free later = later free
-count_row Greater k l d (Some e) rs free later = ap (λ (n : ℕ). n + 1) (later free)
+count_row : (o : Ordering) (k l : List ℕ) (d : Data) (v : Option Data) (rs : Rows) (n : ℕ) → GrowAt o v n (Grow k rs n) → (Grow k rs n → count (members_of (with_row k d rs)) ≡ count (members_of rs) + n)
+    → count (members_of (match_ordering o (record { name = l; made = v } ∷ rs) (record { name = l; made = Some d } ∷ rs) (record { name = l; made = v } ∷ with_row k d rs))) ≡ count (maybe l v (members_of rs)) + n
+count_row Less k l d v rs n grow later = absurd grow
+count_row Equal k l d None rs n grow later = omega (arith, grow)
+count_row Equal k l d (Some e) rs n grow later = omega (arith, grow)
+count_row Greater k l d None rs n grow later = later grow
+count_row Greater k l d (Some e) rs n grow later = omega (arith, later grow)
 
-count_rows : (k : List ℕ) (d : Data) (rs : Rows) → IsFree k rs → count (members_of (with_row k d rs)) ≡ count (members_of rs) + 1
-count_rows k d [] free = absurd free
-count_rows k d (r ∷ rs) free = count_row (slice_cmp nat_cmp k r.name) k r.name d r.made rs free (count_rows k d rs)
+count_rows : (k : List ℕ) (d : Data) (rs : Rows) (n : ℕ) → Grow k rs n → count (members_of (with_row k d rs)) ≡ count (members_of rs) + n
+count_rows k d [] n grow = absurd grow
+count_rows k d (r ∷ rs) n grow = count_row (slice_cmp nat_cmp k r.name) k r.name d r.made rs n grow (count_rows k d rs n)
 
 -- ---- the rows of a move's keys
 
@@ -130,91 +132,89 @@ pub nothing_counted : IsCounted nothing
 unfolding IsCounted members_in
 nothing_counted = refl
 
-added : (g h : Gathered) (k : List ℕ) (d : Data) → IsFree k (rows_of g) → rows_of h ≡ with_row k d (rows_of g) → h.count ≡ g.count → Adds g k d h
-unfolding Adds members_in
-added g h k d free rows same = (
-  ap members_of rows ∙ sym (put_rows k d (rows_of g) (sorted g) free),
-  ap (λ (rs : Rows). count (members_of rs)) rows ∙ count_rows k d (rows_of g) free,
-  same,
+taken : (g h : Gathered) (k : List ℕ) (d : Data) (n : ℕ) → Grow k (rows_of g) n → rows_of h ≡ with_row k d (rows_of g) → h.count ≡ g.count + n → Takes g k d h
+unfolding Takes IsCounted members_in
+taken g h k d n grow rows more = (
+  ap members_of rows ∙ sym (put_rows k d (rows_of g) n (sorted g) grow),
+  λ counted. more ∙ ap (λ (m : ℕ). m + n) counted ∙ sym (ap (λ (rs : Rows). count (members_of rs)) rows ∙ count_rows k d (rows_of g) n grow),
 )
 
--- a member is taken where it is added to what has the count of one more
-pub taken : (g h : Gathered) (k : List ℕ) (d : Data) → Adds (record { count = g.count + 1; name = g.name; verb = g.verb; reply = g.reply; cause = g.cause; thread = g.thread; object = g.object; target = g.target; now = g.now; millis = g.millis; nanos = g.nanos; chosen = g.chosen }) k d h → Takes g k d h
-unfolding Takes IsCounted Adds members_in
-taken g h k d adds = (adds.0, λ counted. adds.2 ∙ ap (λ (n : ℕ). n + 1) counted ∙ sym adds.1)
+same_lack : {A : Type 0} (f : A → Data) (o : Option A) → lack o ≡ lack (option_map f o)
+same_lack f None = refl
+same_lack f (Some a) = refl
 
 -- ---- each key
 
-pub verb_added : (g : Gathered) (k : List ℕ) (a : Bor (List ℕ)) (v : Option (Bor (List ℕ))) → k ≡ codes "call" → Fills g.verb a v → Adds g k (of_text a) (record { count = g.count; name = g.name; verb = v; reply = g.reply; cause = g.cause; thread = g.thread; object = g.object; target = g.target; now = g.now; millis = g.millis; nanos = g.nanos; chosen = g.chosen })
-verb_added g k a v is fills =
-    let P : List ℕ → Option (Bor (List ℕ)) → Type 0 = λ l w. Adds g l (of_text a) (record { count = g.count; name = g.name; verb = w; reply = g.reply; cause = g.cause; thread = g.thread; object = g.object; target = g.target; now = g.now; millis = g.millis; nanos = g.nanos; chosen = g.chosen }) in
-    let at : P (codes "call") (Some a) = added g _ (codes "call") (of_text a) (ap (option_map of_text) fills.0) refl refl in
-    subst (λ (l : List ℕ). P l v) (sym is) (subst (λ (w : Option (Bor (List ℕ))). P (codes "call") w) (sym fills.1) at)
+pub verb_taken : (g : Gathered) (k : List ℕ) (a : Bor (List ℕ)) (v : Option (Bor (List ℕ))) (n : ℕ) → k ≡ codes "call" → Fills g.verb a v g.count n → Takes g k (of_text a) (record { count = n; name = g.name; verb = v; reply = g.reply; cause = g.cause; thread = g.thread; object = g.object; target = g.target; now = g.now; millis = g.millis; nanos = g.nanos; chosen = g.chosen })
+verb_taken g k a v n is fills =
+    let P : List ℕ → Option (Bor (List ℕ)) → Type 0 = λ l w. Takes g l (of_text a) (record { count = n; name = g.name; verb = w; reply = g.reply; cause = g.cause; thread = g.thread; object = g.object; target = g.target; now = g.now; millis = g.millis; nanos = g.nanos; chosen = g.chosen }) in
+    let at : P (codes "call") (Some a) = taken g _ (codes "call") (of_text a) (lack g.verb) (same_lack of_text g.verb) refl fills.1 in
+    subst (λ (l : List ℕ). P l v) (sym is) (subst (λ (w : Option (Bor (List ℕ))). P (codes "call") w) (sym fills.0) at)
 
-pub cause_added : (g : Gathered) (k : List ℕ) (a : Bor (List ℕ)) (v : Option (Bor (List ℕ))) → k ≡ codes "cause" → Fills g.cause a v → Adds g k (of_text a) (record { count = g.count; name = g.name; verb = g.verb; reply = g.reply; cause = v; thread = g.thread; object = g.object; target = g.target; now = g.now; millis = g.millis; nanos = g.nanos; chosen = g.chosen })
-cause_added g k a v is fills =
-    let P : List ℕ → Option (Bor (List ℕ)) → Type 0 = λ l w. Adds g l (of_text a) (record { count = g.count; name = g.name; verb = g.verb; reply = g.reply; cause = w; thread = g.thread; object = g.object; target = g.target; now = g.now; millis = g.millis; nanos = g.nanos; chosen = g.chosen }) in
-    let at : P (codes "cause") (Some a) = added g _ (codes "cause") (of_text a) (ap (option_map of_text) fills.0) refl refl in
-    subst (λ (l : List ℕ). P l v) (sym is) (subst (λ (w : Option (Bor (List ℕ))). P (codes "cause") w) (sym fills.1) at)
+pub cause_taken : (g : Gathered) (k : List ℕ) (a : Bor (List ℕ)) (v : Option (Bor (List ℕ))) (n : ℕ) → k ≡ codes "cause" → Fills g.cause a v g.count n → Takes g k (of_text a) (record { count = n; name = g.name; verb = g.verb; reply = g.reply; cause = v; thread = g.thread; object = g.object; target = g.target; now = g.now; millis = g.millis; nanos = g.nanos; chosen = g.chosen })
+cause_taken g k a v n is fills =
+    let P : List ℕ → Option (Bor (List ℕ)) → Type 0 = λ l w. Takes g l (of_text a) (record { count = n; name = g.name; verb = g.verb; reply = g.reply; cause = w; thread = g.thread; object = g.object; target = g.target; now = g.now; millis = g.millis; nanos = g.nanos; chosen = g.chosen }) in
+    let at : P (codes "cause") (Some a) = taken g _ (codes "cause") (of_text a) (lack g.cause) (same_lack of_text g.cause) refl fills.1 in
+    subst (λ (l : List ℕ). P l v) (sym is) (subst (λ (w : Option (Bor (List ℕ))). P (codes "cause") w) (sym fills.0) at)
 
-pub chosen_added : (g : Gathered) (k : List ℕ) (a : Option ℕ) (v : Option (Option ℕ)) → k ≡ codes "chosen" → Fills g.chosen a v → Adds g k (of_choice a) (record { count = g.count; name = g.name; verb = g.verb; reply = g.reply; cause = g.cause; thread = g.thread; object = g.object; target = g.target; now = g.now; millis = g.millis; nanos = g.nanos; chosen = v })
-chosen_added g k a v is fills =
-    let P : List ℕ → Option (Option ℕ) → Type 0 = λ l w. Adds g l (of_choice a) (record { count = g.count; name = g.name; verb = g.verb; reply = g.reply; cause = g.cause; thread = g.thread; object = g.object; target = g.target; now = g.now; millis = g.millis; nanos = g.nanos; chosen = w }) in
-    let at : P (codes "chosen") (Some a) = added g _ (codes "chosen") (of_choice a) (ap (option_map of_choice) fills.0) refl refl in
-    subst (λ (l : List ℕ). P l v) (sym is) (subst (λ (w : Option (Option ℕ)). P (codes "chosen") w) (sym fills.1) at)
+pub chosen_taken : (g : Gathered) (k : List ℕ) (a : Option ℕ) (v : Option (Option ℕ)) (n : ℕ) → k ≡ codes "chosen" → Fills g.chosen a v g.count n → Takes g k (of_choice a) (record { count = n; name = g.name; verb = g.verb; reply = g.reply; cause = g.cause; thread = g.thread; object = g.object; target = g.target; now = g.now; millis = g.millis; nanos = g.nanos; chosen = v })
+chosen_taken g k a v n is fills =
+    let P : List ℕ → Option (Option ℕ) → Type 0 = λ l w. Takes g l (of_choice a) (record { count = n; name = g.name; verb = g.verb; reply = g.reply; cause = g.cause; thread = g.thread; object = g.object; target = g.target; now = g.now; millis = g.millis; nanos = g.nanos; chosen = w }) in
+    let at : P (codes "chosen") (Some a) = taken g _ (codes "chosen") (of_choice a) (lack g.chosen) (same_lack of_choice g.chosen) refl fills.1 in
+    subst (λ (l : List ℕ). P l v) (sym is) (subst (λ (w : Option (Option ℕ)). P (codes "chosen") w) (sym fills.0) at)
 
-pub millis_added : (g : Gathered) (k : List ℕ) (a : ℕ) (v : Option ℕ) → k ≡ codes "millis" → Fills g.millis a v → Adds g k (of_number a) (record { count = g.count; name = g.name; verb = g.verb; reply = g.reply; cause = g.cause; thread = g.thread; object = g.object; target = g.target; now = g.now; millis = v; nanos = g.nanos; chosen = g.chosen })
-millis_added g k a v is fills =
-    let P : List ℕ → Option ℕ → Type 0 = λ l w. Adds g l (of_number a) (record { count = g.count; name = g.name; verb = g.verb; reply = g.reply; cause = g.cause; thread = g.thread; object = g.object; target = g.target; now = g.now; millis = w; nanos = g.nanos; chosen = g.chosen }) in
-    let at : P (codes "millis") (Some a) = added g _ (codes "millis") (of_number a) (ap (option_map of_number) fills.0) refl refl in
-    subst (λ (l : List ℕ). P l v) (sym is) (subst (λ (w : Option ℕ). P (codes "millis") w) (sym fills.1) at)
+pub millis_taken : (g : Gathered) (k : List ℕ) (a : ℕ) (v : Option ℕ) (n : ℕ) → k ≡ codes "millis" → Fills g.millis a v g.count n → Takes g k (of_number a) (record { count = n; name = g.name; verb = g.verb; reply = g.reply; cause = g.cause; thread = g.thread; object = g.object; target = g.target; now = g.now; millis = v; nanos = g.nanos; chosen = g.chosen })
+millis_taken g k a v n is fills =
+    let P : List ℕ → Option ℕ → Type 0 = λ l w. Takes g l (of_number a) (record { count = n; name = g.name; verb = g.verb; reply = g.reply; cause = g.cause; thread = g.thread; object = g.object; target = g.target; now = g.now; millis = w; nanos = g.nanos; chosen = g.chosen }) in
+    let at : P (codes "millis") (Some a) = taken g _ (codes "millis") (of_number a) (lack g.millis) (same_lack of_number g.millis) refl fills.1 in
+    subst (λ (l : List ℕ). P l v) (sym is) (subst (λ (w : Option ℕ). P (codes "millis") w) (sym fills.0) at)
 
-pub name_added : (g : Gathered) (k : List ℕ) (a : Bor (List ℕ)) (v : Option (Bor (List ℕ))) → k ≡ codes "move" → Fills g.name a v → Adds g k (of_text a) (record { count = g.count; name = v; verb = g.verb; reply = g.reply; cause = g.cause; thread = g.thread; object = g.object; target = g.target; now = g.now; millis = g.millis; nanos = g.nanos; chosen = g.chosen })
-name_added g k a v is fills =
-    let P : List ℕ → Option (Bor (List ℕ)) → Type 0 = λ l w. Adds g l (of_text a) (record { count = g.count; name = w; verb = g.verb; reply = g.reply; cause = g.cause; thread = g.thread; object = g.object; target = g.target; now = g.now; millis = g.millis; nanos = g.nanos; chosen = g.chosen }) in
-    let at : P (codes "move") (Some a) = added g _ (codes "move") (of_text a) (ap (option_map of_text) fills.0) refl refl in
-    subst (λ (l : List ℕ). P l v) (sym is) (subst (λ (w : Option (Bor (List ℕ))). P (codes "move") w) (sym fills.1) at)
+pub name_taken : (g : Gathered) (k : List ℕ) (a : Bor (List ℕ)) (v : Option (Bor (List ℕ))) (n : ℕ) → k ≡ codes "move" → Fills g.name a v g.count n → Takes g k (of_text a) (record { count = n; name = v; verb = g.verb; reply = g.reply; cause = g.cause; thread = g.thread; object = g.object; target = g.target; now = g.now; millis = g.millis; nanos = g.nanos; chosen = g.chosen })
+name_taken g k a v n is fills =
+    let P : List ℕ → Option (Bor (List ℕ)) → Type 0 = λ l w. Takes g l (of_text a) (record { count = n; name = w; verb = g.verb; reply = g.reply; cause = g.cause; thread = g.thread; object = g.object; target = g.target; now = g.now; millis = g.millis; nanos = g.nanos; chosen = g.chosen }) in
+    let at : P (codes "move") (Some a) = taken g _ (codes "move") (of_text a) (lack g.name) (same_lack of_text g.name) refl fills.1 in
+    subst (λ (l : List ℕ). P l v) (sym is) (subst (λ (w : Option (Bor (List ℕ))). P (codes "move") w) (sym fills.0) at)
 
-pub nanos_added : (g : Gathered) (k : List ℕ) (a : ℕ) (v : Option ℕ) → k ≡ codes "nanos" → Fills g.nanos a v → Adds g k (of_number a) (record { count = g.count; name = g.name; verb = g.verb; reply = g.reply; cause = g.cause; thread = g.thread; object = g.object; target = g.target; now = g.now; millis = g.millis; nanos = v; chosen = g.chosen })
-nanos_added g k a v is fills =
-    let P : List ℕ → Option ℕ → Type 0 = λ l w. Adds g l (of_number a) (record { count = g.count; name = g.name; verb = g.verb; reply = g.reply; cause = g.cause; thread = g.thread; object = g.object; target = g.target; now = g.now; millis = g.millis; nanos = w; chosen = g.chosen }) in
-    let at : P (codes "nanos") (Some a) = added g _ (codes "nanos") (of_number a) (ap (option_map of_number) fills.0) refl refl in
-    subst (λ (l : List ℕ). P l v) (sym is) (subst (λ (w : Option ℕ). P (codes "nanos") w) (sym fills.1) at)
+pub nanos_taken : (g : Gathered) (k : List ℕ) (a : ℕ) (v : Option ℕ) (n : ℕ) → k ≡ codes "nanos" → Fills g.nanos a v g.count n → Takes g k (of_number a) (record { count = n; name = g.name; verb = g.verb; reply = g.reply; cause = g.cause; thread = g.thread; object = g.object; target = g.target; now = g.now; millis = g.millis; nanos = v; chosen = g.chosen })
+nanos_taken g k a v n is fills =
+    let P : List ℕ → Option ℕ → Type 0 = λ l w. Takes g l (of_number a) (record { count = n; name = g.name; verb = g.verb; reply = g.reply; cause = g.cause; thread = g.thread; object = g.object; target = g.target; now = g.now; millis = g.millis; nanos = w; chosen = g.chosen }) in
+    let at : P (codes "nanos") (Some a) = taken g _ (codes "nanos") (of_number a) (lack g.nanos) (same_lack of_number g.nanos) refl fills.1 in
+    subst (λ (l : List ℕ). P l v) (sym is) (subst (λ (w : Option ℕ). P (codes "nanos") w) (sym fills.0) at)
 
-pub now_added : (g : Gathered) (k : List ℕ) (a : ℕ) (v : Option ℕ) → k ≡ codes "now" → Fills g.now a v → Adds g k (of_number a) (record { count = g.count; name = g.name; verb = g.verb; reply = g.reply; cause = g.cause; thread = g.thread; object = g.object; target = g.target; now = v; millis = g.millis; nanos = g.nanos; chosen = g.chosen })
-now_added g k a v is fills =
-    let P : List ℕ → Option ℕ → Type 0 = λ l w. Adds g l (of_number a) (record { count = g.count; name = g.name; verb = g.verb; reply = g.reply; cause = g.cause; thread = g.thread; object = g.object; target = g.target; now = w; millis = g.millis; nanos = g.nanos; chosen = g.chosen }) in
-    let at : P (codes "now") (Some a) = added g _ (codes "now") (of_number a) (ap (option_map of_number) fills.0) refl refl in
-    subst (λ (l : List ℕ). P l v) (sym is) (subst (λ (w : Option ℕ). P (codes "now") w) (sym fills.1) at)
+pub now_taken : (g : Gathered) (k : List ℕ) (a : ℕ) (v : Option ℕ) (n : ℕ) → k ≡ codes "now" → Fills g.now a v g.count n → Takes g k (of_number a) (record { count = n; name = g.name; verb = g.verb; reply = g.reply; cause = g.cause; thread = g.thread; object = g.object; target = g.target; now = v; millis = g.millis; nanos = g.nanos; chosen = g.chosen })
+now_taken g k a v n is fills =
+    let P : List ℕ → Option ℕ → Type 0 = λ l w. Takes g l (of_number a) (record { count = n; name = g.name; verb = g.verb; reply = g.reply; cause = g.cause; thread = g.thread; object = g.object; target = g.target; now = w; millis = g.millis; nanos = g.nanos; chosen = g.chosen }) in
+    let at : P (codes "now") (Some a) = taken g _ (codes "now") (of_number a) (lack g.now) (same_lack of_number g.now) refl fills.1 in
+    subst (λ (l : List ℕ). P l v) (sym is) (subst (λ (w : Option ℕ). P (codes "now") w) (sym fills.0) at)
 
-pub object_added : (g : Gathered) (k : List ℕ) (a : ℕ) (v : Option ℕ) → k ≡ codes "object" → Fills g.object a v → Adds g k (of_number a) (record { count = g.count; name = g.name; verb = g.verb; reply = g.reply; cause = g.cause; thread = g.thread; object = v; target = g.target; now = g.now; millis = g.millis; nanos = g.nanos; chosen = g.chosen })
-object_added g k a v is fills =
-    let P : List ℕ → Option ℕ → Type 0 = λ l w. Adds g l (of_number a) (record { count = g.count; name = g.name; verb = g.verb; reply = g.reply; cause = g.cause; thread = g.thread; object = w; target = g.target; now = g.now; millis = g.millis; nanos = g.nanos; chosen = g.chosen }) in
-    let at : P (codes "object") (Some a) = added g _ (codes "object") (of_number a) (ap (option_map of_number) fills.0) refl refl in
-    subst (λ (l : List ℕ). P l v) (sym is) (subst (λ (w : Option ℕ). P (codes "object") w) (sym fills.1) at)
+pub object_taken : (g : Gathered) (k : List ℕ) (a : ℕ) (v : Option ℕ) (n : ℕ) → k ≡ codes "object" → Fills g.object a v g.count n → Takes g k (of_number a) (record { count = n; name = g.name; verb = g.verb; reply = g.reply; cause = g.cause; thread = g.thread; object = v; target = g.target; now = g.now; millis = g.millis; nanos = g.nanos; chosen = g.chosen })
+object_taken g k a v n is fills =
+    let P : List ℕ → Option ℕ → Type 0 = λ l w. Takes g l (of_number a) (record { count = n; name = g.name; verb = g.verb; reply = g.reply; cause = g.cause; thread = g.thread; object = w; target = g.target; now = g.now; millis = g.millis; nanos = g.nanos; chosen = g.chosen }) in
+    let at : P (codes "object") (Some a) = taken g _ (codes "object") (of_number a) (lack g.object) (same_lack of_number g.object) refl fills.1 in
+    subst (λ (l : List ℕ). P l v) (sym is) (subst (λ (w : Option ℕ). P (codes "object") w) (sym fills.0) at)
 
-pub reply_added : (g : Gathered) (k : List ℕ) (a : Bor (List ℕ)) (v : Option (Bor (List ℕ))) → k ≡ codes "reply" → Fills g.reply a v → Adds g k (of_text a) (record { count = g.count; name = g.name; verb = g.verb; reply = v; cause = g.cause; thread = g.thread; object = g.object; target = g.target; now = g.now; millis = g.millis; nanos = g.nanos; chosen = g.chosen })
-reply_added g k a v is fills =
-    let P : List ℕ → Option (Bor (List ℕ)) → Type 0 = λ l w. Adds g l (of_text a) (record { count = g.count; name = g.name; verb = g.verb; reply = w; cause = g.cause; thread = g.thread; object = g.object; target = g.target; now = g.now; millis = g.millis; nanos = g.nanos; chosen = g.chosen }) in
-    let at : P (codes "reply") (Some a) = added g _ (codes "reply") (of_text a) (ap (option_map of_text) fills.0) refl refl in
-    subst (λ (l : List ℕ). P l v) (sym is) (subst (λ (w : Option (Bor (List ℕ))). P (codes "reply") w) (sym fills.1) at)
+pub reply_taken : (g : Gathered) (k : List ℕ) (a : Bor (List ℕ)) (v : Option (Bor (List ℕ))) (n : ℕ) → k ≡ codes "reply" → Fills g.reply a v g.count n → Takes g k (of_text a) (record { count = n; name = g.name; verb = g.verb; reply = v; cause = g.cause; thread = g.thread; object = g.object; target = g.target; now = g.now; millis = g.millis; nanos = g.nanos; chosen = g.chosen })
+reply_taken g k a v n is fills =
+    let P : List ℕ → Option (Bor (List ℕ)) → Type 0 = λ l w. Takes g l (of_text a) (record { count = n; name = g.name; verb = g.verb; reply = w; cause = g.cause; thread = g.thread; object = g.object; target = g.target; now = g.now; millis = g.millis; nanos = g.nanos; chosen = g.chosen }) in
+    let at : P (codes "reply") (Some a) = taken g _ (codes "reply") (of_text a) (lack g.reply) (same_lack of_text g.reply) refl fills.1 in
+    subst (λ (l : List ℕ). P l v) (sym is) (subst (λ (w : Option (Bor (List ℕ))). P (codes "reply") w) (sym fills.0) at)
 
-pub target_added : (g : Gathered) (k : List ℕ) (a : ℕ) (v : Option ℕ) → k ≡ codes "target" → Fills g.target a v → Adds g k (of_number a) (record { count = g.count; name = g.name; verb = g.verb; reply = g.reply; cause = g.cause; thread = g.thread; object = g.object; target = v; now = g.now; millis = g.millis; nanos = g.nanos; chosen = g.chosen })
-target_added g k a v is fills =
-    let P : List ℕ → Option ℕ → Type 0 = λ l w. Adds g l (of_number a) (record { count = g.count; name = g.name; verb = g.verb; reply = g.reply; cause = g.cause; thread = g.thread; object = g.object; target = w; now = g.now; millis = g.millis; nanos = g.nanos; chosen = g.chosen }) in
-    let at : P (codes "target") (Some a) = added g _ (codes "target") (of_number a) (ap (option_map of_number) fills.0) refl refl in
-    subst (λ (l : List ℕ). P l v) (sym is) (subst (λ (w : Option ℕ). P (codes "target") w) (sym fills.1) at)
+pub target_taken : (g : Gathered) (k : List ℕ) (a : ℕ) (v : Option ℕ) (n : ℕ) → k ≡ codes "target" → Fills g.target a v g.count n → Takes g k (of_number a) (record { count = n; name = g.name; verb = g.verb; reply = g.reply; cause = g.cause; thread = g.thread; object = g.object; target = v; now = g.now; millis = g.millis; nanos = g.nanos; chosen = g.chosen })
+target_taken g k a v n is fills =
+    let P : List ℕ → Option ℕ → Type 0 = λ l w. Takes g l (of_number a) (record { count = n; name = g.name; verb = g.verb; reply = g.reply; cause = g.cause; thread = g.thread; object = g.object; target = w; now = g.now; millis = g.millis; nanos = g.nanos; chosen = g.chosen }) in
+    let at : P (codes "target") (Some a) = taken g _ (codes "target") (of_number a) (lack g.target) (same_lack of_number g.target) refl fills.1 in
+    subst (λ (l : List ℕ). P l v) (sym is) (subst (λ (w : Option ℕ). P (codes "target") w) (sym fills.0) at)
 
-pub thread_added : (g : Gathered) (k : List ℕ) (a : ℕ) (v : Option ℕ) → k ≡ codes "thread" → Fills g.thread a v → Adds g k (of_number a) (record { count = g.count; name = g.name; verb = g.verb; reply = g.reply; cause = g.cause; thread = v; object = g.object; target = g.target; now = g.now; millis = g.millis; nanos = g.nanos; chosen = g.chosen })
-thread_added g k a v is fills =
-    let P : List ℕ → Option ℕ → Type 0 = λ l w. Adds g l (of_number a) (record { count = g.count; name = g.name; verb = g.verb; reply = g.reply; cause = g.cause; thread = w; object = g.object; target = g.target; now = g.now; millis = g.millis; nanos = g.nanos; chosen = g.chosen }) in
-    let at : P (codes "thread") (Some a) = added g _ (codes "thread") (of_number a) (ap (option_map of_number) fills.0) refl refl in
-    subst (λ (l : List ℕ). P l v) (sym is) (subst (λ (w : Option ℕ). P (codes "thread") w) (sym fills.1) at)
+pub thread_taken : (g : Gathered) (k : List ℕ) (a : ℕ) (v : Option ℕ) (n : ℕ) → k ≡ codes "thread" → Fills g.thread a v g.count n → Takes g k (of_number a) (record { count = n; name = g.name; verb = g.verb; reply = g.reply; cause = g.cause; thread = v; object = g.object; target = g.target; now = g.now; millis = g.millis; nanos = g.nanos; chosen = g.chosen })
+thread_taken g k a v n is fills =
+    let P : List ℕ → Option ℕ → Type 0 = λ l w. Takes g l (of_number a) (record { count = n; name = g.name; verb = g.verb; reply = g.reply; cause = g.cause; thread = w; object = g.object; target = g.target; now = g.now; millis = g.millis; nanos = g.nanos; chosen = g.chosen }) in
+    let at : P (codes "thread") (Some a) = taken g _ (codes "thread") (of_number a) (lack g.thread) (same_lack of_number g.thread) refl fills.1 in
+    subst (λ (l : List ℕ). P l v) (sym is) (subst (λ (w : Option ℕ). P (codes "thread") w) (sym fills.0) at)
 
-pub null_taken : (g : Gathered) (k : List ℕ) (s : Scalar) (v : Option (Option ℕ)) → s ≡ scalar.Null → k ≡ codes "chosen" → Fills g.chosen None v → Takes g k (scalar_data s) (record { count = g.count + 1; name = g.name; verb = g.verb; reply = g.reply; cause = g.cause; thread = g.thread; object = g.object; target = g.target; now = g.now; millis = g.millis; nanos = g.nanos; chosen = v })
-null_taken g k s v null_is is fills =
-    subst (λ (t : Scalar). Takes g k (scalar_data t) (record { count = g.count + 1; name = g.name; verb = g.verb; reply = g.reply; cause = g.cause; thread = g.thread; object = g.object; target = g.target; now = g.now; millis = g.millis; nanos = g.nanos; chosen = v })) (sym null_is)
-    (taken g _ k null (chosen_added (record { count = g.count + 1; name = g.name; verb = g.verb; reply = g.reply; cause = g.cause; thread = g.thread; object = g.object; target = g.target; now = g.now; millis = g.millis; nanos = g.nanos; chosen = g.chosen }) k None v is fills))
+pub null_taken : (g : Gathered) (k : List ℕ) (s : Scalar) (v : Option (Option ℕ)) (n : ℕ) → s ≡ scalar.Null → k ≡ codes "chosen" → Fills g.chosen None v g.count n → Takes g k (scalar_data s) (record { count = n; name = g.name; verb = g.verb; reply = g.reply; cause = g.cause; thread = g.thread; object = g.object; target = g.target; now = g.now; millis = g.millis; nanos = g.nanos; chosen = v })
+null_taken g k s v n null_is is fills =
+    subst (λ (t : Scalar). Takes g k (scalar_data t) (record { count = n; name = g.name; verb = g.verb; reply = g.reply; cause = g.cause; thread = g.thread; object = g.object; target = g.target; now = g.now; millis = g.millis; nanos = g.nanos; chosen = v })) (sym null_is)
+    (chosen_taken g k None v n is fills)
 
 -- ---- what is found of each
 

@@ -1,5 +1,6 @@
 -- The pieces of a line, put together, are the one text of the move that was read from them.
-use Rattle.std.proofs.Common.{◌≡◌, ℕ, ◌<◌, ◌^◌, List, ◌∷◌, ◌++◌, Option, Some, None, IfSome, option_map, pos, refl, sym, ap, ◌∙◌, subst, codes, decimal}
+use Rattle.std.proofs.Common.{◌≡◌, ℕ, ◌<◌, ◌^◌, List, ◌∷◌, ◌++◌, Option, Some, None, IfSome, option_map, ℤ, pos, negsuc, refl, sym, ap, ◌∙◌, subst, codes, decimal}
+use Rattle.std.specs.Fmt.{signed_decimal}
 use Rattle.serde_json.specs.Written.{compact_text}
 use Rattle.serde_json.proofs.OnLiterals.{serde_json_on_literals}
 use Rattle.lock_word.specs.declared.ThreadId.{ThreadId}
@@ -11,10 +12,11 @@ use Rattle.fast_path.specs.declared.calls.Call.{Call as CallData}
 use Rattle.fast_path.specs.declared.calls.Call.TheVariants as call
 use Rattle.step_core.specs.declared.machine.Move.{Move}
 use Rattle.step_core.specs.declared.machine.Move.TheVariants as move
-use Rattle.history_moves.specs.Moves.{data_of, Fits}
+use Rattle.history_moves.specs.Moves.{data_of, Fits, FitsLong, FitsInt}
 use Rattle.history_moves.specs.Words.{among, plain_moves, object_calls, target_calls, bare_calls, short_replies, causes, plain_from}
-use Rattle.history_moves.specs.Texts.{thread_text, IsQuick, Reads}
+use Rattle.history_moves.specs.Texts.{thread_text, IsLong, IsQuick, Reads}
 use Rattle.history_moves.proofs.Found.{mapped}
+use Rattle.history_moves.proofs.Fronts.{wait_is}
 use Rattle.history_moves.proofs.WordRows.{AllRows, among_has, PlainRow, plain_rows}
 
 -- ---- the text of each kind of move, by its word
@@ -115,20 +117,24 @@ bare_call_reads rest verb t c f small found =
       quick = row.2;
     }
 
-pub wait_reads : (rest r s after : List ℕ) (millis nanos : ℕ) (o : ObjectId) (t : ThreadId)
-    → rest ≡ codes ",\"millis\":" ++ (decimal millis ++ r)
-    → r ≡ codes ",\"move\":\"Call\",\"nanos\":" ++ (decimal nanos ++ s)
+fits_long : (z : ℤ) → IsLong z → FitsLong z
+fits_long (pos n) h = h
+fits_long (negsuc n) h = tt
+
+pub wait_reads : (rest r s after : List ℕ) (millis nanos : ℤ) (o : ObjectId) (t : ThreadId)
+    → rest ≡ codes ",\"millis\":" ++ (signed_decimal millis ++ r)
+    → r ≡ codes ",\"move\":\"Call\",\"nanos\":" ++ (signed_decimal nanos ++ s)
     → s ≡ codes ",\"object\":" ++ (decimal o.0 ++ after)
-    → after ≡ thread_text t → millis < 2 ^ 63 → nanos < 2 ^ 31 → o.0 < 2 ^ 32 → t.0 < 2 ^ 32
-    → Reads (codes "{\"call\":\"Wait\"" ++ rest) (move.Call t (call.Wait o (pos millis) (pos nanos)))
-unfolding serde_json_on_literals
+    → after ≡ thread_text t → IsLong millis → FitsInt nanos → o.0 < 2 ^ 32 → t.0 < 2 ^ 32
+    → Reads (codes "{\"call\":\"Wait\"" ++ rest) (move.Call t (call.Wait o millis nanos))
 wait_reads rest r s after millis nanos o t e f g h long int small small_thread = record {
   text = ap (λ (l : List ℕ). codes "{\"call\":\"Wait\"" ++ l)
-      (e ∙ ap (λ (l : List ℕ). codes ",\"millis\":" ++ (decimal millis ++ l))
-      (f ∙ ap (λ (l : List ℕ). codes ",\"move\":\"Call\",\"nanos\":" ++ (decimal nanos ++ l))
-      (g ∙ ap (λ (l : List ℕ). codes ",\"object\":" ++ (decimal o.0 ++ l)) h)));
-  fits = (small_thread, (small, long, int));
-  quick = tt;
+      (e ∙ ap (λ (l : List ℕ). codes ",\"millis\":" ++ (signed_decimal millis ++ l))
+      (f ∙ ap (λ (l : List ℕ). codes ",\"move\":\"Call\",\"nanos\":" ++ (signed_decimal nanos ++ l))
+      (g ∙ ap (λ (l : List ℕ). codes ",\"object\":" ++ (decimal o.0 ++ l)) h)))
+      ∙ sym (wait_is o millis nanos t);
+  fits = (small_thread, (small, fits_long millis long, int));
+  quick = long;
 }
 
 -- ---- notifies

@@ -1,23 +1,25 @@
 -- The one text of a move is read as that move again.
-use Rattle.std.proofs.Common.{subst, ◌≡◌, ℕ, ◌<◌, ◌≤◌, ◌^◌, List, [], Option, Some, None, IfSome, option_and_then, append-nil, pos, negsuc, refl, sym, ap, ◌∙◌, arith, codes, ◌∷◌, ◌++◌, Bool, true, nat_lt, decimal}
+use Rattle.std.proofs.Common.{subst, ◌≡◌, ℕ, ◌<◌, ◌≤◌, ◌^◌, List, [], Option, Some, None, IfSome, option_and_then, append-nil, ℤ, pos, negsuc, refl, sym, ap, ◌∙◌, arith, codes, ◌∷◌, ◌++◌, Bool, true, false, nat_lt, decimal}
 use Rattle.std.specs.List.{list_all}
 use Rattle.std.specs.Str.{IsUtf8, IsAscii}
+use Rattle.std.specs.Fmt.{signed_decimal}
 use Rattle.std.proofs.lemmas.Bool.{and_parts, ltb-true}
-use Rattle.std.proofs.lemmas.Fmt.{IsAscii-decimal}
+use Rattle.std.proofs.lemmas.Fmt.{IsAscii-decimal, IsAscii-signed}
 use Rattle.std.proofs.lemmas.Str.{IsUtf8-append, IsUtf8-from_ascii}
 use Rattle.std.proofs.lemmas.Str.Ascii.{IsAscii-nil, IsAscii-cons}
 use Rattle.json.specs.Token.{Token}
 use Rattle.json.specs.Lex.{tokens}
-use Rattle.json.specs.Print.{escape, ArePrintable}
+use Rattle.json.specs.Print.{escape, ArePrintable, IsNumber}
 use Rattle.json.specs.Json as json
 use Rattle.json.specs.Tree as tree
 use Rattle.json.proofs.Printed.Trees.{value-json_tokens}
 use Rattle.json.proofs.Printed.Tokens.{tokens-print}
-use Rattle.json.proofs.Printed.Decimals.{IsNumber-decimal}
+use Rattle.json.proofs.Printed.Decimals.{IsNumber-decimal, IsNumber-signed_decimal}
 use Rattle.serde_json.specs.Data.{Data, object, depth}
-use Rattle.serde_json.specs.Read.{read, of_json, max_depth}
-use Rattle.serde_json.specs.Written.{compact_text, outline, blank}
-use Rattle.serde_json.proofs.Numbers.{number_of-decimal}
+use Rattle.serde_json.specs.Read.{read, of_json, max_depth, number_of}
+use Rattle.serde_json.specs.Written.{compact_text, number_text, outline, blank}
+use Rattle.serde_json.specs.Find.{is_float}
+use Rattle.serde_json.proofs.Numbers.{number_of-decimal, number_of-negative}
 use Rattle.serde_json.proofs.OnLiterals.{serde_json_on_literals}
 use Rattle.serde_json.proofs.Texts.{print-outline}
 use Rattle.lock_word.specs.declared.ThreadId.{ThreadId}
@@ -29,9 +31,9 @@ use Rattle.fat_monitor.specs.declared.actions.Reply.TheVariants as reply
 use Rattle.fast_path.specs.declared.calls.Call.TheVariants as call
 use Rattle.step_core.specs.declared.machine.Move.{Move}
 use Rattle.step_core.specs.declared.machine.Move.TheVariants as move
-use Rattle.history_moves.specs.Moves.{data_of, Fits, plain_members, bare_members, object_members, target_members, wait_members, reply_members, refused_members, notify_members, refuse_members, time_members}
+use Rattle.history_moves.specs.Moves.{data_of, num_of_signed, Fits, FitsInt, plain_members, bare_members, object_members, target_members, wait_members, reply_members, refused_members, notify_members, refuse_members, time_members}
 use Rattle.history_moves.specs.Lines.{IsMove}
-use Rattle.history_moves.specs.Texts.{IsQuick, Reads}
+use Rattle.history_moves.specs.Texts.{IsLong, IsQuick, Reads}
 use Rattle.history_moves.proofs.LineLaws.{written_move}
 
 -- what makes the text of some data read as them
@@ -125,21 +127,38 @@ target_told verb u t h0 h1 w = record {
   utf8 = quoted_utf8 (codes "{\"call\":\"") verb _ refl w (number_utf8 (codes ",\"move\":\"Call\",\"target\":") u.0 _ refl (wide u.0 h1) (last_utf8 (codes ",\"thread\":") t.0 refl (wide t.0 h0)));
 }
 
-long : (n : ℕ) → n < 2 ^ 63 → n < 2 ^ 64
-long n h = omega (arith, h)
+-- ---- a number that may be negative
 
-wide_long : (n : ℕ) → n < 2 ^ 31 → n < 2 ^ 64
-wide_long n h = omega (arith, h)
+signed_again : (z : ℤ) → IsLong z → number_of (number_text (num_of_signed z)) ≡ Some (num_of_signed z)
+signed_again (pos n) h = number_of-decimal n (omega (arith, h))
+signed_again (negsuc n) h = number_of-negative n h
 
-wait_told : (o : ObjectId) (m : ℕ) (n : ℕ) (t : ThreadId) → t.0 < 2 ^ 32 → o.0 < 2 ^ 32 → m < 2 ^ 63 → n < 2 ^ 31 → Told (object (wait_members o (pos m) (pos n) t))
+no_float : (z : ℤ) → is_float (num_of_signed z) ≡ false
+no_float (pos n) = refl
+no_float (negsuc n) = refl
+
+signed_printable : (z : ℤ) → IsLong z → IsNumber (number_text (num_of_signed z))
+signed_printable (pos n) h = IsNumber-decimal n (omega (arith, h))
+signed_printable (negsuc n) h = IsNumber-signed_decimal (negsuc n) h
+
+signed_utf8 : (front : List ℕ) (z : ℤ) (rest : List ℕ) → is_small front ≡ true → IsLong z → IsUtf8 rest → IsUtf8 (front ++ (number_text (num_of_signed z) ++ rest))
+signed_utf8 front (pos n) rest f h r = number_utf8 front n rest f (omega (arith, h)) r
+signed_utf8 front (negsuc n) rest f h r =
+    IsUtf8-append front _ (lit front f) (IsUtf8-append (signed_decimal (negsuc n)) rest (IsUtf8-from_ascii _ (IsAscii-signed (negsuc n) h)) r)
+
+int_long : (z : ℤ) → FitsInt z → IsLong z
+int_long (pos n) h = omega (arith, h)
+int_long (negsuc n) h = omega (arith, h)
+
+wait_told : (o : ObjectId) (m : ℤ) (n : ℤ) (t : ThreadId) → t.0 < 2 ^ 32 → o.0 < 2 ^ 32 → IsLong m → IsLong n → Told (object (wait_members o m n t))
 unfolding ArePrintable serde_json_on_literals
 wait_told o m n t h0 h1 h2 h3 = record {
-  again = rw (number_of-decimal m (long m h2), number_of-decimal n (wide_long n h3), number_of-decimal o.0 (wide o.0 h1), number_of-decimal t.0 (wide t.0 h0)) refl;
-  same = rw (number_of-decimal m (long m h2), number_of-decimal n (wide_long n h3), number_of-decimal o.0 (wide o.0 h1), number_of-decimal t.0 (wide t.0 h0)) refl;
+  again = rw (signed_again m h2, signed_again n h3, number_of-decimal o.0 (wide o.0 h1), number_of-decimal t.0 (wide t.0 h0)) refl;
+  same = rw (signed_again m h2, signed_again n h3, no_float m, no_float n, number_of-decimal o.0 (wide o.0 h1), number_of-decimal t.0 (wide t.0 h0)) refl;
   shallow = omega arith;
   small = omega arith;
-  printable = (tt, (tt, (tt, (tt, (IsNumber-decimal m (long m h2), (tt, (tt, (tt, (IsNumber-decimal n (wide_long n h3), (tt, (IsNumber-decimal o.0 (wide o.0 h1), (tt, (IsNumber-decimal t.0 (wide t.0 h0), (tt, tt))))))))))))));
-  utf8 = number_utf8 (codes "{\"call\":\"Wait\",\"millis\":") m _ refl (long m h2) (number_utf8 (codes ",\"move\":\"Call\",\"nanos\":") n _ refl (wide_long n h3) (number_utf8 (codes ",\"object\":") o.0 _ refl (wide o.0 h1) (last_utf8 (codes ",\"thread\":") t.0 refl (wide t.0 h0))));
+  printable = (tt, (tt, (tt, (tt, (signed_printable m h2, (tt, (tt, (tt, (signed_printable n h3, (tt, (IsNumber-decimal o.0 (wide o.0 h1), (tt, (IsNumber-decimal t.0 (wide t.0 h0), (tt, tt))))))))))))));
+  utf8 = signed_utf8 (codes "{\"call\":\"Wait\",\"millis\":") m _ refl h2 (signed_utf8 (codes ",\"move\":\"Call\",\"nanos\":") n _ refl h3 (number_utf8 (codes ",\"object\":") o.0 _ refl (wide o.0 h1) (last_utf8 (codes ",\"thread\":") t.0 refl (wide t.0 h0))));
 }
 
 reply_told : (word : List ℕ) (t : ThreadId) → t.0 < 2 ^ 32 → is_small (escape word) ≡ true → Told (object (reply_members word t))
@@ -244,10 +263,7 @@ move_told (move.Call t (call.Interrupt u)) fits quick = target_told (codes "Inte
 move_told (move.Call t (call.IsInterrupted u)) fits quick = target_told (codes "IsInterrupted") u t fits.0 fits.1 refl
 move_told (move.Call t call.Interrupted) fits quick = bare_told (codes "Interrupted") t fits.0 refl
 move_told (move.Call t call.End) fits quick = bare_told (codes "End") t fits.0 refl
-move_told (move.Call t (call.Wait o (pos m) (pos n))) fits quick = wait_told o m n t fits.0 fits.1.0 fits.1.1 fits.1.2
-move_told (move.Call t (call.Wait o (pos m) (negsuc n))) fits quick = absurd quick
-move_told (move.Call t (call.Wait o (negsuc m) (pos n))) fits quick = absurd quick
-move_told (move.Call t (call.Wait o (negsuc m) (negsuc n))) fits quick = absurd quick
+move_told (move.Call t (call.Wait o m n)) fits quick = wait_told o m n t fits.0 fits.1.0 quick (int_long n fits.1.2)
 move_told (move.Return t reply.Entered) fits quick = reply_told (codes "Entered") t fits refl
 move_told (move.Return t reply.Exited) fits quick = reply_told (codes "Exited") t fits refl
 move_told (move.Return t reply.WaitOver) fits quick = reply_told (codes "WaitOver") t fits refl

@@ -114,14 +114,14 @@ BeginsWith text s rest =
 
 -- ---- one member more
 
--- what was empty has the value
-abbrev pub Fills : {A : Type 0} → Option A → A → Option A → Type 0
-Fills old a new = (old ≡ None) × (new ≡ Some a)
+-- 1 where there is no value
+abbrev pub lack : {A : Type 0} → Option A → ℕ
+lack None = 1
+lack (Some a) = 0
 
--- the value is put among the members under the key, where there was none, and the count stays
-unfoldable pub Adds : Gathered → List ℕ → Data → Gathered → Type 0
-Adds old k d new =
-    (members_in new ≡ put k d (members_in old)) × (count (members_in new) ≡ count (members_in old) + 1) × (new.count ≡ old.count)
+-- the field has the value, and where it had none, there is one more
+abbrev pub Fills : {A : Type 0} → Option A → A → Option A → ℕ → ℕ → Type 0
+Fills old a new m n = (new ≡ Some a) × (n ≡ m + lack old)
 
 -- the value is put among the members, and where the old ones were counted, the new ones are
 unfoldable pub Takes : Gathered → List ℕ → Data → Gathered → Type 0

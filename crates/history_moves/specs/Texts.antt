@@ -32,10 +32,14 @@ IsFrontOf front list = take (length front) list ≡ front
 abbrev pub thread_text : ThreadId → List ℕ
 thread_text t = one_text (codes ",\"thread\":") t.0
 
--- no wait for less than no time; and a moment is a number of 64 bits
+-- a signed number of 64 bits
+abbrev pub IsLong : ℤ → Type 0
+IsLong (pos n) = n < 2 ^ 63
+IsLong (negsuc n) = n < 2 ^ 63
+
+-- the milliseconds of a wait, and a moment, are numbers of 64 bits
 abbrev pub IsQuick : Move → Type 0
-IsQuick (move.Call t (call.Wait o (negsuc m) n)) = ⊥
-IsQuick (move.Call t (call.Wait o (pos m) (negsuc n))) = ⊥
+IsQuick (move.Call t (call.Wait o millis nanos)) = IsLong millis
 IsQuick (move.Time now) = now < 2 ^ 64
 IsQuick _ = Unit {0}
 

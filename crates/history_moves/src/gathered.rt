@@ -4,10 +4,10 @@ ghost use Rattle.std.specs.Prelude.{◌≡◌, ◌++◌, IfSome, IsTrue};
 ghost use Rattle.serde_json.specs.Data.{object as object_data, string};
 ghost use Rattle.history_moves.specs.Moves.{of_number};
 ghost use Rattle.history_moves.specs.Reading.{move_from};
-ghost use Rattle.history_moves.specs.Gathered.{members_in, nothing, Takes, Adds, Fills, IsCounted};
-ghost use Rattle.history_moves.specs.Gathered.{key_text, scalar_data, short_signed, choice};
+ghost use Rattle.history_moves.specs.Gathered.{members_in, nothing, Takes, Fills, IsCounted};
+ghost use Rattle.history_moves.specs.Gathered.{key_text, scalar_data, choice};
 
-use crate::members::{Fields, small_number};
+use crate::members::{Fields, short_signed, small_number};
 use crate::pieces::behind;
 use crate::reading::move_named;
 use lock_word::ThreadId;
@@ -40,8 +40,8 @@ pub(crate) enum Scalar<'a> {
     Null,
 }
 
-/// The members of an object as far as they were read. Each has its key once, and a value of the
-/// kind that a move has there.
+/// The members of an object as far as they were read. Each has its key once, the last value that it
+/// had there, and one of the kind that a move has there.
 #[derive(Clone, Copy, Drop)]
 pub(crate) struct Gathered<'a> {
     count: usize,
@@ -98,13 +98,17 @@ pub(crate) fn key_front(bytes: &[u8]) -> Option<(Key, &[u8])>
     Some((Key::Now, behind(bytes, b"now")?))
 }
 
-/// Fills a field with a value. False: there is one already.
+/// Fills a field with a value, and counts it where there was none. False: there was none, and there
+/// are as many members as a move can have.
 #[inline(always)]
-fn fill<T: Copy>(slot: &mut Option<T>, value: T) -> bool
-    ensures { IsTrue result → Fills slot.old value slot.new }
+fn fill<T: Copy>(count: &mut usize, slot: &mut Option<T>, value: T) -> bool
+    ensures { IsTrue result → Fills slot.old value slot.new count.old count.new }
 {
-    if slot.is_some() {
-        return false;
+    if slot.is_none() {
+        if *count >= MOST_MEMBERS {
+            return false;
+        }
+        *count += 1;
     }
     *slot = Some(value);
     true
@@ -132,21 +136,18 @@ impl<'a> Gathered<'a> {
         }
     }
 
-    /// Takes a member. False where there are as many as a move can have, or its key came before, or
-    /// its value is of another kind than a move has there; the members are not to be used then.
+    /// Takes a member; of a key that came before, the last value stays. False where there are as many
+    /// as a move can have, or the value is of another kind than a move has there; the members are not
+    /// to be used then.
     #[inline(always)]
     pub(crate) fn take(&mut self, key: Key, value: Scalar<'a>) -> bool
         ensures { IsTrue result → Takes self.old (key_text key) (scalar_data value.entry) self.new }
     {
-        if self.count >= MOST_MEMBERS {
-            return false;
-        }
-        self.count += 1;
         match value {
             Scalar::Text(text) => self.add_text(key, text),
             Scalar::Number(number) => self.add_number(key, number),
             Scalar::Null => match key {
-                Key::Chosen => fill(&mut self.chosen, None),
+                Key::Chosen => fill(&mut self.count, &mut self.chosen, None),
                 _ => false,
             },
         }
@@ -154,29 +155,29 @@ impl<'a> Gathered<'a> {
 
     #[inline(always)]
     fn add_text(&mut self, key: Key, text: &'a [u8]) -> bool
-        ensures { IsTrue result → Adds self.old (key_text key) (string text.now) self.new }
+        ensures { IsTrue result → Takes self.old (key_text key) (string text.now) self.new }
     {
         match key {
-            Key::Move => fill(&mut self.name, text),
-            Key::Call => fill(&mut self.verb, text),
-            Key::Reply => fill(&mut self.reply, text),
-            Key::Cause => fill(&mut self.cause, text),
+            Key::Move => fill(&mut self.count, &mut self.name, text),
+            Key::Call => fill(&mut self.count, &mut self.verb, text),
+            Key::Reply => fill(&mut self.count, &mut self.reply, text),
+            Key::Cause => fill(&mut self.count, &mut self.cause, text),
             _ => false,
         }
     }
 
     #[inline(always)]
     fn add_number(&mut self, key: Key, number: u64) -> bool
-        ensures { IsTrue result → Adds self.old (key_text key) (of_number number) self.new }
+        ensures { IsTrue result → Takes self.old (key_text key) (of_number number) self.new }
     {
         match key {
-            Key::Thread => fill(&mut self.thread, number),
-            Key::Object => fill(&mut self.object, number),
-            Key::Target => fill(&mut self.target, number),
-            Key::Millis => fill(&mut self.millis, number),
-            Key::Nanos => fill(&mut self.nanos, number),
-            Key::Chosen => fill(&mut self.chosen, Some(number)),
-            Key::Now => fill(&mut self.now, number),
+            Key::Thread => fill(&mut self.count, &mut self.thread, number),
+            Key::Object => fill(&mut self.count, &mut self.object, number),
+            Key::Target => fill(&mut self.count, &mut self.target, number),
+            Key::Millis => fill(&mut self.count, &mut self.millis, number),
+            Key::Nanos => fill(&mut self.count, &mut self.nanos, number),
+            Key::Chosen => fill(&mut self.count, &mut self.chosen, Some(number)),
+            Key::Now => fill(&mut self.count, &mut self.now, number),
             _ => false,
         }
     }
@@ -187,17 +188,6 @@ impl<'a> Gathered<'a> {
             → result ≡ move_from (object_data (members_in self.entry.now)) }
     {
         move_named(self.count, self, self.name?)
-    }
-}
-
-/// The number as a signed one.
-fn short_signed(number: u64) -> Option<i64>
-    ensures { result ≡ short_signed number }
-{
-    if number < 0x8000_0000_0000_0000 {
-        Some(number as i64)
-    } else {
-        None
     }
 }
 
@@ -247,23 +237,14 @@ impl<'a> Fields for Gathered<'a> {
     }
 
     fn millis(&self) -> Option<i64> {
-        match self.millis {
-            Some(number) => short_signed(number),
-            None => None,
-        }
+        short_signed(self.millis?)
     }
 
     fn nanos(&self) -> Option<i64> {
-        match self.nanos {
-            Some(number) => short_signed(number),
-            None => None,
-        }
+        short_signed(self.nanos?)
     }
 
     fn chosen(&self) -> Option<Option<ThreadId>> {
-        match self.chosen {
-            Some(number) => choice(number),
-            None => None,
-        }
+        choice(self.chosen?)
     }
 }

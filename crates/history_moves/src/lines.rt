@@ -1,6 +1,6 @@
 //! The lines of a history, with no line feed.
 
-ghost use Rattle.std.specs.Prelude.{◌≡◌, ℕ, List, None, IfOk, IfSome, IfNone, string_bytes};
+ghost use Rattle.std.specs.Prelude.{◌≡◌, ℕ, List, IfOk, IfSome, IfNone, string_bytes};
 ghost use Rattle.serde_json.specs.Data.{Data};
 ghost use Rattle.serde_json.specs.View.{view};
 ghost use Rattle.serde_json.specs.Written.{compact_text};
@@ -55,8 +55,7 @@ fn value_of(alloc: Global, line: &[u8]) -> Result<Option<Value>, Memory>
 }
 
 /// The move that a line is, where it is just as [`move_line`] writes it: a quick way for most lines
-/// of a history. None also of some lines that [`move_line`] may write: a wait for less than no time,
-/// and a number of 20 digits.
+/// of a history.
 fn written_line(line: &[u8]) -> Option<Move>
     ensures { IfSome result (IsMove line.now) }
 {
@@ -92,12 +91,13 @@ fn value_move(alloc: Global, line: &[u8]) -> Result<Option<Move>, Memory>
 /// A line of this many bytes or more is read by its value, so that no room is kept for it.
 const LONG: usize = 4096;
 
-/// A line of this many bytes or more is not read straight from its bytes: it is mostly blanks, which
-/// the reader of tokens passes over faster.
-const BLANK: usize = 512;
+/// A line of this many bytes or more is mostly blanks, and is not read straight from its bytes: the
+/// reader of tokens passes over many blanks at once. Where blanks stand between all tokens, the two
+/// ways take as many instructions at about this length.
+const MOSTLY_BLANK: usize = 512;
 
 /// A reader of lines, which keeps from line to line what it needs for lines that are read from their
-/// tokens, most of them lines with an escape: room for a line below 4,096 bytes, from the first such
+/// tokens, those with an escape and long ones: room for a line below 4,096 bytes, from the first such
 /// line on.
 #[derive(Drop)]
 pub struct LineReader {
@@ -114,9 +114,7 @@ fn new_scratch(alloc: Global) -> Option<Box<Scratch>> {
 
 impl LineReader {
     /// A reader of lines. It asks for no memory yet.
-    pub fn new(alloc: Global) -> LineReader
-        ensures { result ≡ record { alloc = alloc; scratch = None } }
-    {
+    pub fn new(alloc: Global) -> LineReader {
         LineReader {
             alloc,
             scratch: None,
@@ -137,7 +135,9 @@ impl LineReader {
         value_move(self.alloc, line)
     }
 
-    /// The move that a line is, from its bytes or its tokens: a way for most lines of any spelling.
+    /// The move that a line is, from its bytes or its tokens: a way for most lines of any spelling. A
+    /// line that its bytes do not tell is read from its tokens only where it has an escape or is
+    /// long, since the tokens of hardly any other tell more.
     #[inline(never)]
     fn spelled_line(&mut self, line: &[u8]) -> Option<Move>
         ensures { IfSome result (IsMove line.now) }
@@ -146,11 +146,21 @@ impl LineReader {
             return None;
         }
         let text = str::from_utf8(line).ok()?;
-        if line.len() < BLANK
-            && let Some(made) = spelled_move(text)
-        {
-            return Some(made);
+        if line.len() < MOSTLY_BLANK {
+            if let Some(made) = spelled_move(text) {
+                return Some(made);
+            }
+            if !line.contains(&b'\\') {
+                return None;
+            }
         }
+        self.tokens_move(text)
+    }
+
+    /// The move that a text is, from its tokens.
+    fn tokens_move(&mut self, text: &str) -> Option<Move>
+        ensures { IfSome result (IsMove text.now) }
+    {
         if self.scratch.is_none() {
             self.scratch = new_scratch(self.alloc);
         }

@@ -7,6 +7,7 @@ ghost use Rattle.serde_json.specs.View.{view};
 ghost use Rattle.history_moves.specs.Members.{IsOrderedData, count_in, text_at, whole_at};
 ghost use Rattle.history_moves.specs.Members.{now_at, signed_at, small_signed, millis_at, nanos_at};
 ghost use Rattle.history_moves.specs.Members.{thread_number, thread_at, object_at, chosen_at};
+ghost use Rattle.history_moves.specs.Gathered.{short_signed};
 
 use lock_word::{ObjectId, ThreadId};
 use serde_json::Value;
@@ -163,7 +164,19 @@ pub(crate) fn object_at<F: Fields>(fields: &F) -> Option<ObjectId>
     Some(ObjectId(small_number(fields.object()?)?))
 }
 
-fn small_signed(number: i64) -> Option<i32>
+/// The number as a signed one.
+pub(crate) fn short_signed(number: u64) -> Option<i64>
+    ensures { result ≡ short_signed number }
+{
+    if number < 0x8000_0000_0000_0000 {
+        Some(number as i64)
+    } else {
+        None
+    }
+}
+
+/// A signed number of 32 bits.
+pub(crate) fn small_signed(number: i64) -> Option<i32>
     ensures { result ≡ small_signed number }
 {
     if -2_147_483_648 <= number && number < 2_147_483_648 {

@@ -1,9 +1,12 @@
 //! The pieces of a line, each read from its front.
 
-ghost use Rattle.std.specs.Prelude.{◌≡◌, ◌+◌, ◌++◌, ◌∷◌, ◌<◌, ◌^◌, codes, decimal, IfSome, IsTrue};
-ghost use Rattle.history_moves.specs.Texts.{thread_text};
+ghost use Rattle.std.specs.Prelude.{◌≡◌, ◌+◌, ◌*◌, ◌++◌, ◌∷◌, ◌<◌, ◌^◌, codes, decimal, IfSome, IsTrue};
+ghost use Rattle.std.specs.Fmt.{signed_decimal};
+ghost use Rattle.history_moves.specs.Moves.{FitsInt};
+ghost use Rattle.history_moves.specs.Texts.{IsLong, thread_text};
 
 use crate::bytes::same_bytes;
+use crate::members::{short_signed, small_signed};
 use lock_word::ThreadId;
 
 /// Where a number that has one more digit may no longer fit 64 bits.
@@ -50,8 +53,21 @@ fn digit_in(bytes: &[u8]) -> Option<(u64, &[u8])>
     }
 }
 
-/// A number with no leading zero, and what stands behind its digits; None also of a number of 20
-/// digits or more, which may not fit.
+/// The number with one more digit; None where that does not fit 64 bits.
+#[inline(always)]
+fn with_digit(number: u64, digit: u64) -> Option<u64>
+    requires { digit < 10 }
+    ensures longer { IfSome result (λ n. n ≡ number * 10 + digit) }
+    ensures small { IfSome result (λ n. n < 2 ^ 64) }
+{
+    if number < LARGE {
+        Some(number * 10 + digit)
+    } else {
+        number.checked_mul(10)?.checked_add(digit)
+    }
+}
+
+/// A number of 64 bits with no leading zero, and what stands behind its digits.
 #[inline]
 #[tactic(auto, using(crate::proofs::Digits::first_digit))]
 pub(crate) fn number_in(bytes: &[u8]) -> Option<(u64, &[u8])>
@@ -65,10 +81,7 @@ pub(crate) fn number_in(bytes: &[u8]) -> Option<(u64, &[u8])>
     let mut number = first;
     let mut rest = after;
     'digits: while let Some((digit, after)) = digit_in(rest) {
-        if number >= LARGE {
-            return None;
-        }
-        number = number * 10 + digit;
+        number = with_digit(number, digit)?;
         rest = after;
     }
     Some((number, rest))
@@ -86,6 +99,39 @@ pub(crate) fn small_number_in(bytes: &[u8]) -> Option<(u32, &[u8])>
     } else {
         None
     }
+}
+
+/// The number below zero that has these digits. None of zero, and where it does not fit 64 bits.
+fn negated(number: u64) -> Option<i64>
+    ensures digits { IfSome result (λ z. signed_decimal z ≡ 45 ∷ decimal number) }
+    ensures small { IfSome result IsLong }
+{
+    let less = short_signed(number.checked_sub(1)?)?;
+    Some(-1 - less)
+}
+
+/// A number of 64 bits that may be below zero, and what stands behind its digits.
+#[inline]
+pub(crate) fn signed_in(bytes: &[u8]) -> Option<(i64, &[u8])>
+    ensures number { IfSome result (λ r. bytes.now ≡ signed_decimal r.0 ++ r.1.now) }
+    ensures small { IfSome result (λ r. IsLong r.0) }
+{
+    if let Some(digits) = behind(bytes, b"-") {
+        let (number, rest) = number_in(digits)?;
+        return Some((negated(number)?, rest));
+    }
+    let (number, rest) = number_in(bytes)?;
+    Some((short_signed(number)?, rest))
+}
+
+/// The same of 32 bits.
+#[inline]
+pub(crate) fn small_signed_in(bytes: &[u8]) -> Option<(i32, &[u8])>
+    ensures number { IfSome result (λ r. bytes.now ≡ signed_decimal r.0 ++ r.1.now) }
+    ensures small { IfSome result (λ r. FitsInt r.0) }
+{
+    let (number, rest) = signed_in(bytes)?;
+    Some((small_signed(number)?, rest))
 }
 
 /// Whether nothing but the end of an object is left.

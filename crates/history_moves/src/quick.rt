@@ -4,7 +4,9 @@ ghost use Rattle.std.specs.Prelude.{◌≡◌, ◌++◌, codes, IfSome};
 ghost use Rattle.history_moves.specs.Texts.{Reads};
 
 use crate::bytes::same_bytes;
-use crate::pieces::{behind, is_end, number_in, small_number_in, thread_in, word_in};
+use crate::pieces::{
+    behind, is_end, number_in, signed_in, small_number_in, small_signed_in, thread_in, word_in,
+};
 use crate::words::{
     bare_call_named, cause_named, object_call_named, plain_named, reply_named, target_call_named,
 };
@@ -14,8 +16,7 @@ use lock_word::{ObjectId, ThreadId};
 use step_core::Move;
 
 /// The move that a line is, where the line is the one text that the move is written with. None
-/// where it is not, and of a wait for less than no time, and of numbers of 20 digits: these lines
-/// are left to the readers of any spelling.
+/// where it is not: such a line is left to the readers of any spelling.
 pub(crate) fn quick_move(line: &[u8]) -> Option<Move>
     ensures { IfSome result (Reads line.now) }
 {
@@ -118,17 +119,14 @@ fn targeted_call_move(verb: &[u8], rest: &[u8]) -> Option<Move>
 fn wait_move(rest: &[u8]) -> Option<Move>
     ensures { IfSome result (Reads (codes "{\"call\":\"Wait\"" ++ rest.now)) }
 {
-    let (millis, after) = number_in(behind(rest, b",\"millis\":")?)?;
-    let (nanos, after) = small_number_in(behind(after, b",\"move\":\"Call\",\"nanos\":")?)?;
+    let (millis, after) = signed_in(behind(rest, b",\"millis\":")?)?;
+    let (nanos, after) = small_signed_in(behind(after, b",\"move\":\"Call\",\"nanos\":")?)?;
     let (object, after) = small_number_in(behind(after, b",\"object\":")?)?;
     let thread = thread_in(after)?;
-    if millis >= 0x8000_0000_0000_0000 || nanos >= 0x8000_0000 {
-        return None;
-    }
     let call = Call::Wait {
         object: ObjectId(object),
-        millis: millis as i64,
-        nanos: nanos as i32,
+        millis,
+        nanos,
     };
     Some(Move::Call { thread, call })
 }

@@ -12,8 +12,7 @@ use crate::pieces::number_in;
 use json::{Reader, Scratch, Token};
 use step_core::Move;
 
-/// The number that a text is; None of one that is negative, or no integer, or has 20 digits or
-/// more.
+/// The number of 64 bits that a text is; None of one that is negative, or no integer, or too large.
 fn whole_of(text: &str) -> Option<u64>
     ensures { IfSome result (λ n. number_of text.now ≡ Some (unsigned n)) }
 {
@@ -41,9 +40,9 @@ fn scalar_of<'a>(token: Token<'a>) -> Option<Scalar<'a>>
     }
 }
 
-/// The move that a text is, where it is an object with no key twice, whose values are texts, null
-/// and integers that are not negative and have at most 19 digits. None also of other texts, which
-/// may be moves, and where the scratch finds no memory.
+/// The move that a text is, where it is an object whose values are texts, null and numbers of 64 bits
+/// that are not negative; of a key that comes twice, the last value stays. None also of other texts,
+/// which may be moves, and where the scratch finds no memory.
 pub(crate) fn token_move(text: &str, scratch: &mut Scratch) -> Option<Move>
     ensures { IfSome result (IsMove text.now) }
 {

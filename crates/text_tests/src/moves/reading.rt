@@ -107,7 +107,7 @@ const LEAST_TIMES: Option<Move> = Some(Move::Call {
     },
 });
 
-const TIMES: [(&str, Option<Move>); 4] = [
+const TIMES: [(&str, Option<Move>); 8] = [
     (
         r#"{"call":"Wait","millis":-9223372036854775808,"move":"Call","nanos":-2147483648,"object":0,"thread":1}"#,
         LEAST_TIMES,
@@ -124,9 +124,47 @@ const TIMES: [(&str, Option<Move>); 4] = [
         r#"{"call":"Wait","millis":-0,"move":"Call","nanos":0,"object":0,"thread":1}"#,
         None,
     ),
+    (
+        r#"{"call":"Wait","millis":-9223372036854775809,"move":"Call","nanos":0,"object":0,"thread":1}"#,
+        None,
+    ),
+    (
+        r#"{"call":"Wait","millis":0,"move":"Call","nanos":-2147483649,"object":0,"thread":1}"#,
+        None,
+    ),
+    (
+        r#"{"call":"Wait","millis":-01,"move":"Call","nanos":0,"object":0,"thread":1}"#,
+        None,
+    ),
+    (
+        r#"{"call":"Wait","millis":-,"move":"Call","nanos":0,"object":0,"thread":1}"#,
+        None,
+    ),
 ];
 
 #[test]
 fn times_of_a_wait(rt: HostRuntime) {
     are_read(&rt, rt.alloc(), &TIMES);
+}
+
+const LAST_MOMENT: Option<Move> = Some(Move::Time {
+    now: 18_446_744_073_709_551_615,
+});
+
+/// Moments of 20 digits and of 21, as they are written and with a blank.
+const MOMENTS: [(&str, Option<Move>); 6] = [
+    (r#"{"move":"Time","now":18446744073709551615}"#, LAST_MOMENT),
+    (
+        r#"{"move":"Time","now": 18446744073709551615}"#,
+        LAST_MOMENT,
+    ),
+    (r#"{"move":"Time","now":18446744073709551616}"#, None),
+    (r#"{"move":"Time","now": 18446744073709551616}"#, None),
+    (r#"{"move":"Time","now":99999999999999999999}"#, None),
+    (r#"{"move":"Time","now":184467440737095516150}"#, None),
+];
+
+#[test]
+fn moments(rt: HostRuntime) {
+    are_read(&rt, rt.alloc(), &MOMENTS);
 }

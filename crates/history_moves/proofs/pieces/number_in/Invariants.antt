@@ -5,7 +5,7 @@ abbrev pub invariant-digits : goal.invariant-digits
 invariant-digits l = record {
   text : l.bytes ≡ decimal l.number ++ l.rest;
   some : 0 < l.number;
-  small : l.number < 10 ^ 19;
+  small : l.number < 2 ^ 64;
 }
 
 abbrev pub decreases-digits : goal.decreases-digits

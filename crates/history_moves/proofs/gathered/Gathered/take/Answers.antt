@@ -1,20 +1,16 @@
 use Rattle.std.proofs.Common.{sym, ap, subst}
-use Rattle.serde_json.specs.Data.{string}
-use Rattle.history_moves.specs.Moves.{of_number}
 use Rattle.history_moves.specs.Gathered.{Takes, key_text, scalar_data}
 use Rattle.history_moves.specs.declared.gathered.Scalar.{Scalar}
-use Rattle.history_moves.proofs.GatheredLaws.{taken, null_taken}
+use Rattle.history_moves.proofs.GatheredLaws.{null_taken}
 use Rattle.history_moves.proofs.gathered.Gathered.take.Goals as goal
 
 pub returns-in-Text : goal.returns-in-Text
 returns-in-Text c =
-    λ done. subst (λ (s : Scalar). Takes c.args.self.now (key_text c.args.key) (scalar_data s) c.add_text.new.self) (sym c.in-Text.is)
-    (taken c.args.self.now _ (key_text c.args.key) (string c.in-Text.text.now) (c.add_text.ensures done))
+    λ done. subst (λ (s : Scalar). Takes c.args.self.now (key_text c.args.key) (scalar_data s) c.add_text.new.self) (sym c.in-Text.is) (c.add_text.ensures done)
 
 pub returns-in-Number : goal.returns-in-Number
 returns-in-Number c =
-    λ done. subst (λ (s : Scalar). Takes c.args.self.now (key_text c.args.key) (scalar_data s) c.add_number.new.self) (sym c.in-Number.is)
-    (taken c.args.self.now _ (key_text c.args.key) (of_number c.in-Number.number) (c.add_number.ensures done))
+    λ done. subst (λ (s : Scalar). Takes c.args.self.now (key_text c.args.key) (scalar_data s) c.add_number.new.self) (sym c.in-Number.is) (c.add_number.ensures done)
 
 pub returns-in-Chosen : goal.returns-in-Chosen
-returns-in-Chosen c = λ done. null_taken c.args.self.now (key_text c.args.key) c.args.value _ c.in-Null.is (ap key_text c.in-Chosen.is) (c.fill.ensures done)
+returns-in-Chosen c = λ done. null_taken c.args.self.now (key_text c.args.key) c.args.value _ _ c.in-Null.is (ap key_text c.in-Chosen.is) (c.fill.ensures done)

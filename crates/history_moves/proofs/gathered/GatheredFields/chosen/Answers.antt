@@ -3,8 +3,8 @@ use Rattle.history_moves.specs.Gathered.{choice}
 use Rattle.history_moves.proofs.GatheredLaws.{chosen_in}
 use Rattle.history_moves.proofs.gathered.GatheredFields.chosen.Goals as goal
 
-pub returns-in-Some : goal.returns-in-Some
-returns-in-Some c = c.choice.ensures ∙ sym (ap (option_and_then choice) c.in-Some.is) ∙ chosen_in c.args.self.now
+pub returns-in_err-self : goal.returns-in_err-self
+returns-in_err-self c = c.from_residual.ensures ∙ sym (ap (option_and_then choice) c.in_err-self.was) ∙ chosen_in c.args.self.now
 
-pub returns-in-None : goal.returns-in-None
-returns-in-None c = sym (ap (option_and_then choice) c.in-None.is) ∙ chosen_in c.args.self.now
+pub returns : goal.returns
+returns c = c.choice.ensures ∙ sym (ap (option_and_then choice) c.in_ok-self.was) ∙ chosen_in c.args.self.now

@@ -3,8 +3,8 @@ use Rattle.history_moves.specs.Gathered.{short_signed}
 use Rattle.history_moves.proofs.GatheredLaws.{millis_in}
 use Rattle.history_moves.proofs.gathered.GatheredFields.millis.Goals as goal
 
-pub returns-in-Some : goal.returns-in-Some
-returns-in-Some c = c.short_signed.ensures ∙ sym (ap (option_and_then short_signed) c.in-Some.is) ∙ millis_in c.args.self.now
+pub returns-in_err-self : goal.returns-in_err-self
+returns-in_err-self c = c.from_residual.ensures ∙ sym (ap (option_and_then short_signed) c.in_err-self.was) ∙ millis_in c.args.self.now
 
-pub returns-in-None : goal.returns-in-None
-returns-in-None c = sym (ap (option_and_then short_signed) c.in-None.is) ∙ millis_in c.args.self.now
+pub returns : goal.returns
+returns c = c.short_signed.ensures ∙ sym (ap (option_and_then short_signed) c.in_ok-self.was) ∙ millis_in c.args.self.now
