@@ -3,133 +3,149 @@
 //! A hint may be wrong: whoever takes one compares the name that has its number. So nothing is said
 //! of what the hints are, and a table that is not there, or has no room, costs time alone.
 
-ghost use Rattle.std.specs.Prelude.{◌+◌, ◌<◌, ◌≤◌, length};
+ghost use Rattle.std.specs.Prelude.{◌≤◌, length};
 
 use std::alloc::{AllocError, Global};
 
 /// How many hints the first table has.
 const FEWEST_HINTS: usize = 16;
 
-/// The most hints that a table has.
+/// The most hints that a table has. Where names are more than these, there are no hints: too many
+/// would be of another name.
 const MOST_HINTS: usize = 65_536;
 
 /// An odd number with no pattern in its bits.
 const MULTIPLIER: u64 = 0x9e37_79b9_7f4a_7c15;
 
-/// A table that tells the number of a name by some bits that its bytes are mixed to. Each place has
-/// the name that was put there last.
+/// What the bytes of a name are mixed to. The upper half tells the name's place in a table of hints,
+/// and the lower half is the mark of the name there.
+#[derive(Clone, Copy)]
+pub(crate) struct Mixed(u64);
+
+/// The number of a name, and its mark: a hint of another name mostly has another mark, so that this
+/// is seen without a look at that name.
+#[derive(Clone, Copy)]
+struct Hint {
+    number: u32,
+    mark: u32,
+}
+
+/// A table that tells the number of a name by what its bytes are mixed to. Each place has the name
+/// that was put there last.
 #[derive(Drop)]
 pub(crate) struct Hints {
-    numbers: Vec<u32>,
-    // A place is told by the bits from here on.
-    shift: u32,
-    ghost has_bits: { shift < 64 },
+    hints: Vec<Hint>,
 }
 
-fn four_bytes(bytes: &[u8], at: usize) -> u64
-    requires { at + 4 ≤ length bytes.now }
-{
-    u64::from(u32::from_le_bytes([bytes[at], bytes[at + 1], bytes[at + 2], bytes[at + 3]]))
-}
-
-fn eight_bytes(bytes: &[u8], at: usize) -> u64
-    requires { at + 8 ≤ length bytes.now }
-{
-    four_bytes(bytes, at) | four_bytes(bytes, at + 4) << 32
-}
-
-/// Up to seven bytes, each of which counts.
-fn few_bytes(bytes: &[u8]) -> u64 {
-    let len = bytes.len();
-    if len >= 4 {
-        return four_bytes(bytes, 0) | four_bytes(bytes, len - 4) << 32;
+/// Bytes as the digits of a number to the base 256. Of more than eight the last eight count.
+fn number_of_digits(bytes: &[u8]) -> u64 {
+    let mut number = 0;
+    for byte in bytes {
+        number = number << 8 | u64::from(*byte);
     }
-    match bytes {
-        [first, .., last] => {
-            u64::from(*first) | u64::from(bytes[len / 2]) << 8 | u64::from(*last) << 16
+    number
+}
+
+/// One more word in what was mixed so far: multiplicative hashing, as Knuth has it, with the upper
+/// half of the product mixed into its lower half.
+fn mixed_with(mixed: u64, word: u64) -> u64 {
+    let product = mixed.wrapping_add(word).wrapping_mul(MULTIPLIER);
+    product ^ product >> 32
+}
+
+impl Mixed {
+    /// The bytes of a name, eight at a time, mixed.
+    pub(crate) fn of(name: &str) -> Mixed {
+        let mut mixed = 0;
+        let mut rest = name.as_bytes();
+        'words: while let [a, b, c, d, e, f, g, h, after @ ..] = rest {
+            let word = u64::from_le_bytes([*a, *b, *c, *d, *e, *f, *g, *h]);
+            mixed = mixed_with(mixed, word);
+            rest = after;
         }
-        [only] => u64::from(*only),
-        [] => 0,
+        Mixed(mixed_with(mixed, number_of_digits(rest)))
     }
-}
 
-fn mixed(first: u64, second: u64) -> u64 {
-    (first.rotate_left(29) ^ second).wrapping_mul(MULTIPLIER)
-}
+    /// The place in a table of so many hints.
+    fn place(self, hints: usize) -> usize {
+        ((self.0 >> 32) as usize).wrapping_mul(hints) >> 32
+    }
 
-/// The bytes of a name, mixed to the highest bits. Each byte of up to 32 counts.
-fn mixed_bytes(bytes: &[u8]) -> u64 {
-    let len = bytes.len();
-    if len < 8 {
-        return few_bytes(bytes).wrapping_mul(MULTIPLIER);
+    fn mark(self) -> u32 {
+        (self.0 & 0xffff_ffff) as u32
     }
-    let ends = mixed(eight_bytes(bytes, 0), eight_bytes(bytes, len - 8));
-    if len <= 16 {
-        return ends;
-    }
-    let middle = mixed(eight_bytes(bytes, 8), eight_bytes(bytes, len - 16));
-    mixed(middle, ends)
 }
 
 impl Hints {
     /// No hint.
     pub(crate) fn new(alloc: Global) -> Hints {
         Hints {
-            numbers: Vec::new(alloc),
-            shift: 63,
+            hints: Vec::new(alloc),
         }
     }
 
-    /// The place of a name.
-    pub(crate) fn place_of(&self, word: &str) -> usize {
-        (mixed_bytes(word.as_bytes()) >> self.shift) as usize
+    /// Whether there is no table.
+    pub(crate) fn is_empty(&self) -> bool {
+        self.hints.is_empty()
     }
 
-    /// The number that was put at a place last, if the place is there.
-    pub(crate) fn at(&self, place: usize) -> Option<u32> {
-        self.numbers.get(place).copied()
+    /// The number of the name that was put at the place of this one last, where it has its mark.
+    pub(crate) fn number(&self, name: Mixed) -> Option<u32> {
+        let hint = self.hints.get(name.place(self.hints.len()))?;
+        if hint.mark == name.mark() {
+            Some(hint.number)
+        } else {
+            None
+        }
     }
 
     /// Puts the number of a name at its place, if the place is there.
-    pub(crate) fn put(&mut self, place: usize, number: u32) {
-        if let Some(hint) = self.numbers.get_mut(place) {
-            *hint = number;
+    pub(crate) fn put(&mut self, name: Mixed, number: u32) {
+        let place = name.place(self.hints.len());
+        if let Some(hint) = self.hints.get_mut(place) {
+            *hint = Hint {
+                number,
+                mark: name.mark(),
+            };
         }
     }
 
-    /// Puts the number of a name that was added to these. Where the table has no room for as many,
-    /// a larger one takes its place, if there is memory for one.
+    /// Puts the number of a name that was added to these. Where the table has few hints for as many,
+    /// a larger one takes its place, if there is memory for one; and where they are more than a
+    /// table may have, the table goes.
     pub(crate) fn add(&mut self, alloc: Global, names: &[String], word: &str, number: u32)
         requires { length names.now ≤ 4294967295 }
     {
-        if names.len() > self.numbers.len() / 2 && self.numbers.len() < MOST_HINTS {
-            let larger = self.larger(alloc, names);
+        if names.len() > MOST_HINTS {
+            self.clear(alloc);
+            return;
+        }
+        if names.len() > self.hints.len() / 2 && self.hints.len() < MOST_HINTS {
+            let larger = Hints::with_names(alloc, names);
             if let Ok(larger) = larger {
                 *self = larger;
                 return;
             }
         }
-        self.put(self.place_of(word), number);
+        self.put(Mixed::of(word), number);
     }
 
-    /// A table for twice as many names, with these.
-    fn larger(&self, alloc: Global, names: &[String]) -> Result<Hints, AllocError>
+    /// Gives the memory of the table back.
+    pub(crate) fn clear(&mut self, alloc: Global) {
+        *self = Hints::new(alloc);
+    }
+
+    /// A table with these names, with four times as many places where there may be as many.
+    fn with_names(alloc: Global, names: &[String]) -> Result<Hints, AllocError>
         requires { length names.now ≤ 4294967295 }
     {
-        let len = self.numbers.len();
-        let mut hints = if len < FEWEST_HINTS {
-            Hints {
-                numbers: vec![in alloc; 0; FEWEST_HINTS]?,
-                shift: 60,
-            }
-        } else {
-            Hints {
-                numbers: vec![in alloc; 0; len * 2]?,
-                shift: self.shift.saturating_sub(1),
-            }
+        let len = (names.len() * 4).clamp(FEWEST_HINTS, MOST_HINTS);
+        let none = Hint { number: 0, mark: 0 };
+        let mut hints = Hints {
+            hints: vec![in alloc; none; len]?,
         };
         'names: for (number, name) in names.iter().enumerate() {
-            hints.put(hints.place_of(name.as_str()), number as u32);
+            hints.put(Mixed::of(name.as_str()), number as u32);
         }
         Ok(hints)
     }

@@ -5,7 +5,7 @@ ghost use Rattle.std.specs.Prelude.{string_bytes, IfOk, IfSome, MatchOption, OnE
 ghost use Rattle.history_text.specs.Names.{is_named, position_of, with_name};
 ghost use Rattle.history.specs.NameLists.{name_at};
 
-use crate::hints::Hints;
+use crate::hints::{Hints, Mixed};
 use history_text::{Declared, Name};
 use indexmap::IndexSet;
 use lock_word::{Memory, ObjectId, ThreadId};
@@ -91,6 +91,14 @@ impl Names {
         ensures same { self.new ≡ self.old }
     {
         ObjectId(position_of(&mut self.objects, name.as_str()))
+    }
+
+    /// Gives the memory of the hints back, where no name will be looked for any more.
+    pub(crate) fn forget_hints(&mut self)
+        ensures { self.new ≡ self.old }
+    {
+        self.threads.hints.clear(self.alloc);
+        self.objects.hints.clear(self.alloc);
     }
 
     /// How many threads have a name: they are numbered from 0.
@@ -212,12 +220,28 @@ fn found_name(names: &mut NameSet, word: &str) -> Option<u32>
         × (is_named (map string_bytes names.old.names.keys) word.now ≡ true)) }
     ensures same { names.new.names ≡ names.old.names }
 {
-    let place = names.hints.place_of(word);
-    if let Some(number) = hinted(&names.names, names.hints.at(place), word) {
+    if names.hints.is_empty() {
+        return listed(&names.names, word);
+    }
+    let mixed = Mixed::of(word);
+    if let Some(number) = hinted(&names.names, names.hints.number(mixed), word) {
         return Some(number);
     }
-    let number = names.names.get_index_of(word)? as u32;
-    names.hints.put(place, number);
+    let number = listed(&names.names, word)?;
+    names.hints.put(mixed, number);
+    Some(number)
+}
+
+/// The number of a name among some by its hash, if it is there.
+fn listed(names: &IndexSet<String>, word: &str) -> Option<u32>
+    requires { length names.now.keys ≤ MOST_NAMES }
+    ensures { MatchOption result
+        ((position_of (map string_bytes names.now.keys) word.now ≡ length names.now.keys)
+        × (is_named (map string_bytes names.now.keys) word.now ≡ false))
+        (λ number. (number ≡ position_of (map string_bytes names.now.keys) word.now)
+        × (is_named (map string_bytes names.now.keys) word.now ≡ true)) }
+{
+    let number = names.get_index_of(word)? as u32;
     Some(number)
 }
 

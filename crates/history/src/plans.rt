@@ -76,8 +76,22 @@ impl Plan {
         match line {
             Line::World { .. } => Ok(()),
             Line::Object { name, low } => self.take_object(name, *low),
-            Line::Step(step) => self.take_step(step),
+            Line::Step(step) => self.take_step_apart(step),
         }
+    }
+
+    /// Takes a step by a call, as [`take_step`](Plan::take_step) does in place.
+    #[inline(never)]
+    pub(crate) fn take_step_apart(&mut self, step: &StepLine<'_>) -> Result<(), Memory>
+        ensures objects { OnOk result (self.new.names.objects ≡ self.old.names.objects) }
+        ensures lows { OnOk result (self.new.lows.items ≡ self.old.lows.items) }
+        ensures names { OnOk result (self.new.names ≡ names_in_step self.old.names step.now) }
+        ensures steps { OnOk result (self.new.steps.items
+            ≡ self.old.steps.items ++ request_in self.old.names step.now ∷ []) }
+        ensures world { (self.new.monitors ≡ self.old.monitors)
+            × (self.new.indices ≡ self.old.indices) × (self.new.split ≡ self.old.split) }
+    {
+        self.take_step(step)
     }
 
     #[inline(never)]
@@ -218,5 +232,6 @@ pub fn plan_of(alloc: Global, lines: &[Line<'_>]) -> Result<Plan, Memory>
     };
     let mut plan = Plan::new(alloc, *monitors, *indices, *split, 0);
     take_lines(&mut plan, rest)?;
+    plan.names.forget_hints();
     Ok(plan)
 }

@@ -21,15 +21,18 @@ use crate::names::Names;
 use crate::plans::Plan;
 use crate::reports::report_of;
 use history_streams::{FileFault, Sink, Source, write_out};
-use history_text::{Line, LineReader, MOST_BYTES};
+use history_text::{Line, LineReader, MOST_BYTES, read_script};
 use std::alloc::Global;
 
 /// How many bytes are read at once.
 const CHUNK: usize = 4096;
 
-/// How many bytes a step line has in a script of short names: a guess, by which room for the steps
-/// is asked for before they come.
-const STEP_BYTES: usize = 8;
+/// With more threads than this the lines behind are checked before the names of more are kept, so
+/// that a script with a bad line costs little more than it takes to find that line.
+const FEW_THREADS: u32 = 4096;
+
+/// How many bytes the shortest line of a step has, with its line feed: a `go` and a name of a letter.
+const SHORTEST_STEP: usize = 5;
 
 /// Reads a script to its end, plays it, and writes its report.
 ///
@@ -89,26 +92,87 @@ fn report_or_fault(alloc: Global, plan: &Plan) -> Result<String, FileFault>
     Ok(report)
 }
 
-/// What the script plays that some bytes are the text of: each line is taken as it is read, and the
-/// steps that most lines are take a way of their own.
+/// What the script plays that some bytes are the text of.
 pub(crate) fn plan_in(alloc: Global, bytes: &[u8]) -> Result<Plan, FileFault>
     ensures a_script { OnOk result (IsScriptText bytes.now) }
     ensures a_plan { IfOk result (λ plan. IsPlanOf plan bytes.now) }
     ensures too_long { MOST_BYTES < length bytes.now → result ≡ Err FileFault.Read }
     ensures fault { IfErr result (IsReasonFor bytes.now) }
 {
+    match plan_as_read(alloc, bytes) {
+        Err(FileFault::Memory) => Err(fault_in_want(alloc, bytes)),
+        answer => answer,
+    }
+}
+
+/// The fault of a script for whose plan memory ran short: a bad line comes before want of memory.
+/// The plan is given back by now, so there is memory for reading the lines.
+fn fault_in_want(alloc: Global, bytes: &[u8]) -> FileFault
+    ensures { IsReasonFor bytes.now result }
+{
+    match read_script(alloc, bytes) {
+        Err(fault) => fault,
+        Ok(_) => FileFault::Memory,
+    }
+}
+
+/// What a script plays, or why there is no plan: each line is taken as it is read, and the steps
+/// that most lines are take a way of their own.
+fn plan_as_read(alloc: Global, bytes: &[u8]) -> Result<Plan, FileFault>
+    ensures a_script { OnOk result (IsScriptText bytes.now) }
+    ensures a_plan { IfOk result (λ plan. IsPlanOf plan bytes.now) }
+    ensures too_long { MOST_BYTES < length bytes.now → result ≡ Err FileFault.Read }
+    ensures fault { IfErr result (IsReasonFor bytes.now) }
+{
     let mut lines = LineReader::new(bytes)?;
-    let mut plan = first_plan(alloc, &mut lines, bytes.len() / STEP_BYTES)?;
+    let mut plan = first_plan(alloc, &mut lines, most_steps(bytes))?;
+    let mut few = FEW_THREADS;
     'lines: loop {
+        if plan.names.thread_count() > few {
+            lines.check_rest(alloc, &plan.names)?;
+            few = u32::MAX;
+        }
         if let Some(step) = lines.next_usual() {
             plan.take_step(&step)?;
             continue;
         }
+        if let Some(step) = lines.next_seldom() {
+            plan.take_step_apart(&step)?;
+            continue;
+        }
         let Some(line) = lines.next(alloc, &plan.names)? else {
+            plan.names.forget_hints();
             return Ok(plan);
         };
         plan.take_line(&line)?;
     }
+}
+
+/// How many steps a script of these bytes can have: one a line, each of five bytes or more.
+fn most_steps(bytes: &[u8]) -> usize {
+    line_feeds(bytes).min(bytes.len() / SHORTEST_STEP)
+}
+
+/// How many line feeds there are, counted in eight bytes at a time; each of up to seven bytes behind
+/// those counts as one.
+fn line_feeds(bytes: &[u8]) -> usize {
+    let mut count: usize = 0;
+    let mut rest = bytes;
+    'words: while let [a, b, c, d, e, f, g, h, after @ ..] = rest {
+        let word = u64::from_le_bytes([*a, *b, *c, *d, *e, *f, *g, *h]);
+        count = count.wrapping_add(line_feeds_in(word));
+        rest = after;
+    }
+    count.wrapping_add(rest.len())
+}
+
+/// How many of the eight bytes of a word are line feeds: a byte is none where one of its bits is set
+/// once the bits of a line feed are turned, and a carry moves that to its highest bit.
+#[inline(always)]
+fn line_feeds_in(word: u64) -> usize {
+    let turned = word ^ 0x0a0a_0a0a_0a0a_0a0a;
+    let others = (turned & 0x7f7f_7f7f_7f7f_7f7f).wrapping_add(0x7f7f_7f7f_7f7f_7f7f) | turned;
+    (!others & 0x8080_8080_8080_8080).count_ones() as usize
 }
 
 /// The world of the first line, without objects and steps; room for this many steps is asked for.

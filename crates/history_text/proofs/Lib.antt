@@ -1,3 +1,4 @@
+mod Ahead
 pub mod Choices
 pub mod Numerals
 pub mod Plain

@@ -1,12 +1,17 @@
-//! Reading the lines that a script has most of, with no list of their words.
+//! Reading all lines of a script but the first, with no list of their words.
 
-ghost use Rattle.std.specs.Prelude.{◌≡◌, ◌++◌, ◌∷◌, IfSome, codes};
+ghost use Rattle.std.specs.Prelude.{◌≡◌, ◌<◌, ◌^◌, ◌++◌, ◌∷◌, IfSome, codes, decimal};
+ghost use Rattle.std.specs.Fmt.{signed_decimal};
 ghost use Rattle.history_text.specs.declared.lines.Line.TheVariants.{Step};
+ghost use Rattle.history_text.specs.Lines.{split_name};
 ghost use Rattle.history_text.specs.Quick.{BeginsWithCall, BeginsWithLine, SaysCall, SaysLine};
+ghost use Rattle.history_text.specs.Words.{IsBelow};
 
 use crate::lines::{Call, Line, StepLine};
 use crate::names::Name;
-use crate::reading::low_of;
+use crate::reading::{low_of, nanos_of, number_of, signed_of};
+use lock_word::Split;
+use std::str;
 
 /// What stands behind these bytes, where they come first.
 #[inline(always)]
@@ -70,9 +75,63 @@ fn usual_call(bytes: &[u8]) -> Option<(Call<'_>, &[u8])>
     Some((Call::Exit(object), rest))
 }
 
-/// The line that some bytes are, where it is one of the most usual: a `go`, a `begin` of a call
-/// that names one object or thread or of a wait without limit, an `object` or an `attach`. None of
-/// any other, which is left to the reader of all lines.
+/// The step in front of some bytes, with its line feed, and what stands behind that, where it names
+/// a thread and is none that [`usual_step`] knows, and no wait. None of anything else.
+#[inline(never)]
+pub(crate) fn seldom_step(bytes: &[u8]) -> Option<(StepLine<'_>, &[u8])>
+    ensures { IfSome result (λ r. BeginsWithLine bytes.now (Step r.0) r.1.now) }
+{
+    if let Some(rest) = behind(bytes, b"begin ") {
+        let (thread, rest) = name_before(rest, b' ')?;
+        let (call, rest) = seldom_call(rest)?;
+        return Some((StepLine::Begin { thread, call }, rest));
+    }
+    if let Some(rest) = behind(bytes, b"attach ") {
+        let (thread, rest) = name_before(rest, b'\n')?;
+        return Some((StepLine::Attach(thread), rest));
+    }
+    if let Some(rest) = behind(bytes, b"expire ") {
+        let (thread, rest) = name_before(rest, b'\n')?;
+        return Some((StepLine::Expire(thread), rest));
+    }
+    let (thread, rest) = name_before(behind(bytes, b"spurious ")?, b'\n')?;
+    Some((StepLine::Spurious(thread), rest))
+}
+
+/// The call in front of some bytes, with its line feed, and what stands behind that, where it is no
+/// enter, exit or wait.
+#[inline(always)]
+fn seldom_call(bytes: &[u8]) -> Option<(Call<'_>, &[u8])>
+    ensures { IfSome result (λ r. BeginsWithCall bytes.now r.0 r.1.now) }
+{
+    if let Some(rest) = behind(bytes, b"end\n") {
+        return Some((Call::End, rest));
+    }
+    if let Some(rest) = behind(bytes, b"interrupted\n") {
+        return Some((Call::Interrupted, rest));
+    }
+    if let Some(rest) = behind(bytes, b"notify ") {
+        let (object, rest) = name_before(rest, b'\n')?;
+        return Some((Call::Notify(object), rest));
+    }
+    if let Some(rest) = behind(bytes, b"notifyall ") {
+        let (object, rest) = name_before(rest, b'\n')?;
+        return Some((Call::NotifyAll(object), rest));
+    }
+    if let Some(rest) = behind(bytes, b"holds ") {
+        let (object, rest) = name_before(rest, b'\n')?;
+        return Some((Call::Holds(object), rest));
+    }
+    if let Some(rest) = behind(bytes, b"interrupt ") {
+        let (target, rest) = name_before(rest, b'\n')?;
+        return Some((Call::Interrupt(target), rest));
+    }
+    let (target, rest) = name_before(behind(bytes, b"isinterrupted ")?, b'\n')?;
+    Some((Call::IsInterrupted(target), rest))
+}
+
+/// The line that some bytes are, where it is a step or an `object`. None of any other, which is left
+/// to the reader of all lines.
 #[inline(always)]
 pub(crate) fn quick_line(bytes: &[u8]) -> Option<Line<'_>>
     ensures { IfSome result (SaysLine bytes.now) }
@@ -91,16 +150,74 @@ pub(crate) fn quick_line(bytes: &[u8]) -> Option<Line<'_>>
         let low = low_of(rest)?;
         return Some(Line::Object { name, low });
     }
-    let thread = Name::from_bytes(behind(bytes, b"attach ")?)?;
-    Some(Line::Step(StepLine::Attach(thread)))
+    if let Some(rest) = behind(bytes, b"attach ") {
+        let thread = Name::from_bytes(rest)?;
+        return Some(Line::Step(StepLine::Attach(thread)));
+    }
+    Some(Line::Step(quick_step(bytes)?))
 }
 
-/// The call at the end of a `begin`, where it names one object or thread and nothing else, or is a
-/// wait without limit.
+/// The step that some bytes are, where it is an `expire`, a `spurious`, a `tick` or a `relayout`.
+fn quick_step(bytes: &[u8]) -> Option<StepLine<'_>>
+    ensures { IfSome result (λ step. SaysLine bytes.now (Step step)) }
+{
+    if let Some(rest) = behind(bytes, b"expire ") {
+        return Some(StepLine::Expire(Name::from_bytes(rest)?));
+    }
+    if let Some(rest) = behind(bytes, b"spurious ") {
+        return Some(StepLine::Spurious(Name::from_bytes(rest)?));
+    }
+    if let Some(rest) = behind(bytes, b"tick ") {
+        return Some(StepLine::Tick(number_in(rest)?));
+    }
+    let split = split_in(behind(bytes, b"relayout ")?)?;
+    Some(StepLine::Relayout(split))
+}
+
+/// The split that some bytes name.
+fn split_in(bytes: &[u8]) -> Option<Split>
+    ensures { IfSome result (λ split. bytes.now ≡ split_name split) }
+{
+    if bytes == b"wide".as_slice() {
+        return Some(Split::Wide);
+    }
+    if bytes == b"deep".as_slice() {
+        return Some(Split::Deep);
+    }
+    None
+}
+
+/// The number that some bytes are, in decimal digits.
+#[tactic(auto, using(crate::proofs::Numerals::number_takes))]
+fn number_in(bytes: &[u8]) -> Option<u64>
+    ensures { IfSome result (λ n. (bytes.now ≡ decimal n) × (n < 2 ^ 64)) }
+{
+    number_of(str::from_utf8(bytes).ok()?)
+}
+
+/// The milliseconds of a limit that some bytes are.
+#[tactic(auto, using(crate::proofs::Signed::signed_takes))]
+fn millis_in(bytes: &[u8]) -> Option<i64>
+    ensures { IfSome result (λ z. (bytes.now ≡ signed_decimal z) × IsBelow (2 ^ 63) z) }
+{
+    signed_of(str::from_utf8(bytes).ok()?)
+}
+
+/// The nanoseconds of a limit that some bytes are.
+#[tactic(auto, using(crate::proofs::Signed::nanos_takes))]
+fn nanos_in(bytes: &[u8]) -> Option<i32>
+    ensures { IfSome result (λ z. (bytes.now ≡ signed_decimal z) × IsBelow (2 ^ 31) z) }
+{
+    nanos_of(str::from_utf8(bytes).ok()?)
+}
+
+/// The call at the end of a `begin`.
 fn quick_call(bytes: &[u8]) -> Option<Call<'_>>
     ensures { IfSome result (SaysCall bytes.now) }
 {
-    let (verb, rest) = word_in(bytes)?;
+    let Some((verb, rest)) = word_in(bytes) else {
+        return lone_call(bytes);
+    };
     if verb == b"wait".as_slice() {
         return quick_wait(rest);
     }
@@ -108,20 +225,39 @@ fn quick_call(bytes: &[u8]) -> Option<Call<'_>>
     call_named(verb, name)
 }
 
-/// The wait with these words behind its verb, where it has no limit.
+/// The call that names nothing.
+fn lone_call(bytes: &[u8]) -> Option<Call<'_>>
+    ensures { IfSome result (SaysCall bytes.now) }
+{
+    if bytes == b"end".as_slice() {
+        return Some(Call::End);
+    }
+    if bytes == b"interrupted".as_slice() {
+        return Some(Call::Interrupted);
+    }
+    None
+}
+
+/// The wait with these words behind its verb. Most have no limit, which one comparison tells.
 fn quick_wait(bytes: &[u8]) -> Option<Call<'_>>
     ensures { IfSome result (SaysCall (codes "wait " ++ bytes.now)) }
 {
     let (object, rest) = name_before(bytes, b' ')?;
     if rest == b"0 0".as_slice() {
-        Some(Call::Wait {
+        return Some(Call::Wait {
             object,
             millis: 0,
             nanos: 0,
-        })
-    } else {
-        None
+        });
     }
+    let (millis, nanos) = word_in(rest)?;
+    let millis = millis_in(millis)?;
+    let nanos = nanos_in(nanos)?;
+    Some(Call::Wait {
+        object,
+        millis,
+        nanos,
+    })
 }
 
 /// The call with this verb.

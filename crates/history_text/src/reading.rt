@@ -59,7 +59,7 @@ fn is_number(word: &str) -> bool
     }
 }
 
-fn number_of(word: &str) -> Option<u64>
+pub(crate) fn number_of(word: &str) -> Option<u64>
     ensures { result ≡ number_from word.now }
 {
     if is_number(word) {
@@ -90,7 +90,7 @@ fn from_zero(size: u64) -> Option<i64>
     }
 }
 
-fn signed_of(word: &str) -> Option<i64>
+pub(crate) fn signed_of(word: &str) -> Option<i64>
     ensures { result ≡ signed_from word.now }
 {
     match word.as_bytes() {
@@ -105,7 +105,7 @@ fn signed_of(word: &str) -> Option<i64>
     }
 }
 
-fn nanos_of(word: &str) -> Option<i32>
+pub(crate) fn nanos_of(word: &str) -> Option<i32>
     ensures { result ≡ nanos_from word.now }
 {
     let number = signed_of(word)?;

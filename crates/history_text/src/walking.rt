@@ -1,6 +1,6 @@
 //! The lines of a script, handed out one by one.
 
-ghost use Rattle.std.specs.Prelude.{◌≡◌, ◌<◌, ◌≤◌, ◌+◌, ◌++◌, ◌∷◌, [], ℕ, List, true, length};
+ghost use Rattle.std.specs.Prelude.{◌≡◌, ◌<◌, ◌≤◌, ◌+◌, ◌++◌, ◌∷◌, [], ℕ, List, false, true, length};
 ghost use Rattle.std.specs.Prelude.{Err, IfErr, IfOk, IfSome, IsOk, MatchOption, MatchResult};
 ghost use Rattle.std.specs.Prelude.{None, Ok, OnErr};
 ghost use Rattle.history_streams.specs.declared.faults.FileFault.TheVariants.{BadLine};
@@ -9,11 +9,11 @@ ghost use Rattle.history_text.specs.declared.lines.Line.TheVariants.{Step};
 ghost use Rattle.history_text.specs.Lines.{IsScript, may_follow, parts_of, script_text};
 ghost use Rattle.history_text.specs.Noted.{with_object};
 ghost use Rattle.history_text.specs.Places.{HasCome};
-ghost use Rattle.history_text.specs.Scripts.{IsReasonFor};
+ghost use Rattle.history_text.specs.Scripts.{IsReasonFor, IsScriptText};
 
 use crate::declared::Declared;
 use crate::lines::{Line, StepLine};
-use crate::quick::usual_step;
+use crate::quick::{seldom_step, usual_step};
 use crate::reading::line_of;
 use crate::scripts::{MOST_BYTES, cut_line, follows, still_declaring};
 use history_streams::FileFault;
@@ -116,6 +116,55 @@ impl<'a> LineReader<'a> {
         self.count += 1;
         self.rest = after;
         Some(step)
+    }
+
+    /// The next line, where it is one of the other steps that name a thread, and no wait. It is kept
+    /// apart, so that whoever asks [`next_usual`](LineReader::next_usual) in place has nothing of it.
+    /// Nothing is taken where it is none of these, or is the first, or is bad.
+    pub fn next_seldom(&mut self) -> Option<StepLine<'a>>
+        ensures told { (bytes : List ℕ) (came : List LineData) (names : List (List ℕ))
+            → HasCome bytes came names self.old
+            → IfSome result (λ step. (may_follow came (Step step) ≡ true)
+            × HasCome bytes (came ++ Step step ∷ []) names self.new) }
+        ensures shorter { IfSome result (λ _. length self.new.rest < length self.old.rest) }
+        ensures none { result ≡ None → self.new ≡ self.old }
+    {
+        if self.count == 0 {
+            return None;
+        }
+        let (step, after) = seldom_step(self.rest)?;
+        self.declaring = false;
+        self.count += 1;
+        self.rest = after;
+        Some(step)
+    }
+
+    /// Whether the lines that are left are the rest of a script, or which is the first bad one. None
+    /// of them is kept or handed out. Where objects may still follow, this looks no further than the
+    /// first of them.
+    pub fn check_rest<D: Declared>(&self, alloc: Global, declared: &D) -> Result<(), FileFault>
+        ensures told { (bytes : List ℕ) (came : List LineData)
+            → HasCome bytes came (D.names declared.now) self.now
+            → MatchResult result
+            (λ _. self.now.declaring ≡ false → IsScriptText bytes)
+            (IsReasonFor bytes) }
+    {
+        let mut ahead = LineReader {
+            count: self.count,
+            declaring: self.declaring,
+            rest: self.rest,
+        };
+        'lines: loop {
+            if let Some(_step) = ahead.next_usual() {
+                continue;
+            }
+            let Some(line) = ahead.next(alloc, declared)? else {
+                return Ok(());
+            };
+            if let Line::Object { .. } = line {
+                return Ok(());
+            }
+        }
     }
 
     /// Whether the lines are a script, where no line is ended behind them.

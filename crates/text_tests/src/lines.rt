@@ -8,20 +8,58 @@ use std::alloc::Global;
 const SCRIPT: &[u8] = b"world 4 4\nobject a A5\nattach x\nbegin x enter a\ngo x\ngo x\n\
     begin x holds a\ngo x\nbegin x exit a\ngo x\nexpire x\ntick 1\n";
 
-/// Which of its lines are a `go`, or the `begin` of an enter or an exit.
-const ARE_USUAL: [bool; 12] = [
-    false, false, false, true, true, true, false, true, true, true, false, false,
+/// The way by which a line comes.
+#[derive(Clone, Copy, PartialEq, Eq)]
+enum Way {
+    /// A `go`, or the `begin` of an enter or an exit.
+    Usual,
+    /// Another step that names a thread, and is no wait.
+    Seldom,
+    Other,
+}
+
+/// The ways of its lines.
+const WAYS: [Way; 12] = [
+    Way::Other,
+    Way::Other,
+    Way::Seldom,
+    Way::Usual,
+    Way::Usual,
+    Way::Usual,
+    Way::Seldom,
+    Way::Usual,
+    Way::Usual,
+    Way::Usual,
+    Way::Seldom,
+    Way::Other,
 ];
 
-/// Whether just the usual lines come by their way, and each line comes by the one or the other.
+/// The way by which the next line comes, if there is one.
+fn way_of_next(
+    alloc: Global,
+    lines: &mut LineReader<'_>,
+    objects: &IndexSet<String>,
+) -> Option<Way> {
+    if lines.next_usual().is_some() {
+        return Some(Way::Usual);
+    }
+    if lines.next_seldom().is_some() {
+        return Some(Way::Seldom);
+    }
+    match lines.next(alloc, objects) {
+        Ok(Some(_)) => Some(Way::Other),
+        _ => None,
+    }
+}
+
+/// Whether each line comes by its way, and no line behind them.
 fn come_by_their_ways(alloc: Global) -> bool {
     let objects = IndexSet::<String>::new(alloc);
     let Ok(mut lines) = LineReader::new(SCRIPT) else {
         return false;
     };
-    for usual in ARE_USUAL {
-        let came = lines.next_usual().is_some();
-        if came != usual || !came && !matches!(lines.next(alloc, &objects), Ok(Some(_))) {
+    for way in WAYS {
+        if way_of_next(alloc, &mut lines, &objects) != Some(way) {
             return false;
         }
     }

@@ -4,15 +4,21 @@
 use super::streams::{HISTORY, REPORT, SCRIPT};
 use super::words::words_of;
 use command_line::{Order, ProgramEnd, Task, end_for, read_words};
-use dump::dump_script;
-use history::{FileFault, ReaderSource, WriterSink, moves, print_script, read_script, replay, run};
+use dump::{cycles, dump_script, report};
+use history::{
+    FileFault, Names, ReaderSource, WriterSink, moves, play, play_text, print_script, read_script,
+    replay, run,
+};
+use history_moves::{move_line, push_move, write_move};
 use live_runs::{RunFault, run_live};
+use lock_word::Memory;
 use std::alloc::Global;
 use std::process::Abort;
 use std::sync::Wait;
 use std::test::Fail;
 use std::thread::Threads;
 use std::time::Clock;
+use step_core::{Call, Move, ObjectId, ThreadId, World};
 
 /// Two threads that want each other's object.
 const CYCLE: &[u8] = b"world 0 2
@@ -181,4 +187,108 @@ fn refused_words_are_read_when_tried_again(rt: HostRuntime) -> Result<(), Fail> 
     };
     assert!(rt; reads(&rt, rt.alloc(), &words) || reads(&rt, rt.alloc(), &words));
     Ok(())
+}
+
+/// The move with the most members.
+const WAIT: Move = Move::Call {
+    thread: ThreadId(0),
+    call: Call::Wait {
+        object: ObjectId(0),
+        millis: -1,
+        nanos: 5,
+    },
+};
+
+const WAIT_LINE: &[u8] =
+    b"{\"call\":\"Wait\",\"millis\":-1,\"move\":\"Call\",\"nanos\":5,\"object\":0,\"thread\":0}";
+
+/// The line of the wait, by its value.
+fn value_line(alloc: Global) -> Result<String, Memory> {
+    Ok(write_move(alloc, &WAIT)?.to_string(alloc)?)
+}
+
+/// Whether the text is there, and is this one.
+fn is_told(rt: &impl Abort, told: Result<String, Memory>, text: &[u8]) -> bool {
+    match told {
+        Ok(told) => {
+            assert!(rt; told.as_bytes() == text);
+            true
+        }
+        Err(Memory) => false,
+    }
+}
+
+/// Whether the line of the wait was added. Where it was not, nothing was.
+fn is_added(rt: &impl Abort, text: &mut Vec<u8>) -> bool {
+    let outcome = push_move(text, &WAIT);
+    let line: &[u8] = if outcome.is_ok() { WAIT_LINE } else { b"" };
+    assert!(rt; text.as_slice() == line);
+    outcome.is_ok()
+}
+
+#[test]
+fn a_refused_line_is_written_when_tried_again(rt: HostRuntime) {
+    let alloc = rt.alloc();
+    let mut text = Vec::new(alloc);
+    assert!(rt;
+        is_told(&rt, value_line(alloc), WAIT_LINE) || is_told(&rt, value_line(alloc), WAIT_LINE)
+    );
+    assert!(rt;
+        is_told(&rt, move_line(alloc, &WAIT), WAIT_LINE)
+            || is_told(&rt, move_line(alloc, &WAIT), WAIT_LINE)
+    );
+    assert!(rt; is_added(&rt, &mut text) || is_added(&rt, &mut text));
+}
+
+fn played(alloc: Global) -> Result<(World, Names), FileFault> {
+    let script = read_script(alloc, CYCLE)?;
+    play(alloc, &script)
+}
+
+/// Whether the cycle of the world is found.
+fn has_cycle(rt: &impl Abort, alloc: Global, world: &World) -> bool {
+    match cycles(alloc, world) {
+        Ok(found) => {
+            let is_right = match found.as_slice() {
+                [cycle] => cycle.as_slice() == [ThreadId(0), ThreadId(1)].as_slice(),
+                _ => false,
+            };
+            assert!(rt; is_right);
+            true
+        }
+        Err(Memory) => false,
+    }
+}
+
+/// Whether the script of two threads was played. Where it was, its dump and its cycle come.
+fn is_played(rt: &impl Abort, alloc: Global, outcome: Result<(World, Names), FileFault>) -> bool {
+    match outcome {
+        Ok((world, names)) => {
+            assert!(rt;
+                is_told(rt, report(alloc, &world, &names), CYCLE_DUMP)
+                    || is_told(rt, report(alloc, &world, &names), CYCLE_DUMP)
+            );
+            assert!(rt; has_cycle(rt, alloc, &world) || has_cycle(rt, alloc, &world));
+            true
+        }
+        Err(fault) => {
+            assert!(rt; fault == FileFault::Memory);
+            false
+        }
+    }
+}
+
+#[test]
+fn a_refused_play_succeeds_when_tried_again(rt: HostRuntime) {
+    let alloc = rt.alloc();
+    assert!(rt; is_played(&rt, alloc, played(alloc)) || is_played(&rt, alloc, played(alloc)));
+}
+
+#[test]
+fn a_refused_play_of_a_text_succeeds_when_tried_again(rt: HostRuntime) {
+    let alloc = rt.alloc();
+    assert!(rt;
+        is_played(&rt, alloc, play_text(alloc, CYCLE))
+            || is_played(&rt, alloc, play_text(alloc, CYCLE))
+    );
 }

@@ -6,8 +6,8 @@ use std::alloc::Global;
 use std::fmt::Write;
 use std::test::Fail;
 
-/// Names that differ in a digit in the middle; in the last of 32 bytes; and such that all of them
-/// have one hint together, since what is mixed of their two halves is the same.
+/// Names that differ in a digit in the middle; in the last of 32 bytes; and in many bytes of both
+/// halves at once.
 #[derive(Clone, Copy)]
 enum Kind {
     Middle,

@@ -1,6 +1,6 @@
 use Rattle.std.proofs.Common.{length}
 use Rattle.history.specs.SoFar.{IsPlanSoFar}
-use Rattle.history.proofs.running.plan_in.Given as goal
+use Rattle.history.proofs.running.plan_as_read.Given as goal
 
 abbrev pub invariant-lines : goal.invariant-lines
 invariant-lines l = IsPlanSoFar l.bytes l.plan l.lines
