@@ -34,6 +34,7 @@ TESTS = {
             "a_refused_relayout_succeeds_when_tried_again",
             "an_enter_that_won_stays_though_its_bind_is_refused",
         ],
+        "machines::memory": ["a_crowd_with_refused_growths_is_judged_alike"],
     },
     "word_tests": {
         "headers::memory": ["what_was_refused_comes_back_and_succeeds_again"],
@@ -42,6 +43,7 @@ TESTS = {
         "threads::memory": ["what_was_refused_comes_back_and_succeeds_again"],
     },
     "text_tests": {
+        "bad_lines": ["a_bad_line_is_told_whichever_request_is_refused"],
         "memory": [
             "a_refused_run_succeeds_when_tried_again",
             "a_refused_history_succeeds_when_tried_again",
@@ -51,6 +53,9 @@ TESTS = {
             "a_refused_live_run_succeeds_when_tried_again",
             "a_refused_print_succeeds_when_tried_again",
             "refused_words_are_read_when_tried_again",
+            "a_refused_line_is_written_when_tried_again",
+            "a_refused_play_succeeds_when_tried_again",
+            "a_refused_play_of_a_text_succeeds_when_tried_again",
         ]
     },
 }
