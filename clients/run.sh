@@ -2,9 +2,8 @@
 # Builds the library for C, and builds and runs the clients over it, as C, as C++ and from Rust: the core
 # (client) and the live service (live). It needs no rights, and says what it skips where a compiler is
 # missing. `run.sh time` prints what a step of the core costs, and a pair of calls of the live service.
-# `run.sh gate` takes the libraries below it that `rt ci` has just left, so that only the one for C is
-# proved once more. `run.sh compile` compares the header with the exports and compiles the clients, and
-# no more.
+# `run.sh gate`, which the merge gate calls, does the same as `run.sh` alone. `run.sh compile` compares the
+# header with the exports and compiles the clients, and no more.
 set -euo pipefail
 cd "$(dirname "$0")/.."
 kit=$(dirname "$(rt doc)")
@@ -31,11 +30,7 @@ if [ "${1:-}" = compile ]; then
     echo "the clients compile"
     exit
 fi
-if [ "${1:-}" = gate ] && has python3 && python3 clients/archive.py; then
-    echo "the library for C stands on the libraries of the gate"
-else
-    (cd crates/nadkhoy_c && rt lib)
-fi
+(cd crates/nadkhoy_c && rt lib)
 archive=crates/nadkhoy_c/out/libnadkhoy_c.a
 
 if has "${CC:-cc}"; then
