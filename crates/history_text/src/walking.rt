@@ -118,8 +118,8 @@ impl<'a> LineReader<'a> {
         Some(step)
     }
 
-    /// The next line, where it is one of the other steps that name a thread, and no wait. It is kept
-    /// apart, so that whoever asks [`next_usual`](LineReader::next_usual) in place has nothing of it.
+    /// The next line, where it is one of the other steps that name a thread, and no wait. It stands
+    /// apart, so that [`next_usual`](LineReader::next_usual), which stands in place, stays small.
     /// Nothing is taken where it is none of these, or is the first, or is bad.
     pub fn next_seldom(&mut self) -> Option<StepLine<'a>>
         ensures told { (bytes : List ℕ) (came : List LineData) (names : List (List ℕ))
