@@ -14,7 +14,7 @@ const FEWEST_HINTS: usize = 16;
 /// would be of another name.
 const MOST_HINTS: usize = 65_536;
 
-/// An odd number with no pattern in its bits.
+/// 2^64 over the golden ratio, as Knuth takes it for multiplicative hashing.
 const MULTIPLIER: u64 = 0x9e37_79b9_7f4a_7c15;
 
 /// What the bytes of a name are mixed to. The upper half tells the name's place in a table of hints,
@@ -37,13 +37,31 @@ pub(crate) struct Hints {
     hints: Vec<Hint>,
 }
 
-/// Bytes as the digits of a number to the base 256. Of more than eight the last eight count.
-fn number_of_digits(bytes: &[u8]) -> u64 {
+/// Fewer than eight bytes as one number: the first four, the next two and the last one, as far as they
+/// are there.
+fn number_of_few(bytes: &[u8]) -> u64 {
     let mut number = 0;
-    for byte in bytes {
-        number = number << 8 | u64::from(*byte);
+    let mut rest = bytes;
+    if let [a, b, c, d, after @ ..] = rest {
+        number = u64::from(u32::from_le_bytes([*a, *b, *c, *d]));
+        rest = after;
+    }
+    if let [a, b, after @ ..] = rest {
+        number = number << 16 | u64::from(u16::from_le_bytes([*a, *b]));
+        rest = after;
+    }
+    if let [a, ..] = rest {
+        number = number << 8 | u64::from(*a);
     }
     number
+}
+
+/// The last eight bytes as one number, or all of them where they are fewer.
+fn number_at_end(bytes: &[u8]) -> u64 {
+    match bytes {
+        [.., a, b, c, d, e, f, g, h] => u64::from_le_bytes([*a, *b, *c, *d, *e, *f, *g, *h]),
+        _ => number_of_few(bytes),
+    }
 }
 
 /// One more word in what was mixed so far: multiplicative hashing, as Knuth has it, with the upper
@@ -54,16 +72,21 @@ fn mixed_with(mixed: u64, word: u64) -> u64 {
 }
 
 impl Mixed {
-    /// The bytes of a name, eight at a time, mixed.
+    /// The length of a name and its bytes, mixed: eight bytes at a time, and where fewer are left the
+    /// last eight again, as many hashes do.
     pub(crate) fn of(name: &str) -> Mixed {
-        let mut mixed = 0;
-        let mut rest = name.as_bytes();
+        let bytes = name.as_bytes();
+        let mut mixed = bytes.len() as u64;
+        let mut rest = bytes;
         'words: while let [a, b, c, d, e, f, g, h, after @ ..] = rest {
             let word = u64::from_le_bytes([*a, *b, *c, *d, *e, *f, *g, *h]);
             mixed = mixed_with(mixed, word);
             rest = after;
         }
-        Mixed(mixed_with(mixed, number_of_digits(rest)))
+        if rest.is_empty() {
+            return Mixed(mixed);
+        }
+        Mixed(mixed_with(mixed, number_at_end(bytes)))
     }
 
     /// The place in a table of so many hints.

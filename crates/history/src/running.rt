@@ -23,6 +23,7 @@ use crate::reports::report_of;
 use history_streams::{FileFault, Sink, Source, write_out};
 use history_text::{Line, LineReader, MOST_BYTES, read_script};
 use std::alloc::Global;
+use std::simd::prelude::*;
 
 /// How many bytes are read at once.
 const CHUNK: usize = 4096;
@@ -33,6 +34,9 @@ const FEW_THREADS: u32 = 4096;
 
 /// How many bytes the shortest line of a step has, with its line feed: a `go` and a name of a letter.
 const SHORTEST_STEP: usize = 5;
+
+/// How many blocks of bytes a lane of eight bits can count.
+const MOST_BLOCKS: usize = 255;
 
 /// Reads a script to its end, plays it, and writes its report.
 ///
@@ -125,12 +129,12 @@ fn plan_as_read(alloc: Global, bytes: &[u8]) -> Result<Plan, FileFault>
     ensures fault { IfErr result (IsReasonFor bytes.now) }
 {
     let mut lines = LineReader::new(bytes)?;
-    let mut plan = first_plan(alloc, &mut lines, most_steps(bytes))?;
-    let mut few = FEW_THREADS;
+    let mut plan = first_plan(alloc, &mut lines, bytes)?;
+    let mut is_checked = false;
     'lines: loop {
-        if plan.names.thread_count() > few {
+        if !is_checked && plan.names.thread_count() > FEW_THREADS {
             lines.check_rest(alloc, &plan.names)?;
-            few = u32::MAX;
+            is_checked = true;
         }
         if let Some(step) = lines.next_usual() {
             plan.take_step(&step)?;
@@ -153,30 +157,30 @@ fn most_steps(bytes: &[u8]) -> usize {
     line_feeds(bytes).min(bytes.len() / SHORTEST_STEP)
 }
 
-/// How many line feeds there are, counted in eight bytes at a time; each of up to seven bytes behind
-/// those counts as one.
+/// How many line feeds there are.
 fn line_feeds(bytes: &[u8]) -> usize {
-    let mut count: usize = 0;
-    let mut rest = bytes;
-    'words: while let [a, b, c, d, e, f, g, h, after @ ..] = rest {
-        let word = u64::from_le_bytes([*a, *b, *c, *d, *e, *f, *g, *h]);
-        count = count.wrapping_add(line_feeds_in(word));
-        rest = after;
+    let (blocks, rest) = bytes.as_chunks::<16>();
+    let mut count = rest.iter().filter(|byte| **byte == b'\n').count();
+    for some in blocks.chunks(MOST_BLOCKS) {
+        count = count.wrapping_add(line_feeds_in(some));
     }
-    count.wrapping_add(rest.len())
+    count
 }
 
-/// How many of the eight bytes of a word are line feeds: a byte is none where one of its bits is set
-/// once the bits of a line feed are turned, and a carry moves that to its highest bit.
-#[inline(always)]
-fn line_feeds_in(word: u64) -> usize {
-    let turned = word ^ 0x0a0a_0a0a_0a0a_0a0a;
-    let others = (turned & 0x7f7f_7f7f_7f7f_7f7f).wrapping_add(0x7f7f_7f7f_7f7f_7f7f) | turned;
-    (!others & 0x8080_8080_8080_8080).count_ones() as usize
+/// How many line feeds there are in no more blocks than [`MOST_BLOCKS`]: each lane counts those at its
+/// place.
+fn line_feeds_in(blocks: &[[u8; 16]]) -> usize {
+    let mut counts = u8x16::splat(0);
+    for block in blocks {
+        let found = u8x16::from_array(*block).simd_eq(u8x16::splat(b'\n'));
+        counts += found.select(u8x16::splat(1), u8x16::splat(0));
+    }
+    usize::from(counts.cast::<u16>().reduce_sum())
 }
 
-/// The world of the first line, without objects and steps; room for this many steps is asked for.
-fn first_plan(alloc: Global, lines: &mut LineReader<'_>, room: usize) -> Result<Plan, FileFault>
+/// The world of the first line, without objects and steps. Room is asked for as many steps as these
+/// bytes can have, which are counted only where the first line is right.
+fn first_plan(alloc: Global, lines: &mut LineReader<'_>, bytes: &[u8]) -> Result<Plan, FileFault>
     requires { HasCome lines.old.rest [] [] lines.old }
     ensures plan { IfOk result (λ plan. IsPlanSoFar lines.old.rest plan lines.new) }
     ensures fault { IfErr result (IsReasonFor lines.old.rest) }
@@ -193,7 +197,7 @@ fn first_plan(alloc: Global, lines: &mut LineReader<'_>, room: usize) -> Result<
     else {
         unreachable!()
     };
-    Ok(Plan::new(alloc, monitors, indices, split, room))
+    Ok(Plan::new(alloc, monitors, indices, split, most_steps(bytes)))
 }
 
 /// Reads a source to its end, which must come within the bytes that a script may have.
