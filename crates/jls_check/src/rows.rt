@@ -199,6 +199,7 @@ impl Machine {
             return Err(MoveFault::Broken);
         }
         self.moment = now;
+        self.threads.give_back();
         Ok(())
     }
 }

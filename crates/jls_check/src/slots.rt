@@ -164,11 +164,11 @@ pub(crate) fn grow_hints(hints: &mut Vec<u32>, slots: &[Slot]) {
     note_all(hints, slots);
 }
 
-/// Where there are more than 16 hints for each slot, there are 8 from now on, in the same memory and
-/// noted anew: the slots that went since the last time have paid for that. The old hints that stay
-/// beside them name other numbers' places, and so count for nothing.
+/// Where there are 16 hints or more for each slot, there are 8 from now on, in the same memory and
+/// noted anew: the slots that went since the last time have paid for that. An old hint that stays
+/// beside them counts only where the slot that it names has the number, as any other.
 fn drop_hints(hints: &mut Vec<u32>, slots: &[Slot]) {
-    if hints.len() / 16 > slots.len() {
+    if hints.len() / 16 >= slots.len() {
         hints.truncate(slots.len().saturating_mul(8));
         note_all(hints, slots);
     }
@@ -181,19 +181,30 @@ fn note_all(hints: &mut [u32], slots: &[Slot]) {
     }
 }
 
-/// Gives memory back where slots take less than a quarter of theirs. From then on there is room for
-/// as many slots again, and for no more hints than there are. Where the system refuses to make it
-/// smaller, the memory stays. Where there are no slots, all of it is freed, which asks for nothing.
+/// Gives memory back where slots take less than a quarter of theirs. In place, since each call and
+/// each return asks.
+#[inline(always)]
 pub(crate) fn give_back(slots: &mut Vec<Slot>, hints: &mut Vec<u32>)
     ensures { slots.new.items ≡ slots.old.items }
 {
-    let count = slots.len();
-    if slots.capacity() / 4 <= count.saturating_add(4) {
-        return;
+    if slots.capacity() / 4 > slots.len().saturating_add(4) {
+        shrink(slots, hints);
     }
+}
+
+/// Leaves room for as many slots again, and for no more hints than there are. Where the system refuses
+/// to make it smaller, the memory stays, and the slots keep theirs too, so that it is tried again.
+/// Where there are no slots, all of it is freed, which asks for nothing.
+#[inline(never)]
+fn shrink(slots: &mut Vec<Slot>, hints: &mut Vec<u32>)
+    ensures { slots.new.items ≡ slots.old.items }
+{
+    let count = slots.len();
     drop_hints(hints, slots);
     hints.shrink_to_fit();
-    slots.shrink_to(count.saturating_mul(2));
+    if hints.capacity() == hints.len() {
+        slots.shrink_to(count.saturating_mul(2));
+    }
 }
 
 /// Where there are no slots, frees their memory, if it is much. This asks the system for nothing.

@@ -155,9 +155,10 @@ impl Threads {
 
     /// A live thread that does nothing begins a call, or one whose call has this reply returns; its
     /// flag stays. Answers whether there is such a thread. This looks for the thread once, where
-    /// [`get`](Threads::get) and [`set`](Threads::set) would do so twice. Here, and where a thread
-    /// becomes live, the memory of those that have ended is given back: an end itself asks the system
-    /// for nothing, and each is begun by a call.
+    /// [`get`](Threads::get) and [`set`](Threads::set) would do so twice. Here, where a thread becomes
+    /// live and at each moment, the memory of those that have ended is given back: an end itself asks
+    /// the system for nothing. It stands in place, so that a turn is never written to memory.
+    #[inline(always)]
     pub(crate) fn turn(&mut self, thread: ThreadId, turn: Turn) -> bool
         ensures answer { result ≡ is_some (turn_of self.old thread turn) }
         ensures turned { self.new ≡ turned self.old thread turn }
@@ -212,6 +213,13 @@ impl Threads {
         let _ = self.slots.swap_remove(place);
         follow(&self.slots, &mut self.places, &mut self.hints, place);
         free_empty(&mut self.slots, &mut self.hints);
+    }
+
+    /// Gives back the memory of threads that have ended, where it is much.
+    pub(crate) fn give_back(&mut self)
+        ensures { self.new ≡ self.old }
+    {
+        give_back(&mut self.slots, &mut self.hints);
     }
 
     /// Every thread that waits on the object is back, notified. This looks at every live thread.
