@@ -92,8 +92,8 @@ fn value_move(alloc: Global, line: &[u8]) -> Result<Option<Move>, Memory>
 const LONG: usize = 4096;
 
 /// A line of this many bytes or more is mostly blanks, and is not read straight from its bytes: the
-/// reader of tokens passes over many blanks at once. Where blanks stand between all tokens, the two
-/// ways take as many instructions at about this length.
+/// reader of tokens passes over many blanks at once. Of the shortest moves, with blanks between all
+/// tokens, a line just below takes 6,700 instructions by its bytes, and one above 3,600 by its tokens.
 const MOSTLY_BLANK: usize = 512;
 
 /// A reader of lines, which keeps from line to line what it needs for lines that are read from their
