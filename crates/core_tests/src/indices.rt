@@ -11,7 +11,7 @@ use thread_index::{Indices, TakeFault};
 
 /// What is asked of the indices, where threads go by their numbers, and what has to be answered.
 #[derive(Clone, Copy)]
-enum Deed {
+enum Ask {
     Takes(u32, Result<u16, TakeFault>),
     Gives(u32, Option<u16>),
     /// The thread takes this index, and tries again where memory was refused.
@@ -36,20 +36,20 @@ fn takes_at_last(indices: &mut Indices, thread: u32, index: u16) -> bool {
 }
 
 /// Whether this is the answer.
-fn answers(indices: &mut Indices, deed: Deed) -> bool {
-    match deed {
-        Deed::Takes(thread, answer) => indices.take(ThreadId(thread)) == answer,
-        Deed::Gives(thread, answer) => indices.give(ThreadId(thread)) == answer,
-        Deed::TakesAtLast(thread, index) => takes_at_last(indices, thread, index),
-        Deed::Has(thread, index) => indices.index_of(ThreadId(thread)) == index,
-        Deed::IsHeld(index, thread) => indices.id_of(index) == thread.map(ThreadId),
+fn answers(indices: &mut Indices, ask: Ask) -> bool {
+    match ask {
+        Ask::Takes(thread, answer) => indices.take(ThreadId(thread)) == answer,
+        Ask::Gives(thread, answer) => indices.give(ThreadId(thread)) == answer,
+        Ask::TakesAtLast(thread, index) => takes_at_last(indices, thread, index),
+        Ask::Has(thread, index) => indices.index_of(ThreadId(thread)) == index,
+        Ask::IsHeld(index, thread) => indices.id_of(index) == thread.map(ThreadId),
     }
 }
 
-/// Asks these deeds, one after the other.
-fn check(rt: &impl Abort, indices: &mut Indices, deeds: &[Deed]) {
-    for (row, deed) in deeds.iter().enumerate() {
-        assert!(rt; answers(indices, *deed), "row {row}");
+/// Asks these questions, one after the other.
+fn check(rt: &impl Abort, indices: &mut Indices, asks: &[Ask]) {
+    for (row, ask) in asks.iter().enumerate() {
+        assert!(rt; answers(indices, *ask), "row {row}");
     }
 }
 
@@ -63,56 +63,56 @@ fn open(alloc: Global, limit: u16) -> Indices
 
 #[test]
 fn two_indices_and_three_threads(rt: HostRuntime) {
-    const DEEDS: [Deed; 18] = [
-        Deed::Has(7, None),
-        Deed::IsHeld(1, None),
-        Deed::Takes(7, Ok(1)),
-        Deed::Takes(9, Ok(2)),
-        Deed::Takes(7, Err(TakeFault::Known)),
-        Deed::Takes(8, Err(TakeFault::NoIndex)),
-        Deed::Gives(8, None),
-        Deed::IsHeld(0, None),
-        Deed::IsHeld(1, Some(7)),
-        Deed::IsHeld(2, Some(9)),
-        Deed::IsHeld(3, None),
-        Deed::Gives(7, Some(1)),
-        Deed::Has(7, None),
-        Deed::IsHeld(1, None),
-        Deed::Takes(8, Ok(1)),
-        Deed::Has(7, None),
-        Deed::Has(8, Some(1)),
-        Deed::Has(9, Some(2)),
+    const ASKS: [Ask; 18] = [
+        Ask::Has(7, None),
+        Ask::IsHeld(1, None),
+        Ask::Takes(7, Ok(1)),
+        Ask::Takes(9, Ok(2)),
+        Ask::Takes(7, Err(TakeFault::Known)),
+        Ask::Takes(8, Err(TakeFault::NoIndex)),
+        Ask::Gives(8, None),
+        Ask::IsHeld(0, None),
+        Ask::IsHeld(1, Some(7)),
+        Ask::IsHeld(2, Some(9)),
+        Ask::IsHeld(3, None),
+        Ask::Gives(7, Some(1)),
+        Ask::Has(7, None),
+        Ask::IsHeld(1, None),
+        Ask::Takes(8, Ok(1)),
+        Ask::Has(7, None),
+        Ask::Has(8, Some(1)),
+        Ask::Has(9, Some(2)),
     ];
     let mut indices = open(rt.alloc(), 2);
-    check(&rt, &mut indices, &DEEDS);
+    check(&rt, &mut indices, &ASKS);
 }
 
 #[test]
 fn every_index_is_taken(rt: HostRuntime) {
     const LATE: u32 = 40_000;
-    const DEEDS: [Deed; 15] = [
-        Deed::Takes(LATE, Err(TakeFault::NoIndex)),
-        Deed::IsHeld(64, Some(63)),
-        Deed::Gives(63, Some(64)),
-        Deed::Has(63, None),
-        Deed::Takes(LATE, Ok(64)),
-        Deed::Takes(63, Err(TakeFault::NoIndex)),
-        Deed::Gives(LATE, Some(64)),
-        Deed::Takes(63, Ok(64)),
-        Deed::IsHeld(32_767, Some(32_766)),
-        Deed::Gives(32_766, Some(32_767)),
-        Deed::Has(32_766, None),
-        Deed::Takes(LATE, Ok(32_767)),
-        Deed::Takes(32_766, Err(TakeFault::NoIndex)),
-        Deed::Gives(LATE, Some(32_767)),
-        Deed::Takes(32_766, Ok(32_767)),
+    const ASKS: [Ask; 15] = [
+        Ask::Takes(LATE, Err(TakeFault::NoIndex)),
+        Ask::IsHeld(64, Some(63)),
+        Ask::Gives(63, Some(64)),
+        Ask::Has(63, None),
+        Ask::Takes(LATE, Ok(64)),
+        Ask::Takes(63, Err(TakeFault::NoIndex)),
+        Ask::Gives(LATE, Some(64)),
+        Ask::Takes(63, Ok(64)),
+        Ask::IsHeld(32_767, Some(32_766)),
+        Ask::Gives(32_766, Some(32_767)),
+        Ask::Has(32_766, None),
+        Ask::Takes(LATE, Ok(32_767)),
+        Ask::Takes(32_766, Err(TakeFault::NoIndex)),
+        Ask::Gives(LATE, Some(32_767)),
+        Ask::Takes(32_766, Ok(32_767)),
     ];
     let mut indices = open(rt.alloc(), 32_767);
     for number in 0..32_767u16 {
-        let deed = Deed::Takes(u32::from(number), Ok(number + 1));
-        assert!(rt; answers(&mut indices, deed), "{number}");
+        let ask = Ask::Takes(u32::from(number), Ok(number + 1));
+        assert!(rt; answers(&mut indices, ask), "{number}");
     }
-    check(&rt, &mut indices, &DEEDS);
+    check(&rt, &mut indices, &ASKS);
 }
 
 /// The thread takes an index, or gives back the one that it has, as this number says. Whether the
@@ -166,12 +166,12 @@ fn threads_whose_numbers_end_alike(rt: HostRuntime) {
 /// Run with each allocation refused in turn, this meets every refusal.
 #[test]
 fn what_was_refused_succeeds_when_tried_again(rt: HostRuntime) -> Result<(), Fail> {
-    const DEEDS: [Deed; 3] = [
-        Deed::TakesAtLast(7, 1),
-        Deed::TakesAtLast(8, 2),
-        Deed::TakesAtLast(9, 3),
+    const ASKS: [Ask; 3] = [
+        Ask::TakesAtLast(7, 1),
+        Ask::TakesAtLast(8, 2),
+        Ask::TakesAtLast(9, 3),
     ];
     let mut indices = open(rt.alloc(), 4);
-    check(&rt, &mut indices, &DEEDS);
+    check(&rt, &mut indices, &ASKS);
     Ok(())
 }

@@ -10,7 +10,7 @@ use wait_lines::{Lines, Role};
 
 /// What is asked of the lines, where threads go by their numbers, and what has to be answered.
 #[derive(Clone, Copy)]
-enum Deed {
+enum Ask {
     /// The thread comes to the end of this monitor's line.
     Joins(u32, u32, Role),
     /// The thread leaves the line in which it stands; false: it stands in none.
@@ -46,62 +46,62 @@ fn stand(lines: &Lines, monitor: u32, role: Role, threads: &[u32]) -> bool {
 }
 
 /// Whether this is the answer.
-fn answers(lines: &mut Lines, deed: Deed) -> bool {
-    match deed {
-        Deed::Joins(thread, monitor, role) => add(lines, thread, monitor, role).is_ok(),
-        Deed::Leaves(thread, stood) => lines.leave(ThreadId(thread)) == stood,
-        Deed::IsFirst(monitor, role, thread) => {
+fn answers(lines: &mut Lines, ask: Ask) -> bool {
+    match ask {
+        Ask::Joins(thread, monitor, role) => add(lines, thread, monitor, role).is_ok(),
+        Ask::Leaves(thread, stood) => lines.leave(ThreadId(thread)) == stood,
+        Ask::IsFirst(monitor, role, thread) => {
             lines.first(monitor, role) == thread.map(ThreadId)
         }
-        Deed::Stand(monitor, role, threads) => stand(lines, monitor, role, threads),
+        Ask::Stand(monitor, role, threads) => stand(lines, monitor, role, threads),
     }
 }
 
-/// Asks these deeds of new lines, one after the other.
-fn check(rt: &impl Abort, alloc: Global, deeds: &[Deed]) {
+/// Asks these questions of new lines, one after the other.
+fn check(rt: &impl Abort, alloc: Global, asks: &[Ask]) {
     let mut lines = Lines::new(alloc);
-    for (row, deed) in deeds.iter().enumerate() {
-        assert!(rt; answers(&mut lines, *deed), "row {row}");
+    for (row, ask) in asks.iter().enumerate() {
+        assert!(rt; answers(&mut lines, *ask), "row {row}");
     }
 }
 
 #[test]
 fn two_wait_and_one_leaves(rt: HostRuntime) {
-    const DEEDS: [Deed; 7] = [
-        Deed::Joins(5, 0, Role::Waiting),
-        Deed::Joins(6, 0, Role::Waiting),
-        Deed::IsFirst(0, Role::Waiting, Some(5)),
-        Deed::Leaves(5, true),
-        Deed::IsFirst(0, Role::Waiting, Some(6)),
-        Deed::Stand(0, Role::Waiting, &[6]),
-        Deed::Leaves(5, false),
+    const ASKS: [Ask; 7] = [
+        Ask::Joins(5, 0, Role::Waiting),
+        Ask::Joins(6, 0, Role::Waiting),
+        Ask::IsFirst(0, Role::Waiting, Some(5)),
+        Ask::Leaves(5, true),
+        Ask::IsFirst(0, Role::Waiting, Some(6)),
+        Ask::Stand(0, Role::Waiting, &[6]),
+        Ask::Leaves(5, false),
     ];
-    check(&rt, rt.alloc(), &DEEDS);
+    check(&rt, rt.alloc(), &ASKS);
 }
 
 #[test]
 fn lines_are_apart(rt: HostRuntime) {
-    const DEEDS: [Deed; 6] = [
-        Deed::Joins(7, 0, Role::Entry),
-        Deed::Joins(8, 1, Role::Waiting),
-        Deed::IsFirst(0, Role::Entry, Some(7)),
-        Deed::IsFirst(0, Role::Waiting, None),
-        Deed::IsFirst(1, Role::Entry, None),
-        Deed::IsFirst(1, Role::Waiting, Some(8)),
+    const ASKS: [Ask; 6] = [
+        Ask::Joins(7, 0, Role::Entry),
+        Ask::Joins(8, 1, Role::Waiting),
+        Ask::IsFirst(0, Role::Entry, Some(7)),
+        Ask::IsFirst(0, Role::Waiting, None),
+        Ask::IsFirst(1, Role::Entry, None),
+        Ask::IsFirst(1, Role::Waiting, Some(8)),
     ];
-    check(&rt, rt.alloc(), &DEEDS);
+    check(&rt, rt.alloc(), &ASKS);
 }
 
 #[test]
 fn the_middle_one_leaves(rt: HostRuntime) {
-    const DEEDS: [Deed; 5] = [
-        Deed::Joins(3, 9, Role::Entry),
-        Deed::Joins(1, 9, Role::Entry),
-        Deed::Joins(2, 9, Role::Entry),
-        Deed::Leaves(1, true),
-        Deed::Stand(9, Role::Entry, &[3, 2]),
+    const ASKS: [Ask; 5] = [
+        Ask::Joins(3, 9, Role::Entry),
+        Ask::Joins(1, 9, Role::Entry),
+        Ask::Joins(2, 9, Role::Entry),
+        Ask::Leaves(1, true),
+        Ask::Stand(9, Role::Entry, &[3, 2]),
     ];
-    check(&rt, rt.alloc(), &DEEDS);
+    check(&rt, rt.alloc(), &ASKS);
 }
 
 /// Lines, and the plain ones that have to answer the same.

@@ -30,7 +30,7 @@ fn attach(rt: &impl Abort, fats: &mut Fats, thread: ThreadId)
 
 /// What is asked of fat monitors, and what has to be answered.
 #[derive(Clone, Copy)]
-enum Deed {
+enum Ask {
     /// Thread 7 holds the object so often, and binds this monitor to it.
     Binds(u16, Result<u32, Cause>),
     /// There is room for so many binds to come.
@@ -91,17 +91,17 @@ fn shows(
 }
 
 /// Whether this is the answer.
-fn answers(fats: &mut Fats, deed: Deed) -> bool {
-    match deed {
-        Deed::Binds(holds, answer) => binds(fats, holds, answer),
-        Deed::Reserves(binds) => fats.reserve_monitors(binds) == Ok(()),
-        Deed::HasSpare(binds) => fats.spare() == binds,
-        Deed::Acts(thread, action, done) => act(fats, thread, action) == Some(done),
-        Deed::Ticks(now) => fats.tick(now) == Ok(()),
-        Deed::Shows(monitor, object, owner, holds) => shows(fats, monitor, object, owner, holds),
-        Deed::Counts(bound, limit) => fats.bound() == bound && fats.limit() == limit,
-        Deed::Times(now, waiting) => fats.now() == now && fats.waiting() == waiting,
-        Deed::Stands(thread, post) => fats.post(thread) == Some(post),
+fn answers(fats: &mut Fats, ask: Ask) -> bool {
+    match ask {
+        Ask::Binds(holds, answer) => binds(fats, holds, answer),
+        Ask::Reserves(binds) => fats.reserve_monitors(binds) == Ok(()),
+        Ask::HasSpare(binds) => fats.spare() == binds,
+        Ask::Acts(thread, action, done) => act(fats, thread, action) == Some(done),
+        Ask::Ticks(now) => fats.tick(now) == Ok(()),
+        Ask::Shows(monitor, object, owner, holds) => shows(fats, monitor, object, owner, holds),
+        Ask::Counts(bound, limit) => fats.bound() == bound && fats.limit() == limit,
+        Ask::Times(now, waiting) => fats.now() == now && fats.waiting() == waiting,
+        Ask::Stands(thread, post) => fats.post(thread) == Some(post),
     }
 }
 
@@ -115,12 +115,12 @@ fn with_both(rt: &impl Abort, alloc: Global, limit: u32) -> Fats
     fats
 }
 
-/// Asks these deeds of such monitors, one after the other.
-fn check(rt: &impl Abort, alloc: Global, limit: u32, deeds: &[Deed])
+/// Asks these questions of such monitors, one after the other.
+fn check(rt: &impl Abort, alloc: Global, limit: u32, asks: &[Ask])
     requires { limit ≤ 8388608 }
 {
     let mut fats = with_both(rt, alloc, limit);
-    for (row, deed) in deeds.iter().enumerate() {
-        assert!(rt; answers(&mut fats, *deed), "row {row}");
+    for (row, ask) in asks.iter().enumerate() {
+        assert!(rt; answers(&mut fats, *ask), "row {row}");
     }
 }

@@ -12,6 +12,6 @@ pub mod Flags
 pub mod Effects
 pub mod Steps
 pub mod Removals
-pub mod Seats
+pub mod NodesKept
 pub mod OwnedCounts
 pub mod WaitCounts

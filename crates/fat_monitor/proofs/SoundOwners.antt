@@ -108,7 +108,7 @@ IsSound-with_thread f t sound fresh few = record {
   apart = sound.apart;
   room = let more = len-insert_new f.threads t.0 Out fresh in let enough = room_enough (thread_count f) f.standing.reservations _ refl sound.room in omega arith;
   counted =
-      let seats = count-insert stands f.threads t.0 Out in let none : stand_count (map.insert f.threads t.0 Out) + 0 ≡ stand_count f.threads + 0 = rw fresh at seats in
+      let standing = count-insert stands f.threads t.0 Out in let none : stand_count (map.insert f.threads t.0 Out) + 0 ≡ stand_count f.threads + 0 = rw fresh at standing in
       let counted = sound.counted in
       omega arith;
   orderly = orderly (thread_count f == f.standing.reservations) refl;
@@ -140,7 +140,7 @@ IsSound-without_thread f t sound out = record {
   apart = sound.apart;
   room = let less = len-remove_le f.threads t.0 in let room = sound.room in omega arith;
   counted =
-      let seats : stand_count (map.remove f.threads t.0) + 0 ≡ stand_count f.threads = count-remove stands f.threads t.0 Out out in let counted = sound.counted in omega arith;
+      let standing : stand_count (map.remove f.threads t.0) + 0 ≡ stand_count f.threads = count-remove stands f.threads t.0 Out out in let counted = sound.counted in omega arith;
   orderly = sound.orderly;
 }
   where

@@ -145,9 +145,9 @@ proper_after f g t q sound more same proper u p e = at (written_cases f.threads 
     at (inr old) = IsProper-kept f g p more (sound.proper u p old.1)
 
 -- how many threads stand in lines after a post was written
-seats_after : (f : FatState) (t : ThreadId) (p q : Post) (a b : Bool) → post_of f t ≡ Some p → stands p ≡ a → stands q ≡ b
+standing_after : (f : FatState) (t : ThreadId) (p q : Post) (a b : Bool) → post_of f t ≡ Some p → stands p ≡ a → stands q ≡ b
     → stand_count (map.insert f.threads t.0 q) + cond a 1 0 ≡ stand_count f.threads + cond b 1 0
-seats_after f t p q a b here was is = rw (here, was, is) at (count-insert stands f.threads t.0 q)
+standing_after f t p q a b here was is = rw (here, was, is) at (count-insert stands f.threads t.0 q)
 
 -- a thread outside of lines changes its post, and stays outside
 pub IsSound-with_post : (f : FatState) (t : ThreadId) (p q : Post) → IsSound f → post_of f t ≡ Some p → line_key_of p ≡ None → IsProper f q → line_key_of q ≡ None
@@ -165,7 +165,7 @@ IsSound-with_post f t p q sound here none proper none_after = record {
   apart = sound.apart;
   room = let same = len-insert_same f.threads t.0 p q here in let room = sound.room in omega arith;
   counted =
-      let seats = seats_after f t p q false false here (stands-no_line_key p none) (stands-no_line_key q none_after) in let counted = sound.counted in omega arith;
+      let standing = standing_after f t p q false false here (stands-no_line_key p none) (stands-no_line_key q none_after) in let counted = sound.counted in omega arith;
   orderly = sound.orderly;
 }
   where
@@ -193,7 +193,7 @@ IsSound-after_leave f t p q m r sound here in_line proper none_after = record {
   apart = λ u n s stands_in. sound.apart u n s (before u n s stands_in);
   room = let same = len-insert_same f.threads t.0 p q here in let room = sound.room in omega arith;
   counted =
-      let seats = seats_after f t p q true false here (stands-line_key p (key m r) in_line) (stands-no_line_key q none_after) in
+      let standing = standing_after f t p q true false here (stands-line_key p (key m r) in_line) (stands-no_line_key q none_after) in
       let lines = total_count-after_leave f.standing t m r sound.orderly stood in
       let counted = sound.counted in
       omega arith;
@@ -229,7 +229,7 @@ IsSound-after_parking f t p q m r sound here none proper in_line owned other = r
   apart = λ u n s stands_in. apart u n s (cases u n s stands_in);
   room = let same = len-insert_same f.threads t.0 p q here in let room = sound.room in omega arith;
   counted =
-      let seats = seats_after f t p q false true here (stands-no_line_key p none) (stands-line_key q (key m r) in_line) in
+      let standing = standing_after f t p q false true here (stands-no_line_key p none) (stands-line_key q (key m r) in_line) in
       let lines = total_count-after_join f.standing.lines t m r in
       let counted = sound.counted in
       omega arith;

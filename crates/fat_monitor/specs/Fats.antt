@@ -22,8 +22,8 @@ fat_state_in f = record {
 }
 
 -- the node that is kept of a thread that stands in a line is the one at which it stands
-abbrev pub AreSeated : map.FinMap nat_cmp Post → NodeMap → NodeMap → Type 0
-AreSeated posts kept nodes =
+abbrev pub AreNodesKept : map.FinMap nat_cmp Post → NodeMap → NodeMap → Type 0
+AreNodesKept posts kept nodes =
     (t : ThreadId) (p : Post) → map.get posts t.0 ≡ Some p → stands p ≡ true → map.get nodes t.0 ≡ map.get kept t.0
 
 -- how many of these monitors a thread owns
@@ -36,6 +36,6 @@ AreCounted monitors counts = (t : ThreadId) → count_of counts t ≡ owned_coun
 
 pub record IsKept (f : Inside) : Type 0 where
   pub sound : IsSound (fat_state_in f)
-  pub seated : AreSeated f.posts.posts f.posts.nodes f.lines.nodes
+  pub nodes_kept : AreNodesKept f.posts.posts f.posts.nodes f.lines.nodes
   pub counted : AreCounted f.monitors.items f.posts.owned
   pub reserved : vec_len f.monitors + f.spare ≤ vec_capacity f.monitors

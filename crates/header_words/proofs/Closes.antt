@@ -23,7 +23,7 @@ use Rattle.header_words.specs.WideWords.{word_of}
 use Rattle.header_words.specs.Rule.{Each, part, IsMine, Knows, Ruled, spent_view, joined_view}
 use Rattle.header_words.specs.Passes.{PassValue, parts_of, seen_lists, Within, TookAll, IsClosed, Opening, opening_of, indices_of, HasAll}
 use Rattle.header_words.proofs.Gates.{not_holder}
-use Rattle.header_words.proofs.History.{small_word, fits_all, shows_depth, depth_is_holds}
+use Rattle.header_words.proofs.Traces.{small_word, fits_all, shows_depth, depth_is_holds}
 use Rattle.header_words.proofs.Keeps.{each_map}
 use Rattle.header_words.proofs.Seats.{merges}
 

@@ -30,7 +30,7 @@ module _ {B : Type 0} (bound : B → List ObjectId) where
       let same : h.1 ≡ v = some-injective h.1 v (sym h.2 ∙ (ap (get_elem? views) is ∙ at)) in
       both_ways v.has_gate (ap (λ (u : View). u.has_gate) (sym same) ∙ h.3) plain
 
-  -- the view of one seat changes, and the history may grow: by a publish only where the seat has the gate
+  -- the view of one seat changes, and the trace may grow: by a publish only where the seat has the gate
   pub gated_seat : (count : ℕ) (log now : List Event) (seat_of : ℕ → ℕ) (gate : ℕ) (homes : List (Home (Option B))) (views : List View) (id : ℕ) (v w : View) → get_elem? views id ≡ some v → HasPublishesOf now w.seen → w.has_gate ≡ v.has_gate → (v.has_gate ≡ true) ⊎ HasPublishesOf now log
       → Gated bound count log seat_of gate homes views → Gated bound count now seat_of gate homes (set views id w)
   gated_seat count log now seat_of gate homes views id v w at seen same may r = record {

@@ -15,8 +15,8 @@ use Rattle.lock_word.specs.declared.Lock.TheVariants.{Free, Thin}
 use Rattle.lock_word.specs.declared.ObjectId.{ObjectId}
 use Rattle.header_words.specs.WideWords.{word_of, lock_of, Fits}
 use Rattle.lock_word.proofs.Words.{lock_of-word_of}
-use Rattle.header_words.specs.declared.event.Deed.{Deed}
-use Rattle.header_words.specs.declared.event.Deed.TheVariants.{Load, Win, Lose}
+use Rattle.header_words.specs.declared.event.EventKind.{EventKind}
+use Rattle.header_words.specs.declared.event.EventKind.TheVariants.{Load, Win, Lose}
 use Rattle.header_words.specs.declared.event.Event.{Event}
 use Rattle.header_words.specs.declared.rule.Part.{Part}
 use Rattle.header_words.specs.declared.rule.View.{View}
@@ -28,7 +28,7 @@ use Rattle.header_words.specs.Steps.{ShowsDepth, AddsEvent, Does, Loads, Stores,
 use Rattle.header_words.proofs.Bindings.{allowed_snoc}
 use Rattle.header_words.proofs.Gates.{gated_seat}
 use Rattle.header_words.proofs.Published.{fat_published}
-use Rattle.header_words.proofs.History.{replays_snoc, length-locks, own_snoc_mine, own_snoc_other, depth_is_holds, thin_of_holds, fits_all, shows_depth, free_word, free_low, small_word, lock_after_here, lock_after_else}
+use Rattle.header_words.proofs.Traces.{replays_snoc, length-locks, own_snoc_mine, own_snoc_other, depth_is_holds, thin_of_holds, fits_all, shows_depth, free_word, free_low, small_word, lock_after_here, lock_after_else}
 
 -- what follows holds of each, too
 pub each_map : {X : Type 0} (P Q : X → Type 0) → ((x : X) → P x → Q x) → (xs : List X) → Each P xs → Each Q xs
@@ -61,7 +61,7 @@ knows_other lows count log seat_of k v e apart h = record {
 
 -- the words after a step at the object o
 words_kept : (lows : List ℕ) (words : List ℕ) (locks : List Lock) (e : Event) (n : ℕ) → length words ≡ length lows + 1 → length locks ≡ length lows → e.object < length lows
-    → n ≡ word_of (effect e.pass e.deed (lock_at locks e.object)) (slice_index lows e.object)
+    → n ≡ word_of (effect e.pass e.kind (lock_at locks e.object)) (slice_index lows e.object)
     → ((o : ℕ) → o < length lows → slice_index words (o + 1) ≡ word_of (lock_at locks o) (slice_index lows o))
     → (o : ℕ) → o < length lows → slice_index (set words (e.object + 1) n) (o + 1) ≡ word_of (lock_at (locks_after e locks) o) (slice_index lows o)
 words_kept lows words locks e n wide len at is was o lt = go (ℕ_discrete e.object o)
@@ -71,18 +71,18 @@ words_kept lows words locks e n wide len at is was o lt = go (ℕ_discrete e.obj
         ap (λ (k : ℕ). slice_index (set words (k + 1) n) (o + 1)) same
         ∙ (get_or-set_same words (o + 1) n 0 (omega arith)
         ∙ (is
-        ∙ (ap (λ (k : ℕ). word_of (effect e.pass e.deed (lock_at locks k)) (slice_index lows k)) same
+        ∙ (ap (λ (k : ℕ). word_of (effect e.pass e.kind (lock_at locks k)) (slice_index lows k)) same
         ∙ sym (ap (λ (l : Lock). word_of l (slice_index lows o)) (lock_after_here e locks o (omega arith) same)))))
     go (no ne) =
         get_or-set_other words (e.object + 1) (o + 1) n 0 (omega arith)
         ∙ (was o lt ∙ sym (ap (λ (l : Lock). word_of l (slice_index lows o)) (lock_after_else e locks o (λ x. ne (sym x)))))
 
 -- one lemma for every event: a legal event, whose word is that of its effect
-pub steps : {B : Type 0} (bound : B → List ObjectId) (lows : List ℕ) (count : ℕ) (s : State (Option B) View) (r : Ruled bound lows count s) (id : ℕ) (v : View) (i : ℕ) (m : List Event) (o : ℕ) (deed : Deed) (n : ℕ)
+pub steps : {B : Type 0} (bound : B → List ObjectId) (lows : List ℕ) (count : ℕ) (s : State (Option B) View) (r : Ruled bound lows count s) (id : ℕ) (v : View) (i : ℕ) (m : List Event) (o : ℕ) (kind : EventKind) (n : ℕ)
     → get_elem? s.views id ≡ some v → v.parts ≡ part i m ∷ [] → o < length lows
-    → Legal i deed (lock_at r.locks o) (slice_index lows o) → n ≡ word_of (effect i deed (lock_at r.locks o)) (slice_index lows o) → GateAllows v.has_gate deed
-    → (c : List (ℕ × Option B)) → Ruled bound lows count (stepped s (o + 1) n id c (stepped_view v r.log i m (event i o deed)) keeps)
-steps bound lows count s r id v i m o deed n at one inside legal is may c = record {
+    → Legal i kind (lock_at r.locks o) (slice_index lows o) → n ≡ word_of (effect i kind (lock_at r.locks o)) (slice_index lows o) → GateAllows v.has_gate kind
+    → (c : List (ℕ × Option B)) → Ruled bound lows count (stepped s (o + 1) n id c (stepped_view v r.log i m (event i o kind)) keeps)
+steps bound lows count s r id v i m o kind n at one inside legal is may c = record {
   log = r.log ++ e ∷ [];
   locks = locks_after e r.locks;
   seat_of = r.seat_of;
@@ -100,7 +100,7 @@ steps bound lows count s r id v i m o deed n at one inside legal is may c = reco
 }
   where
     e : Event
-    e = event i o deed
+    e = event i o kind
 
     w : View
     w = stepped_view v r.log i m e
@@ -131,11 +131,11 @@ steps bound lows count s r id v i m o deed n at one inside legal is may c = reco
     }
 
 -- what a step tells
-pub told : {B : Type 0} (bound : B → List ObjectId) (lows : List ℕ) (count : ℕ) (s : State (Option B) View) (r : Ruled bound lows count s) (id : ℕ) (v : View) (o : ℕ) (deed : Deed) (n : ℕ)
+pub told : {B : Type 0} (bound : B → List ObjectId) (lows : List ℕ) (count : ℕ) (s : State (Option B) View) (r : Ruled bound lows count s) (id : ℕ) (v : View) (o : ℕ) (kind : EventKind) (n : ℕ)
     → get_elem? s.views id ≡ some v → HasOneIndex v → o < length lows
-    → Legal (index_of v.parts) deed (lock_at r.locks o) (slice_index lows o) → n ≡ word_of (effect (index_of v.parts) deed (lock_at r.locks o)) (slice_index lows o)
-    → AddsEvent o deed n v (stepped_view v r.log (index_of v.parts) (mine_of v.parts) (event (index_of v.parts) o deed))
-told bound lows count s r id v o deed n at one inside legal is = record {
+    → Legal (index_of v.parts) kind (lock_at r.locks o) (slice_index lows o) → n ≡ word_of (effect (index_of v.parts) kind (lock_at r.locks o)) (slice_index lows o)
+    → AddsEvent o kind n v (stepped_view v r.log (index_of v.parts) (mine_of v.parts) (event (index_of v.parts) o kind))
+told bound lows count s r id v o kind n at one inside legal is = record {
   rest = knows.seen.0;
   view = λ k. stepped_view v (sym knows.seen.1 k) i m e;
   saw = record {
@@ -159,7 +159,7 @@ told bound lows count s r id v o deed n at one inside legal is = record {
     m = mine_of v.parts
 
     e : Event
-    e = event i o deed
+    e = event i o kind
 
     knows : Knows lows count r.log r.seat_of id v
     knows = r.views id v at
@@ -180,14 +180,14 @@ told bound lows count s r id v o deed n at one inside legal is = record {
     fits = fits_all lows count (r.log ++ e ∷ []) (locks_after e r.locks) r.few again o
 
 -- what the step of an event tells
-does : {B : Type 0} (bound : B → List ObjectId) (lows : List ℕ) (count : ℕ) (s : State (Option B) View) (r : Ruled bound lows count s) (id : ℕ) (me : Me (Option B) View) (o : ℕ) (deed : Deed) (n : ℕ) (st : Step (Option B)) → st.word ≡ o + 1
+does : {B : Type 0} (bound : B → List ObjectId) (lows : List ℕ) (count : ℕ) (s : State (Option B) View) (r : Ruled bound lows count s) (id : ℕ) (me : Me (Option B) View) (o : ℕ) (kind : EventKind) (n : ℕ) (st : Step (Option B)) → st.word ≡ o + 1
     → get_elem? s.views id ≡ some me.0 → HasOneIndex me.0 → o < length lows
-    → Legal (index_of me.0.parts) deed (lock_at r.locks o) (slice_index lows o) → n ≡ word_of (effect (index_of me.0.parts) deed (lock_at r.locks o)) (slice_index lows o)
-    → Does deed n st me (stepped_view me.0 r.log (index_of me.0.parts) (mine_of me.0.parts) (event (index_of me.0.parts) o deed), me.1)
-does bound lows count s r id me o deed n st word at one inside legal is = (
+    → Legal (index_of me.0.parts) kind (lock_at r.locks o) (slice_index lows o) → n ≡ word_of (effect (index_of me.0.parts) kind (lock_at r.locks o)) (slice_index lows o)
+    → Does kind n st me (stepped_view me.0 r.log (index_of me.0.parts) (mine_of me.0.parts) (event (index_of me.0.parts) o kind), me.1)
+does bound lows count s r id me o kind n st word at one inside legal is = (
   (λ p w. let same : o ≡ p = omega arith in
-      subst (λ (k : ℕ). AddsEvent k deed n me.0 (stepped_view me.0 r.log (index_of me.0.parts) (mine_of me.0.parts) (event (index_of me.0.parts) o deed))) same
-      (told bound lows count s r id me.0 o deed n at one inside legal is)),
+      subst (λ (k : ℕ). AddsEvent k kind n me.0 (stepped_view me.0 r.log (index_of me.0.parts) (mine_of me.0.parts) (event (index_of me.0.parts) o kind))) same
+      (told bound lows count s r id me.0 o kind n at one inside legal is)),
   refl,
 )
 
@@ -203,18 +203,18 @@ loads bound lows count slots id me o one inside s r _ at _ = let n : ℕ = slice
 )
 
 -- an owner stores: nobody else changes the word, so it is what the owner's events made of it
-pub stores : {B : Type 0} (bound : B → List ObjectId) (lows : List ℕ) (count slots id : ℕ) (me : Me (Option B) View) (o : ℕ) (kind : ℕ → Deed) (d new : ℕ) → HasOneIndex me.0 → o < length lows
+pub stores : {B : Type 0} (bound : B → List ObjectId) (lows : List ℕ) (count slots id : ℕ) (me : Me (Option B) View) (o : ℕ) (kind_of : ℕ → EventKind) (d new : ℕ) → HasOneIndex me.0 → o < length lows
     → depth o (mine_of me.0.parts) ≡ suc d
-    → Legal (index_of me.0.parts) (kind new) (Thin (index_of me.0.parts) d) (slice_index lows o)
-    → new ≡ word_of (effect (index_of me.0.parts) (kind new) (Thin (index_of me.0.parts) d)) (slice_index lows o)
-    → GateAllows me.0.has_gate (kind new)
-    → Allows (Ruled bound lows count) slots id me (o + 1) (λ _. new) (λ _. Stores kind (step slots (o + 1) new 0 none) me new)
-stores bound lows count slots id me o kind d new one inside new_depth legal is may s r _ at _ = (
-  stepped_view me.0 r.log i m (event i o (kind new)),
+    → Legal (index_of me.0.parts) (kind_of new) (Thin (index_of me.0.parts) d) (slice_index lows o)
+    → new ≡ word_of (effect (index_of me.0.parts) (kind_of new) (Thin (index_of me.0.parts) d)) (slice_index lows o)
+    → GateAllows me.0.has_gate (kind_of new)
+    → Allows (Ruled bound lows count) slots id me (o + 1) (λ _. new) (λ _. Stores kind_of (step slots (o + 1) new 0 none) me new)
+stores bound lows count slots id me o kind_of d new one inside new_depth legal is may s r _ at _ = (
+  stepped_view me.0 r.log i m (event i o (kind_of new)),
   keeps,
   tt,
-  steps bound lows count s r id me.0 i m o (kind new) new at one inside legal' is' may me.1,
-  does bound lows count s r id me o (kind new) new (step slots (o + 1) new 0 none) refl at one inside legal' is',
+  steps bound lows count s r id me.0 i m o (kind_of new) new at one inside legal' is' may me.1,
+  does bound lows count s r id me o (kind_of new) new (step slots (o + 1) new 0 none) refl at one inside legal' is',
 )
   where
     i : ℕ
@@ -232,11 +232,11 @@ stores bound lows count slots id me o kind d new one inside new_depth legal is m
     thin : lock_at r.locks o ≡ Thin i d
     thin = thin_of_holds i d (lock_at r.locks o) (sym (depth_is_holds lows count i o r.log r.locks r.replays) ∙ (ap (depth o) mine.all ∙ new_depth))
 
-    legal' : Legal i (kind new) (lock_at r.locks o) (slice_index lows o)
-    legal' = subst (λ (l : Lock). Legal i (kind new) l (slice_index lows o)) (sym thin) legal
+    legal' : Legal i (kind_of new) (lock_at r.locks o) (slice_index lows o)
+    legal' = subst (λ (l : Lock). Legal i (kind_of new) l (slice_index lows o)) (sym thin) legal
 
-    is' : new ≡ word_of (effect i (kind new) (lock_at r.locks o)) (slice_index lows o)
-    is' = is ∙ ap (λ (l : Lock). word_of (effect i (kind new) l) (slice_index lows o)) (sym thin)
+    is' : new ≡ word_of (effect i (kind_of new) (lock_at r.locks o)) (slice_index lows o)
+    is' = is ∙ ap (λ (l : Lock). word_of (effect i (kind_of new) l) (slice_index lows o)) (sym thin)
 
 -- an exchange of the free word may be made: it is won where the word is free
 pub exchanges : {B : Type 0} (bound : B → List ObjectId) (lows : List ℕ) (count slots id : ℕ) (me : Me (Option B) View) (o low new : ℕ) → HasOneIndex me.0 → o < length lows → low ≡ slice_index lows o → new ≡ word_of (Thin (index_of me.0.parts) 0) low

@@ -15,7 +15,7 @@ use Rattle.header_words.specs.Events.{holds_of, depth, lock_at, Replays, free_lo
 use Rattle.header_words.specs.Rule.{Each, part, index_of, mine_of, HasOneIndex, Ruled, spent_view, with_parts, kept_view, given_view, longer_of, joined_view}
 use Rattle.header_words.specs.Steps.{Saw, SeesAll, Syncs}
 use Rattle.header_words.specs.Passes.{IsPass, pass_value, HaveMet}
-use Rattle.header_words.proofs.History.{depth_is_holds, thin_other}
+use Rattle.header_words.proofs.Traces.{depth_is_holds, thin_other}
 use Rattle.header_words.proofs.Seats.{merges, syncs, forks}
 
 -- what holds of each of two lists holds of each of the right
@@ -33,7 +33,7 @@ not_both i j (Thin k c) ne = go (ℕ_discrete k i)
     go (no not) = inl (thin_other i k c not)
 not_both i j (Fat m) ne = inl refl
 
--- the view of a seat with two indices that has seen this history
+-- the view of a seat with two indices that has seen this trace
 abbrev pub met_view : View → View → List Event → View
 met_view v w seen = record { lows = v.lows; count = v.count; parts = part (index_of v.parts) (mine_of v.parts) ∷ part (index_of w.parts) (mine_of w.parts) ∷ []; seen = seen; earlier = []; has_gate = false; steps = suc (suc v.steps) }
 

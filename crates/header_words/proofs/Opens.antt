@@ -17,7 +17,7 @@ use Rattle.header_words.specs.Rule.{Each, part, IsMine, AreApart, Knows, Ruled, 
 use Rattle.header_words.specs.Passes.{Opening, IsPass, new_pass, new_passes, PassValue, pass_value}
 use Rattle.header_words.specs.Gate.{Gated}
 use Rattle.header_words.proofs.Gates.{gated_first}
-use Rattle.header_words.proofs.History.{free_at}
+use Rattle.header_words.proofs.Traces.{free_at}
 use Rattle.header_words.proofs.Seats.{forks}
 
 -- new indices are above those before them

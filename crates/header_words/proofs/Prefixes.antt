@@ -1,11 +1,11 @@
--- Beginnings of one history.
+-- Beginnings of one trace.
 use Rattle.std.proofs.Common.{◌≡◌, ◌⊎◌, ℕ, ◌+◌, ◌≤◌, Bool, true, false, List, [], ◌∷◌, ◌++◌, length, refl, sym, ap, ◌∙◌, subst, arith, inl, inr, ⊎_elim, ltb-true, ltb-false, length-append, append-nil}
 use Rattle.std.specs.Prelude.{if◌then◌else◌, nat_lt}
 use mathlib.Core.List.{IsPrefix}
 use Rattle.header_words.specs.declared.event.Event.{Event}
 use Rattle.header_words.specs.Events.{own_events}
 use Rattle.header_words.specs.Rule.{longer_of}
-use Rattle.header_words.proofs.History.{own_events-append}
+use Rattle.header_words.proofs.Traces.{own_events-append}
 
 -- a list of no elements
 nil_of_length : (xs : List Event) → length xs ≡ 0 → xs ≡ []

@@ -1,16 +1,16 @@
--- Which monitors a history has published, and which of them a list of bound objects has.
+-- Which monitors a trace has published, and which of them a list of bound objects has.
 use Rattle.std.specs.Prelude.{◌≡◌, ◌⊎◌, ℕ, Bool, true, List, [], ◌∷◌, slice_get, Some}
 use Rattle.lock_word.specs.declared.ObjectId.{ObjectId}
-use Rattle.header_words.specs.declared.event.Deed.{Deed}
-use Rattle.header_words.specs.declared.event.Deed.TheVariants.{Load, Win, Lose, Nest, Unnest, Release, Publish}
+use Rattle.header_words.specs.declared.event.EventKind.{EventKind}
+use Rattle.header_words.specs.declared.event.EventKind.TheVariants.{Load, Win, Lose, Nest, Unnest, Release, Publish}
 use Rattle.header_words.specs.declared.event.Event.{Event}
 
--- the history has a publish of the monitor m at the object o
+-- the trace has a publish of the monitor m at the object o
 abbrev pub HasPublish : ℕ → ℕ → List Event → Type 0
 HasPublish m o [] = ⊥
-HasPublish m o (e ∷ es) = ((e.deed ≡ Publish m) × (e.object ≡ o)) ⊎ HasPublish m o es
+HasPublish m o (e ∷ es) = ((e.kind ≡ Publish m) × (e.object ≡ o)) ⊎ HasPublish m o es
 
--- every publish of the history has its like in what was seen
+-- every publish of the trace has its like in what was seen
 abbrev pub HasPublishesOf : List Event → List Event → Type 0
 HasPublishesOf log seen = (m o : ℕ) → HasPublish m o log → HasPublish m o seen
 
@@ -22,18 +22,18 @@ Binds objects m o = slice_get objects m ≡ Some (record { 0 = o })
 abbrev pub Covers : List ObjectId → List Event → Type 0
 Covers objects log = (m o : ℕ) → HasPublish m o log → Binds objects m o
 
--- the deed is no publish, or the list binds its monitor to the object o
-abbrev pub BindsDeed : List ObjectId → Deed → ℕ → Type 0
-BindsDeed objects (Load w) o = Unit {0}
-BindsDeed objects Win o = Unit {0}
-BindsDeed objects Lose o = Unit {0}
-BindsDeed objects Nest o = Unit {0}
-BindsDeed objects Unnest o = Unit {0}
-BindsDeed objects Release o = Unit {0}
-BindsDeed objects (Publish m) o = Binds objects m o
+-- an event of this kind is no publish, or the list binds its monitor to the object o
+abbrev pub BindsKind : List ObjectId → EventKind → ℕ → Type 0
+BindsKind objects (Load w) o = Unit {0}
+BindsKind objects Win o = Unit {0}
+BindsKind objects Lose o = Unit {0}
+BindsKind objects Nest o = Unit {0}
+BindsKind objects Unnest o = Unit {0}
+BindsKind objects Release o = Unit {0}
+BindsKind objects (Publish m) o = Binds objects m o
 
--- the deed is no publish
-abbrev pub IsNoPublish : Deed → Type 0
+-- an event of this kind is no publish
+abbrev pub IsNoPublish : EventKind → Type 0
 IsNoPublish (Load w) = Unit {0}
 IsNoPublish Win = Unit {0}
 IsNoPublish Lose = Unit {0}
@@ -43,5 +43,5 @@ IsNoPublish Release = Unit {0}
 IsNoPublish (Publish m) = ⊥
 
 -- only a pass that has the gate publishes
-abbrev pub GateAllows : Bool → Deed → Type 0
-GateAllows has_gate deed = (has_gate ≡ true) ⊎ IsNoPublish deed
+abbrev pub GateAllows : Bool → EventKind → Type 0
+GateAllows has_gate kind = (has_gate ≡ true) ⊎ IsNoPublish kind

@@ -9,7 +9,7 @@ use Rattle.header_words.specs.declared.rule.View.{View}
 use Rattle.header_words.specs.Bindings.{Covers, HasPublishesOf}
 
 -- The gate word is 0 where the gate is open, and else the index of the pass that took it.
--- home: while the gate is open, the book lies in its slot, and binds every publish of the history.
+-- home: while the gate is open, the book lies in its slot, and binds every publish of the trace.
 -- taken: while it is taken, the seat of that index has it.
 -- holders: a seat that has the gate is that one, and has seen every publish.
 pub record Gated {B : Type 0} (bound : B → List ObjectId) (count : ℕ) (log : List Event) (seat_of : ℕ → ℕ) (gate : ℕ)

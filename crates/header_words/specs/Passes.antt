@@ -9,13 +9,13 @@ use Rattle.lock_word.specs.declared.Lock.{Lock}
 use Rattle.lock_word.specs.declared.ObjectId.{ObjectId}
 use Rattle.lock_word.specs.declared.Lock.TheVariants.{Thin}
 use Rattle.header_words.specs.WideWords.{word_of}
-use Rattle.header_words.specs.declared.event.Deed.{Deed}
+use Rattle.header_words.specs.declared.event.EventKind.{EventKind}
 use Rattle.header_words.specs.declared.event.Event.{Event}
 use Rattle.header_words.specs.declared.open.Row.{Row}
 use Rattle.header_words.specs.declared.rule.Layout.{Layout}
 use Rattle.header_words.specs.declared.rule.Part.{Part}
 use Rattle.header_words.specs.declared.rule.View.{View}
-use Rattle.header_words.specs.Bindings.{Covers, BindsDeed, HasPublishesOf}
+use Rattle.header_words.specs.Bindings.{Covers, BindsKind, HasPublishesOf}
 use Rattle.header_words.specs.Events.{event, depth_after, lock_at, Replays, free_locks, own_events, depth}
 use Rattle.header_words.specs.Rule.{Each, part, index_of, mine_of, HasOneIndex}
 use Rattle.header_words.specs.Steps.{Saw, ShowsDepth}
@@ -41,7 +41,7 @@ pub record IsHeaders (z : TableId) (table_key layout : Layout) : Type 0 where
   pub words : z.words ≡ length layout.lows.items + 1
 
 -- A pass as contracts see it: what it was opened with, its index, its own events, the beginning of
--- the history that it has seen, whether it has the gate, and how many atomic steps of its own have
+-- the trace that it has seen, whether it has the gate, and how many atomic steps of its own have
 -- changed what it knows.
 pub record PassValue : Type 0 where
   pub opening : Opening
@@ -96,26 +96,26 @@ pub record IsPass {B : Type 0} (index : ℕ) (depths low_bytes : List ℕ) (has_
   pub saw : Saw s.me.0.lows s.me.0.count s.me.0.seen (index_of s.me.0.parts) (mine_of s.me.0.parts)
 
 -- the pass made this event by one step, the last of its own and of all that it has seen, the
--- object's word then is n, and only its depth there follows the deed
+-- object's word then is n, and only its depth there follows the event
 -- publishes: while the pass has the gate, what it sees of others has no publish that it had not
 -- seen
 -- covers: so a list that bound every publish that it had seen, and binds its own, binds every
 -- publish that it has seen then
-pub record MakesEvent (o : ℕ) (deed : Deed) (n : ℕ) (p q : PassValue) : Type 0 where
+pub record MakesEvent (o : ℕ) (kind : EventKind) (n : ℕ) (p q : PassValue) : Type 0 where
   pub opening : q.opening ≡ p.opening
   pub index : q.index ≡ p.index
-  pub mine : q.mine ≡ p.mine ++ event p.index o deed ∷ []
+  pub mine : q.mine ≡ p.mine ++ event p.index o kind ∷ []
   pub has_gate : q.has_gate ≡ p.has_gate
   pub step : q.steps ≡ suc p.steps
   pub rest : List Event
-  pub seen : q.seen ≡ (p.seen ++ rest) ++ event p.index o deed ∷ []
+  pub seen : q.seen ≡ (p.seen ++ rest) ++ event p.index o kind ∷ []
   pub saw : Saw q.opening.lows q.opening.count q.seen q.index q.mine
   pub word : n ≡ word_of (lock_at saw.locks o) (slice_index q.opening.lows o)
-  pub new_depth : depth o q.mine ≡ depth_after deed (depth o p.mine)
+  pub new_depth : depth o q.mine ≡ depth_after kind (depth o p.mine)
   pub others : (k : ℕ) → k ≢ o → depth k q.mine ≡ depth k p.mine
   pub publishes : p.has_gate ≡ true → HasPublishesOf (p.seen ++ rest) p.seen
   pub covers : p.has_gate ≡ true → (objects : List ObjectId)
-      → Covers objects p.seen → BindsDeed objects deed o → Covers objects q.seen
+      → Covers objects p.seen → BindsKind objects kind o → Covers objects q.seen
 
 -- in the replay of what the pass has seen, the object is locked thinly with its index and the count
 -- c exactly where d is c + 1
@@ -136,13 +136,13 @@ abbrev pub new_passes : Opening → ℕ → ℕ → List PassValue
 new_passes z i zero = []
 new_passes z i (suc n) = new_pass z i ∷ new_passes z (suc i) n
 
--- `q` is the pass `p`, and has seen this history, which begins with what `p` has seen; it does not
+-- `q` is the pass `p`, and has seen this trace, which begins with what `p` has seen; it does not
 -- have the gate
 abbrev pub SeesMore : PassValue → PassValue → List Event → Type 0
 SeesMore p q seen = IsPrefix p.seen seen × (q
     ≡ record { opening = p.opening; index = p.index; mine = p.mine; seen = seen; has_gate = false; steps = q.steps })
 
--- two passes have met: they have seen one history, which replays and has just the events that each
+-- two passes have met: they have seen one trace, which replays and has just the events that each
 -- made, and they do not both hold an object thinly
 pub record HaveMet (p q p' q' : PassValue) : Type 0 where
   pub seen : List Event
@@ -154,7 +154,7 @@ pub record HaveMet (p q p' q' : PassValue) : Type 0 where
   pub right_own : own_events q.index seen ≡ q.mine
   pub apart : (o : ℕ) → (depth o p.mine ≡ 0) ⊎ (depth o q.mine ≡ 0)
 
--- the pass has taken the gate by one step, and has seen a history that begins with what it had
+-- the pass has taken the gate by one step, and has seen a trace that begins with what it had
 -- seen, replays, and has just its own events of it
 pub record HasTaken (p q : PassValue) : Type 0 where
   pub pass : q ≡ record {
@@ -191,7 +191,7 @@ HasAll count ps = (i : ℕ) → 1 ≤ i → i ≤ count → Contains (indices_of
 abbrev pub LacksOne : ℕ → List PassValue → Type 0
 LacksOne count ps = (i : ℕ) × (1 ≤ i) × (i ≤ count) × (Contains (indices_of ps) i → ⊥)
 
--- the words are the replay of one history, each pass has seen a beginning of it, its events of a
+-- the words are the replay of one trace, each pass has seen a beginning of it, its events of a
 -- pass are just those that the pass made, words show depths, and the list of bound objects binds
 -- its publishes
 pub record IsClosed (z : Opening) (ps : List PassValue) (words : List ℕ) (objects : List ObjectId) : Type 0 where

@@ -1,4 +1,4 @@
--- The rule of the words: there is one history, which replays to them. Each seat has seen a
+-- The rule of the words: there is one trace, which replays to them. Each seat has seen a
 -- beginning of it, and knows all events of its own.
 use Rattle.std.specs.Prelude.{◌≡◌, ◌≢◌, ℕ, zero, suc, ◌+◌, ◌<◌, ◌≤◌, false, Option, List, [], ◌∷◌, ◌++◌, length}
 use Rattle.std.specs.Prelude.{slice_index, if◌then◌else◌, nat_lt}
@@ -55,7 +55,7 @@ opening_view lows count = record {
   steps = 0;
 }
 
--- the seat k with this view has this index: the index has just these events in the history, and in
+-- the seat k with this view has this index: the index has just these events in the trace, and in
 -- what the seat has seen
 pub record IsMine (lows : List ℕ) (count : ℕ) (log : List Event) (seat_of : ℕ → ℕ) (k : ℕ) (v : View)
     (p : Part) : Type 0 where
@@ -72,7 +72,7 @@ abbrev pub AreApart : List Part → Type 0
 AreApart [] = Unit {0}
 AreApart (p ∷ ps) = Each (λ q. p.index ≢ q.index) ps × AreApart ps
 
--- what the seat k with this view knows of the history: it has seen a beginning, as did the seats
+-- what the seat k with this view knows of the trace: it has seen a beginning, as did the seats
 -- that it took in, and it has its indices alone
 pub record Knows (lows : List ℕ) (count : ℕ) (log : List Event) (seat_of : ℕ → ℕ) (k : ℕ) (v : View) : Type 0 where
   pub seen : IsPrefix v.seen log
@@ -80,7 +80,7 @@ pub record Knows (lows : List ℕ) (count : ℕ) (log : List Event) (seat_of : �
   pub parts : Each (IsMine lows count log seat_of k v) v.parts
   pub apart : AreApart v.parts
 
--- the rule: one history replays to the words, of which 0 is the gate and o + 1 that of the object
+-- the rule: one trace replays to the words, of which 0 is the gate and o + 1 that of the object
 -- o, and the book binds what it publishes
 pub record Ruled {B : Type 0} (bound : B → List ObjectId) (lows : List ℕ) (count : ℕ)
     (s : State (Option B) View) : Type 0 where
@@ -95,7 +95,7 @@ pub record Ruled {B : Type 0} (bound : B → List ObjectId) (lows : List ℕ) (c
   pub views : (k : ℕ) (v : View) → get_elem? s.views k ≡ some v → Knows lows count log seat_of k v
   pub gated : Gated bound count log seat_of (slice_index s.words 0) s.homes s.views
 
--- what a step of a seat with the index i and the events m makes of its view, where the history is
+-- what a step of a seat with the index i and the events m makes of its view, where the trace is
 -- log
 abbrev pub stepped_view : View → List Event → ℕ → List Event → Event → View
 stepped_view v log i m e = record {

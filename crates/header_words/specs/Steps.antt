@@ -1,4 +1,4 @@
--- What each kind of step tells the seat that takes it.
+-- What each kind_of of step tells the seat that takes it.
 use Rattle.std.specs.Prelude.{◌≡◌, ◌≢◌, ◌↔◌, ℕ, suc, ◌+◌, ◌-◌, ◌/◌, ◌<◌, Bool, true, false, Option, Some, List, [], ◌∷◌}
 use Rattle.std.specs.Prelude.{◌++◌, slice_index}
 use mathlib.Core.List.{IsPrefix}
@@ -8,8 +8,8 @@ use Rattle.lock_word.specs.declared.ObjectId.{ObjectId}
 use Rattle.lock_word.specs.declared.Lock.TheVariants.{Thin, Fat}
 use Rattle.header_words.specs.WideWords.{word_of, lock_of, IsMalformed}
 use Rattle.lock_word.specs.Layout.{low_of}
-use Rattle.header_words.specs.declared.event.Deed.{Deed}
-use Rattle.header_words.specs.declared.event.Deed.TheVariants.{Load, Win, Lose, Publish}
+use Rattle.header_words.specs.declared.event.EventKind.{EventKind}
+use Rattle.header_words.specs.declared.event.EventKind.TheVariants.{Load, Win, Lose, Publish}
 use Rattle.header_words.specs.declared.event.Event.{Event}
 use Rattle.header_words.specs.declared.rule.View.{View}
 use Rattle.header_words.specs.Bindings.{Covers, HasPublish, HasPublishesOf, GateAllows}
@@ -25,18 +25,18 @@ pub record ShowsDepth (i d low word : ℕ) : Type 0 where
   pub spelled : word ≡ word_of (lock_of word) low
   pub formed : IsMalformed word → ⊥
 
--- the history that the pass i has seen replays, and has just these events of its own
+-- the trace that the pass i has seen replays, and has just these events of its own
 pub record Saw (lows : List ℕ) (count : ℕ) (seen : List Event) (i : ℕ) (mine : List Event) : Type 0 where
   pub locks : List Lock
   pub replays : Replays lows count (free_locks lows) seen locks
   pub own : own_events i seen ≡ mine
 
--- the seat added this event of its own to the history, saw it all, and the object's word then is n,
+-- the seat added this event of its own to the trace, saw it all, and the object's word then is n,
 -- which is fat only by a publish
 -- publishes: while the seat has the gate, no other publishes
-pub record AddsEvent (o : ℕ) (deed : Deed) (n : ℕ) (v w : View) : Type 0 where
+pub record AddsEvent (o : ℕ) (kind : EventKind) (n : ℕ) (v w : View) : Type 0 where
   pub rest : List Event
-  pub view : w ≡ stepped_view v (v.seen ++ rest) (index_of v.parts) (mine_of v.parts) (event (index_of v.parts) o deed)
+  pub view : w ≡ stepped_view v (v.seen ++ rest) (index_of v.parts) (mine_of v.parts) (event (index_of v.parts) o kind)
   pub saw : Saw w.lows w.count w.seen (index_of w.parts) (mine_of w.parts)
   pub word : n ≡ word_of (lock_at saw.locks o) (slice_index w.lows o)
   pub small : n < 4294967296
@@ -44,20 +44,20 @@ pub record AddsEvent (o : ℕ) (deed : Deed) (n : ℕ) (v w : View) : Type 0 whe
   pub publishes : v.has_gate ≡ true → HasPublishesOf (v.seen ++ rest) v.seen
   pub shows : ShowsDepth (index_of w.parts) (depth o (mine_of w.parts)) (slice_index w.lows o) n
 
--- the step was this deed at the object of its word, and left the slots that the seat holds
-abbrev pub Does : {S : Type 0} → Deed → ℕ → Step S → Me S View → Me S View → Type 0
-Does deed n st me me' = ((o : ℕ) → st.word ≡ o + 1 → AddsEvent o deed n me.0 me'.0) × (me'.1 ≡ me.1)
+-- the step was an event of this kind at the object of its word, and left the slots that the seat holds
+abbrev pub Does : {S : Type 0} → EventKind → ℕ → Step S → Me S View → Me S View → Type 0
+Does kind n st me me' = ((o : ℕ) → st.word ≡ o + 1 → AddsEvent o kind n me.0 me'.0) × (me'.1 ≡ me.1)
 
 -- the load of a word
 abbrev pub Loads : {S : Type 0} → Step S → Me S View → ℕ → Me S View → Type 0
 Loads st me n me' = Does (Load n) n st me me'
 
--- the store of a word, which tells the deed
-abbrev pub Stores : {S : Type 0} → (ℕ → Deed) → Step S → Me S View → ℕ → Me S View → Type 0
-Stores deed st me n me' = Does (deed n) n st me me'
+-- the store of a word, which tells the kind of its event
+abbrev pub Stores : {S : Type 0} → (ℕ → EventKind) → Step S → Me S View → ℕ → Me S View → Type 0
+Stores kind st me n me' = Does (kind n) n st me me'
 
 -- the store of a fat word, by its monitor
-abbrev pub publish_of : ℕ → Deed
+abbrev pub publish_of : ℕ → EventKind
 publish_of n = Publish ((n - 2147483648) / 256)
 
 -- the exchange of the free word: it was won where it found that word
@@ -66,12 +66,12 @@ Exchanges st me n me' = (n ≡ st.first → Does Win st.second st me me') × (n 
 
 -- the pass i, which holds the object `deep` times and has the gate or not, may store the word of
 -- this lock, and then holds it `left` times
-abbrev pub MayStore : ℕ → ℕ → Bool → Deed → ℕ → Lock → ℕ → Type 0
-MayStore i deep has_gate deed low lock left =
-    GateAllows has_gate deed × (d : ℕ) × (deep ≡ suc d) × Legal i deed (Thin i d) low
-    × (lock ≡ effect i deed (Thin i d)) × (left ≡ depth_after deed deep)
+abbrev pub MayStore : ℕ → ℕ → Bool → EventKind → ℕ → Lock → ℕ → Type 0
+MayStore i deep has_gate kind low lock left =
+    GateAllows has_gate kind × (d : ℕ) × (deep ≡ suc d) × Legal i kind (Thin i d) low
+    × (lock ≡ effect i kind (Thin i d)) × (left ≡ depth_after kind deep)
 
--- the seat sees the whole history, which replays and begins with each list that was seen before
+-- the seat sees the whole trace, which replays and begins with each list that was seen before
 pub record SeesAll (v w : View) : Type 0 where
   pub view : w ≡ record {
     lows = v.lows;
@@ -96,7 +96,7 @@ pub record SeesAll (v w : View) : Type 0 where
 abbrev pub Syncs : {S : Type 0} → Step S → Me S View → ℕ → Me S View → Type 0
 Syncs st me n me' = SeesAll me.0 me'.0 × (me'.1 ≡ me.1)
 
--- the seat sees the whole history, and has the gate
+-- the seat sees the whole trace, and has the gate
 pub record TakesGate (v w : View) : Type 0 where
   pub view : w ≡ record {
     lows = v.lows;

@@ -35,8 +35,8 @@ impl<B: Kept> Model for Headers<B> {
 impl<B: Kept> Headers<B> {
     ghost use Rattle.header_words.specs.Passes.{MakesEvent, HaveMet, depth_at, low_at, word_at};
     ghost use Rattle.header_words.specs.Steps.{MayStore, ShowsDepth};
-    ghost use Rattle.header_words.specs.declared.event.Deed.TheVariants.{Load, Win, Lose, Nest};
-    ghost use Rattle.header_words.specs.declared.event.Deed.TheVariants.{Unnest, Release, Publish};
+    ghost use Rattle.header_words.specs.declared.event.EventKind.TheVariants.{Load, Win, Lose, Nest};
+    ghost use Rattle.header_words.specs.declared.event.EventKind.TheVariants.{Unnest, Release, Publish};
     ghost use Rattle.lock_word.specs.declared.Lock.TheVariants.{Free, Thin, Fat};
     ghost use Rattle.header_words.specs.Bindings.{Binds, HasPublish};
     ghost use Rattle.header_words.specs.WideWords.{Fits, lock_of};
@@ -98,8 +98,8 @@ impl<B: Kept> Headers<B> {
         requires fits { Fits lock }
         requires most { left ≤ 256 }
         requires legal { MayStore pass.old.index (depth_at pass.old object.0) pass.old.has_gate
-            (D.deed (word_at self.now object.0 lock)) (low_at self.now object.0) lock left }
-        ensures { MakesEvent object.0 (D.deed (word_at self.now object.0 lock))
+            (D.kind (word_at self.now object.0 lock)) (low_at self.now object.0) lock left }
+        ensures { MakesEvent object.0 (D.kind (word_at self.now object.0 lock))
             (word_at self.now object.0 lock) pass.old pass.new }
     {
         let at = object.0 as usize;
@@ -180,7 +180,7 @@ impl<B: Kept> Headers<B> {
         self.note_then_store::<Publishes>(pass, receipt.object(), Lock::Fat { monitor }, 0);
     }
 
-    /// Makes two passes see one history: all that the one or the other has seen, and all that came
+    /// Makes two passes see one trace: all that the one or the other has seen, and all that came
     /// before now. It changes no word.
     pub fn meet(&self, left: Pass<B>, right: Pass<B>) -> (Pass<B>, Pass<B>)
         requires left { left.opening ≡ self.now }

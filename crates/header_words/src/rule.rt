@@ -30,7 +30,7 @@ pub struct Layout {
     pub count: u16,
 }
 
-/// There is one history, which replays to the words, and the book binds all that it publishes.
+/// There is one trace, which replays to the words, and the book binds all that it publishes.
 pub struct Law;
 
 impl<B: Kept> TableRule<Option<B>, View, Layout> for Law {
@@ -59,50 +59,50 @@ impl<S> Play<S, View> for Exchange {
     ghost then = { Exchanges };
 }
 
-/// Which deed the store of a word is.
+/// Of which kind the event of a store is.
 pub trait Kind {
     ghost use Rattle.std.specs.Prelude.{ℕ};
-    ghost use Rattle.header_words.specs.declared.event.Deed.{Deed};
+    ghost use Rattle.header_words.specs.declared.event.EventKind.{EventKind};
 
-    ghost deed: { ℕ → Deed };
+    ghost kind: { ℕ → EventKind };
 }
 
 /// An owner's plain store.
 pub struct Stored<D> {
-    kind: PhantomData<D>,
+    marker: PhantomData<D>,
 }
 
 impl<S, D: Kind> Play<S, View> for Stored<D> {
     ghost use Rattle.header_words.specs.Steps.{Stores};
 
-    ghost then = { Stores D.deed };
+    ghost then = { Stores D.kind };
 }
 
 /// The store of a release.
 pub struct Releases;
 
 impl Kind for Releases {
-    ghost use Rattle.header_words.specs.declared.event.Deed.TheVariants.{Release};
+    ghost use Rattle.header_words.specs.declared.event.EventKind.TheVariants.{Release};
 
-    ghost deed = { λ _. Release };
+    ghost kind = { λ _. Release };
 }
 
 /// The store of one more lock.
 pub struct Nests;
 
 impl Kind for Nests {
-    ghost use Rattle.header_words.specs.declared.event.Deed.TheVariants.{Nest};
+    ghost use Rattle.header_words.specs.declared.event.EventKind.TheVariants.{Nest};
 
-    ghost deed = { λ _. Nest };
+    ghost kind = { λ _. Nest };
 }
 
 /// The store of one lock less.
 pub struct Unnests;
 
 impl Kind for Unnests {
-    ghost use Rattle.header_words.specs.declared.event.Deed.TheVariants.{Unnest};
+    ghost use Rattle.header_words.specs.declared.event.EventKind.TheVariants.{Unnest};
 
-    ghost deed = { λ _. Unnest };
+    ghost kind = { λ _. Unnest };
 }
 
 /// The store of a fat word.
@@ -111,7 +111,7 @@ pub struct Publishes;
 impl Kind for Publishes {
     ghost use Rattle.header_words.specs.Steps.{publish_of};
 
-    ghost deed = { publish_of };
+    ghost kind = { publish_of };
 }
 
 /// Gives the first index of a seat to a new seat.
@@ -136,7 +136,7 @@ impl Join<View> for Joined {
     ghost spent = { spent_view };
 }
 
-/// The load of the gate word, by which a seat sees the whole history.
+/// The load of the gate word, by which a seat sees the whole trace.
 pub struct Sync;
 
 impl<S> Play<S, View> for Sync {

@@ -9,7 +9,7 @@ pub mod Judging
 pub mod Replying
 pub mod Judged
 pub mod Woken
-pub mod Turned
-pub mod Places
+pub mod Crossed
+pub mod Positions
 pub mod TakenOut
 pub mod SameOwner

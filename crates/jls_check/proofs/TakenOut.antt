@@ -1,4 +1,4 @@
--- What slots and places show when a slot is taken out, and the last one takes its place.
+-- What slots and positions show when a slot is taken out, and the last one takes its position.
 use Rattle.std.specs.Prelude.{◌≡◌, ◌⊎◌, ℕ, zero, suc, ◌-◌, ◌<◌, ◌≤◌, ◌==◌, List, [], ◌∷◌, Option, Some, None, cond, length, slice_get, slice_set, slice_index_or, take}
 use Rattle.std.proofs.Common.{refl, ap, sym, ◌∙◌, inl, inr, subst, arith}
 use Rattle.std.proofs.lemmas.Bool.{cases_eq, cases_lt, eq-eqb, ne_eqb}
@@ -12,9 +12,9 @@ use Rattle.std.specs.FinMap as map
 use Rattle.std.specs.FinMap.{same_map, nat_cmp-IsAntisymmetric}
 use Rattle.fat_monitor.proofs.PostMaps.{get-remove_by}
 use Rattle.jls_check.specs.declared.slots.Slot.{Slot}
-use Rattle.jls_check.specs.Slots.{records_in, LeadToSlots, HavePlaces}
+use Rattle.jls_check.specs.Slots.{records_in, LeadToSlots, HavePositions}
 use Rattle.jls_check.proofs.LiveMaps.{at_key}
-use Rattle.jls_check.proofs.Places.{Haves, Leads, get_records, haves-drop, haves-put, leads-drop, leads-put, no_record, place_in, place_within, set_elsewhere, set_here, value-drop, value-put, value_at}
+use Rattle.jls_check.proofs.Positions.{Haves, Leads, get_records, haves-drop, haves-put, leads-drop, leads-put, no_record, position_in, position_within, set_elsewhere, set_here, value-drop, value-put, value_at}
 
 -- ---- the first part of a list
 
@@ -51,7 +51,7 @@ module _ (slots : List Slot) (k : ℕ) (d : Slot) (within : k < length slots) wh
       take_below (slice_set slots k (slice_index_or slots (length slots - 1) d)) (length slots - 1) k below
       ∙ set_here slots k (slice_index_or slots (length slots - 1) d) (slice_index_or slots k d) (slice_get-get_or slots k d within)
 
--- ---- slots and places without a number
+-- ---- slots and positions without a number
 
 beyond_last : (j n : ℕ) → n - 1 ≤ j → (j ≡ n - 1 → ⊥) → n ≤ j
 beyond_last j n past apart = by (cases_lt j n)
@@ -60,50 +60,50 @@ beyond_last j n past apart = by (cases_lt j n)
     by (inl less) = absurd (apart (omega arith))
     by (inr more) = more
 
--- what holds of slots and places without t
+-- what holds of slots and positions without t
 abbrev pub StandsWithout : ℕ → List Slot → List (ℕ × ℕ) → List Slot → List (ℕ × ℕ) → Type 0
-StandsWithout t slots places slots' places' =
-    LeadToSlots slots' places' × HavePlaces slots' places'
-    × ((q : ℕ) → value_at (slice_get slots') (place_in places') q ≡ cond (q == t) None (value_at (slice_get slots) (place_in places) q))
+StandsWithout t slots positions slots' positions' =
+    LeadToSlots slots' positions' × HavePositions slots' positions'
+    × ((q : ℕ) → value_at (slice_get slots') (position_in places') q ≡ cond (q == t) None (value_at (slice_get slots) (position_in places) q))
 
-module _ (slots : List Slot) (places places' : List (ℕ × ℕ)) (t k : ℕ) (d : Slot)
-    (leads : LeadToSlots slots places)
-    (haves : HavePlaces slots places)
-    (found : place_in places t ≡ Some k)
-    (drops : (q : ℕ) → place_in places' q ≡ cond (is_at (nat_cmp t) q) None (place_in places q)) where
+module _ (slots : List Slot) (positions positions' : List (ℕ × ℕ)) (t k : ℕ) (d : Slot)
+    (leads : LeadToSlots slots positions)
+    (haves : HavePositions slots positions)
+    (found : position_in places t ≡ Some k)
+    (drops : (q : ℕ) → position_in places' q ≡ cond (is_at (nat_cmp t) q) None (position_in places q)) where
   here : k < length slots
-  here = place_within slots places t k leads found
+  here = position_within slots positions t k leads found
 
-  dropped : place_in places' t ≡ None
-  dropped = drops t ∙ ap (λ b. cond b None (place_in places t)) (at_key t t ∙ eq-eqb t t refl)
+  dropped : position_in places' t ≡ None
+  dropped = drops t ∙ ap (λ b. cond b None (position_in places t)) (at_key t t ∙ eq-eqb t t refl)
 
-  kept_places : (q : ℕ) → (q ≡ t → ⊥) → place_in places' q ≡ place_in places q
-  kept_places q other = drops q ∙ ap (λ b. cond b None (place_in places q)) (at_key t q ∙ ne_eqb q t other)
+  kept_positions : (q : ℕ) → (q ≡ t → ⊥) → position_in places' q ≡ position_in places q
+  kept_positions q other = drops q ∙ ap (λ b. cond b None (position_in places q)) (at_key t q ∙ ne_eqb q t other)
 
   -- the last slot's number, where it is not the one that goes
   abbrev number : ℕ
   number = (slice_index_or slots (length slots - 1) d).number
 
-  place_of_last : place_in places number ≡ Some (length slots - 1)
-  place_of_last = haves (length slots - 1) (slice_index_or slots (length slots - 1) d) (last_there slots k d here)
+  position_of_last : position_in places number ≡ Some (length slots - 1)
+  position_of_last = haves (length slots - 1) (slice_index_or slots (length slots - 1) d) (last_there slots k d here)
 
   other_number : k < length slots - 1 → number ≡ t → ⊥
   other_number below same =
-      let at : k ≡ length slots - 1 = same_Some k (length slots - 1) (sym found ∙ ap (place_in places) (sym same) ∙ place_of_last) in
+      let at : k ≡ length slots - 1 = same_Some k (length slots - 1) (sym found ∙ ap (position_in places) (sym same) ∙ position_of_last) in
       absurd (omega arith)
 
-  pub still_placed : k < length slots - 1 → place_in places' (slice_index_or slots (length slots - 1) d).number ≡ Some (length slots - 1)
-  still_placed below = kept_places number (other_number below) ∙ place_of_last
+  pub still_led : k < length slots - 1 → position_in places' (slice_index_or slots (length slots - 1) d).number ≡ Some (length slots - 1)
+  still_led below = kept_positions number (other_number below) ∙ position_of_last
 
   -- the last slot goes itself
-  without_last : length slots - 1 ≤ k → StandsWithout t slots places (swap_remove slots k d) places'
+  without_last : length slots - 1 ≤ k → StandsWithout t slots positions (swap_remove slots k d) positions'
   without_last past =
       let a = slice_get slots in
       let a' = slice_get (swap_remove slots k d) in
       let gone : slice_get (swap_remove slots k d) k ≡ None = swapped_past slots k d here k past in (
-        leads-drop a a' (place_in places) (place_in places') t k leads haves found gone others dropped kept_places,
-        haves-drop a a' (place_in places) (place_in places') t k leads haves found gone others dropped kept_places,
-        value-drop a a' (place_in places) (place_in places') t k leads haves found gone others dropped kept_places,
+        leads-drop a a' (position_in places) (position_in places') t k leads haves found gone others dropped kept_positions,
+        haves-drop a a' (position_in places) (position_in places') t k leads haves found gone others dropped kept_positions,
+        value-drop a a' (position_in places) (position_in places') t k leads haves found gone others dropped kept_positions,
       )
     where
       others : (j : ℕ) → (j ≡ k → ⊥) → slice_get (swap_remove slots k d) j ≡ slice_get slots j
@@ -115,7 +115,7 @@ module _ (slots : List Slot) (places places' : List (ℕ × ℕ)) (t k : ℕ) (d
               let apart : j ≡ length slots - 1 → ⊥ = λ same. other (omega (arith, same, past, here)) in
               swapped_past slots k d here j past' ∙ sym (slice_get_past slots j (beyond_last j (length slots) past' apart))
 
-  -- the slot at the free place and the last one are gone
+  -- the slot at the free position and the last one are gone
   abbrev a1 : ℕ → Option Slot
   a1 j = cond (j == k) None (slice_get slots j)
 
@@ -123,7 +123,7 @@ module _ (slots : List Slot) (places places' : List (ℕ × ℕ)) (t k : ℕ) (d
   a2 j = cond (j == length slots - 1) None (a1 j)
 
   abbrev p2 : ℕ → Option ℕ
-  p2 q = cond (q == number) None (place_in places' q)
+  p2 q = cond (q == number) None (position_in places' q)
 
   gone1 : a1 k ≡ None
   gone1 = rw (eq-eqb k k refl) refl
@@ -140,29 +140,29 @@ module _ (slots : List Slot) (places places' : List (ℕ × ℕ)) (t k : ℕ) (d
   led2 : p2 number ≡ None
   led2 = rw (eq-eqb number number refl) refl
 
-  rest2 : (q : ℕ) → (q ≡ number → ⊥) → p2 q ≡ place_in places' q
+  rest2 : (q : ℕ) → (q ≡ number → ⊥) → p2 q ≡ position_in places' q
   rest2 q other = rw (ne_eqb q number other) refl
 
-  leads1 : Leads a1 (place_in places')
-  leads1 = leads-drop (slice_get slots) a1 (place_in places) (place_in places') t k leads haves found gone1 others1 dropped kept_places
+  leads1 : Leads a1 (position_in places')
+  leads1 = leads-drop (slice_get slots) a1 (position_in places) (position_in places') t k leads haves found gone1 others1 dropped kept_positions
 
-  haves1 : Haves a1 (place_in places')
-  haves1 = haves-drop (slice_get slots) a1 (place_in places) (place_in places') t k leads haves found gone1 others1 dropped kept_places
+  haves1 : Haves a1 (position_in places')
+  haves1 = haves-drop (slice_get slots) a1 (position_in places) (position_in places') t k leads haves found gone1 others1 dropped kept_positions
 
-  value1 : (q : ℕ) → value_at a1 (place_in places') q ≡ cond (q == t) None (value_at (slice_get slots) (place_in places) q)
-  value1 = value-drop (slice_get slots) a1 (place_in places) (place_in places') t k leads haves found gone1 others1 dropped kept_places
+  value1 : (q : ℕ) → value_at a1 (position_in places') q ≡ cond (q == t) None (value_at (slice_get slots) (position_in places) q)
+  value1 = value-drop (slice_get slots) a1 (position_in places) (position_in places') t k leads haves found gone1 others1 dropped kept_positions
 
   leads2 : k < length slots - 1 → Leads a2 p2
-  leads2 below = leads-drop a1 a2 (place_in places') p2 number (length slots - 1) leads1 haves1 (still_placed below) gone2 others2 led2 rest2
+  leads2 below = leads-drop a1 a2 (position_in places') p2 number (length slots - 1) leads1 haves1 (still_led below) gone2 others2 led2 rest2
 
   haves2 : k < length slots - 1 → Haves a2 p2
-  haves2 below = haves-drop a1 a2 (place_in places') p2 number (length slots - 1) leads1 haves1 (still_placed below) gone2 others2 led2 rest2
+  haves2 below = haves-drop a1 a2 (position_in places') p2 number (length slots - 1) leads1 haves1 (still_led below) gone2 others2 led2 rest2
 
-  value2 : k < length slots - 1 → (q : ℕ) → value_at a2 p2 q ≡ cond (q == number) None (value_at a1 (place_in places') q)
-  value2 below = value-drop a1 a2 (place_in places') p2 number (length slots - 1) leads1 haves1 (still_placed below) gone2 others2 led2 rest2
+  value2 : k < length slots - 1 → (q : ℕ) → value_at a2 p2 q ≡ cond (q == number) None (value_at a1 (position_in places') q)
+  value2 below = value-drop a1 a2 (position_in places') p2 number (length slots - 1) leads1 haves1 (still_led below) gone2 others2 led2 rest2
 
-  -- the last slot takes the free place, and its number's place follows
-  module _ (places'' : List (ℕ × ℕ)) (below : k < length slots - 1) (led : (q : ℕ) → place_in places'' q ≡ cond (is_at (nat_cmp number) q) (Some k) (place_in places' q)) where
+  -- the last slot takes the free position, and its number's position follows
+  module _ (positions'' : List (ℕ × ℕ)) (below : k < length slots - 1) (led : (q : ℕ) → position_in places'' q ≡ cond (is_at (nat_cmp number) q) (Some k) (position_in places' q)) where
     apart_last : k ≡ length slots - 1 → ⊥
     apart_last e = omega (arith, e, below)
 
@@ -190,70 +190,70 @@ module _ (slots : List Slot) (places places' : List (ℕ × ℕ)) (t k : ℕ) (d
             ∙ sym (others2 j (λ e. omega (arith, e, less)) ∙ others1 j other)
         by (inr past) = by_last past (cases_eq j (length slots - 1))
 
-    led_free : place_in places'' number ≡ Some k
-    led_free = led number ∙ ap (λ b. cond b (Some k) (place_in places' number)) (at_key number number ∙ eq-eqb number number refl)
+    led_free : position_in places'' number ≡ Some k
+    led_free = led number ∙ ap (λ b. cond b (Some k) (position_in places' number)) (at_key number number ∙ eq-eqb number number refl)
 
-    rest_free : (q : ℕ) → (q ≡ number → ⊥) → place_in places'' q ≡ p2 q
-    rest_free q other = led q ∙ ap (λ b. cond b (Some k) (place_in places' q)) (at_key number q ∙ ne_eqb q number other) ∙ sym (rest2 q other)
+    rest_free : (q : ℕ) → (q ≡ number → ⊥) → position_in places'' q ≡ p2 q
+    rest_free q other = led q ∙ ap (λ b. cond b (Some k) (position_in places' q)) (at_key number q ∙ ne_eqb q number other) ∙ sym (rest2 q other)
 
     last_value : (q : ℕ) → (q ≡ number) ⊎ (q ≡ number → ⊥)
-        → cond (q == number) (Some (slice_index_or slots (length slots - 1) d).kept) (cond (q == number) None (value_at a1 (place_in places') q)) ≡ cond (q == t) None (value_at (slice_get slots) (place_in places) q)
+        → cond (q == number) (Some (slice_index_or slots (length slots - 1) d).kept) (cond (q == number) None (value_at a1 (position_in places') q)) ≡ cond (q == t) None (value_at (slice_get slots) (position_in places) q)
     last_value q (inl same) =
         let apart : q ≡ t → ⊥ = λ e. other_number below (sym same ∙ e) in
-        rw (eq-eqb q number same, ne_eqb q t apart, same, place_of_last, last_there slots k d here) refl
+        rw (eq-eqb q number same, ne_eqb q t apart, same, position_of_last, last_there slots k d here) refl
     last_value q (inr other) = rw (ne_eqb q number other) (value1 q)
 
-    with_moved : StandsWithout t slots places (swap_remove slots k d) places''
+    with_moved : StandsWithout t slots positions (swap_remove slots k d) positions''
     with_moved =
         let a' = slice_get (swap_remove slots k d) in
         let new : Slot = slice_index_or slots (length slots - 1) d in
         let put = swapped_here slots k d here below in (
-          leads-put a2 a' p2 (place_in places'') k new (leads2 below) (haves2 below) alone_free mine_free put others_free led_free rest_free,
-          haves-put a2 a' p2 (place_in places'') k new (leads2 below) (haves2 below) alone_free mine_free put others_free led_free rest_free,
-          λ q. value-put a2 a' p2 (place_in places'') k new (leads2 below) (haves2 below) alone_free mine_free put others_free led_free rest_free q
+          leads-put a2 a' p2 (position_in places'') k new (leads2 below) (haves2 below) alone_free mine_free put others_free led_free rest_free,
+          haves-put a2 a' p2 (position_in places'') k new (leads2 below) (haves2 below) alone_free mine_free put others_free led_free rest_free,
+          λ q. value-put a2 a' p2 (position_in places'') k new (leads2 below) (haves2 below) alone_free mine_free put others_free led_free rest_free q
               ∙ ap (λ o. cond (q == number) (Some new.kept) o) (value2 below q) ∙ last_value q (cases_eq q number),
         )
 
-module _ (slots : List Slot) (places : List (ℕ × ℕ)) (m m' : BTreeMap ℕ ℕ) (t k : ℕ) (d : Slot)
-    (leads : LeadToSlots slots places)
-    (haves : HavePlaces slots places)
-    (found : place_in places t ≡ Some k)
-    (drops : (q : ℕ) → place_in m.entries q ≡ cond (is_at (nat_cmp t) q) None (place_in places q)) where
+module _ (slots : List Slot) (positions : List (ℕ × ℕ)) (m m' : BTreeMap ℕ ℕ) (t k : ℕ) (d : Slot)
+    (leads : LeadToSlots slots positions)
+    (haves : HavePositions slots positions)
+    (found : position_in places t ≡ Some k)
+    (drops : (q : ℕ) → position_in m.entries q ≡ cond (is_at (nat_cmp t) q) None (position_in places q)) where
   pub taken_out : MatchOption (slice_get (swap_remove slots k d) k) (m'.entries ≡ m.entries) (λ s. Updates nat_cmp m m' s.number (Some k))
-      → StandsWithout t slots places (swap_remove slots k d) m'.entries
+      → StandsWithout t slots positions (swap_remove slots k d) m'.entries
   taken_out follows = by (cases_lt k (length slots - 1))
     where
       within : k < length slots
-      within = place_within slots places t k leads found
+      within = position_within slots positions t k leads found
 
-      by : (k < length slots - 1) ⊎ (length slots - 1 ≤ k) → StandsWithout t slots places (swap_remove slots k d) m'.entries
+      by : (k < length slots - 1) ⊎ (length slots - 1 ≤ k) → StandsWithout t slots positions (swap_remove slots k d) m'.entries
       by (inl below) =
           let updates = MatchOption-at_some (m'.entries ≡ m.entries) (λ (s : Slot). Updates nat_cmp m m' s.number (Some k)) (slice_index_or slots (length slots - 1) d) (swapped_here slots k d within below) follows in
-          with_moved slots places m.entries t k d leads haves found drops m'.entries below updates.0
+          with_moved slots positions m.entries t k d leads haves found drops m'.entries below updates.0
       by (inr past) =
           let same = MatchOption-at_none (m'.entries ≡ m.entries) (λ (s : Slot). Updates nat_cmp m m' s.number (Some k)) (swapped_past slots k d within k past) follows in
-          subst (λ (es : List (ℕ × ℕ)). StandsWithout t slots places (swap_remove slots k d) es) (sym same) (without_last slots places m.entries t k d leads haves found drops past)
+          subst (λ (es : List (ℕ × ℕ)). StandsWithout t slots positions (swap_remove slots k d) es) (sym same) (without_last slots positions m.entries t k d leads haves found drops past)
 
-  -- the slot that comes to the place, if one does, has a place
-  pub still_there : IfSome (slice_get (swap_remove slots k d) k) (λ s. IsSome (place_in m.entries s.number))
+  -- the slot that comes to the position, if one does, has a position
+  pub still_there : IfSome (slice_get (swap_remove slots k d) k) (λ s. IsSome (position_in m.entries s.number))
   still_there = by (cases_lt k (length slots - 1))
     where
       within : k < length slots
-      within = place_within slots places t k leads found
+      within = position_within slots positions t k leads found
 
-      by : (k < length slots - 1) ⊎ (length slots - 1 ≤ k) → IfSome (slice_get (swap_remove slots k d) k) (λ s. IsSome (place_in m.entries s.number))
-      by (inl below) = rw (swapped_here slots k d within below, still_placed slots places m.entries t k d leads haves found drops below) refl
+      by : (k < length slots - 1) ⊎ (length slots - 1 ≤ k) → IfSome (slice_get (swap_remove slots k d) k) (λ s. IsSome (position_in m.entries s.number))
+      by (inl below) = rw (swapped_here slots k d within below, still_led slots positions m.entries t k d leads haves found drops below) refl
       by (inr past) = rw (swapped_past slots k d within k past) tt
 
 -- the records without one
-pub records-without : (t : ℕ) (slots : List Slot) (places : List (ℕ × ℕ)) (slots' : List Slot) (places' : List (ℕ × ℕ)) → StandsWithout t slots places slots' places' → records_in slots' places' ≡ map.remove (records_in slots places) t
-records-without t slots places slots' places' stands = same_map nat_cmp_total nat_cmp-IsAntisymmetric _ _ (λ q.
-    get_records slots' places' q ∙ stands.2 q ∙ ap (λ o. cond (q == t) None o) (sym (get_records slots places q)) ∙ sym (get-remove_by (records_in slots places) t q))
+pub records-without : (t : ℕ) (slots : List Slot) (positions : List (ℕ × ℕ)) (slots' : List Slot) (positions' : List (ℕ × ℕ)) → StandsWithout t slots positions slots' positions' → records_in slots' positions' ≡ map.remove (records_in slots positions) t
+records-without t slots positions slots' positions' stands = same_map nat_cmp_total nat_cmp-IsAntisymmetric _ _ (λ q.
+    get_records slots' positions' q ∙ stands.2 q ∙ ap (λ o. cond (q == t) None o) (sym (get_records slots positions q)) ∙ sym (get-remove_by (records_in slots positions) t q))
 
--- nothing goes where there is no place
-pub records-absent : (slots : List Slot) (places : List (ℕ × ℕ)) (t : ℕ) → place_in places t ≡ None → records_in slots places ≡ map.remove (records_in slots places) t
-records-absent slots places t none = same_map nat_cmp_total nat_cmp-IsAntisymmetric _ _ (λ q. by q (cases_eq q t) ∙ sym (get-remove_by (records_in slots places) t q))
+-- nothing goes where there is no position
+pub records-absent : (slots : List Slot) (positions : List (ℕ × ℕ)) (t : ℕ) → position_in places t ≡ None → records_in slots positions ≡ map.remove (records_in slots positions) t
+records-absent slots positions t none = same_map nat_cmp_total nat_cmp-IsAntisymmetric _ _ (λ q. by q (cases_eq q t) ∙ sym (get-remove_by (records_in slots positions) t q))
   where
-    by : (q : ℕ) → (q ≡ t) ⊎ (q ≡ t → ⊥) → map.get (records_in slots places) q ≡ cond (q == t) None (map.get (records_in slots places) q)
-    by q (inl same) = rw (eq-eqb q t same) (ap (map.get (records_in slots places)) same ∙ no_record slots places t none)
+    by : (q : ℕ) → (q ≡ t) ⊎ (q ≡ t → ⊥) → map.get (records_in slots positions) q ≡ cond (q == t) None (map.get (records_in slots positions) q)
+    by q (inl same) = rw (eq-eqb q t same) (ap (map.get (records_in slots positions)) same ∙ no_record slots positions t none)
     by q (inr other) = rw (ne_eqb q t other) refl

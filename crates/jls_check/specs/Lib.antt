@@ -3,7 +3,7 @@ pub mod Monitors
 pub mod MachineState
 pub mod View
 pub mod Taking
-pub mod Turns
+pub mod CallEdges
 pub mod Judging
 pub mod Texts
 pub mod Emptied

@@ -9,7 +9,7 @@ use crate::MoveFault;
 use crate::acts::{has, owner_only, yes_or_no};
 use crate::machine::Machine;
 use crate::monitors::Held;
-use crate::threads::{Live, Turn};
+use crate::threads::{Live, CallEdge};
 use fast_path::Call;
 use fat_monitor::{Cause, Reply};
 use lock_word::ThreadId;
@@ -66,7 +66,7 @@ impl Machine {
         ensures { record { answer = result; after = self.new }
             ≡ taken self.old (rows.return_with self.old thread reply) }
     {
-        if !self.threads.turn(thread, Turn::Returns(reply)) {
+        if !self.threads.cross(thread, CallEdge::Returns(reply)) {
             return Err(MoveFault::Broken);
         }
         Ok(())
@@ -79,7 +79,7 @@ impl Machine {
         if !self.names_an_object(call) {
             return Err(MoveFault::Broken);
         }
-        if !self.threads.turn(thread, Turn::Begins(call)) {
+        if !self.threads.cross(thread, CallEdge::Begins(call)) {
             return Err(MoveFault::Broken);
         }
         Ok(())

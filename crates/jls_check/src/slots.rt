@@ -5,7 +5,7 @@ ghost use Rattle.std.specs.Prelude.{map as list_map};
 ghost use Rattle.std.specs.Map.{lookup};
 ghost use Rattle.std.specs.BTreeMap.{is_at, Updates};
 ghost use Rattle.std.specs.Ordering.{nat_cmp};
-ghost use Rattle.jls_check.specs.Slots.{LeadsTo, HavePlaces, notified_slot};
+ghost use Rattle.jls_check.specs.Slots.{LeadsTo, HavePositions, notified_slot};
 
 use crate::threads::ThreadRecord;
 use fat_monitor::Why;
@@ -21,69 +21,69 @@ pub(crate) struct Slot {
 }
 
 /// Where the slot of a number is; None where it has none.
-pub(crate) fn place_of(
+pub(crate) fn position_of(
     slots: &[Slot],
-    places: &BTreeMap<u32, usize>,
+    positions: &BTreeMap<u32, usize>,
     hints: &[u32],
     number: u32,
 ) -> Option<usize>
-    requires { HavePlaces slots.now places.now.entries }
-    ensures { result ≡ lookup (is_at (nat_cmp number)) places.now.entries }
+    requires { HavePositions slots.now positions.now.entries }
+    ensures { result ≡ lookup (is_at (nat_cmp number)) positions.now.entries }
 {
-    if let Some(place) = hinted(slots, hints, number) {
-        return Some(place);
+    if let Some(position) = hinted(slots, hints, number) {
+        return Some(position);
     }
-    places.get(&number).copied()
+    positions.get(&number).copied()
 }
 
 /// The same, and where no hint leads there, there is one from now on, if there are hints at all.
-pub(crate) fn place_noting(
+pub(crate) fn position_noting(
     slots: &[Slot],
-    places: &BTreeMap<u32, usize>,
+    positions: &BTreeMap<u32, usize>,
     hints: &mut [u32],
     number: u32,
 ) -> Option<usize>
-    requires { HavePlaces slots.now places.now.entries }
-    ensures { result ≡ lookup (is_at (nat_cmp number)) places.now.entries }
+    requires { HavePositions slots.now positions.now.entries }
+    ensures { result ≡ lookup (is_at (nat_cmp number)) positions.now.entries }
 {
-    if let Some(place) = hinted(slots, hints, number) {
-        return Some(place);
+    if let Some(position) = hinted(slots, hints, number) {
+        return Some(position);
     }
-    let place = places.get(&number).copied()?;
-    note(hints, number, place);
-    Some(place)
+    let position = positions.get(&number).copied()?;
+    note(hints, number, position);
+    Some(position)
 }
 
-/// Whether the slot at this place is that of the number.
-fn is_of(slots: &[Slot], place: usize, number: u32) -> bool
-    ensures { IsTrue result → LeadsTo slots.now number place }
+/// Whether the slot at this position is that of the number.
+fn is_of(slots: &[Slot], position: usize, number: u32) -> bool
+    ensures { IsTrue result → LeadsTo slots.now number position }
 {
-    match slots.get(place) {
+    match slots.get(position) {
         Some(slot) => slot.number == number,
         None => false,
     }
 }
 
-/// The place that this hint names, where the slot there is that of the number.
+/// The position that this hint names, where the slot there is that of the number.
 fn hint_at(slots: &[Slot], hints: &[u32], at: usize, number: u32) -> Option<usize>
-    ensures { IfSome result (λ place. LeadsTo slots.now number place) }
+    ensures { IfSome result (λ position. LeadsTo slots.now number position) }
 {
-    let place = hints.get(at).copied()? as usize;
-    if is_of(slots, place, number) {
-        Some(place)
+    let position = hints.get(at).copied()? as usize;
+    if is_of(slots, position, number) {
+        Some(position)
     } else {
         None
     }
 }
 
-/// A place that a hint names, where the slot there is that of the number. Hints may be old, missing
+/// A position that a hint names, where the slot there is that of the number. Hints may be old, missing
 /// or another number's; nothing is proved of them.
 fn hinted(slots: &[Slot], hints: &[u32], number: u32) -> Option<usize>
-    ensures { IfSome result (λ place. LeadsTo slots.now number place) }
+    ensures { IfSome result (λ position. LeadsTo slots.now number position) }
 {
     let first = pair_of(hints.len(), number);
     match hint_at(slots, hints, first, number) {
-        Some(place) => Some(place),
+        Some(position) => Some(position),
         None => hint_at(slots, hints, first | 1, number),
     }
 }
@@ -97,42 +97,42 @@ fn pair_of(hints: usize, number: u32) -> usize {
 }
 
 /// Notes where the slot of a number is. Of the two hints that were there, the older goes.
-pub(crate) fn note(hints: &mut [u32], number: u32, place: usize) {
-    let Ok(place) = u32::try_from(place) else {
+pub(crate) fn note(hints: &mut [u32], number: u32, position: usize) {
+    let Ok(position) = u32::try_from(position) else {
         return;
     };
     let first = pair_of(hints.len(), number);
     let second = first | 1;
     if first < hints.len() && second < hints.len() {
         hints[second] = hints[first];
-        hints[first] = place;
+        hints[first] = position;
     }
 }
 
-/// Where a slot has come to this place from the end, its number's place follows.
+/// Where a slot has come to this position from the end, its number's position follows.
 pub(crate) fn follow(
     slots: &[Slot],
-    places: &mut BTreeMap<u32, usize>,
+    positions: &mut BTreeMap<u32, usize>,
     hints: &mut [u32],
-    place: usize,
+    position: usize,
 )
-    requires { IfSome (slice_get slots.now place)
-        (λ slot. IsSome (lookup (is_at (nat_cmp slot.number)) places.old.entries)) }
-    ensures { MatchOption (slice_get slots.now place)
-        (places.new.entries ≡ places.old.entries)
-        (λ slot. Updates nat_cmp places.old places.new slot.number (Some place)) }
+    requires { IfSome (slice_get slots.now position)
+        (λ slot. IsSome (lookup (is_at (nat_cmp slot.number)) positions.old.entries)) }
+    ensures { MatchOption (slice_get slots.now position)
+        (positions.new.entries ≡ positions.old.entries)
+        (λ slot. Updates nat_cmp positions.old positions.new slot.number (Some position)) }
 {
-    let Some(slot) = slots.get(place) else {
+    let Some(slot) = slots.get(position) else {
         return;
     };
-    let Some(moved) = places.get_mut(&slot.number) else {
+    let Some(moved) = positions.get_mut(&slot.number) else {
         unreachable!();
     };
-    *moved = place;
-    note_moved(hints, slot.number, slots.len(), place);
+    *moved = position;
+    note_moved(hints, slot.number, slots.len(), position);
 }
 
-/// Notes that the slot of a number has gone from one place to another, where a hint led there.
+/// Notes that the slot of a number has gone from one position to another, where a hint led there.
 fn note_moved(hints: &mut [u32], number: u32, from: usize, to: usize) {
     let Ok(to) = u32::try_from(to) else {
         return;
@@ -142,7 +142,7 @@ fn note_moved(hints: &mut [u32], number: u32, from: usize, to: usize) {
     change_hint(hints, first | 1, from, to);
 }
 
-/// Makes this hint, if it names one place, name another.
+/// Makes this hint, if it names one position, name another.
 fn change_hint(hints: &mut [u32], at: usize, from: usize, to: u32) {
     if at < hints.len() && hints[at] as usize == from {
         hints[at] = to;
@@ -176,8 +176,8 @@ fn drop_hints(hints: &mut Vec<u32>, slots: &[Slot]) {
 
 /// Notes where each slot is.
 fn note_all(hints: &mut [u32], slots: &[Slot]) {
-    for (place, slot) in slots.iter().enumerate() {
-        note(hints, slot.number, place);
+    for (position, slot) in slots.iter().enumerate() {
+        note(hints, slot.number, position);
     }
 }
 

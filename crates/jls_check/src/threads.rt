@@ -5,11 +5,11 @@ ghost use Rattle.std.specs.Prelude.{MatchOption};
 ghost use Rattle.std.specs.FinMap as map;
 ghost use Rattle.jls_check.specs.LiveThreads.{live_of, owned_of, with_live, without_live};
 ghost use Rattle.jls_check.specs.LiveThreads.{owning_one_less, owning_one_more, all_back};
-ghost use Rattle.jls_check.specs.Turns.{after_turn, turned_record, turn_of, turned};
+ghost use Rattle.jls_check.specs.CallEdges.{after_edge, crossed_record, edge_of, crossed};
 
 use crate::acts::has;
 use crate::slots::{
-    Slot, follow, free_empty, give_back, grow_hints, note, notify_slots, place_noting, place_of,
+    Slot, follow, free_empty, give_back, grow_hints, note, notify_slots, position_noting, position_of,
 };
 use fast_path::Call;
 use fat_monitor::Reply;
@@ -34,9 +34,9 @@ pub(crate) struct ThreadRecord {
     pub(crate) owned: u64,
 }
 
-/// How a thread goes from one call to the next.
+/// An edge of a call: its begin or its return.
 #[derive(Clone, Copy)]
-pub(crate) enum Turn {
+pub(crate) enum CallEdge {
     Begins(Call),
     Returns(Reply),
 }
@@ -47,7 +47,7 @@ pub(crate) struct Threads {
     // One for each of them, in no order.
     slots: Vec<Slot>,
     // Where the slot of a thread is, by the thread's number.
-    places: BTreeMap<u32, usize>,
+    positions: BTreeMap<u32, usize>,
     // Where the slots of some threads may be, for a look without the map. Nothing is proved of
     // them but that what is found is right whatever they are.
     hints: Vec<u32>,
@@ -62,12 +62,12 @@ impl Model for Threads {
 
     ghost coded = { Prim.hlevel (codes, map.code) };
 
-    ghost use Rattle.jls_check.specs.Slots.{records_in, LeadToSlots, HavePlaces};
+    ghost use Rattle.jls_check.specs.Slots.{records_in, LeadToSlots, HavePositions};
 
-    ghost view = { λ a. records_in a.slots.items a.places.entries };
+    ghost view = { λ a. records_in a.slots.items a.positions.entries };
 
-    ghost invariant = { λ a. LeadToSlots a.slots.items a.places.entries
-        × HavePlaces a.slots.items a.places.entries };
+    ghost invariant = { λ a. LeadToSlots a.slots.items a.positions.entries
+        × HavePositions a.slots.items a.positions.entries };
 }
 
 impl Threads {
@@ -76,7 +76,7 @@ impl Threads {
     {
         Threads {
             slots: Vec::new(alloc),
-            places: BTreeMap::new(alloc),
+            positions: BTreeMap::new(alloc),
             hints: Vec::new(alloc),
         }
     }
@@ -84,8 +84,8 @@ impl Threads {
     fn kept(&self, thread: ThreadId) -> Option<ThreadRecord>
         ensures { result ≡ map.get self.now thread.0 }
     {
-        let place = place_of(&self.slots, &self.places, &self.hints, thread.0)?;
-        let slot = self.slots.get(place)?;
+        let position = position_of(&self.slots, &self.positions, &self.hints, thread.0)?;
+        let slot = self.slots.get(position)?;
         Some(slot.kept)
     }
 
@@ -94,7 +94,7 @@ impl Threads {
         ensures count { result ≡ map.len self.now }
         ensures small { result < 2 ^ 63 }
     {
-        self.places.len()
+        self.positions.len()
     }
 
     pub(crate) fn get(&self, thread: ThreadId) -> Option<Live>
@@ -119,11 +119,11 @@ impl Threads {
         ensures ok { OnOk result (self.new ≡ with_live self.old thread live) }
         ensures err { OnErr result (self.new ≡ self.old) }
     {
-        let place = self.slots.len();
+        let position = self.slots.len();
         let Ok(()) = self.slots.reserve(1) else {
             return Err(Memory);
         };
-        let Ok(_) = self.places.insert(thread.0, place) else {
+        let Ok(_) = self.positions.insert(thread.0, position) else {
             return Err(Memory);
         };
         let kept = ThreadRecord { live, owned: 0 };
@@ -132,7 +132,7 @@ impl Threads {
             number: thread.0,
             kept,
         });
-        note(&mut self.hints, thread.0, place);
+        note(&mut self.hints, thread.0, position);
         grow_hints(&mut self.hints, &self.slots);
         give_back(&mut self.slots, &mut self.hints);
         Ok(())
@@ -144,8 +144,8 @@ impl Threads {
         ensures was { result ≡ live_of self.old thread }
         ensures set { self.new ≡ with_live self.old thread live }
     {
-        let place = place_noting(&self.slots, &self.places, &mut self.hints, thread.0)?;
-        let Some(slot) = self.slots.get_mut(place) else {
+        let position = position_noting(&self.slots, &self.positions, &mut self.hints, thread.0)?;
+        let Some(slot) = self.slots.get_mut(position) else {
             unreachable!();
         };
         let was = slot.kept.live;
@@ -157,19 +157,19 @@ impl Threads {
     /// flag stays. Answers whether there is such a thread. This looks for the thread once, where
     /// [`get`](Threads::get) and [`set`](Threads::set) would do so twice. Here, where a thread becomes
     /// live and at each moment, the memory of those that have ended is given back: an end itself asks
-    /// the system for nothing. It stands in place, so that a turn is never written to memory.
+    /// the system for nothing. It stands in place, so that an edge is never written to memory.
     #[inline(always)]
-    pub(crate) fn turn(&mut self, thread: ThreadId, turn: Turn) -> bool
-        ensures answer { result ≡ is_some (turn_of self.old thread turn) }
-        ensures turned { self.new ≡ turned self.old thread turn }
+    pub(crate) fn cross(&mut self, thread: ThreadId, edge: CallEdge) -> bool
+        ensures answer { result ≡ is_some (edge_of self.old thread edge) }
+        ensures crossed { self.new ≡ crossed self.old thread edge }
     {
-        let Some(place) = place_noting(&self.slots, &self.places, &mut self.hints, thread.0) else {
+        let Some(position) = position_noting(&self.slots, &self.positions, &mut self.hints, thread.0) else {
             return false;
         };
-        let Some(slot) = self.slots.get_mut(place) else {
+        let Some(slot) = self.slots.get_mut(position) else {
             unreachable!();
         };
-        let taken = take_turn(&mut slot.kept, turn);
+        let taken = take_edge(&mut slot.kept, edge);
         give_back(&mut self.slots, &mut self.hints);
         taken
     }
@@ -180,10 +180,10 @@ impl Threads {
         ensures { self.new ≡ owning_one_less self.old owner }
     {
         let Some(thread) = owner else { return };
-        let Some(place) = place_noting(&self.slots, &self.places, &mut self.hints, thread.0) else {
+        let Some(position) = position_noting(&self.slots, &self.positions, &mut self.hints, thread.0) else {
             return;
         };
-        let Some(slot) = self.slots.get_mut(place) else {
+        let Some(slot) = self.slots.get_mut(position) else {
             unreachable!();
         };
         slot.kept.owned -= 1;
@@ -195,10 +195,10 @@ impl Threads {
         ensures { self.new ≡ owning_one_more self.old owner }
     {
         let Some(thread) = owner else { return };
-        let Some(place) = place_noting(&self.slots, &self.places, &mut self.hints, thread.0) else {
+        let Some(position) = position_noting(&self.slots, &self.positions, &mut self.hints, thread.0) else {
             return;
         };
-        let Some(slot) = self.slots.get_mut(place) else {
+        let Some(slot) = self.slots.get_mut(position) else {
             unreachable!();
         };
         slot.kept.owned += 1;
@@ -207,11 +207,11 @@ impl Threads {
     pub(crate) fn remove(&mut self, thread: ThreadId)
         ensures { self.new ≡ without_live self.old thread }
     {
-        let Some(place) = self.places.remove(&thread.0) else {
+        let Some(position) = self.positions.remove(&thread.0) else {
             return;
         };
-        let _ = self.slots.swap_remove(place);
-        follow(&self.slots, &mut self.places, &mut self.hints, place);
+        let _ = self.slots.swap_remove(position);
+        follow(&self.slots, &mut self.positions, &mut self.hints, position);
         free_empty(&mut self.slots, &mut self.hints);
     }
 
@@ -230,27 +230,27 @@ impl Threads {
     }
 }
 
-fn take_turn(kept: &mut ThreadRecord, turn: Turn) -> bool
-    ensures answer { result ≡ is_some (after_turn turn kept.old.live.act) }
-    ensures turned { kept.new ≡ turned_record kept.old (after_turn turn kept.old.live.act) }
+fn take_edge(kept: &mut ThreadRecord, edge: CallEdge) -> bool
+    ensures answer { result ≡ is_some (after_edge edge kept.old.live.act) }
+    ensures crossed { kept.new ≡ crossed_record kept.old (after_edge edge kept.old.live.act) }
 {
-    let Some(act) = after_turn(turn, kept.live.act) else {
+    let Some(act) = after_edge(edge, kept.live.act) else {
         return false;
     };
     kept.live.act = act;
     true
 }
 
-/// What a thread that did this does in its turn, if it may take it.
-fn after_turn(turn: Turn, act: Doing) -> Option<Doing>
-    ensures { result ≡ after_turn turn act }
+/// What a thread that did this does past this edge of a call; None where it may not cross it.
+fn after_edge(edge: CallEdge, act: Doing) -> Option<Doing>
+    ensures { result ≡ after_edge edge act }
 {
-    match turn {
-        Turn::Begins(call) => match act {
+    match edge {
+        CallEdge::Begins(call) => match act {
             Doing::Idle => Some(Doing::Wants(call)),
             _ => None,
         },
-        Turn::Returns(reply) => {
+        CallEdge::Returns(reply) => {
             if has(act, reply) {
                 Some(Doing::Idle)
             } else {

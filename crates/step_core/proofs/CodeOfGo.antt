@@ -6,8 +6,8 @@ use Rattle.std.proofs.lemmas.Bool.{lt-ltb, le-ltb}
 use Rattle.std.proofs.lemmas.Option.{same_Some}
 use Rattle.std.proofs.lemmas.List.Sums.{sum_by-set, count_by-le-length}
 use Rattle.lock_word.specs.declared.ThreadId.{ThreadId}
-use Rattle.thread_index.specs.Indices.{seat_of, free_seat, index_of, given_back, holder_at}
-use Rattle.thread_index.proofs.Seats.{seat_taken_same, taken_given, free_found}
+use Rattle.thread_index.specs.Indices.{berth_of, free_berth, index_of, given_back, holder_at}
+use Rattle.thread_index.proofs.Berths.{berth_taken_same, taken_given, free_found}
 use Rattle.fat_monitor.specs.declared.actions.Action.TheVariants as action
 use Rattle.fat_monitor.specs.declared.actions.Post.TheVariants.{Out}
 use Rattle.fat_monitor.specs.FatState.{IsAttached, post_of}
@@ -27,47 +27,47 @@ use Rattle.step_core.proofs.Runs.StageRuns.{storing}
 use Rattle.step_core.proofs.Sound.Stages.{store_fits, number_fits}
 use Rattle.step_core.proofs.Sound.AllSteps.{step_sound}
 
--- the seat of a thread whose index is known
-pub seat_of_index : (seats : List (Option ThreadId)) (t : ThreadId) (i : ℕ) → Some i ≡ index_of seats t → seat_of seats t ≡ Some (i - 1)
-seat_of_index seats t i e = by_seat (seat_of seats t) e
+-- the berth of a thread whose index is known
+pub berth_of_index : (berths : List (Option ThreadId)) (t : ThreadId) (i : ℕ) → Some i ≡ index_of berths t → berth_of berths t ≡ Some (i - 1)
+berth_of_index berths t i e = by_berth (berth_of berths t) e
   where
-    by_seat : (o : Option ℕ) → Some i ≡ option_map (λ k. k + 1) o → o ≡ Some (i - 1)
-    by_seat None e = absurd (cc)
-    by_seat (Some k) e = let same : k ≡ i - 1 = (let n : i ≡ k + 1 = same_Some i (k + 1) e in omega arith) in ap (λ (n : ℕ). Some n) same
+    by_berth : (o : Option ℕ) → Some i ≡ option_map (λ k. k + 1) o → o ≡ Some (i - 1)
+    by_berth None e = absurd (cc)
+    by_berth (Some k) e = let same : k ≡ i - 1 = (let n : i ≡ k + 1 = same_Some i (k + 1) e in omega arith) in ap (λ (n : ℕ). Some n) same
 
 -- an index that was taken and given back is nothing
-pub undone : (seats taken back : List (Option ThreadId)) (t : ThreadId) (k : ℕ) → seat_of seats t ≡ None → free_seat seats ≡ Some k
-    → taken ≡ slice_set seats k (Some t) → back ≡ given_back taken (seat_of taken t) → back ≡ seats
-undone seats taken back t k none free put gave =
-    let seat : seat_of taken t ≡ Some k = rw put (seat_taken_same seats t k none free) in
-    gave ∙ rw (seat, put) (taken_given seats t k free)
+pub undone : (berths taken back : List (Option ThreadId)) (t : ThreadId) (k : ℕ) → berth_of berths t ≡ None → free_berth berths ≡ Some k
+    → taken ≡ slice_set berths k (Some t) → back ≡ given_back taken (berth_of taken t) → back ≡ berths
+undone berths taken back t k none free put gave =
+    let berth : berth_of taken t ≡ Some k = rw put (berth_taken_same berths t k none free) in
+    gave ∙ rw (berth, put) (taken_given berths t k free)
 
-module _ (w : WorldState) (sound : IsSound w) (k : ℕ) (t : ThreadId) (seat : seat_of w.seats t ≡ Some k) where
+module _ (w : WorldState) (sound : IsSound w) (k : ℕ) (t : ThreadId) (berth : berth_of w.berths t ≡ Some k) where
   -- a Go may be made from a stage that fits
   ready_at : (s : Stage) → FittingStage w k s → IsReady w.split w.words w.fats s
   ready_at (Begun c b) fit = fit
   ready_at (Taking o b) fit = fit
-  ready_at (Storing c l) fit = (fit.0, store_fits w sound k t seat c.object c.operation l (storing w k c l fit))
+  ready_at (Storing c l) fit = (fit.0, store_fits w sound k t berth c.object c.operation l (storing w k c l fit))
   ready_at (Binding c n) fit = (rw fit.1 at (stands_at w sound c.object.0)).2
   ready_at (Acting c m) fit = (rw fit.1 at (stands_at w sound c.object.0)).0
   ready_at (Won o) fit = tt
-  ready_at (Bound c won m) fit = (fit.0, number_fits w sound k t seat m fit.1)
+  ready_at (Bound c won m) fit = (fit.0, number_fits w sound k t berth m fit.1)
   ready_at (Inflated c m) fit = (rw fit.1 at (stands_at w sound c.object.0)).0
   ready_at (Direct c) fit = tt
 
   pub is_ready : (s : Stage) → place_at w k ≡ InCall s → IsReady w.split w.words w.fats s
-  is_ready s e = ready_at s (subst (λ (x : Place). Fitting w k x) e (sound.places k (within w sound k t seat)))
+  is_ready s e = ready_at s (subst (λ (x : Place). Fitting w k x) e (sound.places k (within w sound k t berth)))
 
   -- a live thread is attached, and out of every fat action where it is not at its post
   pub is_attached : IsAttached w.fats t
-  is_attached = sound.attached t (rw seat refl)
+  is_attached = sound.attached t (rw berth refl)
 
   pub is_out : (p : Place) → place_at w k ≡ p → (p ≡ AtPost → ⊥) → post_of w.fats t ≡ Some Out
-  is_out p e free = out_at w sound k t seat p e free
+  is_out p e free = out_at w sound k t berth p e free
 
   -- what the code of a Go answers and leaves is what a Go does at the thread's place
-  pub go_answer : (room : Bool) (p : Place) → place_at w k ≡ p → after_go_at room w k t p ≡ after_go room w t (seat_of w.seats t)
-  go_answer room p e = sym (rw (seat, e) refl)
+  pub go_answer : (room : Bool) (p : Place) → place_at w k ≡ p → after_go_at room w k t p ≡ after_go room w t (berth_of w.berths t)
+  go_answer room p e = sym (rw (berth, e) refl)
 
   -- so the world is sound then
   pub go_sound : (room : Bool) (p : Place) → place_at w k ≡ p → (o : AfterStep) → o ≡ after_go_at room w k t p → IsSound o.after
@@ -86,13 +86,13 @@ pub end_at : (room : Bool) (w : WorldState) (k : ℕ) (t : ThreadId) (n : ℕ) �
     → after_end w k t (outcome_of w.fats t action.End).answer (outcome_of w.fats t action.End).after ≡ after_go_at room w k t (Ending n)
 end_at room w k t n all = sym (rw (le-ltb n (length w.words) all) refl)
 
--- where a seat is free, fewer threads are live than there are seats
-pub free_counted : (seats : List (Option ThreadId)) (k : ℕ) → free_seat seats ≡ Some k → count_by is_some seats < length seats
-free_counted seats k free =
-    let there = free_found seats k free in
-    let taken : List (Option ThreadId) = slice_set seats k (Some (record { 0 = 0 })) in
-    let more : count_by is_some taken + (if is_some (holder_at seats k) then 1 else 0) ≡ count_by is_some seats + 1 =
-    sum_by-set (λ (x : Option ThreadId). if is_some x then 1 else 0) seats k (Some (record { 0 = 0 })) None there.0 in
-    let one : count_by is_some taken + 0 ≡ count_by is_some seats + 1 = rw there.1 at more in
+-- where a berth is free, fewer threads are live than there are berths
+pub free_counted : (berths : List (Option ThreadId)) (k : ℕ) → free_berth berths ≡ Some k → count_by is_some berths < length berths
+free_counted berths k free =
+    let there = free_found berths k free in
+    let taken : List (Option ThreadId) = slice_set berths k (Some (record { 0 = 0 })) in
+    let more : count_by is_some taken + (if is_some (holder_at berths k) then 1 else 0) ≡ count_by is_some berths + 1 =
+    sum_by-set (λ (x : Option ThreadId). if is_some x then 1 else 0) berths k (Some (record { 0 = 0 })) None there.0 in
+    let one : count_by is_some taken + 0 ≡ count_by is_some berths + 1 = rw there.1 at more in
     let most : count_by is_some taken ≤ length taken = count_by-le-length is_some taken in
-    let size : length taken ≡ length seats = length-set seats k (Some (record { 0 = 0 })) in omega arith
+    let size : length taken ≡ length berths = length-set berths k (Some (record { 0 = 0 })) in omega arith

@@ -33,7 +33,7 @@ Writes w o y w' =
 
 -- the lock is t's own thin one, with this count
 abbrev pub IsOwn : WorldState → ThreadId → Lock → ℕ → Type 0
-IsOwn w t l n = (i : ℕ) × (index_of w.seats t ≡ Some i) × (l ≡ Thin i n)
+IsOwn w t l n = (i : ℕ) × (index_of w.berths t ≡ Some i) × (l ≡ Thin i n)
 
 -- What a Go of t changed. A load and a lost exchange tell the word that is there. A won exchange turns the free
 -- word into the thread's own, and a store a thin word of its own into another one. A bind adds a monitor with all

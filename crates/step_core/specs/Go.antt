@@ -48,7 +48,7 @@ pub record AfterGo : Type 0 where
   pub place : Place
   pub did : Did
 
--- the world with what a Go of the thread at seat k leaves
+-- the world with what a Go of the thread at berth k leaves
 abbrev pub with_go : WorldState → ℕ → AfterGo → WorldState
 with_go w k a = record w { words = a.words; fats = a.fats; places = slice_set w.places k a.place }
 

@@ -5,7 +5,7 @@ use Rattle.lock_word.specs.declared.ThreadId.{ThreadId}
 use Rattle.lock_word.specs.declared.ObjectId.{ObjectId}
 use Rattle.lock_word.specs.declared.Lock.TheVariants.{Thin}
 use Rattle.lock_word.specs.Layout.{lock_of}
-use Rattle.thread_index.specs.Indices.{seat_of, index_of}
+use Rattle.thread_index.specs.Indices.{berth_of, index_of}
 use Rattle.fat_monitor.specs.declared.actions.Answer.TheVariants as answer
 use Rattle.fast_path.specs.declared.calls.Call.TheVariants as call
 use Rattle.step_core.specs.declared.machine.Doing.TheVariants as doing
@@ -46,19 +46,19 @@ left_at objects (InCall s) = left_in s
 left_at objects (Ending n) = objects + 1 - n
 left_at objects AtPost = 1
 
-abbrev pub left_of_seat : WorldState → Option ℕ → ℕ
-left_of_seat w None = 0
-left_of_seat w (Some k) = left_at (length w.words) (place_at w k)
+abbrev pub left_of_berth : WorldState → Option ℕ → ℕ
+left_of_berth w None = 0
+left_of_berth w (Some k) = left_at (length w.words) (place_at w k)
 
 -- the Go steps that the call of t has left; 0 where t is in no call
 abbrev pub left_of : WorldState → ThreadId → ℕ
-left_of w t = left_of_seat w (seat_of w.seats t)
+left_of w t = left_of_berth w (berth_of w.berths t)
 
 -- t has met another thread: its enter loaded a thin word of another's, or it lost its exchange
 abbrev pub HasMet : WorldState → ThreadId → Atomic → Type 0
 HasMet w t (Load o x) =
     ((p : ObjectId) × (flag : Bool) × Is (shown w) t flag (doing.Wants (call.Enter p)))
-    × ((i n : ℕ) × (lock_of w.split x.0 ≡ Thin i n) × (index_of w.seats t ≢ Some i))
+    × ((i n : ℕ) × (lock_of w.split x.0 ≡ Thin i n) × (index_of w.berths t ≢ Some i))
 HasMet w t (Lost o x) = Unit {0}
 HasMet w t a = ⊥
 

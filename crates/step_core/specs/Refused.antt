@@ -43,10 +43,10 @@ IsWaiting w t = (flag : Bool) × (o : ObjectId) × (n : ℕ) × (d : Option ℕ)
 
 -- every index is a live thread's
 abbrev pub IsFull : WorldState → Type 0
-IsFull w = (k : ℕ) → k < length w.seats → IsSome (holder_at w.seats k)
+IsFull w = (k : ℕ) → k < length w.berths → IsSome (holder_at w.berths k)
 
 abbrev pub HasFreeIndex : WorldState → Type 0
-HasFreeIndex w = (k : ℕ) × (k < length w.seats) × (holder_at w.seats k ≡ None)
+HasFreeIndex w = (k : ℕ) × (k < length w.berths) × (holder_at w.berths k ≡ None)
 
 -- the step is refused with this fault: it is the first of the step's faults whose cause holds
 abbrev pub IsRefused : WorldState → Step → Fault → Type 0

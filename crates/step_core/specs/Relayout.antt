@@ -41,13 +41,13 @@ abbrev pub holder_rests : State → Option ThreadId → Bool
 holder_rests s None = true
 holder_rests s (Some t) = rests_as (s.thread t)
 
--- whether the threads at the seats below k are at rest
+-- whether the threads at the berths below k are at rest
 abbrev pub rest_below : WorldState → ℕ → Bool
 rest_below w zero = true
-rest_below w (suc k) = if rest_below w k then holder_rests (shown w) (holder_at w.seats k) else false
+rest_below w (suc k) = if rest_below w k then holder_rests (shown w) (holder_at w.berths k) else false
 
 abbrev pub is_at_rest : WorldState → Bool
-is_at_rest w = rest_below w (length w.seats)
+is_at_rest w = rest_below w (length w.berths)
 
 -- the count of a thin lock does not fit the split
 abbrev pub is_too_deep : Split → Lock → Bool
@@ -118,7 +118,7 @@ abbrev pub after_relayout : Bool → WorldState → Split → AfterRelayout
 after_relayout room w s =
     if not (is_at_rest w) then relayout_refused w fault.NotAtRest
     else (if is_same_split s w.split then record { answer = Ok 0; after = w }
-    else (if nat_lt (greatest_index s) (length w.seats) then relayout_refused w fault.IndexTooWide
+    else (if nat_lt (greatest_index s) (length w.berths) then relayout_refused w fault.IndexTooWide
     else (if nat_lt w.fats.limit (length w.fats.monitors + deep_in s w) then relayout_refused w fault.NoMonitor
     else (if room || not (nat_lt w.fats.spare (deep_in s w))
     then record { answer = Ok (deep_in s w); after = relaid s w }

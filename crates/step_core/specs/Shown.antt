@@ -2,7 +2,7 @@
 use Rattle.std.specs.Prelude.{ℕ, ◌+◌, ◌-◌, if◌then◌else◌, Option, Some, None, length}
 use Rattle.lock_word.specs.declared.Lock.{Lock}
 use Rattle.lock_word.specs.declared.Lock.TheVariants.{Free, Thin, Fat}
-use Rattle.thread_index.specs.Indices.{seat_of, holder_at}
+use Rattle.thread_index.specs.Indices.{berth_of, holder_at}
 use Rattle.lock_word.specs.declared.ThreadId.{ThreadId}
 use Rattle.fat_monitor.specs.FatState.{FatState, monitor_at, post_at, flag_at}
 use Rattle.fat_monitor.specs.declared.actions.Post.{Post}
@@ -48,7 +48,7 @@ act_of f (Waiting m n d) p = doing.Waits (monitor_at f m).object n d
 act_of f (Back m n w) p = doing.Back (monitor_at f m).object n w
 act_of f (Granted r) p = doing.Has r
 
--- the thread at a seat
+-- the thread at a berth
 abbrev pub thread_of : WorldState → ThreadId → Option ℕ → Option Thread
 thread_of w t None = None
 thread_of w t (Some k) =
@@ -57,13 +57,13 @@ thread_of w t (Some k) =
 -- who owns an object with this lock, and how often: its word says it alone
 abbrev pub monitor_of : WorldState → Lock → Monitor
 monitor_of w Free = free
-monitor_of w (Thin i c) = record { owner = holder_at w.seats (i - 1); count = c + 1 }
+monitor_of w (Thin i c) = record { owner = holder_at w.berths (i - 1); count = c + 1 }
 monitor_of w (Fat m) = record { owner = (monitor_at w.fats m).owner; count = (monitor_at w.fats m).holds }
 
 -- the shown state
 abbrev pub shown : WorldState → State
 shown w = record {
-  thread = λ t. thread_of w t (seat_of w.seats t);
+  thread = λ t. thread_of w t (berth_of w.berths t);
   objects = length w.words;
   monitor = λ o. monitor_of w (lock_at w o.0);
   moment = w.fats.moment;

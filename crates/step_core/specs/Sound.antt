@@ -6,7 +6,7 @@ use Rattle.lock_word.specs.declared.ThreadId.{ThreadId}
 use Rattle.lock_word.specs.declared.Lock.{Lock}
 use Rattle.lock_word.specs.declared.Lock.TheVariants.{Free, Thin, Fat}
 use Rattle.lock_word.specs.Layout.{IsMalformed, greatest_index, greatest_count}
-use Rattle.thread_index.specs.Indices.{seat_of, holder_at, IsOneToOne}
+use Rattle.thread_index.specs.Indices.{berth_of, holder_at, IsOneToOne}
 use Rattle.fat_monitor.specs.FatState.{FatState, monitor_at, IsAttached, post_of, thread_count}
 use Rattle.fat_monitor.specs.declared.actions.Post.{Post}
 use Rattle.fat_monitor.specs.declared.actions.Post.TheVariants.{Out}
@@ -28,10 +28,10 @@ Reaches w c = c.object.0 < length w.words
 abbrev pub MayShow : WorldState → ℕ → Lock → Type 0
 MayShow w p Free = Unit {0}
 MayShow w p (Thin i c) =
-    (1 ≤ i) × (i ≤ greatest_index w.split) × (c ≤ greatest_count w.split) × IsSome (holder_at w.seats (i - 1))
+    (1 ≤ i) × (i ≤ greatest_index w.split) × (c ≤ greatest_count w.split) × IsSome (holder_at w.berths (i - 1))
 MayShow w p (Fat m) = (m < length w.fats.monitors) × ((monitor_at w.fats m).object.0 ≡ p)
 
--- The thread at seat k may stand at this stage of a call: what it found when it loaded still stands, since a
+-- The thread at berth k may stand at this stage of a call: what it found when it loaded still stands, since a
 -- thin word is its owner's, a fat word stays fat, and a monitor that is bound and not stored is nobody else's.
 abbrev pub FittingStage : WorldState → ℕ → Stage → Type 0
 FittingStage w k (Begun c contended) = Reaches w c
@@ -48,11 +48,11 @@ FittingStage w k (Won o) = (o.0 < length w.words) × (lock_at w o.0 ≡ Thin (k 
 FittingStage w k (Bound c won m) =
     Reaches w c × (m < length w.fats.monitors)
     × ((n : ℕ) × (lock_at w c.object.0 ≡ Thin (k + 1) n)
-    × (monitor_at w.fats m ≡ record { object = c.object; owner = holder_at w.seats k; holds = n + 1 }))
+    × (monitor_at w.fats m ≡ record { object = c.object; owner = holder_at w.berths k; holds = n + 1 }))
 FittingStage w k (Inflated c m) = Reaches w c × (lock_at w c.object.0 ≡ Fat m)
 FittingStage w k (Direct c) = Unit {0}
 
--- The thread at seat k may stand at this place. One that is to end owns none of the objects that it has loaded.
+-- The thread at berth k may stand at this place. One that is to end owns none of the objects that it has loaded.
 abbrev pub Fitting : WorldState → ℕ → Place → Type 0
 Fitting w k Idle = Unit {0}
 Fitting w k (InCall s) = FittingStage w k s
@@ -82,16 +82,16 @@ IsPublished w m =
 -- what every world keeps
 pub record IsSound (w : WorldState) : Type 0 where
   pub many : length w.words ≤ 65535
-  pub seated : length w.places ≡ length w.seats
-  pub few : length w.seats ≤ greatest_index w.split
-  pub one_to_one : IsOneToOne w.seats
+  pub berthed : length w.places ≡ length w.berths
+  pub few : length w.berths ≤ greatest_index w.split
+  pub one_to_one : IsOneToOne w.berths
   pub formed : (p : ℕ) → IsMalformed w.split (word_at w p).0 → ⊥
   pub words : (p : ℕ) → p < length w.words → MayShow w p (lock_at w p)
   pub fats : fat.IsSound w.fats
   pub published : (m : ℕ) → m < length w.fats.monitors → IsPublished w m
   -- the attached threads are the live ones
-  pub attached : (t : ThreadId) → IsSome (seat_of w.seats t) → IsAttached w.fats t
-  pub live : (t : ThreadId) → IsAttached w.fats t → IsSome (seat_of w.seats t)
-  pub posted : (t : ThreadId) (k : ℕ) → seat_of w.seats t ≡ Some k → Agrees (place_at w k) (post_of w.fats t)
-  pub counted : thread_count w.fats ≡ count_by is_some w.seats
+  pub attached : (t : ThreadId) → IsSome (berth_of w.berths t) → IsAttached w.fats t
+  pub live : (t : ThreadId) → IsAttached w.fats t → IsSome (berth_of w.berths t)
+  pub posted : (t : ThreadId) (k : ℕ) → berth_of w.berths t ≡ Some k → Agrees (place_at w k) (post_of w.fats t)
+  pub counted : thread_count w.fats ≡ count_by is_some w.berths
   pub places : (k : ℕ) → k < length w.places → Fitting w k (place_at w k)

@@ -2,7 +2,7 @@
 use Rattle.std.specs.Prelude.{ℕ, Bool, true, false, if◌then◌else◌, nat_lt, List, [], ◌∷◌, ◌+◌, length, slice_set}
 use Rattle.std.specs.Prelude.{Option, Some, None, Result, Ok, Err}
 use Rattle.lock_word.specs.declared.ThreadId.{ThreadId}
-use Rattle.thread_index.specs.Indices.{seat_of, free_seat}
+use Rattle.thread_index.specs.Indices.{berth_of, free_berth}
 use Rattle.fat_monitor.specs.FatState.{FatState, with_thread, with_moment}
 use Rattle.fat_monitor.specs.declared.actions.Action.{Action}
 use Rattle.fat_monitor.specs.declared.actions.Action.TheVariants as action
@@ -45,15 +45,15 @@ refuse w f = record { answer = Err f; after = w }
 abbrev pub accept : WorldState → Did → AfterStep
 accept w d = record { answer = Ok d; after = w }
 
--- the world with thread t at seat k, in no call
+-- the world with thread t at berth k, in no call
 abbrev pub with_live : WorldState → ℕ → ThreadId → WorldState
 with_live w k t = record w {
-  seats = slice_set w.seats k (Some t);
+  berths = slice_set w.berths k (Some t);
   places = slice_set w.places k Idle;
   fats = with_thread w.fats t;
 }
 
--- an attach of a thread with this seat, if it has one, where this seat is the lowest free one, if one is
+-- an attach of a thread with this berth, if it has one, where this berth is the lowest free one, if one is
 abbrev pub after_attach : Bool → WorldState → ThreadId → Option ℕ → Option ℕ → AfterStep
 after_attach room w t (Some k) free = refuse w fault.Known
 after_attach room w t None None = refuse w fault.NoIndex
@@ -66,7 +66,7 @@ first_place (subject.Monitor c) = InCall (Begun c false)
 first_place (subject.Interrupt c) = InCall (Direct c)
 first_place subject.End = Ending 0
 
--- the begin of a call by the thread at seat k, which stands at this place
+-- the begin of a call by the thread at berth k, which stands at this place
 abbrev pub after_begin_at : WorldState → ℕ → ThreadId → Call → Place → AfterStep
 after_begin_at w k t c Idle =
     accept (record w { places = slice_set w.places k (first_place (subject_of c)) }) (one_move Label (move.Call t c))
@@ -85,10 +85,10 @@ after_begin w t c (Some k) = after_begin_on w k t c (object_of c)
 -- What an End leaves that replied this, and left this fat state: a thread that ended gives its index back.
 abbrev pub world_ended : WorldState → ℕ → FatState → Reply → WorldState
 world_ended w k f reply.Ended =
-    record w { seats = slice_set w.seats k None; places = slice_set w.places k Idle; fats = f }
+    record w { berths = slice_set w.berths k None; places = slice_set w.places k Idle; fats = f }
 world_ended w k f r = record w { places = slice_set w.places k Idle; fats = f }
 
--- the action End of thread t at seat k, as it told; it always replies
+-- the action End of thread t at berth k, as it told; it always replies
 abbrev pub after_end : WorldState → ℕ → ThreadId → Result Done ActFault → FatState → AfterStep
 after_end w k t (Ok d) f = elim d.answer [
   | answer.Reply r ↦
@@ -104,17 +104,17 @@ abbrev pub did_collect : ThreadId → Answer → Did
 did_collect t (answer.Reply r) = return_alone (Acted action.Collect (answer.Reply r)) t r
 did_collect t a = no_move (Acted action.Collect a)
 
--- the thread at seat k takes the reply that it was granted, as the action told, or is parked still
+-- the thread at berth k takes the reply that it was granted, as the action told, or is parked still
 abbrev pub after_collect : WorldState → ℕ → ThreadId → Result Done ActFault → FatState → AfterStep
 after_collect w k t (Ok d) f =
     accept (with_go w k (fats_changed w f Idle (did_collect t d.answer))) (did_collect t d.answer)
 after_collect w k t (Err e) f = refuse w fault.Parked
 
--- a load by thread t at seat k, which is to end and has loaded the words of the objects below n
+-- a load by thread t at berth k, which is to end and has loaded the words of the objects below n
 abbrev pub after_look : WorldState → ℕ → ThreadId → ℕ → AfterGo
 after_look w k t n = after_look_as w t n (is_own (lock_at w n) (k + 1))
 
--- a Go of the thread at seat k, which stands at this place
+-- a Go of the thread at berth k, which stands at this place
 abbrev pub after_go_at : Bool → WorldState → ℕ → ThreadId → Place → AfterStep
 after_go_at room w k t Idle = refuse w fault.NotCalling
 after_go_at room w k t (InCall s) = accept (with_go w k (after_stage room w k t s)) (after_stage room w k t s).did
@@ -168,11 +168,11 @@ after_tick w now =
 
 -- One step. It is a function but for memory: room says whether a growth that the step asks for is granted.
 abbrev pub step_of : Bool → WorldState → Step → AfterStep
-step_of room w (step.Attach t) = after_attach room w t (seat_of w.seats t) (free_seat w.seats)
-step_of room w (step.Begin t c) = after_begin w t c (seat_of w.seats t)
-step_of room w (step.Go t) = after_go room w t (seat_of w.seats t)
-step_of room w (step.Expire t) = after_wait_end time_over w t (seat_of w.seats t)
-step_of room w (step.Spurious t) = after_wait_end wake_up w t (seat_of w.seats t)
+step_of room w (step.Attach t) = after_attach room w t (berth_of w.berths t) (free_berth w.berths)
+step_of room w (step.Begin t c) = after_begin w t c (berth_of w.berths t)
+step_of room w (step.Go t) = after_go room w t (berth_of w.berths t)
+step_of room w (step.Expire t) = after_wait_end time_over w t (berth_of w.berths t)
+step_of room w (step.Spurious t) = after_wait_end wake_up w t (berth_of w.berths t)
 step_of room w (step.Tick now) = after_tick w now
 
 -- the moves that are there

@@ -6,7 +6,7 @@ abbrev pub world_in : Inside → WorldState
 world_in a = record {
   split = a.split;
   words = a.words.items;
-  seats = a.indices;
+  berths = a.indices;
   places = a.places.items;
   fats = a.fats;
 }

@@ -12,12 +12,12 @@ use Rattle.fat_monitor.specs.FatState as fat
 use Rattle.step_core.specs.declared.places.Place.{Place}
 use Rattle.step_core.specs.declared.places.Place.TheVariants.{Idle}
 
--- the split of each word; the word of each object; who has each index, by seat, which is the index less one; the
--- place of the thread at each seat; and the fat state
+-- the split of each word; the word of each object; who has each index, by berth, which is the index less one; the
+-- place of the thread at each berth; and the fat state
 pub record WorldState : Type 0 where
   pub split : Split
   pub words : List Word
-  pub seats : List (Option ThreadId)
+  pub berths : List (Option ThreadId)
   pub places : List Place
   pub fats : FatState
 
@@ -31,7 +31,7 @@ opening_world lows monitors indices split =
     record {
       split = split;
       words = map low_word lows;
-      seats = replicate indices None;
+      berths = replicate indices None;
       places = replicate indices Idle;
       fats = fat.opened monitors;
     }

@@ -6,7 +6,7 @@ ghost use Rattle.std.specs.Prelude.{None, IsSome, is_some, count_by};
 ghost use Rattle.lock_word.specs.declared.ThreadId.{ThreadId};
 ghost use Rattle.lock_word.specs.declared.Word.{Word};
 ghost use Rattle.lock_word.specs.declared.Split.{Split};
-ghost use Rattle.thread_index.specs.Indices.{seat_of};
+ghost use Rattle.thread_index.specs.Indices.{berth_of};
 ghost use Rattle.fat_monitor.specs.FatState.{FatState, IsAttached, thread_count};
 ghost use Rattle.fast_path.specs.Calls.{subject_of};
 ghost use Rattle.step_core.specs.Ready.{world_of};
@@ -31,8 +31,8 @@ pub(crate) fn attach(
     fats: &mut Fats,
     thread: ThreadId,
 ) -> Result<Did, Fault>
-    requires seated { length places.old.items ≡ length indices.old }
-    requires live { IsAttached fats.old thread → IsSome (seat_of indices.old thread) }
+    requires berthed { length places.old.items ≡ length indices.old }
+    requires live { IsAttached fats.old thread → IsSome (berth_of indices.old thread) }
     requires counted { thread_count fats.old ≡ count_by is_some indices.old }
     requires few { length indices.old ≤ 32767 }
     ensures { (split : Split) → (words : List Word) → (room : Bool)
@@ -84,11 +84,11 @@ pub(crate) fn begin(
         Some(object) if object.0 as usize >= words.len() => return Err(Fault::NoObject),
         _ => {}
     }
-    let seat = index as usize - 1;
-    let Place::Idle = places[seat] else {
+    let berth = index as usize - 1;
+    let Place::Idle = places[berth] else {
         return Err(Fault::InCall);
     };
-    places[seat] = first_place(call.subject());
+    places[berth] = first_place(call.subject());
     Ok(Did::one_move(Atomic::Label, Move::Call { thread, call }))
 }
 
@@ -109,7 +109,7 @@ fn first_place(subject: Subject) -> Place
 /// Ends the wait of a thread whose deadline has come.
 #[inline(always)]
 pub(crate) fn expire(indices: &Indices, fats: &mut Fats, thread: ThreadId) -> Result<Did, Fault>
-    requires { IsSome (seat_of indices.now thread) → IsAttached fats.old thread }
+    requires { IsSome (berth_of indices.now thread) → IsAttached fats.old thread }
     ensures { (split : Split) → (words : List Word) → (places : List Place)
         → record { answer = result; after = world_of split words indices.now places fats.new }
         ≡ step_of true (world_of split words indices.now places fats.old) (step.Expire thread) }
@@ -127,7 +127,7 @@ pub(crate) fn expire(indices: &Indices, fats: &mut Fats, thread: ThreadId) -> Re
 /// Ends the wait of a thread for no reason that a program can see.
 #[inline(always)]
 pub(crate) fn wake(indices: &Indices, fats: &mut Fats, thread: ThreadId) -> Result<Did, Fault>
-    requires { IsSome (seat_of indices.now thread) → IsAttached fats.old thread }
+    requires { IsSome (berth_of indices.now thread) → IsAttached fats.old thread }
     ensures { (split : Split) → (words : List Word) → (places : List Place)
         → record { answer = result; after = world_of split words indices.now places fats.new }
         ≡ step_of true (world_of split words indices.now places fats.old) (step.Spurious thread) }
@@ -163,10 +163,10 @@ fn end_of_wait(fats: &Fats, action: Action, made: Move, done: Done) -> Did
 /// Tells the moment.
 #[inline(always)]
 pub(crate) fn tick(fats: &mut Fats, now: u64) -> Result<Did, Fault>
-    ensures { (split : Split) → (words : List Word) → (seats : List (Option ThreadId))
+    ensures { (split : Split) → (words : List Word) → (berths : List (Option ThreadId))
         → (places : List Place)
-        → record { answer = result; after = world_of split words seats places fats.new }
-        ≡ step_of true (world_of split words seats places fats.old) (step.Tick now) }
+        → record { answer = result; after = world_of split words berths places fats.new }
+        ≡ step_of true (world_of split words berths places fats.old) (step.Tick now) }
 {
     match fats.tick(now) {
         Ok(()) => Ok(Did::one_move(Atomic::Label, Move::Time { now })),

@@ -4,7 +4,7 @@ ghost use Rattle.std.specs.Prelude.{◌≡◌, ℕ, ◌-◌, ◌<◌, ◌≤◌,
 ghost use Rattle.lock_word.specs.declared.ThreadId.{ThreadId};
 ghost use Rattle.lock_word.specs.declared.Word.{Word};
 ghost use Rattle.lock_word.specs.declared.Split.{Split};
-ghost use Rattle.thread_index.specs.Indices.{seat_of};
+ghost use Rattle.thread_index.specs.Indices.{berth_of};
 ghost use Rattle.fat_monitor.specs.declared.actions.Action.TheVariants as action;
 ghost use Rattle.fat_monitor.specs.declared.actions.Post.TheVariants.{Out};
 ghost use Rattle.fat_monitor.specs.FatState.{FatState, IsAttached, post_of};
@@ -44,19 +44,19 @@ pub(crate) fn go(
     let Some(index) = indices.index_of(thread) else {
         return Err(Fault::NoThread);
     };
-    let seat = index as usize - 1;
-    match places[seat] {
+    let berth = index as usize - 1;
+    match places[berth] {
         Place::Idle => Err(Fault::NotCalling),
         Place::InCall(stage) => {
-            let place = &mut places[seat];
+            let place = &mut places[berth];
             Ok(go_from(split, words, fats, index, thread, stage, place))
         }
         Place::Ending { loaded } if (loaded as usize) < words.len() => {
-            let place = &mut places[seat];
+            let place = &mut places[berth];
             Ok(look(split, words, index, thread, loaded, place))
         }
-        Place::Ending { .. } => Ok(end(indices, places, fats, thread, seat)),
-        Place::AtPost => collect(places, fats, thread, seat),
+        Place::Ending { .. } => Ok(end(indices, places, fats, thread, berth)),
+        Place::AtPost => collect(places, fats, thread, berth),
     }
 }
 
@@ -66,13 +66,13 @@ fn collect(
     places: &mut [Place],
     fats: &mut Fats,
     thread: ThreadId,
-    seat: usize,
+    berth: usize,
 ) -> Result<Did, Fault>
-    requires seated { seat < length places.old }
+    requires berthed { berth < length places.old }
     requires attached { IsAttached fats.old thread }
-    ensures { (split : Split) (words : List Word) (seats : List (Option ThreadId))
-        → record { answer = result; after = world_of split words seats places.new fats.new }
-        ≡ after_collect (world_of split words seats places.old fats.old) seat thread
+    ensures { (split : Split) (words : List Word) (berths : List (Option ThreadId))
+        → record { answer = result; after = world_of split words berths places.new fats.new }
+        ≡ after_collect (world_of split words berths places.old fats.old) berth thread
         (outcome_of fats.old thread action.Collect).answer
         (outcome_of fats.old thread action.Collect).after }
 {
@@ -83,7 +83,7 @@ fn collect(
     let Answer::Reply(reply) = answer else {
         unreachable!();
     };
-    places[seat] = Place::Idle;
+    places[berth] = Place::Idle;
     Ok(Did::return_alone(Atomic::Acted { action, answer }, thread, reply))
 }
 
@@ -94,20 +94,20 @@ fn end(
     places: &mut [Place],
     fats: &mut Fats,
     thread: ThreadId,
-    seat: usize,
+    berth: usize,
 ) -> Did
-    requires seated { seat < length places.old }
-    requires here { seat_of indices.old thread ≡ Some seat }
+    requires berthed { berth < length places.old }
+    requires here { berth_of indices.old thread ≡ Some berth }
     requires out { post_of fats.old thread ≡ Some Out }
     ensures { (split : Split) (words : List Word)
         → record {
           answer = Ok result;
           after = world_of split words indices.new places.new fats.new;
-        } ≡ after_end (world_of split words indices.old places.old fats.old) seat thread
+        } ≡ after_end (world_of split words indices.old places.old fats.old) berth thread
         (outcome_of fats.old thread action.End).answer
         (outcome_of fats.old thread action.End).after }
 {
-    places[seat] = Place::Idle;
+    places[berth] = Place::Idle;
     let action = Action::End;
     let Ok(Done { answer, .. }) = fats.act(thread, action) else {
         unreachable!();

@@ -44,7 +44,7 @@ pub fn every_list_of_steps_is_a_run()
 /// opening.
 #[tactic(auto, using(crate::proofs::Lists::Reached::reached_distinct))]
 pub fn every_list_of_steps_keeps_the_world()
-    ensures distinct { OfEveryList (λ lows w steps v. IsOneToOne v.seats) }
+    ensures distinct { OfEveryList (λ lows w steps v. IsOneToOne v.berths) }
     ensures kept { OfEveryList (λ lows w steps v. Keeps w v) }
 {}
 

@@ -40,7 +40,7 @@ pub struct World {
     split: Split,
     words: Vec<Word>,
     indices: Indices,
-    // By seat, which is the index less one.
+    // By berth, which is the index less one.
     places: Vec<Place>,
     fats: Fats,
 }
@@ -275,14 +275,14 @@ impl World {
 
     /// The index of a live thread; None where it is not live.
     pub fn index(&self, thread: ThreadId) -> Option<u16>
-        ensures { result ≡ index_of self.now.seats thread }
+        ensures { result ≡ index_of self.now.berths thread }
     {
         self.indices.index_of(thread)
     }
 
     /// The live thread that has an index; None where none has it.
     pub fn thread_at(&self, index: u16) -> Option<ThreadId>
-        ensures { result ≡ holder_of self.now.seats index }
+        ensures { result ≡ holder_of self.now.berths index }
     {
         self.indices.id_of(index)
     }

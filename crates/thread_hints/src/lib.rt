@@ -1,7 +1,7 @@
 //! Hints where the record of a thread stands, by the number of the thread.
 //!
-//! A table from numbers to places takes a hash for each look. Whoever has such a table asks the
-//! hints first, and takes the place that they name where the record there is that of the thread;
+//! A table from numbers to positions takes a hash for each look. Whoever has such a table asks the
+//! hints first, and takes the position that they name where the record there is that of the thread;
 //! else it looks into its table. So an answer never rests on a hint: hints may be old, missing or
 //! another thread's, since threads whose numbers have the same low bits share one.
 #![tactic(auto)]
@@ -21,12 +21,12 @@ const FEW: usize = 64;
 /// The most hints.
 const MOST: usize = 65_536;
 
-/// A place for each of some numbers, told apart by their low bits.
+/// A position for each of some numbers, told apart by their low bits.
 #[derive(Drop)]
 pub struct Hints {
     alloc: Global,
     few: [u32; FEW],
-    // Where there are hints here, they are in the place of the few.
+    // Where there are hints here, they stand in for the few.
     many: Vec<u32>,
 }
 
@@ -56,8 +56,8 @@ impl Hints {
 
     /// The hints that are in use.
     #[inline(always)]
-    fn places(&self) -> &[u32]
-        ensures places { result.now ≡ self.now }
+    fn positions(&self) -> &[u32]
+        ensures positions { result.now ≡ self.now }
         ensures some { 1 ≤ length result.now }
         ensures few { length result.now ≤ 65536 }
     {
@@ -68,26 +68,26 @@ impl Hints {
         }
     }
 
-    /// The place that was noted last for a number with the same low bits; 0 where there is none.
+    /// The position that was noted last for a number with the same low bits; 0 where there is none.
     #[inline(always)]
-    pub fn place(&self, number: u32) -> u32
+    pub fn position(&self, number: u32) -> u32
         ensures { result
             ≡ slice_index self.now (bit_and number (length self.now - 1)) }
     {
-        let places = self.places();
-        places[number as usize & (places.len() - 1)]
+        let positions = self.positions();
+        positions[number as usize & (positions.len() - 1)]
     }
 
-    /// Notes a place for a number, and for those with the same low bits.
-    pub fn note(&mut self, number: u32, place: u32)
+    /// Notes a position for a number, and for those with the same low bits.
+    pub fn note(&mut self, number: u32, position: u32)
         ensures { self.new
-            ≡ slice_set self.old (bit_and number (length self.old - 1)) place }
+            ≡ slice_set self.old (bit_and number (length self.old - 1)) position }
     {
-        let low = number as usize & (self.places().len() - 1);
+        let low = number as usize & (self.positions().len() - 1);
         if self.many.is_empty() {
-            self.few[low] = place;
+            self.few[low] = position;
         } else {
-            self.many[low] = place;
+            self.many[low] = position;
         }
     }
 
@@ -97,11 +97,11 @@ impl Hints {
         ensures { result
             ≡ (nat_lt (length self.now) 65536 && nat_lt (length self.now / 2) records) }
     {
-        let count = self.places().len();
+        let count = self.positions().len();
         count < MOST && count / 2 < records
     }
 
-    /// Makes as many hints as so many records should have, with place 0 for each number, and says
+    /// Makes as many hints as so many records should have, with position 0 for each number, and says
     /// whether it did: not where there are as many or more, or where the system refuses the memory.
     pub fn widen_for(&mut self, records: usize) -> bool
         ensures wider { OnTrue result (self.new ≡ replicate (width_for records) 0) }
@@ -109,7 +109,7 @@ impl Hints {
         ensures same { OnFalse result (self.new ≡ self.old) }
     {
         let wanted = width_for(records);
-        if wanted <= self.places().len() {
+        if wanted <= self.positions().len() {
             return false;
         }
         match vec![in self.alloc; 0; wanted] {

@@ -126,14 +126,14 @@ AreTwoRows-write words full new above word bit was longer wider others here bits
     at j (inr ne) = bits j ∙ rw (ne_eqb j word ne, others j ne) (was.told j)
 
 -- a word that was not full has a 0 in the second row already
-pub bit_of-clear : (words full : List ℕ) (seat : ℕ) → AreTwoRows words full → bit_of words seat ≡ 0
-    → (k : ℕ) → bit_of full k ≡ (if k == seat / 64 then 0 else bit_of full k)
-bit_of-clear words full seat was free k = at (cases_eq k (seat / 64))
+pub bit_of-clear : (words full : List ℕ) (berth : ℕ) → AreTwoRows words full → bit_of words berth ≡ 0
+    → (k : ℕ) → bit_of full k ≡ (if k == berth / 64 then 0 else bit_of full k)
+bit_of-clear words full berth was free k = at (cases_eq k (berth / 64))
   where
-    at : (k ≡ seat / 64) ⊎ (k ≢ seat / 64) → bit_of full k ≡ (if k == seat / 64 then 0 else bit_of full k)
+    at : (k ≡ berth / 64) ⊎ (k ≢ berth / 64) → bit_of full k ≡ (if k == berth / 64 then 0 else bit_of full k)
     at (inl e) =
-        rw (eq-eqb k (seat / 64) e, e) (was.told (seat / 64) ∙ full_bit-clear (slice_index words (seat / 64)) (seat % 64) (omega arith) free)
-    at (inr ne) = rw (ne_eqb k (seat / 64) ne) refl
+        rw (eq-eqb k (berth / 64) e, e) (was.told (berth / 64) ∙ full_bit-clear (slice_index words (berth / 64)) (berth % 64) (omega arith) free)
+    at (inr ne) = rw (ne_eqb k (berth / 64) ne) refl
 
 -- more words of 0, where the second row has a bit for each
 pub AreTwoRows-more : (words full new above : List ℕ) (word : ℕ) → AreTwoRows words full → word < 512
@@ -172,6 +172,6 @@ AreTwoRows-above words full above word was low same wider few_above =
       few_above = omega (arith, was.few_above);
     }
 
--- a seat's word is one of the first 512
-pub seat_word : (seat words : ℕ) → seat < 32768 → (seat / 64 < 512) × (seat / 64 / 64 < words → seat / 64 < 64 * words)
-seat_word seat words low = (omega arith, λ covered. omega arith)
+-- a berth's word is one of the first 512
+pub berth_word : (berth words : ℕ) → berth < 32768 → (berth / 64 < 512) × (berth / 64 / 64 < words → berth / 64 < 64 * words)
+berth_word berth words low = (omega arith, λ covered. omega arith)

@@ -1,4 +1,4 @@
-pub mod Seats
+pub mod Berths
 pub mod Paddings
 pub mod BitLemmas
 pub mod Tables

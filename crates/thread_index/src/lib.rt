@@ -2,22 +2,22 @@
 //!
 //! A thin lock shows its owner by an index: of 15 bits in the wide split of header words, 1 to
 //! 32,767, and of 11 bits in the deep one, 1 to 2,047; 0 is nobody's. A thread takes the lowest
-//! index that is free, keeps it while it lives, and gives it back. A seat is an index less one.
-//! What a call costs does not grow with the number of live threads: a table has the seat of each
-//! thread, hints spare most looks into it, and bits tell which seats are taken.
+//! index that is free, keeps it while it lives, and gives it back. A berth is an index less one.
+//! What a call costs does not grow with the number of live threads: a table has the berth of each
+//! thread, hints spare most looks into it, and bits tell which berths are taken.
 #![tactic(auto)]
 
 ghost use Rattle.std.specs.Prelude.{◌≡◌, ◌↔◌, ◌-◌, ◌<◌, ◌≤◌, ◌+◌, ℕ, length, max, replicate};
 ghost use Rattle.std.specs.Prelude.{slice_set, is_ok, if◌then◌else◌, IsOk, IsSome, IfOk, IfErr};
 ghost use Rattle.std.specs.Prelude.{IfSome, OnOk, OnErr, Some, None};
-ghost use Rattle.thread_index.specs.Indices.{seat_of, free_seat, holder_at, holder_of, index_of};
+ghost use Rattle.thread_index.specs.Indices.{berth_of, free_berth, holder_at, holder_of, index_of};
 ghost use Rattle.thread_index.specs.Indices.{given_back, IsOneToOne};
 
+mod berth_bits;
 mod bit_row;
-mod seat_bits;
 
+use berth_bits::BerthBits;
 use lock_word::{Memory, ThreadId};
-use seat_bits::SeatBits;
 use std::alloc::{AllocError, AllocFailed, Global};
 use std::collections::HashMap;
 use std::error::Error;
@@ -76,15 +76,15 @@ impl From<AllocError> for TakeFault {
 /// The indices of the live threads.
 #[derive(Drop)]
 pub struct Indices {
-    /// Who has the seats up to the highest that was ever taken.
+    /// Who has the berths up to the highest that was ever taken.
     holders: Vec<Option<ThreadId>>,
-    /// Which of these seats are taken.
-    bits: SeatBits,
-    /// The seat of each thread that has one.
-    seats: HashMap<u32, u16>,
-    /// Where a thread may have its seat, which is looked at before the table: that takes a hash.
+    /// Which of these berths are taken.
+    bits: BerthBits,
+    /// The berth of each thread that has one.
+    berths: HashMap<u32, u16>,
+    /// Where a thread may have its berth, which is looked at before the table: that takes a hash.
     hints: Hints,
-    /// How many seats there are.
+    /// How many berths there are.
     limit: u16,
 }
 
@@ -97,7 +97,7 @@ impl Model for Indices {
 
     ghost view = { λ a. padded a.holders.items a.limit };
 
-    ghost invariant = { λ a. IsWhole a.holders.items a.limit a.bits.taken.words.items a.seats };
+    ghost invariant = { λ a. IsWhole a.holders.items a.limit a.bits.taken.words.items a.berths };
 }
 
 impl Indices {
@@ -111,8 +111,8 @@ impl Indices {
     {
         Ok(Indices {
             holders: Vec::new(alloc),
-            bits: SeatBits::new(alloc),
-            seats: HashMap::new(alloc),
+            bits: BerthBits::new(alloc),
+            berths: HashMap::new(alloc),
             hints: Hints::new(alloc),
             limit: k,
         })
@@ -126,40 +126,40 @@ impl Indices {
     pub fn take(&mut self, id: ThreadId) -> Result<u16, TakeFault>
         ensures low { IfOk result (λ i. 1 ≤ i) }
         ensures high { IfOk result (λ i. i ≤ length self.old) }
-        ensures free { IfOk result (λ i. free_seat self.old ≡ Some (i - 1)) }
-        ensures unknown { IfOk result (λ _. seat_of self.old id ≡ None) }
+        ensures free { IfOk result (λ i. free_berth self.old ≡ Some (i - 1)) }
+        ensures unknown { IfOk result (λ _. berth_of self.old id ≡ None) }
         ensures taken { IfOk result (λ i. self.new ≡ slice_set self.old (i - 1) (Some id)) }
 
         // The faults, in the order in which they are looked for.
-        ensures known { (result ≡ Err TakeFault.Known) ↔ IsSome (seat_of self.old id) }
+        ensures known { (result ≡ Err TakeFault.Known) ↔ IsSome (berth_of self.old id) }
         ensures no_index { (result ≡ Err TakeFault.NoIndex)
-            ↔ ((seat_of self.old id ≡ None) × (free_seat self.old ≡ None)) }
+            ↔ ((berth_of self.old id ≡ None) × (free_berth self.old ≡ None)) }
         ensures memory { result ≡ Err TakeFault.Memory
-            → (seat_of self.old id ≡ None) × IsSome (free_seat self.old) }
+            → (berth_of self.old id ≡ None) × IsSome (free_berth self.old) }
         ensures err { OnErr result (self.new ≡ self.old) }
 
         ensures one_to_one { IsOneToOne self.new }
         ensures length { length self.new ≡ length self.old }
     {
-        if self.seat_of(id).is_some() {
+        if self.berth_of(id).is_some() {
             return Err(TakeFault::Known);
         }
-        let seat = self.free_seat().ok_or(TakeFault::NoIndex)?;
-        self.put(seat, id)?;
-        Ok(seat as u16 + 1)
+        let berth = self.free_berth().ok_or(TakeFault::NoIndex)?;
+        self.put(berth, id)?;
+        Ok(berth as u16 + 1)
     }
 
     /// Frees a thread's index, if it has one, and says which it was.
     pub fn give(&mut self, id: ThreadId) -> Option<u16>
         ensures index { result ≡ index_of self.old id }
-        ensures given { self.new ≡ given_back self.old (seat_of self.old id) }
+        ensures given { self.new ≡ given_back self.old (berth_of self.old id) }
         ensures one_to_one { IsOneToOne self.new }
         ensures length { length self.new ≡ length self.old }
     {
-        let seat = usize::from(self.seats.remove(&id.0)?);
-        self.holders[seat] = None;
-        self.bits.give(seat);
-        Some(seat as u16 + 1)
+        let berth = usize::from(self.berths.remove(&id.0)?);
+        self.holders[berth] = None;
+        self.bits.give(berth);
+        Some(berth as u16 + 1)
     }
 
     /// The index of a thread, if it has one.
@@ -170,8 +170,8 @@ impl Indices {
         ensures one_to_one { IsOneToOne self.now }
         ensures length { length self.now ≤ 32767 }
     {
-        let seat = self.seat_of(id)?;
-        Some(seat as u16 + 1)
+        let berth = self.berth_of(id)?;
+        Some(berth as u16 + 1)
     }
 
     /// The thread that has an index. Nobody has index 0, or one beyond the last.
@@ -183,107 +183,107 @@ impl Indices {
         *self.holders.get(usize::from(index.checked_sub(1)?))?
     }
 
-    /// The seat of a thread.
+    /// The berth of a thread.
     #[inline(always)]
-    fn seat_of(&self, id: ThreadId) -> Option<usize>
-        ensures seat { result ≡ seat_of self.now id }
+    fn berth_of(&self, id: ThreadId) -> Option<usize>
+        ensures berth { result ≡ berth_of self.now id }
         ensures within { IfSome result (λ k. k < length self.now) }
         ensures one_to_one { IsOneToOne self.now }
         ensures length { length self.now ≤ 32767 }
     {
-        match self.hinted_seat_of(id) {
-            Some(seat) => Some(seat),
-            None => self.listed_seat_of(id),
+        match self.hinted_berth_of(id) {
+            Some(berth) => Some(berth),
+            None => self.listed_berth_of(id),
         }
     }
 
-    /// The seat of a thread by the table. It is a function of its own, so that a look by a hint has
+    /// The berth of a thread by the table. It is a function of its own, so that a look by a hint has
     /// nothing of it.
     #[inline(never)]
-    fn listed_seat_of(&self, id: ThreadId) -> Option<usize>
-        ensures seat { result ≡ seat_of self.now id }
+    fn listed_berth_of(&self, id: ThreadId) -> Option<usize>
+        ensures berth { result ≡ berth_of self.now id }
         ensures within { IfSome result (λ k. k < length self.now) }
         ensures one_to_one { IsOneToOne self.now }
         ensures length { length self.now ≤ 32767 }
     {
-        self.seats.get(&id.0).map(|&seat| usize::from(seat))
+        self.berths.get(&id.0).map(|&berth| usize::from(berth))
     }
 
-    /// The seat that the hints name, where the thread has that seat.
+    /// The berth that the hints name, where the thread has that berth.
     #[inline(always)]
-    fn hinted_seat_of(&self, id: ThreadId) -> Option<usize>
-        ensures seat { IfSome result (λ k. seat_of self.now id ≡ Some k) }
+    fn hinted_berth_of(&self, id: ThreadId) -> Option<usize>
+        ensures berth { IfSome result (λ k. berth_of self.now id ≡ Some k) }
         ensures within { IfSome result (λ k. k < length self.now) }
         ensures one_to_one { IsOneToOne self.now }
         ensures length { length self.now ≤ 32767 }
     {
-        let seat = self.hints.place(id.0) as usize;
-        match self.holders.get(seat) {
-            Some(Some(holder)) if holder.0 == id.0 => Some(seat),
+        let berth = self.hints.position(id.0) as usize;
+        match self.holders.get(berth) {
+            Some(Some(holder)) if holder.0 == id.0 => Some(berth),
             _ => None,
         }
     }
 
-    /// Notes the seat of a thread as a hint. Where there are few hints for the seats there are more
+    /// Notes the berth of a thread as a hint. Where there are few hints for the berths there are more
     /// from then on, if there is memory for them.
-    fn note(&mut self, seat: usize, id: ThreadId)
-        requires { seat < 32767 }
+    fn note(&mut self, berth: usize, id: ThreadId)
+        requires { berth < 32767 }
         ensures { self.new ≡ self.old }
     {
         let count = self.holders.len();
         if self.hints.are_few_for(count) && self.hints.widen_for(count) {
             note_all(&mut self.hints, &self.holders);
         }
-        self.hints.note(id.0, seat as u32);
+        self.hints.note(id.0, berth as u32);
     }
 
-    /// The lowest seat that nobody has.
-    fn free_seat(&self) -> Option<usize>
-        ensures seat { result ≡ free_seat self.now }
+    /// The lowest berth that nobody has.
+    fn free_berth(&self) -> Option<usize>
+        ensures berth { result ≡ free_berth self.now }
         ensures within { IfSome result (λ k. k < length self.now) }
     {
-        let seat = self.bits.lowest_free();
-        (seat < usize::from(self.limit)).then_some(seat)
+        let berth = self.bits.lowest_free();
+        (berth < usize::from(self.limit)).then_some(berth)
     }
 
-    /// Puts a thread that has no seat at the lowest free one.
-    fn put(&mut self, seat: usize, id: ThreadId) -> Result<(), TakeFault>
-        requires unknown { seat_of self.old id ≡ None }
-        requires free { free_seat self.old ≡ Some seat }
+    /// Puts a thread that has no berth at the lowest free one.
+    fn put(&mut self, berth: usize, id: ThreadId) -> Result<(), TakeFault>
+        requires unknown { berth_of self.old id ≡ None }
+        requires free { free_berth self.old ≡ Some berth }
         ensures value { self.new
-            ≡ (if is_ok result then slice_set self.old seat (Some id) else self.old) }
+            ≡ (if is_ok result then slice_set self.old berth (Some id) else self.old) }
         ensures memory { IfErr result (λ fault. fault ≡ TakeFault.Memory) }
     {
-        self.bits.make_room(seat)?;
-        write_down(&mut self.holders, seat)?;
-        self.seats.insert(id.0, seat as u16)?;
-        self.holders[seat] = Some(id);
-        self.bits.take(seat);
-        self.note(seat, id);
+        self.bits.make_room(berth)?;
+        write_down(&mut self.holders, berth)?;
+        self.berths.insert(id.0, berth as u16)?;
+        self.holders[berth] = Some(id);
+        self.bits.take(berth);
+        self.note(berth, id);
         Ok(())
     }
 }
 
-/// Notes the seat of each holder.
+/// Notes the berth of each holder.
 fn note_all(hints: &mut Hints, holders: &[Option<ThreadId>])
     requires { length holders.now ≤ 32767 }
 {
-    for (seat, holder) in holders.iter().enumerate() {
+    for (berth, holder) in holders.iter().enumerate() {
         if let Some(id) = holder {
-            hints.note(id.0, seat as u32);
+            hints.note(id.0, berth as u32);
         }
     }
 }
 
-/// Writes down that nobody has the next seat, where it is this one.
-fn write_down(holders: &mut Vec<Option<ThreadId>>, seat: usize) -> Result<(), AllocError>
-    requires { seat ≤ length holders.old.items }
-    ensures ok { OnOk result (seat < length holders.new.items) }
+/// Writes down that nobody has the next berth, where it is this one.
+fn write_down(holders: &mut Vec<Option<ThreadId>>, berth: usize) -> Result<(), AllocError>
+    requires { berth ≤ length holders.old.items }
+    ensures ok { OnOk result (berth < length holders.new.items) }
     ensures same { (k : ℕ) → holder_at holders.new.items k ≡ holder_at holders.old.items k }
     ensures longer { length holders.old.items ≤ length holders.new.items }
-    ensures few { length holders.new.items ≤ max (length holders.old.items) (seat + 1) }
+    ensures few { length holders.new.items ≤ max (length holders.old.items) (berth + 1) }
 {
-    if seat == holders.len() {
+    if berth == holders.len() {
         holders.push(None)?;
     }
     Ok(())

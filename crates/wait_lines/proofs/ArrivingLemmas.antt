@@ -17,13 +17,13 @@ use Rattle.wait_lines.specs.Arrivals.{Arrival, is_in, threads_in, lines_of, node
 use Rattle.wait_lines.proofs.ThreadLemmas.{is_same}
 use Rattle.wait_lines.proofs.ArrivalLemmas.{others, is_in-key, is_in-itself, Stands-found, others-fewer}
 use Rattle.wait_lines.proofs.RowLemmas.{times-cons}
-use Rattle.wait_lines.proofs.SeatLemmas.{IsThere, tie, tied, there-node, count-cons}
+use Rattle.wait_lines.proofs.NodeThreadLemmas.{IsThere, tie, tied, there-node, count-cons}
 
 -- ---- a thread comes to a node that stands in no row
 
-row-seat : (ts : List ThreadId) (k : Key) (n : ℕ) (t : ThreadId) (r : List ℕ) → times_number n r ≡ 0 → list_map (arrival (slice_set ts n t) k) r ≡ list_map (arrival ts k) r
-row-seat ts k n t [] out = refl
-row-seat ts k n t (m ∷ ms) out = at (m == n) refl (row-seat ts k n t ms)
+row-with_thread : (ts : List ThreadId) (k : Key) (n : ℕ) (t : ThreadId) (r : List ℕ) → times_number n r ≡ 0 → list_map (arrival (slice_set ts n t) k) r ≡ list_map (arrival ts k) r
+row-with_thread ts k n t [] out = refl
+row-with_thread ts k n t (m ∷ ms) out = at (m == n) refl (row-with_thread ts k n t ms)
   where
     at : (b : Bool) → (m == n) ≡ b → (times_number n ms ≡ 0 → list_map (arrival (slice_set ts n t) k) ms ≡ list_map (arrival ts k) ms)
         → arrival (slice_set ts n t) k m ∷ list_map (arrival (slice_set ts n t) k) ms ≡ arrival ts k m ∷ list_map (arrival ts k) ms
@@ -35,13 +35,13 @@ row-seat ts k n t (m ∷ ms) out = at (m == n) refl (row-seat ts k n t ms)
         ap (λ (u : ThreadId). let x : Arrival = record { thread = u; monitor = k.0; role = k.1; node = m } in x ∷ list_map (arrival (slice_set ts n t) k) ms) same
         ∙ ap (λ l. arrival ts k m ∷ l) rest
 
-arrivals-seat : (ts : List ThreadId) (ks : List Key) (n : ℕ) (t : ThreadId) (rs : List (List ℕ)) → times_in_rows n rs ≡ 0 → arrivals_in (slice_set ts n t) ks rs ≡ arrivals_in ts ks rs
-arrivals-seat ts [] n t rs out = refl
-arrivals-seat ts (k ∷ ks) n t [] out = refl
-arrivals-seat ts (k ∷ ks) n t (r ∷ rs) out =
+arrivals-with_thread : (ts : List ThreadId) (ks : List Key) (n : ℕ) (t : ThreadId) (rs : List (List ℕ)) → times_in_rows n rs ≡ 0 → arrivals_in (slice_set ts n t) ks rs ≡ arrivals_in ts ks rs
+arrivals-with_thread ts [] n t rs out = refl
+arrivals-with_thread ts (k ∷ ks) n t [] out = refl
+arrivals-with_thread ts (k ∷ ks) n t (r ∷ rs) out =
     let e = sum_by-cons (times_number n) r rs in
-    ap (λ l. l ++ arrivals_in (slice_set ts n t) ks rs) (row-seat ts k n t r (omega arith))
-    ∙ ap (λ l. list_map (arrival ts k) r ++ l) (arrivals-seat ts ks n t rs (omega arith))
+    ap (λ l. l ++ arrivals_in (slice_set ts n t) ks rs) (row-with_thread ts k n t r (omega arith))
+    ∙ ap (λ l. list_map (arrival ts k) r ++ l) (arrivals-with_thread ts ks n t rs (omega arith))
 
 -- nobody stands in a line with no record
 row-none : (ts : List ThreadId) (k q : Key) (r : List ℕ) → (k ≡ q → r ≡ []) → filter (is_in q.0 q.1) (list_map (arrival ts k) r) ≡ []
@@ -86,9 +86,9 @@ arrivals-joined ts (j ∷ ks) (r ∷ rs) n t zero q out here l even fits none = 
   refl,
   ap (λ x. x ++ arrivals_in (slice_set ts n t) ks rs) (map-append (arrival (slice_set ts n t) q) r (n ∷ []))
       ∙ append-assoc (list_map (arrival (slice_set ts n t) q) r) (arrival (slice_set ts n t) q n ∷ []) (arrivals_in (slice_set ts n t) ks rs)
-      ∙ ap (λ l. l ++ arrival (slice_set ts n t) q n ∷ arrivals_in (slice_set ts n t) ks rs) (row-seat ts q n t r (let e = sum_by-cons (times_number n) r rs in omega arith) ∙ keyed fits)
+      ∙ ap (λ l. l ++ arrival (slice_set ts n t) q n ∷ arrivals_in (slice_set ts n t) ks rs) (row-with_thread ts q n t r (let e = sum_by-cons (times_number n) r rs in omega arith) ∙ keyed fits)
       ∙ ap (λ (u : ThreadId). let x : Arrival = record { thread = u; monitor = q.0; role = q.1; node = n } in list_map (arrival ts j) r ++ x ∷ arrivals_in (slice_set ts n t) ks rs) (get_or-set_same ts n t (record { 0 = 0 }) here)
-      ∙ ap (λ l. let x : Arrival = record { thread = t; monitor = q.0; role = q.1; node = n } in list_map (arrival ts j) r ++ x ∷ l) (arrivals-seat ts ks n t rs (let e = sum_by-cons (times_number n) r rs in omega arith)),
+      ∙ ap (λ l. let x : Arrival = record { thread = t; monitor = q.0; role = q.1; node = n } in list_map (arrival ts j) r ++ x ∷ l) (arrivals-with_thread ts ks n t rs (let e = sum_by-cons (times_number n) r rs in omega arith)),
   arrivals-none ts ks q rs (λ i l e. none (suc i) (omega arith) (λ x. absurd (omega arith)) e),
 )
   where
@@ -107,7 +107,7 @@ arrivals-joined ts (j ∷ ks) (r ∷ rs) n t (suc k) q out here l even fits none
       list_map (arrival ts j) r ++ b.0,
       b.1,
       ap (λ l. list_map (arrival ts j) r ++ l) b.2 ∙ sym (append-assoc (list_map (arrival ts j) r) b.0 b.1),
-      ap (λ l. l ++ arrivals_in (slice_set ts n t) (slice_set ks k q) (slice_set rs k (row_at rs k ++ n ∷ []))) (row-seat ts j n t r (let e = sum_by-cons (times_number n) r rs in omega arith))
+      ap (λ l. l ++ arrivals_in (slice_set ts n t) (slice_set ks k q) (slice_set rs k (row_at rs k ++ n ∷ []))) (row-with_thread ts j n t r (let e = sum_by-cons (times_number n) r rs in omega arith))
           ∙ ap (λ l. list_map (arrival ts j) r ++ l) b.3 ∙ sym (append-assoc (list_map (arrival ts j) r) b.0 _),
       b.4,
     )

@@ -24,7 +24,7 @@ use Rattle.wait_lines.proofs.RowLemmas.{times-cons, length-row, end_at-IsEnd}
 use Rattle.wait_lines.proofs.ArrivalLemmas.{line-lines_of}
 use Rattle.wait_lines.proofs.LineLemmas.{key-same, same_role}
 use Rattle.wait_lines.proofs.ThreadLemmas.{same_thread}
-use Rattle.wait_lines.proofs.SeatLemmas.{IsThere as IsMember}
+use Rattle.wait_lines.proofs.NodeThreadLemmas.{IsThere as IsMember}
 use Rattle.wait_lines.proofs.ArrivingLemmas.{NoneBut, thread_at, there-stands, there-in_row, count-none, stands-somewhere, nowhere-count, threads-row, threads-nowhere}
 use Rattle.wait_lines.proofs.RecordLemmas.{walk-to_row, row-full, row-empty}
 use Rattle.wait_lines.proofs.JoiningLemmas.{taken}

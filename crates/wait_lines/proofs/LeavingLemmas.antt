@@ -17,7 +17,7 @@ use Rattle.wait_lines.specs.Arrivals.{lines_of, nodes_of, threads_of, keys_of, a
 use Rattle.wait_lines.proofs.LinkLemmas.{sizes-unlinked, sizes-linked}
 use Rattle.wait_lines.proofs.RowLemmas.{rows-shown, AreLinked-unlinked, AreLinked-linked, length-without_le}
 use Rattle.wait_lines.proofs.ArrivalLemmas.{others, IsOrderly-others, lines_of-others}
-use Rattle.wait_lines.proofs.SeatLemmas.{IsThere as IsMember, arrivals-without, AreSeated, seated, there-node, there-thread, there-counts, arrivals-count, same_others, fewer-others, nodes_of-others}
+use Rattle.wait_lines.proofs.NodeThreadLemmas.{IsThere as IsMember, arrivals-without, AreNamed, named, there-node, there-thread, there-counts, arrivals-count, same_others, fewer-others, nodes_of-others}
 use Rattle.wait_lines.proofs.RecordLemmas.{threads-unlinked, keys-unlinked, threads-linked, keys-linked}
 
 -- ---- a thread leaves its node
@@ -72,8 +72,8 @@ module _ (c : Chart) (n : ℕ) (t : ThreadId) (h : IsKept c) (stands : StandsAt 
       ∙ same_others (threads_of c) t n (there-thread (threads_of c) (arrivals_of c) t n all there) (arrivals_of c) all
       (let one = there-counts (arrivals_of c) t n there in let solo = h.solo t in omega arith)
     where
-      all : AreSeated (threads_of c) (arrivals_of c)
-      all = seated (threads_of c) (keys_of c) (tail_of (rows_of c))
+      all : AreNamed (threads_of c) (arrivals_of c)
+      all = named (threads_of c) (keys_of c) (tail_of (rows_of c))
 
       there : IsMember (arrivals_of c) t n
       there = there-node (arrivals_of c) t n stands

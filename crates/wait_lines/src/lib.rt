@@ -173,7 +173,7 @@ impl Lines {
             unreachable!();
         };
         self.links.unlink(node);
-        self.links.seat(node, thread);
+        self.links.put_thread(node, thread);
         self.links.name(line, monitor, role);
         self.links.link(node, Stop::End(line));
         self.table.put(line, monitor, role);

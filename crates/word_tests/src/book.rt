@@ -62,7 +62,7 @@ const WAIT_OVER: Told = told!(Answer::Reply(Reply::WaitOver));
 
 /// What is asked of a book, and what has to be answered.
 #[derive(Clone, Copy)]
-enum Turn {
+enum Ask {
     /// The thread holds the object so often, and binds this monitor to it.
     Binds(ThreadId, u16, Result<u32, BookFault>),
     Acts(ThreadId, Action, Told),
@@ -117,27 +117,27 @@ fn tick(book: &mut Book, thread: ThreadId, now: u64) -> Option<Result<(), BookFa
 }
 
 /// Whether this is the answer.
-fn answers(book: &mut Book, turn: Turn) -> bool {
-    match turn {
-        Turn::Binds(thread, holds, answer) => bind(book, thread, holds) == Some(answer),
-        Turn::Acts(thread, action, answer) => act(book, thread, action) == Some(answer),
-        Turn::Ticks(thread, now, answer) => tick(book, thread, now) == Some(answer),
-        Turn::Checks(thread, parked, full, answer) => book.check(thread, parked, full) == answer,
-        Turn::HasPlaces(used, free) => book.used() == used && book.free() == free,
-        Turn::HasPasses(passes) => book.passes() == passes,
-        Turn::HasMoment(now) => book.now() == now,
-        Turn::Keeps(object) => Kept::object(book, 0) == Some(object),
-        Turn::Logs(place, logged) => book.log().get(place).copied() == Some(logged),
+fn answers(book: &mut Book, ask: Ask) -> bool {
+    match ask {
+        Ask::Binds(thread, holds, answer) => bind(book, thread, holds) == Some(answer),
+        Ask::Acts(thread, action, answer) => act(book, thread, action) == Some(answer),
+        Ask::Ticks(thread, now, answer) => tick(book, thread, now) == Some(answer),
+        Ask::Checks(thread, parked, full, answer) => book.check(thread, parked, full) == answer,
+        Ask::HasPlaces(used, free) => book.used() == used && book.free() == free,
+        Ask::HasPasses(passes) => book.passes() == passes,
+        Ask::HasMoment(now) => book.now() == now,
+        Ask::Keeps(object) => Kept::object(book, 0) == Some(object),
+        Ask::Logs(place, logged) => book.log().get(place).copied() == Some(logged),
     }
 }
 
-/// Asks these turns of a new book of one monitor, with so many passes and places.
-fn check(rt: &impl Abort, alloc: Global, passes: u16, places: u32, turns: &[Turn])
+/// Asks these questions of a new book of one monitor, with so many passes and places.
+fn check(rt: &impl Abort, alloc: Global, passes: u16, places: u32, asks: &[Ask])
     requires { passes ≤ 64 }
 {
     let mut book = Book::new(alloc, 1, passes, places).expect(rt, "memory");
-    for (row, turn) in turns.iter().enumerate() {
-        assert!(rt; answers(&mut book, *turn), "row {row}");
+    for (row, ask) in asks.iter().enumerate() {
+        assert!(rt; answers(&mut book, *ask), "row {row}");
     }
 }
 
@@ -148,57 +148,57 @@ fn a_full_record_lets_an_owner_leave_and_a_parked_thread_return(rt: HostRuntime)
         granted: Some(TWO),
         chosen: None,
     });
-    const TURNS: [Turn; 15] = [
-        Turn::Binds(ONE, 1, Ok(0)),
-        Turn::HasPlaces(1, 4),
-        Turn::Acts(TWO, ENTER, PARKED),
-        Turn::HasPlaces(2, 1),
-        Turn::Acts(ONE, NOTIFY, NOTIFIED),
-        Turn::HasPlaces(3, 0),
-        Turn::Acts(ONE, HOLDS, Err(FULL)),
-        Turn::Ticks(ONE, 1, Err(FULL)),
-        Turn::Acts(ONE, EXIT, GRANTED),
-        Turn::HasPlaces(4, 0),
-        Turn::Acts(TWO, Action::Collect, ENTERED),
-        Turn::HasPlaces(5, 0),
-        Turn::Acts(TWO, EXIT, EXITED),
-        Turn::HasPlaces(6, 0),
-        Turn::Keeps(OBJECT),
+    const ASKS: [Ask; 15] = [
+        Ask::Binds(ONE, 1, Ok(0)),
+        Ask::HasPlaces(1, 4),
+        Ask::Acts(TWO, ENTER, PARKED),
+        Ask::HasPlaces(2, 1),
+        Ask::Acts(ONE, NOTIFY, NOTIFIED),
+        Ask::HasPlaces(3, 0),
+        Ask::Acts(ONE, HOLDS, Err(FULL)),
+        Ask::Ticks(ONE, 1, Err(FULL)),
+        Ask::Acts(ONE, EXIT, GRANTED),
+        Ask::HasPlaces(4, 0),
+        Ask::Acts(TWO, Action::Collect, ENTERED),
+        Ask::HasPlaces(5, 0),
+        Ask::Acts(TWO, EXIT, EXITED),
+        Ask::HasPlaces(6, 0),
+        Ask::Keeps(OBJECT),
     ];
-    check(&rt, rt.alloc(), 2, 6, &TURNS);
+    check(&rt, rt.alloc(), 2, 6, &ASKS);
 }
 
 #[test]
 fn a_bind_that_fits_can_leave_no_place_for_the_wait(rt: HostRuntime) {
-    const TURNS: [Turn; 8] = [
-        Turn::Binds(ONE, 3, Err(FULL)),
-        Turn::Binds(ONE, 1, Ok(0)),
-        Turn::HasPlaces(1, 1),
-        Turn::Binds(ONE, 1, Err(FULL)),
-        Turn::Acts(ONE, WAIT, Err(FULL)),
-        Turn::Acts(ONE, HOLDS, OWNS),
-        Turn::Acts(ONE, EXIT, EXITED),
-        Turn::HasPlaces(3, 0),
+    const ASKS: [Ask; 8] = [
+        Ask::Binds(ONE, 3, Err(FULL)),
+        Ask::Binds(ONE, 1, Ok(0)),
+        Ask::HasPlaces(1, 1),
+        Ask::Binds(ONE, 1, Err(FULL)),
+        Ask::Acts(ONE, WAIT, Err(FULL)),
+        Ask::Acts(ONE, HOLDS, OWNS),
+        Ask::Acts(ONE, EXIT, EXITED),
+        Ask::HasPlaces(3, 0),
     ];
-    check(&rt, rt.alloc(), 1, 3, &TURNS);
+    check(&rt, rt.alloc(), 1, 3, &ASKS);
 }
 
 #[test]
 fn each_thread_that_a_notify_all_removes_frees_a_place(rt: HostRuntime) {
-    const TURNS: [Turn; 11] = [
-        Turn::Binds(ONE, 5, Ok(0)),
-        Turn::HasPlaces(1, 24),
-        Turn::Acts(ONE, WAIT, PARKED),
-        Turn::HasPlaces(2, 21),
-        Turn::Acts(TWO, ENTER, ENTERED),
-        Turn::Acts(TWO, WAIT, PARKED),
-        Turn::HasPlaces(4, 16),
-        Turn::Acts(THREE, ENTER, ENTERED),
-        Turn::HasPlaces(5, 14),
-        Turn::Acts(THREE, NOTIFY_ALL, NOTIFIED),
-        Turn::HasPlaces(6, 15),
+    const ASKS: [Ask; 11] = [
+        Ask::Binds(ONE, 5, Ok(0)),
+        Ask::HasPlaces(1, 24),
+        Ask::Acts(ONE, WAIT, PARKED),
+        Ask::HasPlaces(2, 21),
+        Ask::Acts(TWO, ENTER, ENTERED),
+        Ask::Acts(TWO, WAIT, PARKED),
+        Ask::HasPlaces(4, 16),
+        Ask::Acts(THREE, ENTER, ENTERED),
+        Ask::HasPlaces(5, 14),
+        Ask::Acts(THREE, NOTIFY_ALL, NOTIFIED),
+        Ask::HasPlaces(6, 15),
     ];
-    check(&rt, rt.alloc(), 3, 30, &TURNS);
+    check(&rt, rt.alloc(), 3, 30, &ASKS);
 }
 
 #[test]
@@ -213,37 +213,37 @@ fn a_wait_that_is_over_frees_the_place_of_its_expiry(rt: HostRuntime) {
         thread: ONE,
         deed: Deed::Ticked { now: 5 },
     };
-    const TURNS: [Turn; 15] = [
-        Turn::Binds(ONE, 1, Ok(0)),
-        Turn::Acts(ONE, WAIT, PARKED),
-        Turn::HasPlaces(2, 2),
-        Turn::Acts(ONE, Action::Expire, Err(BookFault::NotDue)),
-        Turn::Acts(ONE, Action::Collect, Err(BookFault::Parked)),
-        Turn::Ticks(ONE, 5, Ok(())),
-        Turn::Ticks(ONE, 4, Err(BookFault::Backwards)),
-        Turn::HasMoment(5),
-        Turn::HasPlaces(3, 1),
-        Turn::Ticks(ONE, 5, Ok(())),
-        Turn::Acts(ONE, Action::Expire, BACK),
-        Turn::Acts(ONE, Action::Collect, WAIT_OVER),
-        Turn::Acts(ONE, EXIT, EXITED),
-        Turn::HasPlaces(7, 0),
-        Turn::Logs(2, TICKED),
+    const ASKS: [Ask; 15] = [
+        Ask::Binds(ONE, 1, Ok(0)),
+        Ask::Acts(ONE, WAIT, PARKED),
+        Ask::HasPlaces(2, 2),
+        Ask::Acts(ONE, Action::Expire, Err(BookFault::NotDue)),
+        Ask::Acts(ONE, Action::Collect, Err(BookFault::Parked)),
+        Ask::Ticks(ONE, 5, Ok(())),
+        Ask::Ticks(ONE, 4, Err(BookFault::Backwards)),
+        Ask::HasMoment(5),
+        Ask::HasPlaces(3, 1),
+        Ask::Ticks(ONE, 5, Ok(())),
+        Ask::Acts(ONE, Action::Expire, BACK),
+        Ask::Acts(ONE, Action::Collect, WAIT_OVER),
+        Ask::Acts(ONE, EXIT, EXITED),
+        Ask::HasPlaces(7, 0),
+        Ask::Logs(2, TICKED),
     ];
-    check(&rt, rt.alloc(), 1, 7, &TURNS);
+    check(&rt, rt.alloc(), 1, 7, &ASKS);
 }
 
 #[test]
 fn a_pass_is_torn_where_the_book_has_it_elsewhere(rt: HostRuntime) {
     const PARKED: bool = true;
     const FULL: bool = true;
-    const TURNS: [Turn; 5] = [
-        Turn::HasPasses(1),
-        Turn::Checks(ONE, !PARKED, !FULL, Ok(())),
-        Turn::Checks(ONE, PARKED, !FULL, Err(LiveFault::Torn)),
-        Turn::Checks(ONE, !PARKED, FULL, Err(LiveFault::Torn)),
-        Turn::Checks(TWO, !PARKED, !FULL, Err(LiveFault::Torn)),
+    const ASKS: [Ask; 5] = [
+        Ask::HasPasses(1),
+        Ask::Checks(ONE, !PARKED, !FULL, Ok(())),
+        Ask::Checks(ONE, PARKED, !FULL, Err(LiveFault::Torn)),
+        Ask::Checks(ONE, !PARKED, FULL, Err(LiveFault::Torn)),
+        Ask::Checks(TWO, !PARKED, !FULL, Err(LiveFault::Torn)),
     ];
-    check(&rt, rt.alloc(), 1, 5, &TURNS);
+    check(&rt, rt.alloc(), 1, 5, &ASKS);
     assert!(rt; LiveFault::Torn.number() == 18);
 }

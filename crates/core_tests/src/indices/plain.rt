@@ -21,13 +21,13 @@ impl PlainIndices {
     }
 
     pub(super) fn take(&mut self, id: ThreadId) -> Result<usize, TakeFault> {
-        if self.seat_of(id).is_some() {
+        if self.berth_of(id).is_some() {
             return Err(TakeFault::Known);
         }
         match self.holders.iter().position(|holder| holder.is_none()) {
-            Some(seat) => {
-                self.holders[seat] = Some(id);
-                Ok(seat + 1)
+            Some(berth) => {
+                self.holders[berth] = Some(id);
+                Ok(berth + 1)
             }
             None if self.holders.len() < self.limit => {
                 self.holders.push(Some(id))?;
@@ -38,16 +38,16 @@ impl PlainIndices {
     }
 
     pub(super) fn give(&mut self, id: ThreadId) -> Option<usize> {
-        let seat = self.seat_of(id)?;
-        self.holders[seat] = None;
-        Some(seat + 1)
+        let berth = self.berth_of(id)?;
+        self.holders[berth] = None;
+        Some(berth + 1)
     }
 
     pub(super) fn index_of(&self, id: ThreadId) -> Option<usize> {
-        Some(self.seat_of(id)? + 1)
+        Some(self.berth_of(id)? + 1)
     }
 
-    fn seat_of(&self, id: ThreadId) -> Option<usize>
+    fn berth_of(&self, id: ThreadId) -> Option<usize>
         ensures { IfSome result (λ k. k < length self.now.holders.items) }
     {
         self.holders.iter().position(|&holder| holder == Some(id))

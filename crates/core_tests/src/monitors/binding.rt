@@ -1,16 +1,16 @@
 //! Monitors that are bound.
 
-use crate::monitors::{Deed, OBJECT, SEVEN, binds, check, with_both};
+use crate::monitors::{Ask, OBJECT, SEVEN, binds, check, with_both};
 use fat_monitor::Cause;
 
 #[test]
 fn a_receipt_tells_what_was_bound(rt: HostRuntime) {
-    const DEEDS: [Deed; 3] = [
-        Deed::Binds(3, Ok(0)),
-        Deed::Shows(0, Some(OBJECT), Some(SEVEN), 3),
-        Deed::Binds(1, Err(Cause::NoMonitor)),
+    const ASKS: [Ask; 3] = [
+        Ask::Binds(3, Ok(0)),
+        Ask::Shows(0, Some(OBJECT), Some(SEVEN), 3),
+        Ask::Binds(1, Err(Cause::NoMonitor)),
     ];
-    check(&rt, rt.alloc(), 1, &DEEDS);
+    check(&rt, rt.alloc(), 1, &ASKS);
 }
 
 #[test]
@@ -24,12 +24,12 @@ fn a_million_monitors_are_bound(rt: HostRuntime) {
 
 #[test]
 fn a_bind_takes_room_that_was_reserved(rt: HostRuntime) {
-    const DEEDS: [Deed; 5] = [
-        Deed::Reserves(1),
-        Deed::Reserves(0),
-        Deed::HasSpare(1),
-        Deed::Binds(3, Ok(0)),
-        Deed::HasSpare(0),
+    const ASKS: [Ask; 5] = [
+        Ask::Reserves(1),
+        Ask::Reserves(0),
+        Ask::HasSpare(1),
+        Ask::Binds(3, Ok(0)),
+        Ask::HasSpare(0),
     ];
-    check(&rt, rt.alloc(), 1, &DEEDS);
+    check(&rt, rt.alloc(), 1, &ASKS);
 }

@@ -1,6 +1,6 @@
 //! What the readers answer.
 
-use crate::monitors::{Deed, EIGHT, OBJECT, SEVEN, attach, check};
+use crate::monitors::{Ask, EIGHT, OBJECT, SEVEN, attach, check};
 use fat_monitor::{Action, Answer, AttachFault, Done, Fats, Post, Reply};
 
 const PARKED: Done = Done {
@@ -25,14 +25,14 @@ fn a_thread_is_attached_once(rt: HostRuntime) {
 
 #[test]
 fn a_bound_monitor_shows_its_owner_and_holds(rt: HostRuntime) {
-    const DEEDS: [Deed; 5] = [
-        Deed::Shows(0, None, None, 0),
-        Deed::Binds(256, Ok(0)),
-        Deed::Counts(1, 2),
-        Deed::Shows(0, Some(OBJECT), Some(SEVEN), 256),
-        Deed::Shows(1, None, None, 0),
+    const ASKS: [Ask; 5] = [
+        Ask::Shows(0, None, None, 0),
+        Ask::Binds(256, Ok(0)),
+        Ask::Counts(1, 2),
+        Ask::Shows(0, Some(OBJECT), Some(SEVEN), 256),
+        Ask::Shows(1, None, None, 0),
     ];
-    check(&rt, rt.alloc(), 2, &DEEDS);
+    check(&rt, rt.alloc(), 2, &ASKS);
 }
 
 #[test]
@@ -47,14 +47,14 @@ fn a_waiter_shows_its_holds_and_its_deadline(rt: HostRuntime) {
         holds: 3,
         deadline: Some(1_000_012),
     };
-    const DEEDS: [Deed; 5] = [
-        Deed::Binds(3, Ok(0)),
-        Deed::Ticks(10),
-        Deed::Acts(SEVEN, WAIT, PARKED),
-        Deed::Times(10, 1),
-        Deed::Stands(SEVEN, WAITING),
+    const ASKS: [Ask; 5] = [
+        Ask::Binds(3, Ok(0)),
+        Ask::Ticks(10),
+        Ask::Acts(SEVEN, WAIT, PARKED),
+        Ask::Times(10, 1),
+        Ask::Stands(SEVEN, WAITING),
     ];
-    check(&rt, rt.alloc(), 1, &DEEDS);
+    check(&rt, rt.alloc(), 1, &ASKS);
 }
 
 #[test]
@@ -64,11 +64,11 @@ fn an_answer_names_the_thread_that_was_granted(rt: HostRuntime) {
         granted: Some(EIGHT),
         chosen: None,
     };
-    const DEEDS: [Deed; 4] = [
-        Deed::Binds(1, Ok(0)),
-        Deed::Acts(EIGHT, Action::Enter { monitor: 0 }, PARKED),
-        Deed::Acts(SEVEN, Action::Exit { monitor: 0 }, GRANTED),
-        Deed::Stands(EIGHT, Post::Granted(Reply::Entered)),
+    const ASKS: [Ask; 4] = [
+        Ask::Binds(1, Ok(0)),
+        Ask::Acts(EIGHT, Action::Enter { monitor: 0 }, PARKED),
+        Ask::Acts(SEVEN, Action::Exit { monitor: 0 }, GRANTED),
+        Ask::Stands(EIGHT, Post::Granted(Reply::Entered)),
     ];
-    check(&rt, rt.alloc(), 1, &DEEDS);
+    check(&rt, rt.alloc(), 1, &ASKS);
 }

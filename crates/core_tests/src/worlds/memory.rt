@@ -8,7 +8,7 @@ use step_core::{Did, Fault, RelayoutFault};
 
 /// What is done with a world, which does it in the end though memory is refused.
 #[derive(Clone, Copy)]
-enum Deed {
+enum Ask {
     Attaches(ThreadId),
     /// So many enters of x, the last of which needs no monitor.
     Enters(u32),
@@ -109,58 +109,58 @@ fn lays_out(rt: &impl Abort, world: &mut World) {
     }
 }
 
-fn play(rt: &impl Abort, world: &mut World, deed: Deed) {
-    match deed {
-        Deed::Attaches(thread) => attaches(rt, world, thread),
-        Deed::Enters(times) => enters(rt, world, times),
-        Deed::EntersDeeper => enters_deeper(rt, world),
-        Deed::WinsLate => wins_late(rt, world),
-        Deed::LaysOut => lays_out(rt, world),
-        Deed::Shows(word) => shows(rt, world, word, X, 257),
+fn play(rt: &impl Abort, world: &mut World, ask: Ask) {
+    match ask {
+        Ask::Attaches(thread) => attaches(rt, world, thread),
+        Ask::Enters(times) => enters(rt, world, times),
+        Ask::EntersDeeper => enters_deeper(rt, world),
+        Ask::WinsLate => wins_late(rt, world),
+        Ask::LaysOut => lays_out(rt, world),
+        Ask::Shows(word) => shows(rt, world, word, X, 257),
     }
 }
 
-/// Does these deeds with a new world, one after the other.
-fn play_all(rt: &impl Abort, alloc: Global, split: Split, deeds: &[Deed]) {
+/// Does these with a new world, one after the other.
+fn play_all(rt: &impl Abort, alloc: Global, split: Split, asks: &[Ask]) {
     let mut world = opened(rt, alloc, split);
-    for deed in deeds {
-        play(rt, &mut world, *deed);
+    for ask in asks {
+        play(rt, &mut world, *ask);
     }
 }
 
 #[test]
 fn what_was_refused_succeeds_when_tried_again(rt: HostRuntime) -> Result<(), Fail> {
-    const DEEDS: [Deed; 5] = [
-        Deed::Attaches(X),
-        Deed::Attaches(Y),
-        Deed::Enters(256),
-        Deed::EntersDeeper,
-        Deed::Shows(0x8000_00A5),
+    const ASKS: [Ask; 5] = [
+        Ask::Attaches(X),
+        Ask::Attaches(Y),
+        Ask::Enters(256),
+        Ask::EntersDeeper,
+        Ask::Shows(0x8000_00A5),
     ];
-    play_all(&rt, rt.alloc(), Split::Wide, &DEEDS);
+    play_all(&rt, rt.alloc(), Split::Wide, &ASKS);
     Ok(())
 }
 
 #[test]
 fn an_enter_that_won_stays_though_its_bind_is_refused(rt: HostRuntime) -> Result<(), Fail> {
-    const DEEDS: [Deed; 4] = [
-        Deed::Attaches(X),
-        Deed::Attaches(Y),
-        Deed::Enters(1),
-        Deed::WinsLate,
+    const ASKS: [Ask; 4] = [
+        Ask::Attaches(X),
+        Ask::Attaches(Y),
+        Ask::Enters(1),
+        Ask::WinsLate,
     ];
-    play_all(&rt, rt.alloc(), Split::Wide, &DEEDS);
+    play_all(&rt, rt.alloc(), Split::Wide, &ASKS);
     Ok(())
 }
 
 #[test]
 fn a_refused_relayout_succeeds_when_tried_again(rt: HostRuntime) -> Result<(), Fail> {
-    const DEEDS: [Deed; 4] = [
-        Deed::Attaches(X),
-        Deed::Enters(257),
-        Deed::LaysOut,
-        Deed::Shows(0x8000_00A5),
+    const ASKS: [Ask; 4] = [
+        Ask::Attaches(X),
+        Ask::Enters(257),
+        Ask::LaysOut,
+        Ask::Shows(0x8000_00A5),
     ];
-    play_all(&rt, rt.alloc(), Split::Deep, &DEEDS);
+    play_all(&rt, rt.alloc(), Split::Deep, &ASKS);
     Ok(())
 }

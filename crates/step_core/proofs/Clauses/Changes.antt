@@ -8,7 +8,7 @@ use Rattle.lock_word.specs.declared.Lock.{Lock}
 use Rattle.lock_word.specs.declared.Lock.TheVariants.{Free, Thin, Fat}
 use Rattle.lock_word.specs.Layout.{Fits, low_of}
 use Rattle.lock_word.proofs.Words.{low_kept}
-use Rattle.thread_index.specs.Indices.{seat_of, free_seat}
+use Rattle.thread_index.specs.Indices.{berth_of, free_berth}
 use Rattle.fat_monitor.specs.declared.actions.Cause.{Cause}
 use Rattle.fat_monitor.specs.declared.actions.Cause.TheVariants as cause
 use Rattle.fat_monitor.specs.declared.actions.Reply.TheVariants as reply
@@ -56,10 +56,10 @@ use Rattle.step_core.specs.Path.{IsTold}
 abbrev Named : WorldState → Step → AfterStep → Type 0
 Named w s o = IfOk o.answer (λ d. Changes w s d.atomic o.after)
 
-module _ (w : WorldState) (sound : IsSound w) (k : ℕ) (t : ThreadId) (seat : seat_of w.seats t ≡ Some k) (out : post_of w.fats t ≡ Some Out) where
-  -- a thin lock with the index of the seat is the thread's own
+module _ (w : WorldState) (sound : IsSound w) (k : ℕ) (t : ThreadId) (berth : berth_of w.berths t ≡ Some k) (out : post_of w.fats t ≡ Some Out) where
+  -- a thin lock with the index of the berth is the thread's own
   own : (l : Lock) (n : ℕ) → l ≡ Thin (k + 1) n → IsOwn w t l n
-  own l n e = (k + 1, rw seat refl, e)
+  own l n e = (k + 1, rw berth refl, e)
 
   -- another lock keeps the low byte
   low : (o : ObjectId) (l : Lock) → Fits w.split l → low_of (new_word w o l).0 ≡ low_of (word_at w o.0).0
@@ -77,10 +77,10 @@ module _ (w : WorldState) (sound : IsSound w) (k : ℕ) (t : ThreadId) (seat : s
   takes : (o : ObjectId) (b : Bool) (l : Lock) → o.0 < length w.words → lock_at w o.0 ≡ l
       → GoChanges w t (after_take w k t o b l).did.atomic (with_go w k (after_take w k t o b l))
   takes o true Free h e =
-      let fits : Fits w.split (Thin (k + 1) 0) = thin_fits w sound k t seat 0 (omega arith) in
+      let fits : Fits w.split (Thin (k + 1) 0) = thin_fits w sound k t berth 0 (omega arith) in
       ((h, refl), e, own _ 0 (lock_of-new_word w o (Thin (k + 1) 0) fits), (low o (Thin (k + 1) 0) fits, refl, refl))
   takes o false Free h e =
-      let fits : Fits w.split (Thin (k + 1) 0) = thin_fits w sound k t seat 0 (omega arith) in
+      let fits : Fits w.split (Thin (k + 1) 0) = thin_fits w sound k t berth 0 (omega arith) in
       ((h, refl), e, own _ 0 (lock_of-new_word w o (Thin (k + 1) 0) fits), (low o (Thin (k + 1) 0) fits, refl, refl))
   takes o b (Thin i n) h e = ((h, refl), (λ x. let never : Thin i n ≡ Free = sym e ∙ x in cc), (refl, refl))
   takes o b (Fat m) h e = ((h, refl), (λ x. let never : Fat m ≡ Free = sym e ∙ x in cc), (refl, refl))
@@ -94,9 +94,9 @@ module _ (w : WorldState) (sound : IsSound w) (k : ℕ) (t : ThreadId) (seat : s
   publishes : (c : MonitorCall) (won : Bool) (m : ℕ) → FittingStage w k (Bound c won m)
       → GoChanges w t (after_publish w t c won m).did.atomic (with_go w k (after_publish w t c won m))
   publishes c true m fit =
-      ((fit.0, refl), (fit.2.0, own _ fit.2.0 fit.2.1), (low c.object (Fat m) (number_fits w sound k t seat m fit.1), refl, refl))
+      ((fit.0, refl), (fit.2.0, own _ fit.2.0 fit.2.1), (low c.object (Fat m) (number_fits w sound k t berth m fit.1), refl, refl))
   publishes c false m fit =
-      ((fit.0, refl), (fit.2.0, own _ fit.2.0 fit.2.1), (low c.object (Fat m) (number_fits w sound k t seat m fit.1), refl, refl))
+      ((fit.0, refl), (fit.2.0, own _ fit.2.0 fit.2.1), (low c.object (Fat m) (number_fits w sound k t berth m fit.1), refl, refl))
 
   -- a fat action of a call, by what it told
   tells : (c : Call) (a : Action) → MayAct w.fats t a → NamesBound w.fats a → (r : Result Done ActFault) → (outcome_of w.fats t a).answer ≡ r
@@ -129,7 +129,7 @@ module _ (w : WorldState) (sound : IsSound w) (k : ℕ) (t : ThreadId) (seat : s
   acts_on : (c : MonitorCall) (m : ℕ) → lock_at w c.object.0 ≡ Fat m
       → GoChanges w t (after_act w t (call_of c) (action_on c.operation m)).did.atomic (with_go w k (after_act w t (call_of c) (action_on c.operation m)))
   acts_on c m shows =
-      acts (call_of c) (action_on c.operation m) (may w sound k t seat c m shows c.operation out) (bound_there w sound k t seat c m shows c.operation) (own_on c.operation m)
+      acts (call_of c) (action_on c.operation m) (may w sound k t berth c m shows c.operation out) (bound_there w sound k t berth c m shows c.operation) (own_on c.operation m)
 
   acts_about : (c : InterruptCall)
       → GoChanges w t (after_act w t (call_about c) (action_about c)).did.atomic (with_go w k (after_act w t (call_about c) (action_about c)))
@@ -141,7 +141,7 @@ module _ (w : WorldState) (sound : IsSound w) (k : ℕ) (t : ThreadId) (seat : s
   stages room (Begun c b) fit = loads c b (next_of w.split c.operation (lock_at w c.object.0) (k + 1)) fit
   stages room (Taking o b) fit = takes o b (lock_at w o.0) fit refl
   stages room (Storing c l) fit =
-      ((fit.0, refl), (fit.1.0, own _ fit.1.0 fit.1.1), (low c.object l (store_fits w sound k t seat c.object c.operation l (storing w k c l fit)), refl, refl))
+      ((fit.0, refl), (fit.1.0, own _ fit.1.0 fit.1.1), (low c.object l (store_fits w sound k t berth c.object c.operation l (storing w k c l fit)), refl, refl))
   stages room (Binding c n) fit = binds c false n (bind_cause room w.fats) fit.0 fit.1
   stages room (Acting c m) fit = acts_on c m fit.1
   stages room (Won o) fit = binds (entering o) true 0 (bind_cause room w.fats) fit.0 fit.1
@@ -154,18 +154,18 @@ module _ (w : WorldState) (sound : IsSound w) (k : ℕ) (t : ThreadId) (seat : s
   ends false e = (out, tt, (record { answer = answer.Reply reply.Ended; granted = None; chosen = None }, rw e refl, refl), rw e refl, refl)
 
 module _ (w : WorldState) (sound : IsSound w) (t : ThreadId) where
-  goes : (room : Bool) → Named w (step.Go t) (after_go room w t (seat_of w.seats t))
+  goes : (room : Bool) → Named w (step.Go t) (after_go room w t (berth_of w.berths t))
   goes = go_cases w sound t (Named w (step.Go t))
       (λ none. tt)
-      (λ k seat at. tt)
-      (λ k seat out room s at fit. stages w sound k t seat out room s fit)
-      (λ k seat out n at more. looks w sound k t seat out n (is_own (lock_at w n) (k + 1)) more)
-      (λ k seat out n at all. ends w sound k t seat out (owns_one w.fats.monitors t) refl)
-      (λ k seat at stands. tt)
-      (λ k seat r at granted. (rw granted refl, tt, (record { answer = answer.Reply r; granted = None; chosen = None }, rw granted refl, refl), rw granted refl, refl))
+      (λ k berth at. tt)
+      (λ k berth out room s at fit. stages w sound k t berth out room s fit)
+      (λ k berth out n at more. looks w sound k t berth out n (is_own (lock_at w n) (k + 1)) more)
+      (λ k berth out n at all. ends w sound k t berth out (owns_one w.fats.monitors t) refl)
+      (λ k berth at stands. tt)
+      (λ k berth r at granted. (rw granted refl, tt, (record { answer = answer.Reply r; granted = None; chosen = None }, rw granted refl, refl), rw granted refl, refl))
 
-  begins : (c : Call) → Named w (step.Begin t c) (after_begin w t c (seat_of w.seats t))
-  begins c = begin_cases w t c (Named w (step.Begin t c)) (λ none. tt) (λ k o seat names past. tt) (λ k seat there busy. tt) (λ k seat there at. (refl, refl))
+  begins : (c : Call) → Named w (step.Begin t c) (after_begin w t c (berth_of w.berths t))
+  begins c = begin_cases w t c (Named w (step.Begin t c)) (λ none. tt) (λ k o berth names past. tt) (λ k berth there busy. tt) (λ k berth there at. (refl, refl))
 
   attaches : (room : Bool) (o f : Option ℕ) → Named w (step.Attach t) (after_attach room w t o f)
   attaches room (Some k) f = tt
@@ -207,9 +207,9 @@ ticks w now =
 
 -- Each accepted step made the one change that it names.
 pub step_changes : (w : WorldState) → IsSound w → (room : Bool) (s : Step) → IfOk (step_of room w s).answer (λ d. Changes w s d.atomic (step_of room w s).after)
-step_changes w sound room (step.Attach t) = attaches w sound t room (seat_of w.seats t) (free_seat w.seats)
+step_changes w sound room (step.Attach t) = attaches w sound t room (berth_of w.berths t) (free_berth w.berths)
 step_changes w sound room (step.Begin t c) = begins w sound t c
 step_changes w sound room (step.Go t) = goes w sound t room
-step_changes w sound room (step.Expire t) = expires w sound t (seat_of w.seats t)
-step_changes w sound room (step.Spurious t) = wakes w sound t (seat_of w.seats t)
+step_changes w sound room (step.Expire t) = expires w sound t (berth_of w.berths t)
+step_changes w sound room (step.Spurious t) = wakes w sound t (berth_of w.berths t)
 step_changes w sound room (step.Tick now) = ticks w now

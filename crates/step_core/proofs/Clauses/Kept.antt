@@ -8,7 +8,7 @@ use Rattle.lock_word.specs.declared.Lock.{Lock}
 use Rattle.lock_word.specs.declared.Lock.TheVariants.{Free, Thin, Fat}
 use Rattle.lock_word.specs.Layout.{Fits, low_of}
 use Rattle.lock_word.proofs.Words.{low_kept}
-use Rattle.thread_index.specs.Indices.{seat_of, free_seat}
+use Rattle.thread_index.specs.Indices.{berth_of, free_berth}
 use Rattle.fat_monitor.specs.declared.actions.Cause.{Cause}
 use Rattle.fat_monitor.specs.declared.actions.Action.{Action}
 use Rattle.fat_monitor.specs.declared.actions.Done.{Done}
@@ -54,7 +54,7 @@ module _ (w : WorldState) (k : ℕ) where
     at_object q (inl e) = rw (e, get_or-set_same w.words o.0 (new_word w o l) (low_word 0) inside) (low_kept w.split (word_at w o.0).0 l)
     at_object q (inr ne) = rw (get_or-set_other w.words o.0 q (new_word w o l) (low_word 0) ne) refl
 
-module _ (w : WorldState) (sound : IsSound w) (k : ℕ) (t : ThreadId) (seat : seat_of w.seats t ≡ Some k) where
+module _ (w : WorldState) (sound : IsSound w) (k : ℕ) (t : ThreadId) (berth : berth_of w.berths t ≡ Some k) where
   loads : (c : MonitorCall) (b : Bool) (n : Next) → Keeps w (with_go w k (after_load w t c b n))
   loads c b (next.Reply r) = same w _ refl
   loads c b (next.Cas l) = same w _ refl
@@ -64,8 +64,8 @@ module _ (w : WorldState) (sound : IsSound w) (k : ℕ) (t : ThreadId) (seat : s
   loads c b next.Spin = same w _ refl
 
   takes : (o : ObjectId) (b : Bool) (l : Lock) → o.0 < length w.words → Keeps w (with_go w k (after_take w k t o b l))
-  takes o true Free h = written w k o (Thin (k + 1) 0) (after_take w k t o true Free) refl (thin_fits w sound k t seat 0 (omega arith)) h
-  takes o false Free h = written w k o (Thin (k + 1) 0) (after_take w k t o false Free) refl (thin_fits w sound k t seat 0 (omega arith)) h
+  takes o true Free h = written w k o (Thin (k + 1) 0) (after_take w k t o true Free) refl (thin_fits w sound k t berth 0 (omega arith)) h
+  takes o false Free h = written w k o (Thin (k + 1) 0) (after_take w k t o false Free) refl (thin_fits w sound k t berth 0 (omega arith)) h
   takes o b (Thin i n) h = same w _ refl
   takes o b (Fat m) h = same w _ refl
 
@@ -75,8 +75,8 @@ module _ (w : WorldState) (sound : IsSound w) (k : ℕ) (t : ThreadId) (seat : s
   binds c false n (Some x) = same w _ refl
 
   publishes : (c : MonitorCall) (won : Bool) (m : ℕ) → FittingStage w k (Bound c won m) → Keeps w (with_go w k (after_publish w t c won m))
-  publishes c true m fit = written w k c.object (Fat m) (after_publish w t c true m) refl (number_fits w sound k t seat m fit.1) fit.0
-  publishes c false m fit = written w k c.object (Fat m) (after_publish w t c false m) refl (number_fits w sound k t seat m fit.1) fit.0
+  publishes c true m fit = written w k c.object (Fat m) (after_publish w t c true m) refl (number_fits w sound k t berth m fit.1) fit.0
+  publishes c false m fit = written w k c.object (Fat m) (after_publish w t c false m) refl (number_fits w sound k t berth m fit.1) fit.0
 
   tells : (c : Call) (a : Action) (r : Result Done ActFault) (f : FatState) → Keeps w (with_go w k (after_told w t c a r f))
   tells c a (Ok d) f = same w _ refl
@@ -92,7 +92,7 @@ module _ (w : WorldState) (sound : IsSound w) (k : ℕ) (t : ThreadId) (seat : s
   stages : (room : Bool) (s : Stage) → FittingStage w k s → Keeps w (with_go w k (after_stage room w k t s))
   stages room (Begun c b) fit = loads c b (next_of w.split c.operation (lock_at w c.object.0) (k + 1))
   stages room (Taking o b) fit = takes o b (lock_at w o.0) fit
-  stages room (Storing c l) fit = written w k c.object l (after_store w t c l) refl (store_fits w sound k t seat c.object c.operation l (storing w k c l fit)) fit.0
+  stages room (Storing c l) fit = written w k c.object l (after_store w t c l) refl (store_fits w sound k t berth c.object c.operation l (storing w k c l fit)) fit.0
   stages room (Binding c n) fit = binds c false (n + 1) (bind_cause room w.fats)
   stages room (Acting c m) fit = acts (call_of c) (action_on c.operation m)
   stages room (Won o) fit = binds (entering o) true 1 (bind_cause room w.fats)
@@ -106,23 +106,23 @@ attaches w room t None None = same w _ refl
 attaches w true t None (Some k) = same w _ refl
 attaches w false t None (Some k) = same w _ refl
 
-begins : (w : WorldState) (t : ThreadId) (c : Call) → Keeps w (after_begin w t c (seat_of w.seats t)).after
-begins w t c = begin_cases w t c (λ o. Keeps w o.after) (λ none. same w _ refl) (λ k o seat names past. same w _ refl) (λ k seat there busy. same w _ refl)
-    (λ k seat there at. same w _ refl)
+begins : (w : WorldState) (t : ThreadId) (c : Call) → Keeps w (after_begin w t c (berth_of w.berths t)).after
+begins w t c = begin_cases w t c (λ o. Keeps w o.after) (λ none. same w _ refl) (λ k o berth names past. same w _ refl) (λ k berth there busy. same w _ refl)
+    (λ k berth there at. same w _ refl)
 
 ends : (w : WorldState) (k : ℕ) (t : ThreadId) (b : Bool) → Keeps w (ended_as w k t b).after
 ends w k t true = same w _ refl
 ends w k t false = same w _ refl
 
-wents : (w : WorldState) → IsSound w → (t : ThreadId) (room : Bool) → Keeps w (after_go room w t (seat_of w.seats t)).after
+wents : (w : WorldState) → IsSound w → (t : ThreadId) (room : Bool) → Keeps w (after_go room w t (berth_of w.berths t)).after
 wents w sound t = go_cases w sound t (λ o. Keeps w o.after)
     (λ none. same w _ refl)
-    (λ k seat at. same w _ refl)
-    (λ k seat out room s at fit. stages w sound k t seat room s fit)
-    (λ k seat out n at more. looks w sound k t seat n (is_own (lock_at w n) (k + 1)))
-    (λ k seat out n at all. ends w k t (owns_one w.fats.monitors t))
-    (λ k seat at stands. same w _ refl)
-    (λ k seat r at granted. same w _ refl)
+    (λ k berth at. same w _ refl)
+    (λ k berth out room s at fit. stages w sound k t berth room s fit)
+    (λ k berth out n at more. looks w sound k t berth n (is_own (lock_at w n) (k + 1)))
+    (λ k berth out n at all. ends w k t (owns_one w.fats.monitors t))
+    (λ k berth at stands. same w _ refl)
+    (λ k berth r at granted. same w _ refl)
 
 wait_ends_as : (x : WaitEnd) (w : WorldState) (t : ThreadId) (r : Result Done ActFault) (f : FatState) → Keeps w (after_wait_end_as x w t r f).after
 wait_ends_as x w t (Ok d) f = same w _ refl
@@ -139,9 +139,9 @@ ticks w now =
 
 -- Each step keeps the objects and the low bytes.
 pub step_keeps : (w : WorldState) → IsSound w → (room : Bool) (s : Step) → Keeps w (step_of room w s).after
-step_keeps w sound room (step.Attach t) = attaches w room t (seat_of w.seats t) (free_seat w.seats)
+step_keeps w sound room (step.Attach t) = attaches w room t (berth_of w.berths t) (free_berth w.berths)
 step_keeps w sound room (step.Begin t c) = begins w t c
 step_keeps w sound room (step.Go t) = wents w sound t room
-step_keeps w sound room (step.Expire t) = wait_ends time_over w t (seat_of w.seats t)
-step_keeps w sound room (step.Spurious t) = wait_ends wake_up w t (seat_of w.seats t)
+step_keeps w sound room (step.Expire t) = wait_ends time_over w t (berth_of w.berths t)
+step_keeps w sound room (step.Spurious t) = wait_ends wake_up w t (berth_of w.berths t)
 step_keeps w sound room (step.Tick now) = ticks w now

@@ -7,7 +7,7 @@ use Rattle.lock_word.specs.declared.ThreadId.{ThreadId}
 use Rattle.lock_word.specs.declared.ObjectId.{ObjectId}
 use Rattle.lock_word.specs.declared.Lock.{Lock}
 use Rattle.lock_word.specs.declared.Lock.TheVariants.{Free, Thin, Fat}
-use Rattle.thread_index.specs.Indices.{seat_of, free_seat}
+use Rattle.thread_index.specs.Indices.{berth_of, free_berth}
 use Rattle.fat_monitor.specs.declared.actions.Cause.{Cause}
 use Rattle.fat_monitor.specs.declared.actions.Cause.TheVariants as cause
 use Rattle.fat_monitor.specs.declared.actions.Reply.{Reply}
@@ -252,15 +252,15 @@ no_refusal r (inr (inl e)) x h = let never : reply.WaitOver ≡ reply.Refused x 
 no_refusal r (inr (inr e)) x h = let never : reply.Interrupted ≡ reply.Refused x = sym e ∙ h in cc
 
 -- the moves of an accepted Go
-pub go_shape : (room : Bool) (w : WorldState) → IsSound w → (t : ThreadId) → IfOk (after_go room w t (seat_of w.seats t)).answer (Shapely t)
+pub go_shape : (room : Bool) (w : WorldState) → IsSound w → (t : ThreadId) → IfOk (after_go room w t (berth_of w.berths t)).answer (Shapely t)
 go_shape room w sound t = go_cases w sound t (λ o. IfOk o.answer (Shapely t))
     (λ none. tt)
-    (λ k seat at. tt)
-    (λ k seat out room s at fit. stages room w k t s)
-    (λ k seat out n at more. looks w t n (is_own (lock_at w n) (k + 1)))
-    (λ k seat out n at all. ends w k t (owns_one w.fats.monitors t))
-    (λ k seat at stands. tt)
-    (λ k seat r at granted. returns (atomic.Acted action.Collect (answer.Reply r)) t r (no_refusal r (sound.fats.proper t (Granted r) granted)))
+    (λ k berth at. tt)
+    (λ k berth out room s at fit. stages room w k t s)
+    (λ k berth out n at more. looks w t n (is_own (lock_at w n) (k + 1)))
+    (λ k berth out n at all. ends w k t (owns_one w.fats.monitors t))
+    (λ k berth at stands. tt)
+    (λ k berth r at granted. returns (atomic.Acted action.Collect (answer.Reply r)) t r (no_refusal r (sound.fats.proper t (Granted r) granted)))
     room
 
 go_labels : (t : ThreadId) (r : Result Did Fault) → IfOk r (Shapely t) → IfOk r (HasLabels (step.Go t))
@@ -277,8 +277,8 @@ attaches room w t None None = tt
 attaches true w t None (Some k) = (refl, refl)
 attaches false w t None (Some k) = tt
 
-begins : (w : WorldState) (t : ThreadId) (c : Call) → Labeled (step.Begin t c) (after_begin w t c (seat_of w.seats t))
-begins w t c = begin_cases w t c (Labeled (step.Begin t c)) (λ none. tt) (λ k o seat names past. tt) (λ k seat there busy. tt) (λ k seat there at. (refl, refl))
+begins : (w : WorldState) (t : ThreadId) (c : Call) → Labeled (step.Begin t c) (after_begin w t c (berth_of w.berths t))
+begins w t c = begin_cases w t c (Labeled (step.Begin t c)) (λ none. tt) (λ k o berth names past. tt) (λ k berth there busy. tt) (λ k berth there at. (refl, refl))
 
 -- a wait that ends by itself has none
 abbrev Unlabeled : ThreadId → AfterStep → Type 0
@@ -303,9 +303,9 @@ ticks w now =
 
 -- An accepted step has just its labels.
 pub step_labels : (w : WorldState) → IsSound w → (room : Bool) (s : Step) → IfOk (step_of room w s).answer (HasLabels s)
-step_labels w sound room (step.Attach t) = attaches room w t (seat_of w.seats t) (free_seat w.seats)
+step_labels w sound room (step.Attach t) = attaches room w t (berth_of w.berths t) (free_berth w.berths)
 step_labels w sound room (step.Begin t c) = begins w t c
-step_labels w sound room (step.Go t) = go_labels t (after_go room w t (seat_of w.seats t)).answer (go_shape room w sound t)
-step_labels w sound room (step.Expire t) = wait_ends time_over w t (seat_of w.seats t) refl
-step_labels w sound room (step.Spurious t) = wait_ends wake_up w t (seat_of w.seats t) refl
+step_labels w sound room (step.Go t) = go_labels t (after_go room w t (berth_of w.berths t)).answer (go_shape room w sound t)
+step_labels w sound room (step.Expire t) = wait_ends time_over w t (berth_of w.berths t) refl
+step_labels w sound room (step.Spurious t) = wait_ends wake_up w t (berth_of w.berths t) refl
 step_labels w sound room (step.Tick now) = ticks w now

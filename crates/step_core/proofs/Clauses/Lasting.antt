@@ -4,7 +4,7 @@ use Rattle.std.specs.Option.{unwrap_or}
 use Rattle.std.proofs.Common.{refl, inl, inr, sym, ap, subst, ◌∙◌}
 use Rattle.lock_word.specs.declared.ThreadId.{ThreadId}
 use Rattle.lock_word.specs.declared.ObjectId.{ObjectId}
-use Rattle.thread_index.specs.Indices.{seat_of}
+use Rattle.thread_index.specs.Indices.{berth_of}
 use Rattle.wait_lines.specs.declared.Role.TheVariants.{Entry}
 use Rattle.fat_monitor.specs.declared.actions.Reply.{Reply}
 use Rattle.fat_monitor.specs.declared.actions.Reply.TheVariants as reply
@@ -244,11 +244,11 @@ module _ (w : WorldState) (sound : IsSound w) (t : ThreadId) where
 
   -- so a Go of a thread that is back is refused
   back_refused : (flag : Bool) (o : ObjectId) (n : ℕ) (y : Why) → Is (shown w) t flag (Back o n y) → IsRefused w (step.Go t) Parked
-  back_refused flag o n y is = by_seat (seat_of w.seats t) refl
+  back_refused flag o n y is = by_berth (berth_of w.berths t) refl
     where
-      by_seat : (k : Option ℕ) → seat_of w.seats t ≡ k → IsRefused w (step.Go t) Parked
-      by_seat None e = let never : ◌≡◌ {A = Option Thread} None (Some (record { flag = flag; act = Back o n y })) = rw e at is in absurd (cc)
-      by_seat (Some k) e =
+      by_berth : (k : Option ℕ) → berth_of w.berths t ≡ k → IsRefused w (step.Go t) Parked
+      by_berth None e = let never : ◌≡◌ {A = Option Thread} None (Some (record { flag = flag; act = Back o n y })) = rw e at is in absurd (cc)
+      by_berth (Some k) e =
           (rw e refl, back_parked (place_at w k) o n y (post_of w.fats t) refl (shows w sound t k e (record { flag = flag; act = Back o n y }) is))
 
   not_back : IsAcceptable w (step.Go t) → (u : ThreadId) (o : ObjectId) (n : ℕ) (y : Why) → u.0 ≡ t.0 → IsBack (shown w) u o n y → ⊥

@@ -6,7 +6,7 @@ use Rattle.lock_word.specs.declared.ThreadId.{ThreadId}
 use Rattle.lock_word.specs.declared.ObjectId.{ObjectId}
 use Rattle.lock_word.specs.declared.Lock.{Lock}
 use Rattle.lock_word.specs.declared.Lock.TheVariants.{Free, Thin, Fat}
-use Rattle.thread_index.specs.Indices.{seat_of}
+use Rattle.thread_index.specs.Indices.{berth_of}
 use Rattle.fat_monitor.specs.declared.actions.Cause.{Cause}
 use Rattle.fat_monitor.specs.declared.actions.Answer.{Answer}
 use Rattle.fat_monitor.specs.declared.actions.Answer.TheVariants as answer
@@ -127,24 +127,24 @@ module _ (w : WorldState) (k : ℕ) (t : ThreadId) where
   looks n true e = (refl, rw e refl)
   looks n false e = (refl, rw e refl)
 
-module _ (w : WorldState) (sound : IsSound w) (k : ℕ) (t : ThreadId) (seat : seat_of w.seats t ≡ Some k) where
+module _ (w : WorldState) (sound : IsSound w) (k : ℕ) (t : ThreadId) (berth : berth_of w.berths t ≡ Some k) where
   -- the Go is of the thread's own place, and leaves it there
   steps : (p : Place) (a : AfterGo) → place_at w k ≡ p → Goes w k t (At p) a → OnPath w (step.Go t) (accept (with_go w k a) a.did)
-  steps p a at h = rw (seat, at, get_or-set_same w.places k a.place Idle (within w sound k t seat)) h
+  steps p a at h = rw (berth, at, get_or-set_same w.places k a.place Idle (within w sound k t berth)) h
 
   ends : (n : ℕ) (owns : Bool) → place_at w k ≡ Ending n → OnPath w (step.Go t) (ended_as w k t owns)
-  ends n true at = rw (seat, at) (tt, refl)
-  ends n false at = rw (seat, at) (tt, refl)
+  ends n true at = rw (berth, at) (tt, refl)
+  ends n false at = rw (berth, at) (tt, refl)
 
-goes : (w : WorldState) → IsSound w → (t : ThreadId) (room : Bool) → OnPath w (step.Go t) (after_go room w t (seat_of w.seats t))
+goes : (w : WorldState) → IsSound w → (t : ThreadId) (room : Bool) → OnPath w (step.Go t) (after_go room w t (berth_of w.berths t))
 goes w sound t room = go_cases w sound t (OnPath w (step.Go t))
     (λ none. tt)
-    (λ k seat at. tt)
-    (λ k seat out room s at fit. steps w sound k t seat (InCall s) (after_stage room w k t s) at (stages w k t room s fit))
-    (λ k seat out n at more. steps w sound k t seat (Ending n) (after_look w k t n) at (looks w k t n (is_own (lock_at w n) (k + 1)) refl))
-    (λ k seat out n at all. ends w sound k t seat n (owns_one w.fats.monitors t) at)
-    (λ k seat at stands. tt)
-    (λ k seat r at granted. steps w sound k t seat AtPost (fats_changed w (with_post w.fats t Out) Idle (did_return t r)) at (tt, refl))
+    (λ k berth at. tt)
+    (λ k berth out room s at fit. steps w sound k t berth (InCall s) (after_stage room w k t s) at (stages w k t room s fit))
+    (λ k berth out n at more. steps w sound k t berth (Ending n) (after_look w k t n) at (looks w k t n (is_own (lock_at w n) (k + 1)) refl))
+    (λ k berth out n at all. ends w sound k t berth n (owns_one w.fats.monitors t) at)
+    (λ k berth at stands. tt)
+    (λ k berth r at granted. steps w sound k t berth AtPost (fats_changed w (with_post w.fats t Out) Idle (did_return t r)) at (tt, refl))
     room
 
 no_call : (w : WorldState) (s : Step) (o : AfterStep) → ((d : Did) → StepsOnPath w s d o.after) → OnPath w s o

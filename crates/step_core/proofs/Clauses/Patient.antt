@@ -7,8 +7,8 @@ use Rattle.lock_word.specs.declared.ThreadId.{ThreadId}
 use Rattle.lock_word.specs.declared.ObjectId.{ObjectId}
 use Rattle.lock_word.specs.declared.Lock.{Lock}
 use Rattle.lock_word.specs.declared.Lock.TheVariants.{Free, Thin, Fat}
-use Rattle.thread_index.specs.Indices.{seat_of, free_seat}
-use Rattle.thread_index.proofs.Seats.{seat_found, seat_thread, free_found, seat_taken_other, seat_given_other}
+use Rattle.thread_index.specs.Indices.{berth_of, free_berth}
+use Rattle.thread_index.proofs.Berths.{berth_found, berth_thread, free_found, berth_taken_other, berth_given_other}
 use Rattle.fat_monitor.specs.declared.actions.Cause.{Cause}
 use Rattle.fat_monitor.specs.declared.actions.Answer.{Answer}
 use Rattle.fat_monitor.specs.declared.actions.Answer.TheVariants as answer
@@ -53,7 +53,7 @@ use Rattle.step_core.specs.Did.{is_wait, one_move, move_and_return}
 use Rattle.step_core.specs.Go.{AfterGo, with_go, after_load, after_take, after_bind, after_publish, after_told, after_act, after_look_as, after_stage, action_on, action_about, entering, bind_cause, place_only, fats_changed}
 use Rattle.step_core.specs.Step.{AfterStep, accept, refuse, after_attach, after_begin, with_live, after_go, after_look, step_of, first_place, WaitEnd, time_over, wake_up, after_wait_end, after_wait_end_as, after_tick}
 use Rattle.step_core.specs.Path.{IsTold}
-use Rattle.step_core.specs.Patient.{left_in, left_at, left_of_seat, left_of, HasMet, HasParked, Advances, IsPatient}
+use Rattle.step_core.specs.Patient.{left_in, left_at, left_of_berth, left_of, HasMet, HasParked, Advances, IsPatient}
 use Rattle.step_core.specs.declared.steps.Did.{Did}
 use Rattle.step_core.proofs.Facts.Cases.{ended_as, did_return, begin_cases, go_cases}
 use Rattle.step_core.proofs.Facts.OneThread.{within, is_at, out_at}
@@ -113,7 +113,7 @@ own_about (about.Interrupt u) = tt
 own_about about.Interrupted = tt
 own_about (about.IsInterrupted u) = tt
 
-module _ (w : WorldState) (sound : IsSound w) (k : ℕ) (t : ThreadId) (seat : seat_of w.seats t ≡ Some k) where
+module _ (w : WorldState) (sound : IsSound w) (k : ℕ) (t : ThreadId) (berth : berth_of w.berths t ≡ Some k) where
   -- what a Go from a place with n steps left does to them
   abbrev Goes : ℕ → AfterGo → Type 0
   Goes n a = IsSome a.did.reply ⊎ (HasParked a.did.atomic ⊎ (HasMet w t a.did.atomic ⊎ ((left_at (length a.words) a.place < n) × (1 ≤ left_at (length a.words) a.place))))
@@ -127,9 +127,9 @@ module _ (w : WorldState) (sound : IsSound w) (k : ℕ) (t : ThreadId) (seat : s
   loads c b (next.Fat m) at e = inr (inr (inr (omega arith, omega arith)))
   loads c b next.Spin at e =
       let fact = spin_fact w.split c.operation (lock_at w c.object.0) (k + 1) e in
-      let wants : Is (shown w) t (flag_at w.fats t) (doing.Wants (call_of c)) = is_at w sound k t seat (InCall (Begun c b)) at (out_at w sound k t seat (InCall (Begun c b)) at (λ i. cc)) in
+      let wants : Is (shown w) t (flag_at w.fats t) (doing.Wants (call_of c)) = is_at w sound k t berth (InCall (Begun c b)) at (out_at w sound k t berth (InCall (Begun c b)) at (λ i. cc)) in
       let enters : Is (shown w) t (flag_at w.fats t) (doing.Wants (call.Enter c.object)) = subst (λ (p : Operation). Is (shown w) t (flag_at w.fats t) (doing.Wants (call_on c.object p))) fact.0 wants in
-      inr (inr (inl ((c.object, flag_at w.fats t, enters), (fact.1.0, fact.1.1, fact.1.2, λ i. fact.1.3 (same_Some fact.1.0 (k + 1) (sym i ∙ rw seat refl))))))
+      inr (inr (inl ((c.object, flag_at w.fats t, enters), (fact.1.0, fact.1.1, fact.1.2, λ i. fact.1.3 (same_Some fact.1.0 (k + 1) (sym i ∙ rw berth refl))))))
 
   takes : (o : ObjectId) (b : Bool) (l : Lock) → Goes 3 (after_take w k t o b l)
   takes o true Free = inr (inr (inr (omega arith, omega arith)))
@@ -179,9 +179,9 @@ module _ (w : WorldState) (sound : IsSound w) (k : ℕ) (t : ThreadId) (seat : s
   stages room (Inflated c m) at = acts_at (call_of c) (action_on c.operation m) 1 (own_on c.operation m)
   stages room (Direct c) at = acts_at (call_about c) (action_about c) 4 (own_about c)
 
-  -- the Go is one of this thread's seat
+  -- the Go is one of this thread's berth
   left_here : (a : AfterGo) → left_of (with_go w k a) t ≡ left_at (length a.words) a.place
-  left_here a = rw (seat, get_or-set_same w.places k a.place Idle (within w sound k t seat)) refl
+  left_here a = rw (berth, get_or-set_same w.places k a.place Idle (within w sound k t berth)) refl
 
   advances : (a : AfterGo) → Goes (left_of w t) a → Advances w t a.did (with_go w k a)
   advances a (inl has_reply) = inl has_reply
@@ -191,12 +191,12 @@ module _ (w : WorldState) (sound : IsSound w) (k : ℕ) (t : ThreadId) (seat : s
 
   -- another thread's place stays, and so does the number of objects
   keeps : (a : AfterGo) → length a.words ≡ length w.words → (u : ThreadId) → u.0 ≢ t.0 → left_of (with_go w k a) u ≡ left_of w u
-  keeps a size u ne = by_seat (seat_of w.seats u) refl
+  keeps a size u ne = by_berth (berth_of w.berths u) refl
     where
-      by_seat : (o : Option ℕ) → seat_of w.seats u ≡ o → left_of_seat (with_go w k a) o ≡ left_of_seat w o
-      by_seat None e = refl
-      by_seat (Some j) e =
-          let apart : j ≡ k → ⊥ = λ same. ne (seat_thread w.seats t u k seat (rw same at e)) in
+      by_berth : (o : Option ℕ) → berth_of w.berths u ≡ o → left_of_berth (with_go w k a) o ≡ left_of_berth w o
+      by_berth None e = refl
+      by_berth (Some j) e =
+          let apart : j ≡ k → ⊥ = λ same. ne (berth_thread w.berths t u k berth (rw same at e)) in
           rw (get_or-set_other w.places k j a.place Idle apart, size) refl
 
   bound : (c : MonitorCall) (won : Bool) (n : ℕ) (refusal : Option Cause) → length (after_bind w t c won n refusal).words ≡ length w.words
@@ -243,49 +243,49 @@ module _ (w : WorldState) (sound : IsSound w) (k : ℕ) (t : ThreadId) (seat : s
   sizes room (Direct c) = by_act (call_about c) (action_about c)
 
 module _ (w : WorldState) (sound : IsSound w) (t : ThreadId) where
-  -- a new thread takes nobody's seat, and one that ends gives back its own
-  attaches : (room : Bool) (o f : Option ℕ) → seat_of w.seats t ≡ o → free_seat w.seats ≡ f → Patient w (step.Attach t) (after_attach room w t o f)
+  -- a new thread takes nobody's berth, and one that ends gives back its own
+  attaches : (room : Bool) (o f : Option ℕ) → berth_of w.berths t ≡ o → free_berth w.berths ≡ f → Patient w (step.Attach t) (after_attach room w t o f)
   attaches room (Some k) f e free = tt
   attaches room None None e free = tt
-  attaches true None (Some k) e free = λ u ne. by_seat u ne (seat_of w.seats u) refl
+  attaches true None (Some k) e free = λ u ne. by_berth u ne (berth_of w.berths u) refl
     where
-      by_seat : (u : ThreadId) → u.0 ≢ t.0 → (o : Option ℕ) → seat_of w.seats u ≡ o → left_of (with_live w k t) u ≡ left_of_seat w o
-      by_seat u ne None i = rw (seat_taken_other w.seats t u k free ne, i) refl
-      by_seat u ne (Some j) i =
-          let apart : j ≡ k → ⊥ = λ same. absurd (let never : ◌≡◌ {A = Option ThreadId} (Some u) None = sym (seat_found w.seats u j i).1 ∙ (rw same (free_found w.seats k free).1) in cc) in
-          rw (seat_taken_other w.seats t u k free ne, i, get_or-set_other w.places k j Idle Idle apart) refl
+      by_berth : (u : ThreadId) → u.0 ≢ t.0 → (o : Option ℕ) → berth_of w.berths u ≡ o → left_of (with_live w k t) u ≡ left_of_berth w o
+      by_berth u ne None i = rw (berth_taken_other w.berths t u k free ne, i) refl
+      by_berth u ne (Some j) i =
+          let apart : j ≡ k → ⊥ = λ same. absurd (let never : ◌≡◌ {A = Option ThreadId} (Some u) None = sym (berth_found w.berths u j i).1 ∙ (rw same (free_found w.berths k free).1) in cc) in
+          rw (berth_taken_other w.berths t u k free ne, i, get_or-set_other w.places k j Idle Idle apart) refl
   attaches false None (Some k) e free = tt
 
-  begins : (c : Call) → Patient w (step.Begin t c) (after_begin w t c (seat_of w.seats t))
-  begins c = begin_cases w t c (Patient w (step.Begin t c)) (λ none. tt) (λ k o seat names past. tt) (λ k seat there busy. tt)
-      (λ k seat there at. keeps w sound k t seat (place_only w (first_place (subject_of c)) (one_move Label (move.Call t c))) refl)
+  begins : (c : Call) → Patient w (step.Begin t c) (after_begin w t c (berth_of w.berths t))
+  begins c = begin_cases w t c (Patient w (step.Begin t c)) (λ none. tt) (λ k o berth names past. tt) (λ k berth there busy. tt)
+      (λ k berth there at. keeps w sound k t berth (place_only w (first_place (subject_of c)) (one_move Label (move.Call t c))) refl)
 
-  ends : (k : ℕ) → seat_of w.seats t ≡ Some k → (b : Bool) → Patient w (step.Go t) (ended_as w k t b)
+  ends : (k : ℕ) → berth_of w.berths t ≡ Some k → (b : Bool) → Patient w (step.Go t) (ended_as w k t b)
   ends k e true = (inl refl, keeps w sound k t e (place_only w Idle (move_and_return (Acted action.End (answer.Reply (reply.Refused cause.StillOwner))) (move.Refuse t cause.StillOwner) t (reply.Refused cause.StillOwner))) refl)
-  ends k e false = (inl refl, λ u ne. by_seat u ne (seat_of w.seats u) refl)
+  ends k e false = (inl refl, λ u ne. by_berth u ne (berth_of w.berths u) refl)
     where
-      by_seat : (u : ThreadId) → u.0 ≢ t.0 → (o : Option ℕ) → seat_of w.seats u ≡ o → left_of (ended_as w k t false).after u ≡ left_of_seat w o
-      by_seat u ne None i = rw (seat_given_other w.seats t u k e ne, i) refl
-      by_seat u ne (Some j) i =
-          let apart : j ≡ k → ⊥ = λ same. ne (seat_thread w.seats t u k e (rw same at i)) in
-          rw (seat_given_other w.seats t u k e ne, i, get_or-set_other w.places k j Idle Idle apart) refl
+      by_berth : (u : ThreadId) → u.0 ≢ t.0 → (o : Option ℕ) → berth_of w.berths u ≡ o → left_of (ended_as w k t false).after u ≡ left_of_berth w o
+      by_berth u ne None i = rw (berth_given_other w.berths t u k e ne, i) refl
+      by_berth u ne (Some j) i =
+          let apart : j ≡ k → ⊥ = λ same. ne (berth_thread w.berths t u k e (rw same at i)) in
+          rw (berth_given_other w.berths t u k e ne, i, get_or-set_other w.places k j Idle Idle apart) refl
 
   -- each Go
-  wents : (room : Bool) → Patient w (step.Go t) (after_go room w t (seat_of w.seats t))
+  wents : (room : Bool) → Patient w (step.Go t) (after_go room w t (berth_of w.berths t))
   wents = go_cases w sound t (Patient w (step.Go t))
       (λ none. tt)
-      (λ k seat at. tt)
-      (λ k seat out room s at fit. let left : left_of w t ≡ left_in s = rw (seat, at) refl in (
-        advances w sound k t seat (after_stage room w k t s) (rw left (stages w sound k t seat room s at)),
-        keeps w sound k t seat (after_stage room w k t s) (sizes w sound k t seat room s),
+      (λ k berth at. tt)
+      (λ k berth out room s at fit. let left : left_of w t ≡ left_in s = rw (berth, at) refl in (
+        advances w sound k t berth (after_stage room w k t s) (rw left (stages w sound k t berth room s at)),
+        keeps w sound k t berth (after_stage room w k t s) (sizes w sound k t berth room s),
       ))
-      (λ k seat out n at more. let left : left_of w t ≡ length w.words + 1 - n = rw (seat, at) refl in (
-        advances w sound k t seat (after_look w k t n) (rw left (looks w sound k t seat n (is_own (lock_at w n) (k + 1)) more)),
-        keeps w sound k t seat (after_look w k t n) (by_look w sound k t seat n (is_own (lock_at w n) (k + 1))),
+      (λ k berth out n at more. let left : left_of w t ≡ length w.words + 1 - n = rw (berth, at) refl in (
+        advances w sound k t berth (after_look w k t n) (rw left (looks w sound k t berth n (is_own (lock_at w n) (k + 1)) more)),
+        keeps w sound k t berth (after_look w k t n) (by_look w sound k t berth n (is_own (lock_at w n) (k + 1))),
       ))
-      (λ k seat out n at all. ends k seat (owns_one w.fats.monitors t))
-      (λ k seat at stands. tt)
-      (λ k seat r at granted. (inl refl, keeps w sound k t seat (fats_changed w (with_post w.fats t Out) Idle (did_return t r)) refl))
+      (λ k berth out n at all. ends k berth (owns_one w.fats.monitors t))
+      (λ k berth at stands. tt)
+      (λ k berth r at granted. (inl refl, keeps w sound k t berth (fats_changed w (with_post w.fats t Out) Idle (did_return t r)) refl))
 
 -- a wait that ends by itself, and a moment that is told, touch no place
 abbrev TouchesNone : WorldState → AfterStep → Type 0
@@ -306,9 +306,9 @@ ticks w now =
 
 -- Each accepted step is patient.
 pub step_patient : (w : WorldState) → IsSound w → (room : Bool) (s : Step) → IfOk (step_of room w s).answer (λ d. IsPatient w s d (step_of room w s).after)
-step_patient w sound room (step.Attach t) = attaches w sound t room (seat_of w.seats t) (free_seat w.seats) refl refl
+step_patient w sound room (step.Attach t) = attaches w sound t room (berth_of w.berths t) (free_berth w.berths) refl refl
 step_patient w sound room (step.Begin t c) = begins w sound t c
 step_patient w sound room (step.Go t) = wents w sound t room
-step_patient w sound room (step.Expire t) = wait_ends time_over w t (seat_of w.seats t)
-step_patient w sound room (step.Spurious t) = wait_ends wake_up w t (seat_of w.seats t)
+step_patient w sound room (step.Expire t) = wait_ends time_over w t (berth_of w.berths t)
+step_patient w sound room (step.Spurious t) = wait_ends wake_up w t (berth_of w.berths t)
 step_patient w sound room (step.Tick now) = ticks w now

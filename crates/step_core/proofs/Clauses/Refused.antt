@@ -21,8 +21,8 @@ use Rattle.std.proofs.Common.{refl, arith, sym, ◌∙◌, ap, inl, inr}
 use Rattle.std.proofs.lemmas.Bool.{cond_both, ltb-true, ltb-false}
 use Rattle.std.proofs.lemmas.Option.{same_Some}
 use Rattle.lock_word.specs.declared.ThreadId.{ThreadId}
-use Rattle.thread_index.specs.Indices.{seat_of, free_seat, holder_at}
-use Rattle.thread_index.proofs.Seats.{free_found}
+use Rattle.thread_index.specs.Indices.{berth_of, free_berth, holder_at}
+use Rattle.thread_index.proofs.Berths.{free_found}
 use Rattle.fast_path.specs.declared.calls.Call.{Call}
 use Rattle.step_core.specs.declared.machine.Doing.{Doing}
 use Rattle.step_core.specs.declared.machine.Doing.TheVariants as doing
@@ -43,7 +43,7 @@ use Rattle.step_core.proofs.Facts.OneThread.{act_out, out_at}
 abbrev Judged : WorldState → Step → AfterStep → Type 0
 Judged w s o = MatchResult o.answer (λ d. IsAcceptable w s) (λ f. IsRefused w s f) × OnErr o.answer (o.after ≡ w)
 
--- where no seat is free, each has a thread
+-- where no berth is free, each has a thread
 full_by_test : (i : ℕ) (x : Option ThreadId) (xs : List (Option ThreadId)) (b : Bool) → is_none x ≡ b
     → (position_from is_none (i + 1) xs ≡ None → (k : ℕ) → k < length xs → IsSome (holder_at xs k))
     → position_from is_none i (x ∷ xs) ≡ None → (k : ℕ) → k < length (x ∷ xs) → IsSome (holder_at (x ∷ xs) k)
@@ -52,7 +52,7 @@ full_by_test i None xs false b rest e zero h = absurd (cc)
 full_by_test i (Some t) xs false b rest e zero h = refl
 full_by_test i x xs false b rest e (suc k) h = rest (rw b at e) k (omega arith)
 
-full_from : (i : ℕ) (seats : List (Option ThreadId)) → position_from is_none i seats ≡ None → (k : ℕ) → k < length seats → IsSome (holder_at seats k)
+full_from : (i : ℕ) (berths : List (Option ThreadId)) → position_from is_none i berths ≡ None → (k : ℕ) → k < length berths → IsSome (holder_at berths k)
 full_from i [] e k h = absurd (omega arith)
 full_from i (x ∷ xs) e k h = full_by_test i x xs (is_none x) refl (full_from (i + 1) xs) e k h
 
@@ -87,43 +87,43 @@ posted_until : {i j m n c d : ℕ} → Waiting i m (Some c) ≡ Waiting j n (Som
 posted_until e = cc
 
 module _ (w : WorldState) (sound : IsSound w) (t : ThreadId) where
-  -- what the thread at a seat is doing
+  -- what the thread at a berth is doing
   abbrev pub does : ℕ → Doing
   does k = act_of w.fats (post_at w.fats t) (place_at w k)
 
   -- which its place says alone, unless it is parked
-  pub does_out : (k : ℕ) → seat_of w.seats t ≡ Some k → (p : Place) → place_at w k ≡ p → (p ≡ AtPost → ⊥) → does k ≡ doing_of p
+  pub does_out : (k : ℕ) → berth_of w.berths t ≡ Some k → (p : Place) → place_at w k ≡ p → (p ≡ AtPost → ⊥) → does k ≡ doing_of p
   does_out k e p at free = act_out w.fats t (place_at w k) (out_at w sound k t e p at free) ∙ ap doing_of at
 
   -- a thread in a call is not idle
-  pub does_not_idle : (k : ℕ) → seat_of w.seats t ≡ Some k → (place_at w k ≡ Idle → ⊥) → does k ≡ doing.Idle → ⊥
+  pub does_not_idle : (k : ℕ) → berth_of w.berths t ≡ Some k → (place_at w k ≡ Idle → ⊥) → does k ≡ doing.Idle → ⊥
   does_not_idle k e busy idle = by_place (at_post_or_not (place_at w k))
     where
       by_place : (place_at w k ≡ AtPost) ⊎ (place_at w k ≡ AtPost → ⊥) → ⊥
       by_place (inl parked) = parked_acts w.fats (place_at w k) (post_of w.fats t) (sound.attached t (rw e refl)) (rw parked at (sound.posted t k e)) idle
       by_place (inr free) = busy_out (place_at w k) busy free (sym (does_out k e (place_at w k) refl free) ∙ idle)
 
-  live : (k : ℕ) → seat_of w.seats t ≡ Some k → IsLive w t
+  live : (k : ℕ) → berth_of w.berths t ≡ Some k → IsLive w t
   live k e = rw e refl
 
-  not_live : seat_of w.seats t ≡ None → IsNotLive w t
+  not_live : berth_of w.berths t ≡ None → IsNotLive w t
   not_live e = rw e refl
 
   -- the two exclude each other
-  apart : seat_of w.seats t ≡ None → IsLive w t → ⊥
+  apart : berth_of w.berths t ≡ None → IsLive w t → ⊥
   apart e h = let never : is_some {T = Thread} None ≡ true = rw e at h in absurd (cc)
 
-  apart_too : (k : ℕ) → seat_of w.seats t ≡ Some k → IsNotLive w t → ⊥
+  apart_too : (k : ℕ) → berth_of w.berths t ≡ Some k → IsNotLive w t → ⊥
   apart_too k e h = let never : ◌≡◌ {A = Option Thread} (Some (record { flag = flag_at w.fats t; act = does k })) None = rw e at h in absurd (cc)
 
-  -- what is shown of the thread at a seat
-  pub shows : (k : ℕ) → seat_of w.seats t ≡ Some k → (x : Thread) → (shown w).thread t ≡ Some x → does k ≡ x.act
+  -- what is shown of the thread at a berth
+  pub shows : (k : ℕ) → berth_of w.berths t ≡ Some k → (x : Thread) → (shown w).thread t ≡ Some x → does k ≡ x.act
   shows k e x h = ap (λ (y : Thread). y.act) (same_Some (record { flag = flag_at w.fats t; act = does k }) x (rw e at h))
 
-  pub busy : (k : ℕ) → seat_of w.seats t ≡ Some k → (place_at w k ≡ Idle → ⊥) → IsBusy w t
+  pub busy : (k : ℕ) → berth_of w.berths t ≡ Some k → (place_at w k ≡ Idle → ⊥) → IsBusy w t
   busy k e h = (record { flag = flag_at w.fats t; act = does k }, rw e refl, does_not_idle k e h)
 
-  idle : (k : ℕ) → seat_of w.seats t ≡ Some k → place_at w k ≡ Idle → IsIdle w t
+  idle : (k : ℕ) → berth_of w.berths t ≡ Some k → place_at w k ≡ Idle → IsIdle w t
   idle k e h = (record { flag = flag_at w.fats t; act = does k }, rw e refl, does_out k e Idle h (λ i. cc))
 
   -- a thread whose post is in no line stands nowhere
@@ -136,15 +136,15 @@ module _ (w : WorldState) (sound : IsSound w) (t : ThreadId) where
       never_none : (x : Key) → None ≡ Some x → ⊥
       never_none x h = cc
 
-  attaches : (room : Bool) (o f : Option ℕ) → seat_of w.seats t ≡ o → free_seat w.seats ≡ f → Judged w (step.Attach t) (after_attach room w t o f)
+  attaches : (room : Bool) (o f : Option ℕ) → berth_of w.berths t ≡ o → free_berth w.berths ≡ f → Judged w (step.Attach t) (after_attach room w t o f)
   attaches room (Some k) f e free = (live k e, refl)
-  attaches room None None e free = ((not_live e, full_from 0 w.seats free), refl)
+  attaches room None None e free = ((not_live e, full_from 0 w.berths free), refl)
   attaches true None (Some k) e free = (accepted_only, tt)
     where
       accepted_only : (f : Fault) → IsRefused w (step.Attach t) f → f ≡ Memory
       accepted_only Known h = absurd (apart e h)
       accepted_only NoIndex h =
-          let there = free_found w.seats k free in
+          let there = free_found w.berths k free in
           let never : is_some {T = ThreadId} None ≡ true = rw there.1 at (h.1 k there.0) in absurd (cc)
       accepted_only Memory h = refl
       accepted_only NoThread h = absurd h
@@ -155,24 +155,24 @@ module _ (w : WorldState) (sound : IsSound w) (t : ThreadId) where
       accepted_only NotDue h = absurd h
       accepted_only Backwards h = absurd h
       accepted_only NotWaiting h = absurd h
-  attaches false None (Some k) e free = let there = free_found w.seats k free in ((not_live e, (k, there.0, there.1)), refl)
+  attaches false None (Some k) e free = let there = free_found w.berths k free in ((not_live e, (k, there.0, there.1)), refl)
 
   -- each Begin
-  begins : (c : Call) → Judged w (step.Begin t c) (after_begin w t c (seat_of w.seats t))
+  begins : (c : Call) → Judged w (step.Begin t c) (after_begin w t c (berth_of w.berths t))
   begins c = begin_cases w t c (Judged w (step.Begin t c))
       (λ none. (not_live none, refl))
-      (λ k o seat names past. ((live k seat, (o, names, past)), refl))
-      (λ k seat there in_call. ((busy k seat in_call, there), refl))
+      (λ k o berth names past. ((live k berth, (o, names, past)), refl))
+      (λ k berth there in_call. ((busy k berth in_call, there), refl))
       begins_call
     where
-      begins_call : (k : ℕ) → seat_of w.seats t ≡ Some k → Exists (length w.words) c → place_at w k ≡ Idle → Judged w (step.Begin t c) (after_begin_at w k t c Idle)
-      begins_call k seat there at = (accepted_only, tt)
+      begins_call : (k : ℕ) → berth_of w.berths t ≡ Some k → Exists (length w.words) c → place_at w k ≡ Idle → Judged w (step.Begin t c) (after_begin_at w k t c Idle)
+      begins_call k berth there at = (accepted_only, tt)
         where
           accepted_only : (f : Fault) → IsRefused w (step.Begin t c) f → f ≡ Memory
-          accepted_only NoThread r = absurd (apart_too k seat r)
+          accepted_only NoThread r = absurd (apart_too k berth r)
           accepted_only NoObject r =
               let past : length w.words ≤ r.1.0.0 = r.1.2 in let inside : r.1.0.0 < length w.words = rw r.1.1 at there in absurd (omega arith)
-          accepted_only fault.InCall r = let x = r.0 in absurd (x.2 (sym (shows k seat x.0 x.1) ∙ does_out k seat Idle at (λ i. cc)))
+          accepted_only fault.InCall r = let x = r.0 in absurd (x.2 (sym (shows k berth x.0 x.1) ∙ does_out k berth Idle at (λ i. cc)))
           accepted_only Known r = absurd r
           accepted_only NoIndex r = absurd r
           accepted_only Memory r = refl
@@ -183,7 +183,7 @@ module _ (w : WorldState) (sound : IsSound w) (t : ThreadId) where
           accepted_only NotWaiting r = absurd r
 
   -- a Go of a thread that is in a call and stands nowhere is accepted
-  goes : (k : ℕ) → seat_of w.seats t ≡ Some k → (place_at w k ≡ Idle → ⊥) → (IsParked w t → ⊥) → (f : Fault) → IsRefused w (step.Go t) f → f ≡ Memory
+  goes : (k : ℕ) → berth_of w.berths t ≡ Some k → (place_at w k ≡ Idle → ⊥) → (IsParked w t → ⊥) → (f : Fault) → IsRefused w (step.Go t) f → f ≡ Memory
   goes k e h free NoThread r = absurd (apart_too k e r)
   goes k e h free NotCalling r = absurd (does_not_idle k e h (shows k e r.0 r.1 ∙ r.2))
   goes k e h free Parked r = absurd (free r.1)
@@ -197,26 +197,26 @@ module _ (w : WorldState) (sound : IsSound w) (t : ThreadId) where
   goes k e h free NotWaiting r = absurd r
 
   -- and so is one at any place but these two
-  goes_at : (k : ℕ) → seat_of w.seats t ≡ Some k → (p : Place) → place_at w k ≡ p → (p ≡ Idle → ⊥) → (p ≡ AtPost → ⊥) → IsAcceptable w (step.Go t)
+  goes_at : (k : ℕ) → berth_of w.berths t ≡ Some k → (p : Place) → place_at w k ≡ p → (p ≡ Idle → ⊥) → (p ≡ AtPost → ⊥) → IsAcceptable w (step.Go t)
   goes_at k e p at busy free = goes k e (λ i. busy (sym at ∙ i)) (nowhere Out (out_at w sound k t e p at free) refl)
 
   -- each Go
-  wents : (room : Bool) → Judged w (step.Go t) (after_go room w t (seat_of w.seats t))
+  wents : (room : Bool) → Judged w (step.Go t) (after_go room w t (berth_of w.berths t))
   wents = go_cases w sound t (Judged w (step.Go t))
       (λ none. (not_live none, refl))
-      (λ k seat at. (idle k seat at, refl))
-      (λ k seat out room s at fit. (goes_at k seat (InCall s) at (λ i. cc) (λ i. cc), tt))
-      (λ k seat out n at more. (goes_at k seat (Ending n) at (λ i. cc) (λ i. cc), tt))
-      (λ k seat out n at all. ends k (goes_at k seat (Ending n) at (λ i. cc) (λ i. cc)) (owns_one w.fats.monitors t))
-      (λ k seat at stands. ((live k seat, stands), refl))
-      (λ k seat r at granted. (goes k seat (λ i. let x = sym at ∙ i in cc) (nowhere (Granted r) granted refl), tt))
+      (λ k berth at. (idle k berth at, refl))
+      (λ k berth out room s at fit. (goes_at k berth (InCall s) at (λ i. cc) (λ i. cc), tt))
+      (λ k berth out n at more. (goes_at k berth (Ending n) at (λ i. cc) (λ i. cc), tt))
+      (λ k berth out n at all. ends k (goes_at k berth (Ending n) at (λ i. cc) (λ i. cc)) (owns_one w.fats.monitors t))
+      (λ k berth at stands. ((live k berth, stands), refl))
+      (λ k berth r at granted. (goes k berth (λ i. let x = sym at ∙ i in cc) (nowhere (Granted r) granted refl), tt))
     where
       ends : (k : ℕ) → IsAcceptable w (step.Go t) → (b : Bool) → Judged w (step.Go t) (ended_as w k t b)
       ends k may true = (may, tt)
       ends k may false = (may, tt)
 
   -- a thread with another post than this one waits for no time that is over
-  not_due_at : (k : ℕ) → seat_of w.seats t ≡ Some k → (p : Post) → post_at w.fats t ≡ p
+  not_due_at : (k : ℕ) → berth_of w.berths t ≡ Some k → (p : Post) → post_at w.fats t ≡ p
       → ((m n d : ℕ) → p ≡ Waiting m n (Some d) → d ≤ w.fats.moment → ⊥) → Judged w (step.Expire t) (refuse w NotDue)
   not_due_at k e p is never = ((live k e, λ due. by_post p (place_at w k) never (ap (λ (x : Post). act_of w.fats x (place_at w k)) (sym is) ∙ shows k e _ due.4) due.5), refl)
     where
@@ -230,7 +230,7 @@ module _ (w : WorldState) (sound : IsSound w) (t : ThreadId) where
       by_post (Granted r) q never same late = absurd (cc)
 
   -- a wait expires where it is due, and only there
-  expires_at : (k : ℕ) → seat_of w.seats t ≡ Some k → (p : Post) → post_at w.fats t ≡ p
+  expires_at : (k : ℕ) → berth_of w.berths t ≡ Some k → (p : Post) → post_at w.fats t ≡ p
       → Judged w (step.Expire t) (after_wait_end_as time_over w t (expire_outcome w.fats t p).answer (expire_outcome w.fats t p).after)
   expires_at k e Out is = not_due_at k e Out is (λ m n d same late. cc)
   expires_at k e (Entering m) is = not_due_at k e (Entering m) is (λ j n d same late. cc)
@@ -263,12 +263,12 @@ module _ (w : WorldState) (sound : IsSound w) (t : ThreadId) where
   expires_at k e (Back m n y) is = not_due_at k e (Back m n y) is (λ j x d same late. cc)
   expires_at k e (Granted r) is = not_due_at k e (Granted r) is (λ j n d same late. cc)
 
-  expires : (o : Option ℕ) → seat_of w.seats t ≡ o → Judged w (step.Expire t) (after_wait_end time_over w t o)
+  expires : (o : Option ℕ) → berth_of w.berths t ≡ o → Judged w (step.Expire t) (after_wait_end time_over w t o)
   expires None e = (not_live e, refl)
   expires (Some k) e = expires_at k e (post_at w.fats t) refl
 
   -- a thread with another post than this one does not wait
-  not_waiting_at : (k : ℕ) → seat_of w.seats t ≡ Some k → (p : Post) → post_at w.fats t ≡ p
+  not_waiting_at : (k : ℕ) → berth_of w.berths t ≡ Some k → (p : Post) → post_at w.fats t ≡ p
       → ((m n : ℕ) (d : Option ℕ) → p ≡ Waiting m n d → ⊥) → Judged w (step.Spurious t) (refuse w NotWaiting)
   not_waiting_at k e p is never = ((live k e, λ waits. by_post p (place_at w k) never (ap (λ (x : Post). act_of w.fats x (place_at w k)) (sym is) ∙ shows k e _ waits.4)), refl)
     where
@@ -280,7 +280,7 @@ module _ (w : WorldState) (sound : IsSound w) (t : ThreadId) where
       by_post (Granted r) q never same = absurd (cc)
 
   -- a wake-up is for a thread that waits, and only for one
-  wakes_at : (k : ℕ) → seat_of w.seats t ≡ Some k → (p : Post) → post_at w.fats t ≡ p
+  wakes_at : (k : ℕ) → berth_of w.berths t ≡ Some k → (p : Post) → post_at w.fats t ≡ p
       → Judged w (step.Spurious t) (after_wait_end_as wake_up w t (spurious_outcome w.fats t p).answer (spurious_outcome w.fats t p).after)
   wakes_at k e Out is = not_waiting_at k e Out is (λ m n d same. cc)
   wakes_at k e (Entering m) is = not_waiting_at k e (Entering m) is (λ j n d same. cc)
@@ -307,7 +307,7 @@ module _ (w : WorldState) (sound : IsSound w) (t : ThreadId) where
   wakes_at k e (Back m n y) is = not_waiting_at k e (Back m n y) is (λ j x d same. cc)
   wakes_at k e (Granted r) is = not_waiting_at k e (Granted r) is (λ j n d same. cc)
 
-  wakes : (o : Option ℕ) → seat_of w.seats t ≡ o → Judged w (step.Spurious t) (after_wait_end wake_up w t o)
+  wakes : (o : Option ℕ) → berth_of w.berths t ≡ o → Judged w (step.Spurious t) (after_wait_end wake_up w t o)
   wakes None e = (not_live e, refl)
   wakes (Some k) e = wakes_at k e (post_at w.fats t) refl
 
@@ -332,9 +332,9 @@ ticks w now =
 
 -- Each answer is the right one, and a refused step changes nothing.
 pub step_judged : (w : WorldState) → IsSound w → (room : Bool) (s : Step) → MatchResult (step_of room w s).answer (λ d. IsAcceptable w s) (λ f. IsRefused w s f) × OnErr (step_of room w s).answer ((step_of room w s).after ≡ w)
-step_judged w sound room (step.Attach t) = attaches w sound t room (seat_of w.seats t) (free_seat w.seats) refl refl
+step_judged w sound room (step.Attach t) = attaches w sound t room (berth_of w.berths t) (free_berth w.berths) refl refl
 step_judged w sound room (step.Begin t c) = begins w sound t c
 step_judged w sound room (step.Go t) = wents w sound t room
-step_judged w sound room (step.Expire t) = expires w sound t (seat_of w.seats t) refl
-step_judged w sound room (step.Spurious t) = wakes w sound t (seat_of w.seats t) refl
+step_judged w sound room (step.Expire t) = expires w sound t (berth_of w.berths t) refl
+step_judged w sound room (step.Spurious t) = wakes w sound t (berth_of w.berths t) refl
 step_judged w sound room (step.Tick now) = ticks w now

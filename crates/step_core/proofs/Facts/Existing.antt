@@ -6,7 +6,7 @@ use Rattle.std.proofs.lemmas.Bool.{cases_lt}
 use Rattle.lock_word.specs.declared.ThreadId.{ThreadId}
 use Rattle.lock_word.specs.declared.ObjectId.{ObjectId}
 use Rattle.lock_word.specs.declared.Lock.TheVariants.{Free, Fat}
-use Rattle.thread_index.specs.Indices.{seat_of}
+use Rattle.thread_index.specs.Indices.{berth_of}
 use Rattle.fat_monitor.specs.declared.monitors.Monitor as fat
 use Rattle.fat_monitor.specs.declared.actions.Post.{Post}
 use Rattle.fat_monitor.specs.declared.actions.Post.TheVariants.{Out, Entering, Waiting, Back, Granted}
@@ -93,9 +93,9 @@ module _ (w : WorldState) (sound : IsSound w) where
 pub doing_exists : (w : WorldState) → IsSound w → (t : ThreadId) (d : Option Doing) → d ≡ option_map (λ (x : Thread). x.act) ((shown w).thread t)
     → IfSome d (ActExists (length w.words))
 doing_exists w sound t d e =
-    subst (λ (x : Option Doing). IfSome x (ActExists (length w.words))) (sym e) (by_seat (seat_of w.seats t) refl)
+    subst (λ (x : Option Doing). IfSome x (ActExists (length w.words))) (sym e) (by_berth (berth_of w.berths t) refl)
   where
-    by_seat : (o : Option ℕ) → seat_of w.seats t ≡ o → IfSome (option_map (λ (x : Thread). x.act) (thread_of w t o)) (ActExists (length w.words))
-    by_seat None seat = tt
-    by_seat (Some k) seat =
-        act_exists w sound k (place_at w k) (sound.places k (within w sound k t seat)) (post_at w.fats t) (proper_at w.fats t sound.fats)
+    by_berth : (o : Option ℕ) → berth_of w.berths t ≡ o → IfSome (option_map (λ (x : Thread). x.act) (thread_of w t o)) (ActExists (length w.words))
+    by_berth None berth = tt
+    by_berth (Some k) berth =
+        act_exists w sound k (place_at w k) (sound.places k (within w sound k t berth)) (post_at w.fats t) (proper_at w.fats t sound.fats)

@@ -1,4 +1,4 @@
--- What stays where a Go of one thread changes the world: shared facts about the thread at one seat.
+-- What stays where a Go of one thread changes the world: shared facts about the thread at one berth.
 use Rattle.std.specs.Prelude.{◌≡◌, ◌⊎◌, ℕ, ◌+◌, ◌-◌, ◌<◌, ◌≤◌, Bool, if◌then◌else◌, ◌==◌, length, Option, Some}
 use Rattle.std.proofs.Common.{arith, refl, ap, sym, ◌∙◌, inl, inr, get_or-set_same, get_or-set_other, length-set}
 use Rattle.std.proofs.Math.Path.{fun_ext}
@@ -12,8 +12,8 @@ use Rattle.lock_word.specs.declared.Lock.{Lock}
 use Rattle.lock_word.specs.declared.Lock.TheVariants.{Free, Thin}
 use Rattle.lock_word.specs.Layout.{lock_of, low_of, Fits, greatest_count, greatest_index}
 use Rattle.lock_word.proofs.Words.{free, lock_of-word_of}
-use Rattle.thread_index.specs.Indices.{seat_of}
-use Rattle.thread_index.proofs.Seats.{seat_found}
+use Rattle.thread_index.specs.Indices.{berth_of}
+use Rattle.thread_index.proofs.Berths.{berth_found}
 use Rattle.step_core.specs.declared.machine.Doing.{Doing}
 use Rattle.fat_monitor.specs.declared.actions.Post.TheVariants.{Out}
 use Rattle.fat_monitor.specs.FatState.{FatState, post_of, post_at, flag_at}
@@ -57,34 +57,34 @@ stands_at w sound p = by_place (cases_lt p (length w.words))
 pub act_out : (f : FatState) (t : ThreadId) (p : Place) → post_of f t ≡ Some Out → act_of f (post_at f t) p ≡ doing_of p
 act_out f t p out = rw out refl
 
-module _ (w : WorldState) (sound : IsSound w) (k : ℕ) (t : ThreadId) (seat : seat_of w.seats t ≡ Some k) where
+module _ (w : WorldState) (sound : IsSound w) (k : ℕ) (t : ThreadId) (berth : berth_of w.berths t ≡ Some k) where
   -- the thread has a place, and its index fits a word
   pub within : k < length w.places
-  within = rw sound.seated ((seat_found w.seats t k seat).0)
+  within = rw sound.berthed ((berth_found w.berths t k berth).0)
 
   pub index_fits : k + 1 ≤ greatest_index w.split
-  index_fits = let l : k < length w.seats = (seat_found w.seats t k seat).0 in let b : length w.seats ≤ greatest_index w.split = sound.few in omega arith
+  index_fits = let l : k < length w.berths = (berth_found w.berths t k berth).0 in let b : length w.berths ≤ greatest_index w.split = sound.few in omega arith
 
   pub thin_fits : (c : ℕ) → c ≤ greatest_count w.split → Fits w.split (Thin (k + 1) c)
   thin_fits c h = (omega arith, index_fits, h)
 
   pub thin_stands : (q c : ℕ) → c ≤ greatest_count w.split → MayShow w q (Thin (k + 1) c)
-  thin_stands q c h = let n : k + 1 - 1 ≡ k = omega arith in (omega arith, index_fits, h, rw (n, (seat_found w.seats t k seat).1) refl)
+  thin_stands q c h = let n : k + 1 - 1 ≡ k = omega arith in (omega arith, index_fits, h, rw (n, (berth_found w.berths t k berth).1) refl)
 
   -- a thread that is not at its post is out of every fat action
   pub out_at : (p : Place) → place_at w k ≡ p → (p ≡ AtPost → ⊥) → post_of w.fats t ≡ Some Out
-  out_at p e free = agrees_out p (post_of w.fats t) free (rw e at (sound.posted t k seat))
+  out_at p e free = agrees_out p (post_of w.fats t) free (rw e at (sound.posted t k berth))
 
   pub is_at : (p : Place) → place_at w k ≡ p → post_of w.fats t ≡ Some Out → Is (shown w) t (flag_at w.fats t) (doing_of p)
-  is_at p e out = rw (seat, e) (ap (λ (x : Doing). Some (does (flag_at w.fats t) x)) (act_out w.fats t p out))
+  is_at p e out = rw (berth, e) (ap (λ (x : Doing). Some (does (flag_at w.fats t) x)) (act_out w.fats t p out))
 
   -- the owner that a thin word of one's own shows
   pub mine : (c : ℕ) → monitor_of w (Thin (k + 1) c) ≡ held t (c + 1)
-  mine c = let n : k + 1 - 1 ≡ k = omega arith in rw (n, (seat_found w.seats t k seat).1) refl
+  mine c = let n : k + 1 - 1 ≡ k = omega arith in rw (n, (berth_found w.berths t k berth).1) refl
 
   -- another index is another owner
   pub other : (i c : ℕ) → (i ≡ k + 1 → ⊥) → 1 ≤ i → (monitor_of w (Thin i c)).owner ≡ Some t → ⊥
-  other i c ne low e = let j : i - 1 ≡ k = same_Some (i - 1) k (sym (sound.one_to_one (i - 1) t e) ∙ seat) in ne (omega arith)
+  other i c ne low e = let j : i - 1 ≡ k = same_Some (i - 1) k (sym (sound.one_to_one (i - 1) t e) ∙ berth) in ne (omega arith)
 
   pub owned : (o : ObjectId) (l : Lock) → lock_at w o.0 ≡ l → (monitor_of w l).owner ≡ Some t → OwnedBy (shown w) o t
   owned o l e h = rw e h
@@ -106,12 +106,12 @@ module _ (w : WorldState) (sound : IsSound w) (k : ℕ) (t : ThreadId) (seat : s
   pub shown_written : (o : ObjectId) (l : Lock) (m : Monitor) (p : Place) (d : Did) → post_of w.fats t ≡ Some Out → o.0 < length w.words → Fits w.split l → monitor_of w l ≡ m
       → shown (with_go w k (word_written w o (new_word w o l) p d)) ≡ with_monitor (now_is (shown w) t (flag_at w.fats t) (doing_of p)) o m
   shown_written o l m p d out h f e =
-      rw (← e) (shown_changed w k t (word_written w o (new_word w o l) p d) (flag_at w.fats t) (doing_of p) seat within (length-set w.words o.0 (new_word w o l)) refl
+      rw (← e) (shown_changed w k t (word_written w o (new_word w o l) p d) (flag_at w.fats t) (doing_of p) berth within (length-set w.words o.0 (new_word w o l)) refl
       (ap (does (flag_at w.fats t)) (act_out w.fats t p out)) (λ u ne q. refl) o (monitor_of w l) (written o (new_word w o l) p d l h (lock_of-new_word w o l f)))
 
   -- the state after a Go that changes its place alone
   pub shown_stays : (p : Place) (d : Did) → post_of w.fats t ≡ Some Out → shown (with_go w k (place_only w p d)) ≡ now_is (shown w) t (flag_at w.fats t) (doing_of p)
-  shown_stays p d out = shown_kept w k t (place_only w p d) (flag_at w.fats t) (doing_of p) seat within refl refl (ap (does (flag_at w.fats t)) (act_out w.fats t p out)) (λ u ne q. refl) (λ q. refl)
+  shown_stays p d out = shown_kept w k t (place_only w p d) (flag_at w.fats t) (doing_of p) berth within refl refl (ap (does (flag_at w.fats t)) (act_out w.fats t p out)) (λ u ne q. refl) (λ q. refl)
 
   -- a monitor that is written as it was
   pub as_it_was : (o : ObjectId) (x : Monitor) → x ≡ monitor_of w (lock_at w o.0) → (q : ObjectId)

@@ -97,7 +97,7 @@ agrees_kept AtPost x y same h = λ e. h (same.0 e)
 -- a monitor that is bound and not stored, in the same fat state
 pub bound_kept : (w : WorldState) (j : ℕ) (c : MonitorCall) (won : Bool) (m : ℕ) → FittingStage w j (Bound c won m)
     → (m < length w.fats.monitors)
-    × (monitor_at w.fats m ≡ record { object = c.object; owner = holder_at w.seats j; holds = (monitor_at w.fats m).holds })
+    × (monitor_at w.fats m ≡ record { object = c.object; owner = holder_at w.berths j; holds = (monitor_at w.fats m).holds })
 bound_kept w j c won m fit =
     let holds : (monitor_at w.fats m).holds ≡ fit.2.0 + 1 = ap (λ (x : fat.Monitor). x.holds) fit.2.2 in (fit.1, rw holds fit.2.2)
 
@@ -108,7 +108,7 @@ module _ (w w' : WorldState) (j : ℕ) (split : w'.split ≡ w.split) (size : le
     (fat : (q m : ℕ) → lock_at w q ≡ Fat m → lock_at w' q ≡ Fat m)
     (bound : (c : MonitorCall) (won : Bool) (m : ℕ) → FittingStage w j (Bound c won m)
     → (m < length w'.fats.monitors)
-    × (monitor_at w'.fats m ≡ record { object = c.object; owner = holder_at w'.seats j; holds = (monitor_at w.fats m).holds }))
+    × (monitor_at w'.fats m ≡ record { object = c.object; owner = holder_at w'.berths j; holds = (monitor_at w.fats m).holds }))
     (ends : (q : ℕ) → is_own (lock_at w q) (j + 1) ≡ false → is_own (lock_at w' q) (j + 1) ≡ false) where
   inside : (n : ℕ) → n < length w.words → n < length w'.words
   inside n h = rw size h

@@ -20,8 +20,8 @@ use Rattle.step_core.specs.Machine.{Thread, Monitor, with_monitor, now_is}
 use Rattle.step_core.specs.World.{WorldState, lock_at, place_at}
 use Rattle.step_core.specs.Shown.{shown, thread_of, monitor_of, act_of}
 use Rattle.step_core.specs.Go.{AfterGo, with_go}
-use Rattle.thread_index.specs.Indices.{seat_of}
-use Rattle.thread_index.proofs.Seats.{seat_thread, seat_same}
+use Rattle.thread_index.specs.Indices.{berth_of}
+use Rattle.thread_index.proofs.Berths.{berth_thread, berth_same}
 
 -- a thread that is interrupted or not, and does this
 abbrev pub does : Bool → Doing → Thread
@@ -55,21 +55,21 @@ acts_alike f g u sound flag post objects p = rw (flag, post) (ap (λ (d : Doing)
     by_post (Back m n w) h = ap (λ (o : ObjectId). doing.Back o n w) (objects m h.0)
     by_post (Granted r) h = refl
 
--- a seat that is written shows what was written, and another seat what it showed
-thread_at_seat : (w : WorldState) (k : ℕ) (t : ThreadId) (a : AfterGo) (flag : Bool) (d : Doing) → seat_of w.seats t ≡ Some k → k < length w.places
+-- a berth that is written shows what was written, and another berth what it showed
+thread_at_berth : (w : WorldState) (k : ℕ) (t : ThreadId) (a : AfterGo) (flag : Bool) (d : Doing) → berth_of w.berths t ≡ Some k → k < length w.places
     → thread_in a.fats t a.place ≡ does flag d → ((u : ThreadId) → (u.0 ≡ t.0 → ⊥) → ActsAlike w.fats a.fats u)
-    → (u : ThreadId) (o : Option ℕ) → seat_of w.seats u ≡ o → (u.0 ≡ t.0) ⊎ (u.0 ≡ t.0 → ⊥)
+    → (u : ThreadId) (o : Option ℕ) → berth_of w.berths u ≡ o → (u.0 ≡ t.0) ⊎ (u.0 ≡ t.0 → ⊥)
     → thread_of (with_go w k a) u o ≡ (if u.0 == t.0 then Some (does flag d) else thread_of w u o)
-thread_at_seat w k t a flag d seat within own others u None e (inl same) = let b : seat_of w.seats u ≡ Some k = seat_same w.seats t u same ∙ seat in absurd (cc)
-thread_at_seat w k t a flag d seat within own others u None e (inr ne) = rw (ne_eqb u.0 t.0 ne) refl
-thread_at_seat w k t a flag d seat within own others u (Some j) e (inl same) =
-    let b : k ≡ j = same_Some k j (sym (seat_same w.seats t u same ∙ seat) ∙ e) in
+thread_at_berth w k t a flag d berth within own others u None e (inl same) = let b : berth_of w.berths u ≡ Some k = berth_same w.berths t u same ∙ berth in absurd (cc)
+thread_at_berth w k t a flag d berth within own others u None e (inr ne) = rw (ne_eqb u.0 t.0 ne) refl
+thread_at_berth w k t a flag d berth within own others u (Some j) e (inl same) =
+    let b : k ≡ j = same_Some k j (sym (berth_same w.berths t u same ∙ berth) ∙ e) in
     rw (eq-eqb u.0 t.0 same, ← b, get_or-set_same w.places k a.place Idle within, same) (ap (λ (x : Thread). Some x) own)
-thread_at_seat w k t a flag d seat within own others u (Some j) e (inr ne) =
-    let other : j ≡ k → ⊥ = λ b. ne (seat_thread w.seats t u k seat (rw b at e)) in
+thread_at_berth w k t a flag d berth within own others u (Some j) e (inr ne) =
+    let other : j ≡ k → ⊥ = λ b. ne (berth_thread w.berths t u k berth (rw b at e)) in
     rw (ne_eqb u.0 t.0 ne, get_or-set_other w.places k j a.place Idle other) (ap (λ (x : Thread). Some x) (others u ne (place_at w j)))
 
-module _ (w : WorldState) (k : ℕ) (t : ThreadId) (a : AfterGo) (flag : Bool) (d : Doing) (seat : seat_of w.seats t ≡ Some k) (within : k < length w.places)
+module _ (w : WorldState) (k : ℕ) (t : ThreadId) (a : AfterGo) (flag : Bool) (d : Doing) (berth : berth_of w.berths t ≡ Some k) (within : k < length w.places)
     (size : length a.words ≡ length w.words)
     (moment : a.fats.moment ≡ w.fats.moment)
     (own : thread_in a.fats t a.place ≡ does flag d)
@@ -80,7 +80,7 @@ module _ (w : WorldState) (k : ℕ) (t : ThreadId) (a : AfterGo) (flag : Bool) (
       → shown (with_go w k a) ≡ with_monitor (now_is (shown w) t flag d) o m
   shown_changed o m monitors =
       let threads : (shown (with_go w k a)).thread ≡ (now_is (shown w) t flag d).thread =
-      fun_ext (λ u. thread_at_seat w k t a flag d seat within own others u (seat_of w.seats u) refl (cases_eq u.0 t.0)) in
+      fun_ext (λ u. thread_at_berth w k t a flag d berth within own others u (berth_of w.berths u) refl (cases_eq u.0 t.0)) in
       let all : (shown (with_go w k a)).monitor ≡ (with_monitor (shown w) o m).monitor = fun_ext monitors in
       λ i. record { thread = threads i; objects = size i; monitor = all i; moment = moment i }
 
@@ -89,6 +89,6 @@ module _ (w : WorldState) (k : ℕ) (t : ThreadId) (a : AfterGo) (flag : Bool) (
       → shown (with_go w k a) ≡ now_is (shown w) t flag d
   shown_kept monitors =
       let threads : (shown (with_go w k a)).thread ≡ (now_is (shown w) t flag d).thread =
-      fun_ext (λ u. thread_at_seat w k t a flag d seat within own others u (seat_of w.seats u) refl (cases_eq u.0 t.0)) in
+      fun_ext (λ u. thread_at_berth w k t a flag d berth within own others u (berth_of w.berths u) refl (cases_eq u.0 t.0)) in
       let all : (shown (with_go w k a)).monitor ≡ (shown w).monitor = fun_ext monitors in
       λ i. record { thread = threads i; objects = size i; monitor = all i; moment = moment i }

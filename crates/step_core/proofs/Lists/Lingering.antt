@@ -5,8 +5,8 @@ use Rattle.std.proofs.lemmas.Bool.{cases_eq, cases_lt, eq-eqb, ne_eqb}
 use Rattle.lock_word.specs.declared.ThreadId.{ThreadId}
 use Rattle.lock_word.specs.declared.ObjectId.{ObjectId}
 use Rattle.lock_word.specs.declared.Split.{Split}
-use Rattle.thread_index.specs.Indices.{seat_of}
-use Rattle.thread_index.proofs.Seats.{seat_same}
+use Rattle.thread_index.specs.Indices.{berth_of}
+use Rattle.thread_index.proofs.Berths.{berth_same}
 use Rattle.fast_path.specs.declared.calls.Call.{Call}
 use Rattle.fast_path.specs.declared.calls.Call.TheVariants as call
 use Rattle.fast_path.specs.declared.calls.Operation.{Operation}
@@ -35,7 +35,7 @@ use Rattle.step_core.specs.Sound.{IsSound, Fitting}
 use Rattle.step_core.specs.Step.{step_of}
 use Rattle.step_core.specs.Relayout.{after_relayout}
 use Rattle.step_core.specs.Refused.{IsLive, IsBusy, IsAcceptable}
-use Rattle.step_core.specs.Patient.{left_in, left_at, left_of_seat, left_of, HasMet, HasParked, goes_of, Lingers, AllLinger}
+use Rattle.step_core.specs.Patient.{left_in, left_at, left_of_berth, left_of, HasMet, HasParked, goes_of, Lingers, AllLinger}
 use Rattle.step_core.proofs.Facts.OneThread.{within}
 use Rattle.step_core.proofs.Sound.AllSteps.{step_right}
 use Rattle.step_core.proofs.Relaying.Requests.{relayout_sound, relayout_left}
@@ -44,7 +44,7 @@ use Rattle.step_core.proofs.Clauses.Patient.{step_patient}
 
 -- threads with one number have as much left
 same_left : (w : WorldState) (t u : ThreadId) → u.0 ≡ t.0 → left_of w u ≡ left_of w t
-same_left w t u e = ap (λ (o : Option ℕ). left_of_seat w o) (seat_same w.seats t u e)
+same_left w t u e = ap (λ (o : Option ℕ). left_of_berth w o) (berth_same w.berths t u e)
 
 -- a place with steps left is in a call
 busy_place : (objects : ℕ) (p : Place) → 1 ≤ left_at objects p → p ≡ Idle → ⊥
@@ -55,11 +55,11 @@ busy_place objects AtPost h e = cc
 
 -- and so is a thread with steps left
 is_busy : (w : WorldState) → IsSound w → (t : ThreadId) → 1 ≤ left_of w t → IsBusy w t
-is_busy w sound t h = by_seat (seat_of w.seats t) refl
+is_busy w sound t h = by_berth (berth_of w.berths t) refl
   where
-    by_seat : (o : Option ℕ) → seat_of w.seats t ≡ o → IsBusy w t
-    by_seat None e = let none : left_of w t ≡ 0 = rw e refl in absurd (omega arith)
-    by_seat (Some k) e = let some : 1 ≤ left_at (length w.words) (place_at w k) = rw e at h in busy w sound t k e (busy_place (length w.words) (place_at w k) some)
+    by_berth : (o : Option ℕ) → berth_of w.berths t ≡ o → IsBusy w t
+    by_berth None e = let none : left_of w t ≡ 0 = rw e refl in absurd (omega arith)
+    by_berth (Some k) e = let some : 1 ≤ left_at (length w.words) (place_at w k) = rw e at h in busy w sound t k e (busy_place (length w.words) (place_at w k) some)
 
 -- a busy thread is live, and is neither attached nor begins a call
 busy_live : (w : WorldState) (t : ThreadId) → IsBusy w t → IsLive w t
@@ -242,32 +242,32 @@ at_most_all objects (Ending n) h = omega arith
 at_most_all objects AtPost h = omega arith
 
 module _ (w : WorldState) (sound : IsSound w) (t : ThreadId) (flag : Bool) (act : Doing) (is : Is (shown w) t flag act) where
-  -- the seat of a thread that is doing this
-  seated : (k : ℕ) × (seat_of w.seats t ≡ Some k) × (does w sound t k ≡ act)
-  seated = by_seat (seat_of w.seats t) refl
+  -- the berth of a thread that is doing this
+  berthed : (k : ℕ) × (berth_of w.berths t ≡ Some k) × (does w sound t k ≡ act)
+  berthed = by_berth (berth_of w.berths t) refl
     where
-      by_seat : (o : Option ℕ) → seat_of w.seats t ≡ o → (k : ℕ) × (seat_of w.seats t ≡ Some k) × (does w sound t k ≡ act)
-      by_seat None e = let never : ◌≡◌ {A = Option Thread} None (Some (record { flag = flag; act = act })) = rw e at is in absurd (cc)
-      by_seat (Some k) e = (k, e, shows w sound t k e (record { flag = flag; act = act }) is)
+      by_berth : (o : Option ℕ) → berth_of w.berths t ≡ o → (k : ℕ) × (berth_of w.berths t ≡ Some k) × (does w sound t k ≡ act)
+      by_berth None e = let never : ◌≡◌ {A = Option Thread} None (Some (record { flag = flag; act = act })) = rw e at is in absurd (cc)
+      by_berth (Some k) e = (k, e, shows w sound t k e (record { flag = flag; act = act }) is)
 
   -- its place, where it is not parked
-  place_does : (k : ℕ) → seat_of w.seats t ≡ Some k → does w sound t k ≡ act → (p : Place) → place_at w k ≡ p → (p ≡ AtPost → ⊥) → doing_of p ≡ act
+  place_does : (k : ℕ) → berth_of w.berths t ≡ Some k → does w sound t k ≡ act → (p : Place) → place_at w k ≡ p → (p ≡ AtPost → ⊥) → doing_of p ≡ act
   place_does k e h p at free = sym (does_out w sound t k e p at free) ∙ h
 
   has_left : (act ≡ doing.Idle → ⊥) → 1 ≤ left_of w t
-  has_left busy = let p = seated in
+  has_left busy = let p = berthed in
       rw p.1 (left_bounds w p.0 (place_at w p.0) (sound.places p.0 (within w sound p.0 t p.1)) (λ e. busy (sym (place_does p.0 p.1 p.2 Idle e (λ i. cc)))))
 
   -- A call but End replies, parks or meets another thread within four Go steps.
   pub within_four : (act ≡ doing.Idle → ⊥) → (act ≡ doing.Wants call.End → ⊥) → (ss : List (Request × Bool)) → AllLinger w t ss → goes_of t ss < 4
   within_four busy not_end ss all =
-      let p = seated in
+      let p = berthed in
       let most : left_of w t ≤ 4 = rw p.1 (at_most_four (length w.words) (place_at w p.0) (λ n e. not_end (sym (place_does p.0 p.1 p.2 (Ending n) e (λ i. cc))))) in
       let fewer : goes_of t ss < left_of w t = lingers w sound t ss (has_left busy) all in omega arith
 
 -- An end replies within a Go for each object and one more.
 pub within_all : (w : WorldState) → IsSound w → (t : ThreadId) (flag : Bool) → Is (shown w) t flag (doing.Wants call.End) → (ss : List (Request × Bool)) → AllLinger w t ss → goes_of t ss < length w.words + 1
 within_all w sound t flag is ss all =
-    let p = seated w sound t flag (doing.Wants call.End) is in
+    let p = berthed w sound t flag (doing.Wants call.End) is in
     let most : left_of w t ≤ length w.words + 1 = rw p.1 (at_most_all (length w.words) (place_at w p.0) (λ free. place_does w sound t flag (doing.Wants call.End) is p.0 p.1 p.2 (place_at w p.0) refl free)) in
     let fewer : goes_of t ss < left_of w t = lingers w sound t ss (has_left w sound t flag (doing.Wants call.End) is (λ e. cc)) all in omega arith

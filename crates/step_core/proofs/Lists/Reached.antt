@@ -104,7 +104,7 @@ module _ (lows : List ℕ) (monitors indices : ℕ) (split : Split) (steps : Lis
   pub reached_sound : IsSound (reached lows monitors indices split steps)
   reached_sound = all_sound (opening_world lows monitors indices split) start steps
 
-  pub reached_distinct : IsOneToOne (reached lows monitors indices split steps).seats
+  pub reached_distinct : IsOneToOne (reached lows monitors indices split steps).berths
   reached_distinct = reached_sound.one_to_one
 
   pub reached_keeps : Keeps (opening_world lows monitors indices split) (reached lows monitors indices split steps)

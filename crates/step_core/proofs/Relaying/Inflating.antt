@@ -12,7 +12,7 @@ use Rattle.lock_word.specs.declared.Lock.TheVariants.{Free, Thin, Fat}
 use Rattle.lock_word.specs.declared.Split.{Split}
 use Rattle.lock_word.specs.Layout.{Fits, IsMalformed, greatest_count, low_of}
 use Rattle.lock_word.proofs.Words.{formed-word_of, greatest_count-bound}
-use Rattle.thread_index.specs.Indices.{seat_of, holder_at, holder_of}
+use Rattle.thread_index.specs.Indices.{berth_of, holder_at, holder_of}
 use Rattle.fat_monitor.specs.declared.monitors.Monitor as fat
 use Rattle.fat_monitor.specs.FatState.{FatState, monitor_at, bound_with, unbound}
 use Rattle.fat_monitor.proofs.Soundness.{IsSound-bound_with}
@@ -28,7 +28,7 @@ use Rattle.step_core.proofs.Relaying.Resting.{sound_changed, shown_by}
 
 module _ (w : WorldState) (sound : IsSound w) (p : ℕ) (here : p < length w.words) where
   -- object p, which thread t holds so often, is inflated
-  module _ (i n : ℕ) (t : ThreadId) (thin : lock_at w p ≡ Thin i n) (held : holder_at w.seats (i - 1) ≡ Some t) (room : length w.fats.monitors < w.fats.limit) where
+  module _ (i n : ℕ) (t : ThreadId) (thin : lock_at w p ≡ Thin i n) (held : holder_at w.berths (i - 1) ≡ Some t) (room : length w.fats.monitors < w.fats.limit) where
     abbrev o : ObjectId
     o = record { 0 = p }
 
@@ -118,7 +118,7 @@ module _ (w : WorldState) (sound : IsSound w) (p : ℕ) (here : p < length w.wor
     -- each thread and each monitor is shown as it was
     pub inflated_shows : shown after ≡ shown w
     inflated_shows =
-        let threads : (shown after).thread ≡ (shown w).thread = fun_ext (λ u. thread_same u (seat_of w.seats u)) in
+        let threads : (shown after).thread ≡ (shown w).thread = fun_ext (λ u. thread_same u (berth_of w.berths u)) in
         let monitors : (shown after).monitor ≡ (shown w).monitor = fun_ext (λ q. monitor_same q (cases_eq q.0 p)) in
         let size : length after.words ≡ length w.words = length-set w.words p (new_word w o (Fat next)) in
         λ k. record { thread = threads k; objects = size k; monitor = monitors k; moment = w.fats.moment }
@@ -141,12 +141,12 @@ module _ (w : WorldState) (sound : IsSound w) (p : ℕ) (here : p < length w.wor
   -- The same in one: where the lock fits, nothing changes.
   module _ (s : Split) (room : is_too_deep s (lock_at w p) ≡ true → length w.fats.monitors < w.fats.limit) where
     pub inflated_cases : (P : WorldState → Type 0) → (is_too_deep s (lock_at w p) ≡ false → P w)
-        → ((i n : ℕ) (t : ThreadId) → lock_at w p ≡ Thin i n → holder_at w.seats (i - 1) ≡ Some t → length w.fats.monitors < w.fats.limit → P (inflated_for w p (n + 1) (Some t)))
+        → ((i n : ℕ) (t : ThreadId) → lock_at w p ≡ Thin i n → holder_at w.berths (i - 1) ≡ Some t → length w.fats.monitors < w.fats.limit → P (inflated_for w p (n + 1) (Some t)))
         → P (inflated_at s w p)
     inflated_cases P stays goes = by_test (is_too_deep s (lock_at w p)) refl
       where
-        by_holder : (i n : ℕ) (h : Option ThreadId) → lock_at w p ≡ Thin i n → holder_at w.seats (i - 1) ≡ h → IsSome h → length w.fats.monitors < w.fats.limit
-            → P (inflated_for w p (n + 1) (holder_at w.seats (i - 1)))
+        by_holder : (i n : ℕ) (h : Option ThreadId) → lock_at w p ≡ Thin i n → holder_at w.berths (i - 1) ≡ h → IsSome h → length w.fats.monitors < w.fats.limit
+            → P (inflated_for w p (n + 1) (holder_at w.berths (i - 1)))
         by_holder i n None e held some r = absurd (cc)
         by_holder i n (Some t) e held some r = rw held (goes i n t e held r)
 
@@ -155,7 +155,7 @@ module _ (w : WorldState) (sound : IsSound w) (p : ℕ) (here : p < length w.wor
         by_lock Free e deep r = absurd (cc)
         by_lock (Thin i n) e deep r =
             let may : MayShow w p (Thin i n) = rw e at (stands_at w sound p) in
-            by_holder i n (holder_at w.seats (i - 1)) e refl may.3 r
+            by_holder i n (holder_at w.berths (i - 1)) e refl may.3 r
         by_lock (Fat m) e deep r = absurd (cc)
 
         by_test : (b : Bool) → is_too_deep s (lock_at w p) ≡ b → P (inflated_at s w p)
@@ -172,24 +172,24 @@ module _ (w : WorldState) (sound : IsSound w) (p : ℕ) (here : p < length w.wor
     pub at_fits : is_too_deep s (lock_at (inflated_at s w p) p) ≡ false
     at_fits = inflated_cases (λ v. is_too_deep s (lock_at v p) ≡ false) (λ e. e) (λ i n t e held r. rw (lock_here i n t e held r) refl)
 
--- an index is its seat plus one
-holder_same : (seats : List (Option ThreadId)) (i : ℕ) → 1 ≤ i → holder_of seats i ≡ holder_at seats (i - 1)
-holder_same seats zero h = absurd (omega arith)
-holder_same seats (suc k) h = let same : k ≡ suc k - 1 = omega arith in ap (λ (n : ℕ). holder_at seats n) same
+-- an index is its berth plus one
+holder_same : (berths : List (Option ThreadId)) (i : ℕ) → 1 ≤ i → holder_of berths i ≡ holder_at berths (i - 1)
+holder_same berths zero h = absurd (omega arith)
+holder_same berths (suc k) h = let same : k ≡ suc k - 1 = omega arith in ap (λ (n : ℕ). holder_at berths n) same
 
-pub nobody_there : (seats : List (Option ThreadId)) (i : ℕ) → 1 ≤ i → IsSome (holder_at seats (i - 1)) → holder_of seats i ≡ None → ⊥
-nobody_there seats i low some none = by_holder (holder_at seats (i - 1)) (sym (holder_same seats i low) ∙ none) some
+pub nobody_there : (berths : List (Option ThreadId)) (i : ℕ) → 1 ≤ i → IsSome (holder_at berths (i - 1)) → holder_of berths i ≡ None → ⊥
+nobody_there berths i low some none = by_holder (holder_at berths (i - 1)) (sym (holder_same berths i low) ∙ none) some
   where
     by_holder : (o : Option ThreadId) → o ≡ None → IsSome o → ⊥
     by_holder None e some = cc
     by_holder (Some t) e some = cc
 
 -- what the code leaves of a lock that does not fit
-pub inflates : (w : WorldState) (s : Split) (p i n : ℕ) (t : ThreadId) (xs : List Word) (g : FatState) → lock_at w p ≡ Thin i n → 1 ≤ i → holder_of w.seats i ≡ Some t
+pub inflates : (w : WorldState) (s : Split) (p i n : ℕ) (t : ThreadId) (xs : List Word) (g : FatState) → lock_at w p ≡ Thin i n → 1 ≤ i → holder_of w.berths i ≡ Some t
     → nat_lt (greatest_count s) n ≡ true → xs ≡ slice_set w.words p (new_word w (record { 0 = p }) (Fat (length w.fats.monitors)))
     → g ≡ bound_with w.fats (record { 0 = p }) t (n + 1) → record w { words = xs; fats = g } ≡ inflated_at s w p
 inflates w s p i n t xs g thin low held deep words fats =
-    let holder : holder_at w.seats (i - 1) ≡ Some t = sym (holder_same w.seats i low) ∙ held in
+    let holder : holder_at w.berths (i - 1) ≡ Some t = sym (holder_same w.berths i low) ∙ held in
     rw (words, fats, thin, deep, holder) refl
 
 -- what a row of words has at a position that is there

@@ -48,12 +48,12 @@ module _ (s : Split) (w : WorldState) (sound : IsSound w) (rest : IsAtRest (show
             (at_fits (inflated_below s w p) before.kept p inside s free) before.fit);
       }
 
-  pub respelled_right : length w.seats ≤ greatest_index s → IsSound (respelled s (inflated_below s w (length w.words))) × (shown (respelled s (inflated_below s w (length w.words))) ≡ shown w)
+  pub respelled_right : length w.berths ≤ greatest_index s → IsSound (respelled s (inflated_below s w (length w.words))) × (shown (respelled s (inflated_below s w (length w.words))) ≡ shown w)
   respelled_right few =
       let all = inflated_so (length w.words) (omega arith) in
       let f = follows s w (length w.words) (omega arith) in
       let calm : IsAtRest (shown (inflated_below s w (length w.words))) = subst IsAtRest (sym all.shows) rest in
-      let small : length (inflated_below s w (length w.words)).seats ≤ greatest_index s = rw f.seats few in
+      let small : length (inflated_below s w (length w.words)).berths ≤ greatest_index s = rw f.berths few in
       let fit : (p : ℕ) → p < length (inflated_below s w (length w.words)).words → is_too_deep s (lock_at (inflated_below s w (length w.words)) p) ≡ false =
       λ p h. all.fit p (rw f.size at h) in (
         respelled_sound (inflated_below s w (length w.words)) all.kept s small fit calm,
@@ -61,7 +61,7 @@ module _ (s : Split) (w : WorldState) (sound : IsSound w) (rest : IsAtRest (show
       )
 
 -- so a world at rest that has the monitors stays sound, and shows what it showed
-relaid_right : (s : Split) (w : WorldState) → IsSound w → IsAtRest (shown w) → length w.seats ≤ greatest_index s → length w.fats.monitors + deep_in s w ≤ w.fats.limit
+relaid_right : (s : Split) (w : WorldState) → IsSound w → IsAtRest (shown w) → length w.berths ≤ greatest_index s → length w.fats.monitors + deep_in s w ≤ w.fats.limit
     → IsSound (relaid s w) × (shown (relaid s w) ≡ shown w)
 relaid_right s w sound rest few room =
     let v : WorldState = roomy s w in
@@ -72,35 +72,35 @@ relaid_right s w sound rest few room =
 
 -- a relayout is made, or leaves the world as it is
 relayout_cases : (w : WorldState) (room : Bool) (s : Split) (P : WorldState → Type 0) → P w
-    → (IsAtRest (shown w) → length w.seats ≤ greatest_index s → length w.fats.monitors + deep_in s w ≤ w.fats.limit → P (relaid s w))
+    → (IsAtRest (shown w) → length w.berths ≤ greatest_index s → length w.fats.monitors + deep_in s w ≤ w.fats.limit → P (relaid s w))
     → P (after_relayout room w s).after
 relayout_cases w room s P stays goes = by_rest (is_at_rest w) refl
   where
-    by_room : (b : Bool) → IsAtRest (shown w) → length w.seats ≤ greatest_index s → length w.fats.monitors + deep_in s w ≤ w.fats.limit
+    by_room : (b : Bool) → IsAtRest (shown w) → length w.berths ≤ greatest_index s → length w.fats.monitors + deep_in s w ≤ w.fats.limit
         → P (if b then record { answer = Ok (deep_in s w); after = relaid s w } else relayout_refused w fault.Memory).after
     by_room true rest few left = goes rest few left
     by_room false rest few left = stays
 
-    by_left : (b : Bool) → nat_lt w.fats.limit (length w.fats.monitors + deep_in s w) ≡ b → IsAtRest (shown w) → length w.seats ≤ greatest_index s
+    by_left : (b : Bool) → nat_lt w.fats.limit (length w.fats.monitors + deep_in s w) ≡ b → IsAtRest (shown w) → length w.berths ≤ greatest_index s
         → P (if b then relayout_refused w fault.NoMonitor
         else (if room || not (nat_lt w.fats.spare (deep_in s w)) then record { answer = Ok (deep_in s w); after = relaid s w } else relayout_refused w fault.Memory)).after
     by_left true e rest few = stays
     by_left false e rest few = by_room (room || not (nat_lt w.fats.spare (deep_in s w))) rest few (ltb-false w.fats.limit (length w.fats.monitors + deep_in s w) e)
 
-    by_few : (b : Bool) → nat_lt (greatest_index s) (length w.seats) ≡ b → IsAtRest (shown w)
+    by_few : (b : Bool) → nat_lt (greatest_index s) (length w.berths) ≡ b → IsAtRest (shown w)
         → P (if b then relayout_refused w fault.IndexTooWide
         else (if nat_lt w.fats.limit (length w.fats.monitors + deep_in s w) then relayout_refused w fault.NoMonitor
         else (if room || not (nat_lt w.fats.spare (deep_in s w)) then record { answer = Ok (deep_in s w); after = relaid s w } else relayout_refused w fault.Memory))).after
     by_few true e rest = stays
-    by_few false e rest = by_left (nat_lt w.fats.limit (length w.fats.monitors + deep_in s w)) refl rest (ltb-false (greatest_index s) (length w.seats) e)
+    by_few false e rest = by_left (nat_lt w.fats.limit (length w.fats.monitors + deep_in s w)) refl rest (ltb-false (greatest_index s) (length w.berths) e)
 
     by_split : (b : Bool) → IsAtRest (shown w)
         → P (if b then record { answer = Ok 0; after = w }
-        else (if nat_lt (greatest_index s) (length w.seats) then relayout_refused w fault.IndexTooWide
+        else (if nat_lt (greatest_index s) (length w.berths) then relayout_refused w fault.IndexTooWide
         else (if nat_lt w.fats.limit (length w.fats.monitors + deep_in s w) then relayout_refused w fault.NoMonitor
         else (if room || not (nat_lt w.fats.spare (deep_in s w)) then record { answer = Ok (deep_in s w); after = relaid s w } else relayout_refused w fault.Memory)))).after
     by_split true rest = stays
-    by_split false rest = by_few (nat_lt (greatest_index s) (length w.seats)) refl rest
+    by_split false rest = by_few (nat_lt (greatest_index s) (length w.berths)) refl rest
 
     by_rest : (b : Bool) → is_at_rest w ≡ b → P (after_relayout room w s).after
     by_rest true e = rw e (by_split (is_same_split s w.split) (at_rest w e))

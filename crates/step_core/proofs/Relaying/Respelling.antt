@@ -13,7 +13,7 @@ use Rattle.lock_word.specs.declared.Lock.TheVariants.{Free, Thin, Fat}
 use Rattle.lock_word.specs.declared.Split.{Split}
 use Rattle.lock_word.specs.Layout.{Fits, IsMalformed, greatest_count, greatest_index, low_of, lock_of, with_lock}
 use Rattle.lock_word.proofs.Words.{formed-word_of, lock_of-word_of, free}
-use Rattle.thread_index.specs.Indices.{seat_of, holder_at}
+use Rattle.thread_index.specs.Indices.{berth_of, holder_at}
 use Rattle.fat_monitor.specs.FatState.{monitor_at}
 use Rattle.step_core.specs.World.{WorldState, word_at, lock_at, low_word}
 use Rattle.step_core.specs.Shown.{shown, monitor_of, thread_of}
@@ -23,16 +23,16 @@ use Rattle.step_core.proofs.Facts.OneThread.{stands_at, lock_past}
 use Rattle.step_core.proofs.Relaying.Resting.{sound_changed, shown_by}
 
 -- past the end is no holder
-within_seats : (seats : List (Option ThreadId)) (k : ℕ) → IsSome (holder_at seats k) → k < length seats
-within_seats seats k some = by_place (cases_lt k (length seats))
+within_berths : (berths : List (Option ThreadId)) (k : ℕ) → IsSome (holder_at berths k) → k < length berths
+within_berths berths k some = by_place (cases_lt k (length berths))
   where
     by_holder : (o : Option ThreadId) → o ≡ None → IsSome o → ⊥
     by_holder None e h = cc
     by_holder (Some t) e h = cc
 
-    by_place : (k < length seats) ⊎ (length seats ≤ k) → k < length seats
+    by_place : (k < length berths) ⊎ (length berths ≤ k) → k < length berths
     by_place (inl h) = h
-    by_place (inr h) = absurd (by_holder (holder_at seats k) (get_or_past seats k None h) some)
+    by_place (inr h) = absurd (by_holder (holder_at berths k) (get_or_past berths k None h) some)
 
 -- the free word past the end stays what it is
 low_stays : (old s : Split) → word_in old s (low_word 0) ≡ low_word 0
@@ -43,7 +43,7 @@ pub word_now : (w : WorldState) (s : Split) (p : ℕ) → word_at (respelled s w
 word_now w s p =
     ap (λ (d : Word). get_or (map (word_in w.split s) w.words) p d) (sym (low_stays w.split s)) ∙ get_or-map (word_in w.split s) w.words p (low_word 0)
 
-module _ (w : WorldState) (sound : IsSound w) (s : Split) (few : length w.seats ≤ greatest_index s)
+module _ (w : WorldState) (sound : IsSound w) (s : Split) (few : length w.berths ≤ greatest_index s)
     (fit : (p : ℕ) → p < length w.words → is_too_deep s (lock_at w p) ≡ false) where
   abbrev after : WorldState
   after = respelled s w
@@ -52,7 +52,7 @@ module _ (w : WorldState) (sound : IsSound w) (s : Split) (few : length w.seats 
   lock_fits : (p : ℕ) (l : Lock) → MayShow w p l → is_too_deep s l ≡ false → Fits s l
   lock_fits p Free may deep = tt
   lock_fits p (Thin i n) may deep =
-      let seat : i - 1 < length w.seats = within_seats w.seats (i - 1) may.3 in
+      let berth : i - 1 < length w.berths = within_berths w.berths (i - 1) may.3 in
       let count : n ≤ greatest_count s = ltb-false (greatest_count s) n deep in
       (may.0, omega arith, count)
   lock_fits p (Fat m) may deep =
@@ -87,7 +87,7 @@ module _ (w : WorldState) (sound : IsSound w) (s : Split) (few : length w.seats 
 
   pub respelled_shows : shown after ≡ shown w
   respelled_shows =
-      let threads : (shown after).thread ≡ (shown w).thread = fun_ext (λ u. thread_same u (seat_of w.seats u)) in
+      let threads : (shown after).thread ≡ (shown w).thread = fun_ext (λ u. thread_same u (berth_of w.berths u)) in
       let monitors : (shown after).monitor ≡ (shown w).monitor = fun_ext (λ q. rw (lock_same q.0) (monitor_same (lock_at w q.0))) in
       let size : length after.words ≡ length w.words = length-map w.words (word_in w.split s) in
       λ k. record { thread = threads k; objects = size k; monitor = monitors k; moment = w.fats.moment }

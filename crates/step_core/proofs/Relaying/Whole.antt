@@ -24,11 +24,11 @@ use Rattle.step_core.specs.Sound.{IsSound}
 use Rattle.step_core.specs.Go.{new_word}
 use Rattle.step_core.specs.Machine.{Thread}
 use Rattle.step_core.specs.Kept.{Keeps}
-use Rattle.step_core.specs.Patient.{left_of, left_of_seat}
+use Rattle.step_core.specs.Patient.{left_of, left_of_berth}
 use Rattle.step_core.specs.Relayout.{is_resting, IsAtRest, rests_as, holder_rests, rest_below, is_at_rest, is_too_deep, is_deep_word, deep_in, inflated_for, inflated_at, inflated_below, is_same_split, word_in, respelled, roomy, relaid, AfterRelayout, after_relayout}
 use Rattle.step_core.proofs.Relaying.Respelling.{word_now}
-use Rattle.thread_index.specs.Indices.{seat_of, holder_at, holder_of}
-use Rattle.thread_index.proofs.Seats.{seat_found}
+use Rattle.thread_index.specs.Indices.{berth_of, holder_at, holder_of}
+use Rattle.thread_index.proofs.Berths.{berth_found}
 use Rattle.step_core.proofs.Sound.Parts.{sound_fats}
 
 -- room for binds to come leaves the world sound
@@ -41,7 +41,7 @@ pub reserved_sound : (w : WorldState) → IsSound w → (n : ℕ) (r : Result (U
 reserved_sound w sound n (Ok x) g ok err fats = rw ok (spare_sound w sound n (rw ok at fats))
 reserved_sound w sound n (Err e) g ok err fats = rw err sound
 
--- Who does not rest below a seat does not rest below a later one.
+-- Who does not rest below a berth does not rest below a later one.
 pub rest_stops : (w : WorldState) (k n : ℕ) → k < n → rest_below w (suc k) ≡ false → rest_below w n ≡ false
 rest_stops w k zero h e = absurd (omega arith)
 rest_stops w k (suc n) h e = by_place (cases_eq k n) (λ l. rest_stops w k n l e)
@@ -59,7 +59,7 @@ module _ (s : Split) (w : WorldState) where
   -- as are owed to the rest.
   pub record Follows (p : ℕ) (v : WorldState) : Type 0 where
     pub split : v.split ≡ w.split
-    pub seats : v.seats ≡ w.seats
+    pub berths : v.berths ≡ w.berths
     pub places : v.places ≡ w.places
     pub size : length v.words ≡ length w.words
     pub limit : v.fats.limit ≡ w.fats.limit
@@ -77,7 +77,7 @@ module _ (s : Split) (w : WorldState) where
     unchanged : (b : Bool) → is_too_deep s (lock_at w p) ≡ b → Follows (p + 1) v
     unchanged b e = record {
       split = f.split;
-      seats = f.seats;
+      berths = f.berths;
       places = f.places;
       size = f.size;
       limit = f.limit;
@@ -89,7 +89,7 @@ module _ (s : Split) (w : WorldState) where
     bound : (n : ℕ) (t : ThreadId) → is_too_deep s (lock_at w p) ≡ true → Follows (p + 1) (inflated_for v p n (Some t))
     bound n t e = record {
       split = f.split;
-      seats = f.seats;
+      berths = f.berths;
       places = f.places;
       size = length-set v.words p (new_word v (record { 0 = p }) (Fat (length v.fats.monitors))) ∙ f.size;
       limit = f.limit;
@@ -110,14 +110,14 @@ module _ (s : Split) (w : WorldState) where
         by_test false e = rw e (unchanged false (rw lock_now at e))
 
   pub follows : (p : ℕ) → p ≤ length w.words → Follows p (inflated_below s w p)
-  follows zero h = record { split = refl; seats = refl; places = refl; size = refl; limit = refl; later = λ q h. refl; most = omega arith; spare = omega arith }
+  follows zero h = record { split = refl; berths = refl; places = refl; size = refl; limit = refl; later = λ q h. refl; most = omega arith; spare = omega arith }
   follows (suc p) h = let more : p + 1 ≡ suc p = omega arith in rw more at (next p (omega arith) (inflated_below s w p) (follows p (omega arith)))
 
--- where the threads below seat k rest and its own does not, not all rest
-pub rest_fails : (w : WorldState) (k n : ℕ) (b : Bool) → k < n → rest_below w k ≡ true → b ≡ holder_rests (shown w) (holder_of w.seats (k + 1)) → b ≡ false → false ≡ rest_below w n
+-- where the threads below berth k rest and its own does not, not all rest
+pub rest_fails : (w : WorldState) (k n : ℕ) (b : Bool) → k < n → rest_below w k ≡ true → b ≡ holder_rests (shown w) (holder_of w.berths (k + 1)) → b ≡ false → false ≡ rest_below w n
 rest_fails w k n b h all is fails =
     let more : k + 1 ≡ suc k = omega arith in
-    let holder : holder_rests (shown w) (holder_at w.seats k) ≡ false = sym (rw more at is) ∙ fails in
+    let holder : holder_rests (shown w) (holder_at w.berths k) ≡ false = sym (rw more at is) ∙ fails in
     let here : rest_below w (suc k) ≡ false = rw (all, holder) refl in
     sym (rest_stops w k n h here)
 
@@ -161,24 +161,24 @@ module _ (s : Split) (w : WorldState) (p : ℕ) (here : p < length w.words) (v :
 
 -- ---- whether all threads are at rest
 
-rest_at : (w : WorldState) (n : ℕ) → rest_below w n ≡ true → (k : ℕ) → k < n → holder_rests (shown w) (holder_at w.seats k) ≡ true
+rest_at : (w : WorldState) (n : ℕ) → rest_below w n ≡ true → (k : ℕ) → k < n → holder_rests (shown w) (holder_at w.berths k) ≡ true
 rest_at w zero all k h = absurd (omega arith)
 rest_at w (suc n) all k h = by_test (rest_below w n) refl (cases_eq k n) (λ e l. rest_at w n e k l)
   where
-    by_test : (b : Bool) → rest_below w n ≡ b → (k ≡ n) ⊎ (k ≡ n → ⊥) → (rest_below w n ≡ true → k < n → holder_rests (shown w) (holder_at w.seats k) ≡ true)
-        → holder_rests (shown w) (holder_at w.seats k) ≡ true
+    by_test : (b : Bool) → rest_below w n ≡ b → (k ≡ n) ⊎ (k ≡ n → ⊥) → (rest_below w n ≡ true → k < n → holder_rests (shown w) (holder_at w.berths k) ≡ true)
+        → holder_rests (shown w) (holder_at w.berths k) ≡ true
     by_test true e (inl same) rest = rw same (rw e at all)
     by_test true e (inr ne) rest = rest e (omega arith)
     by_test false e same rest = let never : false ≡ true = rw e at all in absurd (cc)
 
 pub at_rest : (w : WorldState) → is_at_rest w ≡ true → IsAtRest (shown w)
-at_rest w all t flag d is = by_seat (seat_of w.seats t) refl
+at_rest w all t flag d is = by_berth (berth_of w.berths t) refl
   where
-    by_seat : (o : Option ℕ) → seat_of w.seats t ≡ o → is_resting d ≡ true
-    by_seat None e = let never : ◌≡◌ {A = Option Thread} None (Some (record { flag = flag; act = d })) = rw e at is in absurd (cc)
-    by_seat (Some k) e =
-        let there = seat_found w.seats t k e in
-        let rests : holder_rests (shown w) (Some t) ≡ true = rw there.1 at (rest_at w (length w.seats) all k there.0) in
+    by_berth : (o : Option ℕ) → berth_of w.berths t ≡ o → is_resting d ≡ true
+    by_berth None e = let never : ◌≡◌ {A = Option Thread} None (Some (record { flag = flag; act = d })) = rw e at is in absurd (cc)
+    by_berth (Some k) e =
+        let there = berth_found w.berths t k e in
+        let rests : holder_rests (shown w) (Some t) ≡ true = rw there.1 at (rest_at w (length w.berths) all k there.0) in
         rw is at rests
 
 rests_held : (w : WorldState) → IsAtRest (shown w) → (o : Option ThreadId) → holder_rests (shown w) o ≡ true
@@ -191,15 +191,15 @@ rests_held w rest (Some t) = by_thread ((shown w).thread t) refl
 
 all_rest : (w : WorldState) → IsAtRest (shown w) → (n : ℕ) → rest_below w n ≡ true
 all_rest w rest zero = refl
-all_rest w rest (suc n) = let before = all_rest w rest n in rw before (rests_held w rest (holder_at w.seats n))
+all_rest w rest (suc n) = let before = all_rest w rest n in rw before (rests_held w rest (holder_at w.berths n))
 
 pub not_at_rest : (w : WorldState) → is_at_rest w ≡ false → IsAtRest (shown w) → ⊥
-not_at_rest w moving rest = let never : true ≡ false = sym (all_rest w rest (length w.seats)) ∙ moving in cc
+not_at_rest w moving rest = let never : true ≡ false = sym (all_rest w rest (length w.berths)) ∙ moving in cc
 
 -- ---- what a relayout leaves
 
-pub inflated_seats : (s : Split) (w : WorldState) → (inflated_below s w (length w.words)).seats ≡ w.seats
-inflated_seats s w = (follows s w (length w.words) (omega arith)).seats
+pub inflated_berths : (s : Split) (w : WorldState) → (inflated_below s w (length w.words)).berths ≡ w.berths
+inflated_berths s w = (follows s w (length w.words) (omega arith)).berths
 
 module _ (s : Split) (w : WorldState) where
   -- inflation keeps each low byte
@@ -234,23 +234,23 @@ relaid_keeps s w = record {
   v : WorldState
   v = inflated_below s (roomy s w) (length w.words)
 
--- a call has as many steps left where the seats, the places and the number of objects stay
-left_same : (w v : WorldState) (t : ThreadId) → v.seats ≡ w.seats → v.places ≡ w.places → length v.words ≡ length w.words → left_of v t ≡ left_of w t
-left_same w v t seats places size = ap (λ (xs : List (Option ThreadId)). left_of_seat v (seat_of xs t)) seats ∙ by_seat (seat_of w.seats t)
+-- a call has as many steps left where the berths, the places and the number of objects stay
+left_same : (w v : WorldState) (t : ThreadId) → v.berths ≡ w.berths → v.places ≡ w.places → length v.words ≡ length w.words → left_of v t ≡ left_of w t
+left_same w v t berths places size = ap (λ (xs : List (Option ThreadId)). left_of_berth v (berth_of xs t)) berths ∙ by_berth (berth_of w.berths t)
   where
-    by_seat : (o : Option ℕ) → left_of_seat v o ≡ left_of_seat w o
-    by_seat None = refl
-    by_seat (Some k) = rw (places, size) refl
+    by_berth : (o : Option ℕ) → left_of_berth v o ≡ left_of_berth w o
+    by_berth None = refl
+    by_berth (Some k) = rw (places, size) refl
 
 pub relaid_left : (s : Split) (w : WorldState) (t : ThreadId) → left_of (relaid s w) t ≡ left_of w t
 relaid_left s w t =
     let f = follows s (roomy s w) (length w.words) (omega arith) in
-    left_same w (relaid s w) t f.seats f.places (relaid_keeps s w).objects
+    left_same w (relaid s w) t f.berths f.places (relaid_keeps s w).objects
 
 -- room for binds to come is not shown
 pub spare_shows : (w : WorldState) (n : ℕ) → shown (record w { fats = with_spare w.fats n }) ≡ shown w
 spare_shows w n =
-    let threads : (shown v).thread ≡ (shown w).thread = fun_ext (λ u. thread_same u (seat_of w.seats u)) in
+    let threads : (shown v).thread ≡ (shown w).thread = fun_ext (λ u. thread_same u (berth_of w.berths u)) in
     let monitors : (shown v).monitor ≡ (shown w).monitor = fun_ext (λ q. monitor_same (lock_at w q.0)) in
     λ k. record { thread = threads k; objects = length w.words; monitor = monitors k; moment = w.fats.moment }
   where
@@ -278,8 +278,8 @@ pub relaid_exact : (s : Split) (w u v : WorldState) (deep : ℕ) → deep ≡ de
     → u ≡ respelled s (inflated_below s v (length v.words)) → u ≡ relaid s w
 relaid_exact s w u v deep count room is = rw (room, count) at is
 
-pub done_exact : (s : Split) (w u : WorldState) (deep : ℕ) → is_at_rest w ≡ true → is_same_split s w.split ≡ false → length w.seats ≤ greatest_index s
+pub done_exact : (s : Split) (w u : WorldState) (deep : ℕ) → is_at_rest w ≡ true → is_same_split s w.split ≡ false → length w.berths ≤ greatest_index s
     → length w.fats.monitors + deep_in s w ≤ w.fats.limit → deep ≡ deep_in s w → u ≡ relaid s w
     → ◌≡◌ {A = AfterRelayout} (record { answer = Ok deep; after = u }) (after_relayout true w s)
 done_exact s w u deep rest other few room count is =
-    rw (rest, other, le-ltb (greatest_index s) (length w.seats) few, le-ltb w.fats.limit (length w.fats.monitors + deep_in s w) room, count, is) refl
+    rw (rest, other, le-ltb (greatest_index s) (length w.berths) few, le-ltb w.fats.limit (length w.fats.monitors + deep_in s w) room, count, is) refl

@@ -5,7 +5,7 @@ use Rattle.std.proofs.lemmas.Bool.{cases_eq, cases_lt, eq-eqb, ne_eqb, lt-ltb, l
 use Rattle.lock_word.specs.declared.ThreadId.{ThreadId}
 use Rattle.lock_word.specs.declared.ObjectId.{ObjectId}
 use Rattle.lock_word.specs.declared.Lock.TheVariants.{Fat}
-use Rattle.thread_index.specs.Indices.{seat_of}
+use Rattle.thread_index.specs.Indices.{berth_of}
 use Rattle.wait_lines.specs.declared.Role.TheVariants.{Entry, Waiting as WaitSet}
 use Rattle.fat_monitor.specs.declared.monitors.Monitor as fat
 use Rattle.fat_monitor.specs.declared.actions.Cause.TheVariants as cause
@@ -47,19 +47,19 @@ only_one : (n : ℕ) → n ≤ 1 → (n ≡ 0 → ⊥) → n ≡ 1
 only_one zero h some = absurd (some refl)
 only_one (suc n) h some = omega arith
 
-module _ (w : WorldState) (sound : IsSound w) (k : ℕ) (t : ThreadId) (seat : seat_of w.seats t ≡ Some k) (out : post_of w.fats t ≡ Some Out) where
+module _ (w : WorldState) (sound : IsSound w) (k : ℕ) (t : ThreadId) (berth : berth_of w.berths t ≡ Some k) (out : post_of w.fats t ≡ Some Out) where
   -- fat actions, call by call, by the owner that is found
   pub enter_run : (o : ObjectId) (m : ℕ) (is : Is (shown w) t (flag_at w.fats t) (doing.Wants (call.Enter o))) (shows : lock_at w o.0 ≡ Fat m) → IsFair (monitor_at w.fats m)
       → (own : Option ThreadId) → (monitor_at w.fats m).owner ≡ own → Goal w k t (call.Enter o) (action.Enter m)
   enter_run o m is shows fair None own =
-      owner_changes w sound k t seat out (call.Enter o) o m is shows (action.Enter m) reply.Entered (Some t) 1 (rw own refl)
+      owner_changes w sound k t berth out (call.Enter o) o m is shows (action.Enter m) reply.Entered (Some t) 1 (rw own refl)
       (run_entered (shown w) t (flag_at w.fats t) o 0 is (inl (rw shows own)) (rw shows (fair.1.0 own)) (omega arith))
   enter_run o m is shows fair (Some u) own = by_test (u.0 == t.0) refl (cases_lt (monitor_at w.fats m).holds 65535)
     where
       parks : (u.0 == t.0) ≡ false → Goal w k t (call.Enter o) (action.Enter m)
       parks other =
           by_outcome w k t (call.Enter o) (action.Enter m) (answers (after_parking w.fats t (Entering m) m Entry) answer.Parked None None) (rw (own, other) refl)
-          (shown_turned w sound k t seat (after_parking w.fats t (Entering m) m Entry) AtPost (no_move (atomic.Acted (action.Enter m) answer.Parked)) (shown w) refl refl
+          (shown_turned w sound k t berth (after_parking w.fats t (Entering m) m Entry) AtPost (no_move (atomic.Acted (action.Enter m) answer.Parked)) (shown w) refl refl
           (λ v. at_thread v (cases_eq v.0 t.0)) (monitors_kept w k (after_parking w.fats t (Entering m) m Entry) AtPost (no_move (atomic.Acted (action.Enter m) answer.Parked)) refl))
         where
           wants : act_of (after_parking w.fats t (Entering m) m Entry) (post_at (after_parking w.fats t (Entering m) m Entry) t) AtPost ≡ doing.Wants (call.Enter o)
@@ -69,40 +69,40 @@ module _ (w : WorldState) (sound : IsSound w) (k : ℕ) (t : ThreadId) (seat : s
               ∙ ap (λ (x : ObjectId). doing.Wants (call.Enter x)) (object_here w sound o m shows)
 
           at_thread : (v : ThreadId) → (v.0 ≡ t.0) ⊎ (v.0 ≡ t.0 → ⊥)
-              → thread_of (with_go w k (fats_changed w (after_parking w.fats t (Entering m) m Entry) AtPost (no_move (atomic.Acted (action.Enter m) answer.Parked)))) v (seat_of w.seats v) ≡ (shown w).thread v
+              → thread_of (with_go w k (fats_changed w (after_parking w.fats t (Entering m) m Entry) AtPost (no_move (atomic.Acted (action.Enter m) answer.Parked)))) v (berth_of w.berths v) ≡ (shown w).thread v
           at_thread v (inl e) =
-              own_thread w sound k t seat (after_parking w.fats t (Entering m) m Entry) AtPost (no_move (atomic.Acted (action.Enter m) answer.Parked)) (does (flag_at w.fats t) (doing.Wants (call.Enter o))) (ap (does (flag_at w.fats t)) wants) v e
+              own_thread w sound k t berth (after_parking w.fats t (Entering m) m Entry) AtPost (no_move (atomic.Acted (action.Enter m) answer.Parked)) (does (flag_at w.fats t) (doing.Wants (call.Enter o))) (ap (does (flag_at w.fats t)) wants) v e
               ∙ sym (ap (λ (x : ThreadId). (shown w).thread x) (one_thread v t e) ∙ is)
           at_thread v (inr ne) =
-              kept_thread w sound k t seat (after_parking w.fats t (Entering m) m Entry) AtPost (no_move (atomic.Acted (action.Enter m) answer.Parked)) v ne
+              kept_thread w sound k t berth (after_parking w.fats t (Entering m) m Entry) AtPost (no_move (atomic.Acted (action.Enter m) answer.Parked)) v ne
               (acts_alike w.fats (after_parking w.fats t (Entering m) m Entry) v sound.fats refl
               (same_post w.fats (after_parking w.fats t (Entering m) m Entry) v (post-with_post_other w.fats t v (Entering m) (λ e. ne (ap (λ (x : ThreadId). x.0) e)))) (λ j h. refl))
 
       by_test : (b : Bool) → (u.0 == t.0) ≡ b → ((monitor_at w.fats m).holds < 65535) ⊎ (65535 ≤ (monitor_at w.fats m).holds) → Goal w k t (call.Enter o) (action.Enter m)
       by_test true same (inl few) =
-          owner_changes w sound k t seat out (call.Enter o) o m is shows (action.Enter m) reply.Entered (Some u) ((monitor_at w.fats m).holds + 1) (rw (own, same, lt-ltb (monitor_at w.fats m).holds 65535 few) refl)
+          owner_changes w sound k t berth out (call.Enter o) o m is shows (action.Enter m) reply.Entered (Some u) ((monitor_at w.fats m).holds + 1) (rw (own, same, lt-ltb (monitor_at w.fats m).holds 65535 few) refl)
           (subst (λ (x : ThreadId). Run (shown w) (move.Lock t ∷ move.Return t reply.Entered ∷ []) (with_monitor (now_is (shown w) t (flag_at w.fats t) doing.Idle) o (held x ((monitor_at w.fats m).holds + 1))))
           (sym (same_thread u t same))
-          (run_entered (shown w) t (flag_at w.fats t) o (monitor_at w.fats m).holds is (inr (owned_by_me w sound k t seat out (call.Enter o) o m is shows (mine w sound k t seat out (call.Enter o) o m is shows (Some u) own same))) (rw shows refl) few))
+          (run_entered (shown w) t (flag_at w.fats t) o (monitor_at w.fats m).holds is (inr (owned_by_me w sound k t berth out (call.Enter o) o m is shows (mine w sound k t berth out (call.Enter o) o m is shows (Some u) own same))) (rw shows refl) few))
       by_test true same (inr full) =
-          keeps_all w sound k t seat out (call.Enter o) (action.Enter m) (reply.Refused cause.TooDeep) (rw (own, same, le-ltb (monitor_at w.fats m).holds 65535 full) refl)
+          keeps_all w sound k t berth out (call.Enter o) (action.Enter m) (reply.Refused cause.TooDeep) (rw (own, same, le-ltb (monitor_at w.fats m).holds 65535 full) refl)
           (run_refused (shown w) t (flag_at w.fats t) (call.Enter o) cause.TooDeep is
-          (owned_by_me w sound k t seat out (call.Enter o) o m is shows (mine w sound k t seat out (call.Enter o) o m is shows (Some u) own same), rw shows (omega arith)))
+          (owned_by_me w sound k t berth out (call.Enter o) o m is shows (mine w sound k t berth out (call.Enter o) o m is shows (Some u) own same), rw shows (omega arith)))
       by_test false other h = parks other
 
   pub holds_run : (o : ObjectId) (m : ℕ) (is : Is (shown w) t (flag_at w.fats t) (doing.Wants (call.Holds o))) (shows : lock_at w o.0 ≡ Fat m)
       → (b : Bool) → is_owned_by (monitor_at w.fats m).owner t ≡ b → Goal w k t (call.Holds o) (action.Holds m)
   holds_run o m is shows true b =
-      keeps_all w sound k t seat out (call.Holds o) (action.Holds m) reply.Yes (rw b refl) (run_yes (shown w) t (flag_at w.fats t) o is (owned_by_me w sound k t seat out (call.Holds o) o m is shows (mine w sound k t seat out (call.Holds o) o m is shows (monitor_at w.fats m).owner refl b)))
+      keeps_all w sound k t berth out (call.Holds o) (action.Holds m) reply.Yes (rw b refl) (run_yes (shown w) t (flag_at w.fats t) o is (owned_by_me w sound k t berth out (call.Holds o) o m is shows (mine w sound k t berth out (call.Holds o) o m is shows (monitor_at w.fats m).owner refl b)))
   holds_run o m is shows false b =
-      keeps_all w sound k t seat out (call.Holds o) (action.Holds m) reply.No (rw b refl) (run_no (shown w) t (flag_at w.fats t) o is (not_mine w sound k t seat out (call.Holds o) o m is shows (monitor_at w.fats m).owner refl b))
+      keeps_all w sound k t berth out (call.Holds o) (action.Holds m) reply.No (rw b refl) (run_no (shown w) t (flag_at w.fats t) o is (not_mine w sound k t berth out (call.Holds o) o m is shows (monitor_at w.fats m).owner refl b))
 
   -- a call for the owner alone, by another
   pub illegal_run : (c : Call) (a : Action) (o : ObjectId) (m : ℕ) (is : Is (shown w) t (flag_at w.fats t) (doing.Wants c)) (shows : lock_at w o.0 ≡ Fat m) → owner_only c ≡ Some o
       → is_owned_by (monitor_at w.fats m).owner t ≡ false → outcome_of w.fats t a ≡ replies w.fats reply.IllegalMonitorState → Goal w k t c a
   illegal_run c a o m is shows only b e =
-      keeps_all w sound k t seat out c a reply.IllegalMonitorState e
-      (run_illegal (shown w) t (flag_at w.fats t) c o only is (not_mine w sound k t seat out c o m is shows (monitor_at w.fats m).owner refl b))
+      keeps_all w sound k t berth out c a reply.IllegalMonitorState e
+      (run_illegal (shown w) t (flag_at w.fats t) c o only is (not_mine w sound k t berth out c o m is shows (monitor_at w.fats m).owner refl b))
 
   -- the owner gives up its last hold, or all of them
   module _ (o : ObjectId) (m : ℕ) (shows : lock_at w o.0 ≡ Fat m) (own : (monitor_at w.fats m).owner ≡ Some t) where
@@ -122,7 +122,7 @@ module _ (w : WorldState) (sound : IsSound w) (k : ℕ) (t : ThreadId) (seat : s
   exit_run o m is shows fair true b = by_holds (nat_lt 1 (monitor_at w.fats m).holds) refl
     where
       own : (monitor_at w.fats m).owner ≡ Some t
-      own = mine w sound k t seat out (call.Exit o) o m is shows (monitor_at w.fats m).owner refl b
+      own = mine w sound k t berth out (call.Exit o) o m is shows (monitor_at w.fats m).owner refl b
 
       some : (monitor_at w.fats m).holds ≡ 0 → ⊥
       some z = absurd (let none : (monitor_at w.fats m).owner ≡ None = fair.1.1 z in let never : Some t ≡ None = sym own ∙ none in cc)
@@ -133,7 +133,7 @@ module _ (w : WorldState) (sound : IsSound w) (k : ℕ) (t : ThreadId) (seat : s
       -- with the last hold the monitor goes to the first of the entry line
       last : nat_lt 1 (monitor_at w.fats m).holds ≡ false → (first : Option ThreadId) → first_of w.fats m Entry ≡ first → Goal w k t (call.Exit o) (action.Exit m)
       last one None first =
-          owner_changes w sound k t seat out (call.Exit o) o m is shows (action.Exit m) reply.Exited None 0 (rw (b, one, first) refl)
+          owner_changes w sound k t berth out (call.Exit o) o m is shows (action.Exit m) reply.Exited None 0 (rw (b, one, first) refl)
           (run_exited (shown w) t (flag_at w.fats t) o 0 is (monitor_held o m shows own 1 (one_hold one)))
       last one (Some u) first =
           by_outcome w k t (call.Exit o) (action.Exit m) (answers (after_grant w.fats m u x.post Entry) (answer.Reply reply.Exited) (Some u) None) (rw (b, one, first, post_is w.fats u x.post x.is_at) refl)
@@ -144,8 +144,8 @@ module _ (w : WorldState) (sound : IsSound w) (k : ℕ) (t : ThreadId) (seat : s
           (x.grants (given_up o m shows own (flag_at w.fats t) (doing.Has reply.Exited)) (flag_at w.fats u) wanting (free_then o m shows own (flag_at w.fats t) (doing.Has reply.Exited)))
           reply.Exited refl tt (λ e. x.apart (sym e)))))
         where
-          x : Granting w sound k t seat out (call.Exit o) o m is shows u
-          x = first_granting w sound k t seat out (call.Exit o) o m is shows u first
+          x : Granting w sound k t berth out (call.Exit o) o m is shows u
+          x = first_granting w sound k t berth out (call.Exit o) o m is shows u first
 
           g : FatState
           g = after_grant w.fats m u x.post Entry
@@ -166,13 +166,13 @@ module _ (w : WorldState) (sound : IsSound w) (k : ℕ) (t : ThreadId) (seat : s
           theirs = post_is (after_grant w.fats m u x.post Entry) u (Granted (reply_granted x.post)) (post-after_grant_same w.fats m u x.post Entry)
 
           wanting : Is (given_up o m shows own (flag_at w.fats t) (doing.Has reply.Exited)) u (flag_at w.fats u) x.act
-          wanting = now_is-other (shown w) u t (flag_at w.fats t) (doing.Has reply.Exited) x.apart ∙ shows_wanting w sound k t seat out (call.Exit o) o m is shows u x
+          wanting = now_is-other (shown w) u t (flag_at w.fats t) (doing.Has reply.Exited) x.apart ∙ shows_wanting w sound k t berth out (call.Exit o) o m is shows u x
 
           did : Did
           did = move_grant_and_return (atomic.Acted (action.Exit m) (answer.Reply reply.Exited)) (move.Unlock t) (Some (granting u (Granted r))) t reply.Exited
 
           shown_then : shown (with_go w k (fats_changed w g Idle did)) ≡ with_monitor (now_is (now_is (shown w) u theirs_flag (doing.Has r)) t (flag_at w.fats t) doing.Idle) o (held u n)
-          shown_then = shown_handed_over w sound k t seat out (call.Exit o) o m is shows u g Idle did (flag_at w.fats t) theirs_flag doing.Idle r n x.apart x.live
+          shown_then = shown_handed_over w sound k t berth out (call.Exit o) o m is shows u g Idle did (flag_at w.fats t) theirs_flag doing.Idle r n x.apart x.live
               (rw (flag-after_grant_other w.fats m u x.post Entry t apart) (ap (does (flag_at w.fats t)) (act_out g t Idle (post-after_grant_other w.fats m u x.post Entry t apart ∙ out))))
               theirs (flag-after_grant_same w.fats m u x.post Entry)
               (λ v ne nu. same_post w.fats g v (post-after_grant_other w.fats m u x.post Entry v (λ e. nu (ap (λ (y : ThreadId). y.0) e))))
@@ -184,7 +184,7 @@ module _ (w : WorldState) (sound : IsSound w) (k : ℕ) (t : ThreadId) (seat : s
       by_holds true more =
           let above : 1 < (monitor_at w.fats m).holds = ltb-true 1 (monitor_at w.fats m).holds more in
           let still : ((monitor_at w.fats m).holds - 1 == 0) ≡ false = ne_eqb ((monitor_at w.fats m).holds - 1) 0 (λ z. absurd (omega arith)) in
-          owner_changes w sound k t seat out (call.Exit o) o m is shows (action.Exit m) reply.Exited (Some t) ((monitor_at w.fats m).holds - 1) (rw (b, more) refl)
+          owner_changes w sound k t berth out (call.Exit o) o m is shows (action.Exit m) reply.Exited (Some t) ((monitor_at w.fats m).holds - 1) (rw (b, more) refl)
           (rw still at (run_exited (shown w) t (flag_at w.fats t) o ((monitor_at w.fats m).holds - 1) is (monitor_held o m shows own ((monitor_at w.fats m).holds - 1 + 1) (omega arith))))
       by_holds false one = last one (first_of w.fats m Entry) refl
 
@@ -195,7 +195,7 @@ module _ (w : WorldState) (sound : IsSound w) (k : ℕ) (t : ThreadId) (seat : s
   wait_run o millis nanos m is shows true b = by_time (are_good millis nanos) refl
     where
       own : (monitor_at w.fats m).owner ≡ Some t
-      own = mine w sound k t seat out (call.Wait o millis nanos) o m is shows (monitor_at w.fats m).owner refl b
+      own = mine w sound k t berth out (call.Wait o millis nanos) o m is shows (monitor_at w.fats m).owner refl b
 
       h : ℕ
       h = (monitor_at w.fats m).holds
@@ -223,7 +223,7 @@ module _ (w : WorldState) (sound : IsSound w) (k : ℕ) (t : ThreadId) (seat : s
         millis,
         nanos,
         subst (λ (flag : Bool). Is (shown w) t flag (doing.Wants (call.Wait o millis nanos))) clear is,
-        owned_by_me w sound k t seat out (call.Wait o millis nanos) o m is shows own,
+        owned_by_me w sound k t berth out (call.Wait o millis nanos) o m is shows own,
         good,
         ap (λ (x : Monitor). with_monitor (now_is (shown w) t false (doing.Waits o x.count (deadline w.fats.moment millis nanos))) o free) (sym (monitor_held o m shows own (monitor_at w.fats m).holds refl)),
       )
@@ -242,17 +242,17 @@ module _ (w : WorldState) (sound : IsSound w) (k : ℕ) (t : ThreadId) (seat : s
           did : Did
           did = parking (call.Wait o millis nanos) (atomic.Acted (action.Wait m millis nanos) answer.Parked) t None
 
-          at_thread : (v : ThreadId) → (v.0 ≡ t.0) ⊎ (v.0 ≡ t.0 → ⊥) → thread_of (with_go w k (fats_changed w g AtPost did)) v (seat_of w.seats v) ≡ (now_is (shown w) t false waits).thread v
+          at_thread : (v : ThreadId) → (v.0 ≡ t.0) ⊎ (v.0 ≡ t.0 → ⊥) → thread_of (with_go w k (fats_changed w g AtPost did)) v (berth_of w.berths v) ≡ (now_is (shown w) t false waits).thread v
           at_thread v (inl e) =
-              rw (eq-eqb v.0 t.0 e) (own_thread w sound k t seat g AtPost did (does false waits) (mine_then f clear (object-with_owner w.fats m None 0 m (here w sound o m shows).0)) v e)
+              rw (eq-eqb v.0 t.0 e) (own_thread w sound k t berth g AtPost did (does false waits) (mine_then f clear (object-with_owner w.fats m None 0 m (here w sound o m shows).0)) v e)
           at_thread v (inr ne) =
-              rw (ne_eqb v.0 t.0 ne) (kept_thread w sound k t seat g AtPost did v ne
+              rw (ne_eqb v.0 t.0 ne) (kept_thread w sound k t berth g AtPost did v ne
               (acts_alike w.fats g v sound.fats refl (same_post w.fats g v (post-with_post_other f t v post (λ e. ne (ap (λ (y : ThreadId). y.0) e))))
               (λ j l. object-with_owner w.fats m None 0 j (here w sound o m shows).0)))
 
           shown_then : shown (with_go w k (fats_changed w g AtPost did)) ≡ given_up o m shows own false waits
           shown_then =
-              shown_turned w sound k t seat g AtPost did (given_up o m shows own false waits) refl refl (λ v. at_thread v (cases_eq v.0 t.0))
+              shown_turned w sound k t berth g AtPost did (given_up o m shows own false waits) refl refl (λ v. at_thread v (cases_eq v.0 t.0))
               (monitors_turned w sound o m shows k g AtPost did (with_holds w m None 0)
               (get_or-set_same w.fats.monitors m (with_holds w m None 0) unbound (here w sound o m shows).0)
               (λ j ne. get_or-set_other w.fats.monitors m j (with_holds w m None 0) unbound ne))
@@ -263,8 +263,8 @@ module _ (w : WorldState) (sound : IsSound w) (k : ℕ) (t : ThreadId) (seat : s
           (run_handed (shown w) t u false theirs_flag o n r waits (move.Wait t) (granting u (Granted r)) (gives_up clear (good_time millis nanos good))
           (x.grants (given_up o m shows own false waits) (flag_at w.fats u) wanting (free_then o m shows own false waits)))))
         where
-          x : Granting w sound k t seat out (call.Wait o millis nanos) o m is shows u
-          x = first_granting w sound k t seat out (call.Wait o millis nanos) o m is shows u first
+          x : Granting w sound k t berth out (call.Wait o millis nanos) o m is shows u
+          x = first_granting w sound k t berth out (call.Wait o millis nanos) o m is shows u first
 
           r : Reply
           r = reply_granted x.post
@@ -291,13 +291,13 @@ module _ (w : WorldState) (sound : IsSound w) (k : ℕ) (t : ThreadId) (seat : s
               post_is g u (Granted r) (post-with_post_other f t u post (λ e. x.apart (ap (λ (y : ThreadId). y.0) e)) ∙ post-after_grant_same w.fats m u x.post Entry)
 
           wanting : Is (given_up o m shows own false waits) u (flag_at w.fats u) x.act
-          wanting = now_is-other (shown w) u t false waits x.apart ∙ shows_wanting w sound k t seat out (call.Wait o millis nanos) o m is shows u x
+          wanting = now_is-other (shown w) u t false waits x.apart ∙ shows_wanting w sound k t berth out (call.Wait o millis nanos) o m is shows u x
 
           did : Did
           did = parking (call.Wait o millis nanos) (atomic.Acted (action.Wait m millis nanos) answer.Parked) t (Some (granting u (Granted r)))
 
           shown_then : shown (with_go w k (fats_changed w g AtPost did)) ≡ with_monitor (now_is (now_is (shown w) t false waits) u theirs_flag (doing.Has r)) o (held u n)
-          shown_then = shown_handed w sound k t seat out (call.Wait o millis nanos) o m is shows u g AtPost did false theirs_flag waits r n x.apart x.live
+          shown_then = shown_handed w sound k t berth out (call.Wait o millis nanos) o m is shows u g AtPost did false theirs_flag waits r n x.apart x.live
               (mine_then f (flag-after_grant_other w.fats m u x.post Entry t (λ e. x.apart (sym (ap (λ (y : ThreadId). y.0) e))) ∙ clear) same_object)
               theirs (flag-after_grant_same w.fats m u x.post Entry)
               (λ v ne nu. same_post w.fats g v (post-with_post_other f t v post (λ e. ne (ap (λ (y : ThreadId). y.0) e)) ∙ post-after_grant_other w.fats m u x.post Entry v (λ e. nu (ap (λ (y : ThreadId). y.0) e))))
@@ -309,9 +309,9 @@ module _ (w : WorldState) (sound : IsSound w) (k : ℕ) (t : ThreadId) (seat : s
       early : flag_at w.fats t ≡ true → are_good millis nanos ≡ true → Goal w k t (call.Wait o millis nanos) (action.Wait m millis nanos)
       early set good =
           by_outcome w k t (call.Wait o millis nanos) (action.Wait m millis nanos) (replies (with_flag w.fats t false) reply.Interrupted) (rw (b, good, set) refl)
-          (subst (λ (s : State). Run (shown w) (move.Early t ∷ move.Return t reply.Interrupted ∷ []) s) (sym (shown_flagged w sound k t seat out false (move_and_return (atomic.Acted (action.Wait m millis nanos) (answer.Reply reply.Interrupted)) (move.Early t) t reply.Interrupted)))
+          (subst (λ (s : State). Run (shown w) (move.Early t ∷ move.Return t reply.Interrupted ∷ []) s) (sym (shown_flagged w sound k t berth out false (move_and_return (atomic.Acted (action.Wait m millis nanos) (answer.Reply reply.Interrupted)) (move.Early t) t reply.Interrupted)))
           (run_early (shown w) t o millis nanos (subst (λ (flag : Bool). Is (shown w) t flag (doing.Wants (call.Wait o millis nanos))) set is)
-          (owned_by_me w sound k t seat out (call.Wait o millis nanos) o m is shows own) (good_time millis nanos good)))
+          (owned_by_me w sound k t berth out (call.Wait o millis nanos) o m is shows own) (good_time millis nanos good)))
 
       by_flag : (flag : Bool) → flag_at w.fats t ≡ flag → are_good millis nanos ≡ true → Goal w k t (call.Wait o millis nanos) (action.Wait m millis nanos)
       by_flag true set good = early set good
@@ -320,5 +320,5 @@ module _ (w : WorldState) (sound : IsSound w) (k : ℕ) (t : ThreadId) (seat : s
       by_time : (good : Bool) → are_good millis nanos ≡ good → Goal w k t (call.Wait o millis nanos) (action.Wait m millis nanos)
       by_time true good = by_flag (flag_at w.fats t) refl good
       by_time false bad =
-          keeps_all w sound k t seat out (call.Wait o millis nanos) (action.Wait m millis nanos) reply.IllegalArgument (rw (b, bad) refl)
-          (run_bad (shown w) t (flag_at w.fats t) o millis nanos is (owned_by_me w sound k t seat out (call.Wait o millis nanos) o m is shows own) (not_good millis nanos bad))
+          keeps_all w sound k t berth out (call.Wait o millis nanos) (action.Wait m millis nanos) reply.IllegalArgument (rw (b, bad) refl)
+          (run_bad (shown w) t (flag_at w.fats t) o millis nanos is (owned_by_me w sound k t berth out (call.Wait o millis nanos) o m is shows own) (not_good millis nanos bad))

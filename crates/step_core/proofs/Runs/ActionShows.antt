@@ -7,7 +7,7 @@ use Rattle.lock_word.specs.declared.ThreadId.{ThreadId}
 use Rattle.lock_word.specs.declared.ObjectId.{ObjectId}
 use Rattle.lock_word.specs.declared.Lock.{Lock}
 use Rattle.lock_word.specs.declared.Lock.TheVariants.{Free, Thin, Fat}
-use Rattle.thread_index.specs.Indices.{seat_of}
+use Rattle.thread_index.specs.Indices.{berth_of}
 use Rattle.wait_lines.specs.declared.Role.TheVariants.{Entry}
 use Rattle.fat_monitor.specs.declared.monitors.Monitor as fat
 use Rattle.fat_monitor.specs.declared.actions.Reply.{Reply}
@@ -118,23 +118,23 @@ module _ (w : WorldState) (k : ℕ) (t : ThreadId) (c : Call) (a : Action) where
       subst (λ (y : Outcome). Run (shown w) (moves_made (after_told w t c a y.answer y.after).did.moves) (shown (with_go w k (after_told w t c a y.answer y.after))))
       (sym e) run
 
-module _ (w : WorldState) (sound : IsSound w) (k : ℕ) (t : ThreadId) (seat : seat_of w.seats t ≡ Some k) (out : post_of w.fats t ≡ Some Out) where
+module _ (w : WorldState) (sound : IsSound w) (k : ℕ) (t : ThreadId) (berth : berth_of w.berths t ≡ Some k) (out : post_of w.fats t ≡ Some Out) where
   -- what is shown where nothing changes but the flag of t, whose call is over
   pub shown_flagged : (flag : Bool) (did : Did) → shown (with_go w k (fats_changed w (with_flag w.fats t flag) Idle did)) ≡ now_is (shown w) t flag doing.Idle
   shown_flagged flag did =
-      shown_turned w sound k t seat g Idle did (now_is (shown w) t flag doing.Idle) refl refl
+      shown_turned w sound k t berth g Idle did (now_is (shown w) t flag doing.Idle) refl refl
       (λ v. at_thread v (cases_eq v.0 t.0)) (monitors_kept w k g Idle did refl)
     where
       g : FatState
       g = with_flag w.fats t flag
 
       at_thread : (v : ThreadId) → (v.0 ≡ t.0) ⊎ (v.0 ≡ t.0 → ⊥)
-          → thread_of (with_go w k (fats_changed w g Idle did)) v (seat_of w.seats v) ≡ (now_is (shown w) t flag doing.Idle).thread v
+          → thread_of (with_go w k (fats_changed w g Idle did)) v (berth_of w.berths v) ≡ (now_is (shown w) t flag doing.Idle).thread v
       at_thread v (inl same) =
-          rw (eq-eqb v.0 t.0 same) (own_thread w sound k t seat g Idle did (does flag doing.Idle)
+          rw (eq-eqb v.0 t.0 same) (own_thread w sound k t berth g Idle did (does flag doing.Idle)
           (rw (flag-with_flag_same w.fats t flag) (ap (does flag) (act_out g t Idle out))) v same)
       at_thread v (inr ne) =
-          rw (ne_eqb v.0 t.0 ne) (kept_thread w sound k t seat g Idle did v ne
+          rw (ne_eqb v.0 t.0 ne) (kept_thread w sound k t berth g Idle did v ne
           (acts_alike w.fats g v sound.fats (flag-with_flag_other w.fats t v flag (λ e. ne (ap (λ (x : ThreadId). x.0) e))) refl (λ j h. refl)))
 
   -- a reply that leaves the fat state as it is
@@ -143,24 +143,24 @@ module _ (w : WorldState) (sound : IsSound w) (k : ℕ) (t : ThreadId) (seat : s
   keeps_all c a r e run =
       by_outcome w k t c a (replies w.fats r) e
       (subst (λ (s : State). Run (shown w) (move_for c r None t ∷ move.Return t r ∷ []) s)
-      (sym (shown_stays w sound k t seat Idle (move_and_return (atomic.Acted a (answer.Reply r)) (move_for c r None t) t r) out)) run)
+      (sym (shown_stays w sound k t berth Idle (move_and_return (atomic.Acted a (answer.Reply r)) (move_for c r None t) t r) out)) run)
 
   module _ (c : Call) (o : ObjectId) (m : ℕ) (is : Is (shown w) t (flag_at w.fats t) (doing.Wants c)) (shows : lock_at w o.0 ≡ Fat m) where
     -- where the owner and the holds of this monitor change, and no post of another thread
     pub shown_owned : (p : Place) (did : Did) (x : Option ThreadId) (n : ℕ)
         → shown (with_go w k (fats_changed w (with_owner w.fats m x n) p did)) ≡ with_monitor (now_is (shown w) t (flag_at w.fats t) (doing_of p)) o (record { owner = x; count = n })
     shown_owned p did x n =
-        shown_turned w sound k t seat (with_owner w.fats m x n) p did (with_monitor (now_is (shown w) t (flag_at w.fats t) (doing_of p)) o (record { owner = x; count = n })) refl refl
+        shown_turned w sound k t berth (with_owner w.fats m x n) p did (with_monitor (now_is (shown w) t (flag_at w.fats t) (doing_of p)) o (record { owner = x; count = n })) refl refl
         (λ v. at_thread v (cases_eq v.0 t.0))
         (monitors_turned w sound o m shows k (with_owner w.fats m x n) p did (with_holds w m x n) (get_or-set_same w.fats.monitors m (with_holds w m x n) unbound (here w sound o m shows).0)
         (λ j ne. get_or-set_other w.fats.monitors m j (with_holds w m x n) unbound ne))
       where
         at_thread : (v : ThreadId) → (v.0 ≡ t.0) ⊎ (v.0 ≡ t.0 → ⊥)
-            → thread_of (with_go w k (fats_changed w (with_owner w.fats m x n) p did)) v (seat_of w.seats v) ≡ (now_is (shown w) t (flag_at w.fats t) (doing_of p)).thread v
+            → thread_of (with_go w k (fats_changed w (with_owner w.fats m x n) p did)) v (berth_of w.berths v) ≡ (now_is (shown w) t (flag_at w.fats t) (doing_of p)).thread v
         at_thread v (inl same) =
-            rw (eq-eqb v.0 t.0 same) (own_thread w sound k t seat (with_owner w.fats m x n) p did (does (flag_at w.fats t) (doing_of p)) (ap (does (flag_at w.fats t)) (act_out (with_owner w.fats m x n) t p out)) v same)
+            rw (eq-eqb v.0 t.0 same) (own_thread w sound k t berth (with_owner w.fats m x n) p did (does (flag_at w.fats t) (doing_of p)) (ap (does (flag_at w.fats t)) (act_out (with_owner w.fats m x n) t p out)) v same)
         at_thread v (inr ne) =
-            rw (ne_eqb v.0 t.0 ne) (kept_thread w sound k t seat (with_owner w.fats m x n) p did v ne
+            rw (ne_eqb v.0 t.0 ne) (kept_thread w sound k t berth (with_owner w.fats m x n) p did v ne
             (acts_alike w.fats (with_owner w.fats m x n) v sound.fats refl refl (λ j h. object-with_owner w.fats m x n j (here w sound o m shows).0)))
 
     -- a reply that changes the owner and the holds
@@ -186,7 +186,7 @@ module _ (w : WorldState) (sound : IsSound w) (k : ℕ) (t : ThreadId) (seat : s
 
     -- Where this monitor goes to u: t and u have these flags then, and every other thread its own.
     module _ (u : ThreadId) (g : FatState) (p : Place) (did : Did) (mine theirs : Bool) (d : Doing) (r : Reply) (n : ℕ)
-        (apart : u.0 ≡ t.0 → ⊥) (live : IsSome (seat_of w.seats u))
+        (apart : u.0 ≡ t.0 → ⊥) (live : IsSome (berth_of w.berths u))
         (own : thread_in g t p ≡ does mine d)
         (their_post : post_at g u ≡ Granted r) (their_flag : flag_at g u ≡ theirs)
         (posts : (v : ThreadId) → (v.0 ≡ t.0 → ⊥) → (v.0 ≡ u.0 → ⊥) → post_at g v ≡ post_at w.fats v)
@@ -196,12 +196,12 @@ module _ (w : WorldState) (sound : IsSound w) (k : ℕ) (t : ThreadId) (seat : s
       pub kept_objects : (j : ℕ) → j < length w.fats.monitors → (monitor_at g j).object ≡ (monitor_at w.fats j).object
       kept_objects j h = ap (λ (xs : List fat.Monitor). (get_or xs j unbound).object) same ∙ object-with_owner w.fats m (Some u) n j (here w sound o m shows).0
 
-      pub their_thread : (v : ThreadId) → v.0 ≡ u.0 → thread_of (with_go w k (fats_changed w g p did)) v (seat_of w.seats v) ≡ Some (does theirs (doing.Has r))
+      pub their_thread : (v : ThreadId) → v.0 ≡ u.0 → thread_of (with_go w k (fats_changed w g p did)) v (berth_of w.berths v) ≡ Some (does theirs (doing.Has r))
       their_thread v e =
-          rw (one_thread v u e) (given_thread w sound k t seat g p did u (does theirs (doing.Has r)) apart live (λ q. rw (their_flag, their_post) refl))
+          rw (one_thread v u e) (given_thread w sound k t berth g p did u (does theirs (doing.Has r)) apart live (λ q. rw (their_flag, their_post) refl))
 
-      pub other_thread : (v : ThreadId) → (v.0 ≡ t.0 → ⊥) → (v.0 ≡ u.0 → ⊥) → thread_of (with_go w k (fats_changed w g p did)) v (seat_of w.seats v) ≡ (shown w).thread v
-      other_thread v ne nu = kept_thread w sound k t seat g p did v ne (acts_alike w.fats g v sound.fats (flags v ne nu) (posts v ne nu) kept_objects)
+      pub other_thread : (v : ThreadId) → (v.0 ≡ t.0 → ⊥) → (v.0 ≡ u.0 → ⊥) → thread_of (with_go w k (fats_changed w g p did)) v (berth_of w.berths v) ≡ (shown w).thread v
+      other_thread v ne nu = kept_thread w sound k t berth g p did v ne (acts_alike w.fats g v sound.fats (flags v ne nu) (posts v ne nu) kept_objects)
 
       pub handed_monitors : (q : ObjectId) → monitor_of (with_go w k (fats_changed w g p did)) (lock_at w q.0) ≡ (if q.0 == o.0 then held u n else monitor_of w (lock_at w q.0))
       handed_monitors = monitors_turned w sound o m shows k g p did (with_holds w m (Some u) n)
@@ -210,22 +210,22 @@ module _ (w : WorldState) (sound : IsSound w) (k : ℕ) (t : ThreadId) (seat : s
 
       -- what is shown then, by either thread first
       pub shown_handed : shown (with_go w k (fats_changed w g p did)) ≡ with_monitor (now_is (now_is (shown w) t mine d) u theirs (doing.Has r)) o (held u n)
-      shown_handed = shown_turned w sound k t seat g p did (with_monitor (now_is (now_is (shown w) t mine d) u theirs (doing.Has r)) o (held u n)) refl (sym moment)
+      shown_handed = shown_turned w sound k t berth g p did (with_monitor (now_is (now_is (shown w) t mine d) u theirs (doing.Has r)) o (held u n)) refl (sym moment)
           (λ v. at_thread v (cases_eq v.0 t.0) (cases_eq v.0 u.0)) handed_monitors
         where
           at_thread : (v : ThreadId) → (v.0 ≡ t.0) ⊎ (v.0 ≡ t.0 → ⊥) → (v.0 ≡ u.0) ⊎ (v.0 ≡ u.0 → ⊥)
-              → thread_of (with_go w k (fats_changed w g p did)) v (seat_of w.seats v) ≡ (now_is (now_is (shown w) t mine d) u theirs (doing.Has r)).thread v
+              → thread_of (with_go w k (fats_changed w g p did)) v (berth_of w.berths v) ≡ (now_is (now_is (shown w) t mine d) u theirs (doing.Has r)).thread v
           at_thread v x (inl e) = rw (eq-eqb v.0 u.0 e) (their_thread v e)
-          at_thread v (inl e) (inr nu) = rw (ne_eqb v.0 u.0 nu, eq-eqb v.0 t.0 e) (own_thread w sound k t seat g p did (does mine d) own v e)
+          at_thread v (inl e) (inr nu) = rw (ne_eqb v.0 u.0 nu, eq-eqb v.0 t.0 e) (own_thread w sound k t berth g p did (does mine d) own v e)
           at_thread v (inr ne) (inr nu) = rw (ne_eqb v.0 u.0 nu, ne_eqb v.0 t.0 ne) (other_thread v ne nu)
 
       pub shown_handed_over : shown (with_go w k (fats_changed w g p did)) ≡ with_monitor (now_is (now_is (shown w) u theirs (doing.Has r)) t mine d) o (held u n)
-      shown_handed_over = shown_turned w sound k t seat g p did (with_monitor (now_is (now_is (shown w) u theirs (doing.Has r)) t mine d) o (held u n)) refl (sym moment)
+      shown_handed_over = shown_turned w sound k t berth g p did (with_monitor (now_is (now_is (shown w) u theirs (doing.Has r)) t mine d) o (held u n)) refl (sym moment)
           (λ v. at_thread v (cases_eq v.0 t.0) (cases_eq v.0 u.0)) handed_monitors
         where
           at_thread : (v : ThreadId) → (v.0 ≡ t.0) ⊎ (v.0 ≡ t.0 → ⊥) → (v.0 ≡ u.0) ⊎ (v.0 ≡ u.0 → ⊥)
-              → thread_of (with_go w k (fats_changed w g p did)) v (seat_of w.seats v) ≡ (now_is (now_is (shown w) u theirs (doing.Has r)) t mine d).thread v
-          at_thread v (inl e) x = rw (eq-eqb v.0 t.0 e) (own_thread w sound k t seat g p did (does mine d) own v e)
+              → thread_of (with_go w k (fats_changed w g p did)) v (berth_of w.berths v) ≡ (now_is (now_is (shown w) u theirs (doing.Has r)) t mine d).thread v
+          at_thread v (inl e) x = rw (eq-eqb v.0 t.0 e) (own_thread w sound k t berth g p did (does mine d) own v e)
           at_thread v (inr ne) (inl e) = rw (ne_eqb v.0 t.0 ne, eq-eqb v.0 u.0 e) (their_thread v e)
           at_thread v (inr ne) (inr nu) = rw (ne_eqb v.0 t.0 ne, ne_eqb v.0 u.0 nu) (other_thread v ne nu)
 
@@ -238,12 +238,12 @@ module _ (w : WorldState) (sound : IsSound w) (k : ℕ) (t : ThreadId) (seat : s
       pub grants : (s : State) (flag : Bool) → Is s u flag act → s.monitor o ≡ free
           → Steps s (granting u (Granted (reply_granted post))) (with_monitor (now_is s u (settled_flag post flag) (doing.Has (reply_granted post))) o (held u (holds_granted post)))
       pub apart : u.0 ≡ t.0 → ⊥
-      pub live : IsSome (seat_of w.seats u)
+      pub live : IsSome (berth_of w.berths u)
 
     pub stands_apart : (u : ThreadId) (q : Post) → post_of w.fats u ≡ Some q → (q ≡ Out → ⊥) → u.0 ≡ t.0 → ⊥
     stands_apart u q e ne same = ne (same_Some q Out (sym e ∙ ap (λ (n : ℕ). post_of w.fats (record { 0 = n })) same ∙ out))
 
-    pub attached_live : (u : ThreadId) (q : Post) → post_of w.fats u ≡ Some q → IsSome (seat_of w.seats u)
+    pub attached_live : (u : ThreadId) (q : Post) → post_of w.fats u ≡ Some q → IsSome (berth_of w.berths u)
     attached_live u q e = sound.live u (rw e refl)
 
     pub first_granting : (u : ThreadId) → first_of w.fats m Entry ≡ Some u → Granting u
@@ -274,7 +274,7 @@ module _ (w : WorldState) (sound : IsSound w) (k : ℕ) (t : ThreadId) (seat : s
 
     -- what the first of the entry line shows
     pub shows_wanting : (u : ThreadId) (x : Granting u) → Is (shown w) u (flag_at w.fats u) x.act
-    shows_wanting u x = by_one (seat_of w.seats u) x.live
+    shows_wanting u x = by_one (berth_of w.berths u) x.live
       where
         by_one : (y : Option ℕ) → IsSome y → thread_of w u y ≡ Some (does (flag_at w.fats u) x.act)
         by_one None h = absurd (cc)

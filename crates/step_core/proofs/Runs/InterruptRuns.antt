@@ -5,7 +5,7 @@ use Rattle.std.proofs.lemmas.Bool.{cases_eq, eq-eqb, ne_eqb}
 use Rattle.lock_word.specs.declared.ThreadId.{ThreadId}
 use Rattle.lock_word.specs.declared.ObjectId.{ObjectId}
 use Rattle.lock_word.specs.declared.Lock.TheVariants.{Thin, Fat}
-use Rattle.thread_index.specs.Indices.{seat_of, holder_at}
+use Rattle.thread_index.specs.Indices.{berth_of, holder_at}
 use Rattle.wait_lines.specs.declared.Role.TheVariants.{Waiting as WaitSet}
 use Rattle.fat_monitor.specs.declared.monitors.Monitor as fat
 use Rattle.fat_monitor.specs.declared.actions.Cause.TheVariants as cause
@@ -40,7 +40,7 @@ use Rattle.step_core.proofs.Facts.Moves.{with_thread-with_thread, run_refused, r
 use Rattle.step_core.proofs.Runs.Regaining.{run_stirred}
 use Rattle.step_core.proofs.Facts.PlaceFacts.{stirred_out, who_bound}
 use Rattle.step_core.proofs.Facts.ShownStates.{does, thread_in, ActsAlike, acts_alike}
-use Rattle.step_core.proofs.Facts.OneFatAction.{one_thread, same_post, post_is, own_thread, kept_thread, by_seat, shown_turned}
+use Rattle.step_core.proofs.Facts.OneFatAction.{one_thread, same_post, post_is, own_thread, kept_thread, by_berth, shown_turned}
 use Rattle.step_core.proofs.Facts.OneThread.{stands_at, is_at, act_out}
 use Rattle.step_core.proofs.Facts.Grants.{monitors-after_grant, post-after_grant_same, post-after_grant_other, flag-after_grant_same, flag-after_grant_other, moment-after_grant}
 use Rattle.step_core.proofs.Runs.ActionShows.{act_same, monitors_kept, Goal, by_outcome, shown_flagged, keeps_all, shown_handed_over}
@@ -55,38 +55,38 @@ unowned_shows w sound m inside free = by_published (sound.published m inside)
     by_published (inr (j, there, bound)) =
         let b = who_bound (place_at w j) m bound in
         let fit : Fitting w j (InCall (Bound b.0 b.1 m)) = subst (λ (x : Place). Fitting w j x) b.2 (sound.places j there) in
-        let none : holder_at w.seats j ≡ None = sym (ap (λ (x : fat.Monitor). x.owner) fit.2.2) ∙ free in
+        let none : holder_at w.berths j ≡ None = sym (ap (λ (x : fat.Monitor). x.owner) fit.2.2) ∙ free in
         let stands : MayShow w b.0.object.0 (Thin (j + 1) fit.2.0) = rw fit.2.1 at (stands_at w sound b.0.object.0) in
         let here : j + 1 - 1 ≡ j = omega arith in
         let never : is_some {T = ThreadId} None ≡ true = rw (here, none) at stands.3 in absurd (cc)
 
-module _ (w : WorldState) (sound : IsSound w) (k : ℕ) (t : ThreadId) (seat : seat_of w.seats t ≡ Some k) (out : post_of w.fats t ≡ Some Out) where
+module _ (w : WorldState) (sound : IsSound w) (k : ℕ) (t : ThreadId) (berth : berth_of w.berths t ≡ Some k) (out : post_of w.fats t ≡ Some Out) where
   -- t asks whether it is interrupted
   test_run : (flag : Bool) → flag_at w.fats t ≡ flag → Is (shown w) t flag (doing.Wants call.Interrupted) → Goal w k t call.Interrupted action.Interrupted
   test_run true e is =
       by_outcome w k t call.Interrupted action.Interrupted (replies (with_flag w.fats t false) reply.Yes) (rw e refl)
       (subst (λ (s : State). Run (shown w) (move.TestClear t ∷ move.Return t reply.Yes ∷ []) s)
-      (sym (shown_flagged w sound k t seat out false (move_and_return (atomic.Acted action.Interrupted (answer.Reply reply.Yes)) (move.TestClear t) t reply.Yes)))
+      (sym (shown_flagged w sound k t berth out false (move_and_return (atomic.Acted action.Interrupted (answer.Reply reply.Yes)) (move.TestClear t) t reply.Yes)))
       (run_tested (shown w) t true is))
   test_run false e is =
       by_outcome w k t call.Interrupted action.Interrupted (replies (with_flag w.fats t false) reply.No) (rw e refl)
       (subst (λ (s : State). Run (shown w) (move.TestClear t ∷ move.Return t reply.No ∷ []) s)
-      (sym (shown_flagged w sound k t seat out false (move_and_return (atomic.Acted action.Interrupted (answer.Reply reply.No)) (move.TestClear t) t reply.No)))
+      (sym (shown_flagged w sound k t berth out false (move_and_return (atomic.Acted action.Interrupted (answer.Reply reply.No)) (move.TestClear t) t reply.No)))
       (run_tested (shown w) t false is))
 
   -- a thread that is not attached is not live, and one that is attached is
   not_live : (u : ThreadId) → post_of w.fats u ≡ None → (shown w).thread u ≡ None
-  not_live u none = by_one (seat_of w.seats u) refl
+  not_live u none = by_one (berth_of w.berths u) refl
     where
-      by_one : (o : Option ℕ) → seat_of w.seats u ≡ o → thread_of w u o ≡ None
+      by_one : (o : Option ℕ) → berth_of w.berths u ≡ o → thread_of w u o ≡ None
       by_one None e = refl
       by_one (Some j) e =
           let here : IsAttached w.fats u = sound.attached u (rw e refl) in let never : IsSome {T = Post} None = rw none at here in absurd (cc)
 
-  live_at : (u : ThreadId) (p : Post) → post_of w.fats u ≡ Some p → (j : ℕ) × (seat_of w.seats u ≡ Some j)
-  live_at u p e = by_one (seat_of w.seats u) refl (sound.live u (rw e refl))
+  live_at : (u : ThreadId) (p : Post) → post_of w.fats u ≡ Some p → (j : ℕ) × (berth_of w.berths u ≡ Some j)
+  live_at u p e = by_one (berth_of w.berths u) refl (sound.live u (rw e refl))
     where
-      by_one : (o : Option ℕ) → seat_of w.seats u ≡ o → IsSome o → (j : ℕ) × (seat_of w.seats u ≡ Some j)
+      by_one : (o : Option ℕ) → berth_of w.berths u ≡ o → IsSome o → (j : ℕ) × (berth_of w.berths u ≡ Some j)
       by_one None e h = absurd (cc)
       by_one (Some j) e h = (j, e)
 
@@ -94,15 +94,15 @@ module _ (w : WorldState) (sound : IsSound w) (k : ℕ) (t : ThreadId) (seat : s
   ask_run : (u : ThreadId) (p : Option Post) → post_of w.fats u ≡ p → (flag : Bool) → flag_at w.fats u ≡ flag
       → Is (shown w) t (flag_at w.fats t) (doing.Wants (call.IsInterrupted u)) → Goal w k t (call.IsInterrupted u) (action.IsInterrupted u)
   ask_run u None e flag set is =
-      keeps_all w sound k t seat out (call.IsInterrupted u) (action.IsInterrupted u) (reply.Refused cause.NoThread) (rw e refl)
+      keeps_all w sound k t berth out (call.IsInterrupted u) (action.IsInterrupted u) (reply.Refused cause.NoThread) (rw e refl)
       (run_refused (shown w) t (flag_at w.fats t) (call.IsInterrupted u) cause.NoThread is (not_live u e))
   ask_run u (Some p) e true set is =
       let j = live_at u p e in
-      keeps_all w sound k t seat out (call.IsInterrupted u) (action.IsInterrupted u) reply.Yes (rw (e, set) refl)
+      keeps_all w sound k t berth out (call.IsInterrupted u) (action.IsInterrupted u) reply.Yes (rw (e, set) refl)
       (run_asked (shown w) t u (flag_at w.fats t) true (thread_in w.fats u (place_at w j.0)) is (rw j.1 refl) (sym set))
   ask_run u (Some p) e false set is =
       let j = live_at u p e in
-      keeps_all w sound k t seat out (call.IsInterrupted u) (action.IsInterrupted u) reply.No (rw (e, set) refl)
+      keeps_all w sound k t berth out (call.IsInterrupted u) (action.IsInterrupted u) reply.No (rw (e, set) refl)
       (run_asked (shown w) t u (flag_at w.fats t) false (thread_in w.fats u (place_at w j.0)) is (rw j.1 refl) (sym set))
 
   -- t interrupts itself
@@ -111,14 +111,14 @@ module _ (w : WorldState) (sound : IsSound w) (k : ℕ) (t : ThreadId) (seat : s
       by_outcome w k t (call.Interrupt t) (action.Interrupt t) (answers (with_flag w.fats t true) (answer.Reply reply.Done) None None) (rw out refl)
       (subst (λ (s : State). Run (shown w) (move.Interrupt t ∷ move.Return t reply.Done ∷ []) s)
       (with_thread-with_thread (shown w) t (Some (with_interrupt x)) (Some (does true doing.Idle))
-      ∙ sym (shown_flagged w sound k t seat out true (move_and_return (atomic.Acted (action.Interrupt t) (answer.Reply reply.Done)) (move.Interrupt t) t reply.Done)))
+      ∙ sym (shown_flagged w sound k t berth out true (move_and_return (atomic.Acted (action.Interrupt t) (answer.Reply reply.Done)) (move.Interrupt t) t reply.Done)))
       (rw (eq-eqb t.0 t.0 refl) at (run_interrupted (shown w) t t (flag_at w.fats t) x is is)))
     where
       x : Thread
       x = does (flag_at w.fats t) (doing.Wants (call.Interrupt t))
 
   -- what is shown where t interrupts another thread, which comes back if it waited, and no monitor changes
-  module _ (u : ThreadId) (j : ℕ) (theirs : seat_of w.seats u ≡ Some j) (apart : u.0 ≡ t.0 → ⊥) where
+  module _ (u : ThreadId) (j : ℕ) (theirs : berth_of w.berths u ≡ Some j) (apart : u.0 ≡ t.0 → ⊥) where
     -- what u shows before
     abbrev them : Thread
     them = thread_in w.fats u (place_at w j)
@@ -128,17 +128,17 @@ module _ (w : WorldState) (sound : IsSound w) (k : ℕ) (t : ThreadId) (seat : s
         → ((v : ThreadId) → (v.0 ≡ t.0 → ⊥) → (v.0 ≡ u.0 → ⊥) → ActsAlike w.fats g v)
         → shown (with_go w k (fats_changed w g Idle did)) ≡ now_is (with_thread (shown w) u (Some (with_interrupt them))) t (flag_at w.fats t) doing.Idle
     shown_stirred g did same moment mine flag stirs others =
-        shown_turned w sound k t seat g Idle did (now_is (with_thread (shown w) u (Some (with_interrupt them))) t (flag_at w.fats t) doing.Idle) refl (sym moment)
+        shown_turned w sound k t berth g Idle did (now_is (with_thread (shown w) u (Some (with_interrupt them))) t (flag_at w.fats t) doing.Idle) refl (sym moment)
         (λ v. at_thread v (cases_eq v.0 t.0) (cases_eq v.0 u.0)) (monitors_kept w k g Idle did same)
       where
         at_thread : (v : ThreadId) → (v.0 ≡ t.0) ⊎ (v.0 ≡ t.0 → ⊥) → (v.0 ≡ u.0) ⊎ (v.0 ≡ u.0 → ⊥)
-            → thread_of (with_go w k (fats_changed w g Idle did)) v (seat_of w.seats v) ≡ (now_is (with_thread (shown w) u (Some (with_interrupt them))) t (flag_at w.fats t) doing.Idle).thread v
+            → thread_of (with_go w k (fats_changed w g Idle did)) v (berth_of w.berths v) ≡ (now_is (with_thread (shown w) u (Some (with_interrupt them))) t (flag_at w.fats t) doing.Idle).thread v
         at_thread v (inl e) x =
-            rw (eq-eqb v.0 t.0 e) (own_thread w sound k t seat g Idle did (does (flag_at w.fats t) doing.Idle) (rw flag (ap (does (flag_at w.fats t)) (act_out g t Idle mine))) v e)
+            rw (eq-eqb v.0 t.0 e) (own_thread w sound k t berth g Idle did (does (flag_at w.fats t) doing.Idle) (rw flag (ap (does (flag_at w.fats t)) (act_out g t Idle mine))) v e)
         at_thread v (inr ne) (inl e) =
             rw (ne_eqb v.0 t.0 ne, eq-eqb v.0 u.0 e, one_thread v u e, theirs)
-            (by_seat w sound k t seat g Idle did u apart (Some j) theirs ∙ ap (λ (x : Thread). Some x) (stirs (place_at w j)))
-        at_thread v (inr ne) (inr nu) = rw (ne_eqb v.0 t.0 ne, ne_eqb v.0 u.0 nu) (kept_thread w sound k t seat g Idle did v ne (others v ne nu))
+            (by_berth w sound k t berth g Idle did u apart (Some j) theirs ∙ ap (λ (x : Thread). Some x) (stirs (place_at w j)))
+        at_thread v (inr ne) (inr nu) = rw (ne_eqb v.0 t.0 ne, ne_eqb v.0 u.0 nu) (kept_thread w sound k t berth g Idle did v ne (others v ne nu))
 
     -- the run that leads there
     stirred_run : (g : FatState) → outcome_of w.fats t (action.Interrupt u) ≡ answers g (answer.Reply reply.Done) None None
@@ -215,7 +215,7 @@ module _ (w : WorldState) (sound : IsSound w) (k : ℕ) (t : ThreadId) (seat : s
         did = move_grant_and_return (atomic.Acted (action.Interrupt u) (answer.Reply reply.Done)) (move.Interrupt t) (Some (move.Relock u)) t reply.Done
 
         shown_then : shown (with_go w k (fats_changed w g Idle did)) ≡ with_monitor (now_is (now_is (shown w) u false (doing.Has reply.Interrupted)) t (flag_at w.fats t) doing.Idle) o (held u n)
-        shown_then = shown_handed_over w sound k t seat out (call.Interrupt u) o m is shows u g Idle did (flag_at w.fats t) false doing.Idle reply.Interrupted n apart (rw theirs refl)
+        shown_then = shown_handed_over w sound k t berth out (call.Interrupt u) o m is shows u g Idle did (flag_at w.fats t) false doing.Idle reply.Interrupted n apart (rw theirs refl)
             (rw (flag-after_grant_other (with_flag w.fats u true) m u p WaitSet t other, flag-with_flag_other w.fats u t true other)
             (ap (does (flag_at w.fats t)) (act_out g t Idle (post-after_grant_other (with_flag w.fats u true) m u p WaitSet t other ∙ out))))
             their_post (flag-after_grant_same (with_flag w.fats u true) m u p WaitSet)
@@ -240,7 +240,7 @@ module _ (w : WorldState) (sound : IsSound w) (k : ℕ) (t : ThreadId) (seat : s
   interrupt_run : (u : ThreadId) (p : Option Post) → post_of w.fats u ≡ p → (u.0 ≡ t.0) ⊎ (u.0 ≡ t.0 → ⊥)
       → Is (shown w) t (flag_at w.fats t) (doing.Wants (call.Interrupt u)) → Goal w k t (call.Interrupt u) (action.Interrupt u)
   interrupt_run u None e x is =
-      keeps_all w sound k t seat out (call.Interrupt u) (action.Interrupt u) (reply.Refused cause.NoThread) (rw e refl)
+      keeps_all w sound k t berth out (call.Interrupt u) (action.Interrupt u) (reply.Refused cause.NoThread) (rw e refl)
       (run_refused (shown w) t (flag_at w.fats t) (call.Interrupt u) cause.NoThread is (not_live u e))
   interrupt_run u (Some p) e (inl same) is =
       let one : u ≡ t = one_thread u t same in
@@ -250,7 +250,7 @@ module _ (w : WorldState) (sound : IsSound w) (k : ℕ) (t : ThreadId) (seat : s
 
   -- A call about interrupts makes its own action.
   pub direct_run : (c : InterruptCall) → place_at w k ≡ InCall (Direct c) → Goal w k t (call_about c) (action_about c)
-  direct_run (about.Interrupt u) at = interrupt_run u (post_of w.fats u) refl (cases_eq u.0 t.0) (is_at w sound k t seat (InCall (Direct (about.Interrupt u))) at out)
-  direct_run about.Interrupted at = test_run (flag_at w.fats t) refl (is_at w sound k t seat (InCall (Direct about.Interrupted)) at out)
+  direct_run (about.Interrupt u) at = interrupt_run u (post_of w.fats u) refl (cases_eq u.0 t.0) (is_at w sound k t berth (InCall (Direct (about.Interrupt u))) at out)
+  direct_run about.Interrupted at = test_run (flag_at w.fats t) refl (is_at w sound k t berth (InCall (Direct about.Interrupted)) at out)
   direct_run (about.IsInterrupted u) at =
-      ask_run u (post_of w.fats u) refl (flag_at w.fats u) refl (is_at w sound k t seat (InCall (Direct (about.IsInterrupted u))) at out)
+      ask_run u (post_of w.fats u) refl (flag_at w.fats u) refl (is_at w sound k t berth (InCall (Direct (about.IsInterrupted u))) at out)

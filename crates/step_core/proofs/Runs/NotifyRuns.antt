@@ -10,7 +10,7 @@ use Rattle.lock_word.specs.declared.ThreadId.{ThreadId}
 use Rattle.lock_word.specs.declared.ObjectId.{ObjectId}
 use Rattle.lock_word.specs.declared.Lock.{Lock}
 use Rattle.lock_word.specs.declared.Lock.TheVariants.{Free, Thin, Fat}
-use Rattle.thread_index.specs.Indices.{seat_of}
+use Rattle.thread_index.specs.Indices.{berth_of}
 use Rattle.wait_lines.specs.declared.Role.TheVariants.{Waiting as WaitSet}
 use Rattle.fat_monitor.specs.declared.monitors.Monitor as fat
 use Rattle.fat_monitor.specs.declared.actions.Reply.{Reply}
@@ -48,7 +48,7 @@ use Rattle.step_core.proofs.Facts.Moves.{run_unnoticed, run_returned, run_notifi
 use Rattle.step_core.proofs.Facts.Moves.{one_object}
 use Rattle.step_core.proofs.Facts.PlaceFacts.{not_waiting, woken_out, who_bound}
 use Rattle.step_core.proofs.Facts.ShownStates.{does, thread_in, acts_alike, proper_at}
-use Rattle.step_core.proofs.Facts.OneFatAction.{one_thread, same_post, post_is, own_thread, kept_thread, given_thread, by_seat, shown_turned}
+use Rattle.step_core.proofs.Facts.OneFatAction.{one_thread, same_post, post_is, own_thread, kept_thread, given_thread, by_berth, shown_turned}
 use Rattle.step_core.proofs.Facts.OneThread.{stands_at, is_at, act_out}
 use Rattle.step_core.proofs.Runs.WordRuns.{waits_object}
 use Rattle.step_core.proofs.Runs.ActionShows.{act_same, object_here, monitors_kept, Goal, by_outcome, keeps_all, owned_by_me, mine}
@@ -59,7 +59,7 @@ called_post : (m : ℕ) (x : Option Post) → unwrap_or (option_map (called_back
 called_post m None = refl
 called_post m (Some q) = refl
 
-module _ (w : WorldState) (sound : IsSound w) (k : ℕ) (t : ThreadId) (seat : seat_of w.seats t ≡ Some k) (out : post_of w.fats t ≡ Some Out) where
+module _ (w : WorldState) (sound : IsSound w) (k : ℕ) (t : ThreadId) (berth : berth_of w.berths t ≡ Some k) (out : post_of w.fats t ≡ Some Out) where
   -- two bound monitors have two objects: each is shown by its own, or is to be stored over a thin word
   one_monitor : (o : ObjectId) (m j : ℕ) → lock_at w o.0 ≡ Fat m → (monitor_at w.fats j).object ≡ o → IsPublished w j → j ≡ m
   one_monitor o m j shows same (inl fat) = let e : Fat j ≡ Fat m = sym (rw same at fat) ∙ shows in cc
@@ -71,7 +71,7 @@ module _ (w : WorldState) (sound : IsSound w) (k : ℕ) (t : ThreadId) (seat : s
 
   -- nobody waits on the object where nobody waits on its monitor
   nobody_waits : (o : ObjectId) (m : ℕ) → lock_at w o.0 ≡ Fat m → first_of w.fats m WaitSet ≡ None → NobodyWaits (shown w) o
-  nobody_waits o m shows none u flag x d is = by_seat (seat_of w.seats u) is
+  nobody_waits o m shows none u flag x d is = by_berth (berth_of w.berths u) is
     where
       by_post : (p : Post) (q : Place) → post_at w.fats u ≡ p → IsProper w.fats p → act_of w.fats p q ≡ doing.Waits o x d → ⊥
       by_post Out q e h same = not_waiting q same
@@ -86,25 +86,25 @@ module _ (w : WorldState) (sound : IsSound w) (k : ℕ) (t : ThreadId) (seat : s
       by_post (Back j y r) q e h same = absurd (cc)
       by_post (Granted r) q e h same = absurd (cc)
 
-      by_seat : (s : Option ℕ) → thread_of w u s ≡ Some (record { flag = flag; act = doing.Waits o x d }) → ⊥
-      by_seat None same = absurd (cc)
-      by_seat (Some j) same = by_post (post_at w.fats u) (place_at w j) refl (proper_at w.fats u sound.fats) (ap (λ (y : Thread). y.act) (same_Some _ _ same))
+      by_berth : (s : Option ℕ) → thread_of w u s ≡ Some (record { flag = flag; act = doing.Waits o x d }) → ⊥
+      by_berth None same = absurd (cc)
+      by_berth (Some j) same = by_post (post_at w.fats u) (place_at w j) refl (proper_at w.fats u sound.fats) (ap (λ (y : Thread). y.act) (same_Some _ _ same))
 
   notify_run : (o : ObjectId) (m : ℕ) (is : Is (shown w) t (flag_at w.fats t) (doing.Wants (call.Notify o))) (shows : lock_at w o.0 ≡ Fat m)
       → (b : Bool) → is_owned_by (monitor_at w.fats m).owner t ≡ b → (first : Option ThreadId) → first_of w.fats m WaitSet ≡ first
       → Goal w k t (call.Notify o) (action.Notify m)
-  notify_run o m is shows false b first e = illegal_run w sound k t seat out (call.Notify o) (action.Notify m) o m is shows refl b (rw b refl)
+  notify_run o m is shows false b first e = illegal_run w sound k t berth out (call.Notify o) (action.Notify m) o m is shows refl b (rw b refl)
   notify_run o m is shows true b None e =
-      let own = mine w sound k t seat out (call.Notify o) o m is shows (monitor_at w.fats m).owner refl b in
-      keeps_all w sound k t seat out (call.Notify o) (action.Notify m) reply.Notified (rw (b, e) refl)
-      (run_unnoticed (shown w) t (flag_at w.fats t) o is (owned_by_me w sound k t seat out (call.Notify o) o m is shows own) (nobody_waits o m shows e))
+      let own = mine w sound k t berth out (call.Notify o) o m is shows (monitor_at w.fats m).owner refl b in
+      keeps_all w sound k t berth out (call.Notify o) (action.Notify m) reply.Notified (rw (b, e) refl)
+      (run_unnoticed (shown w) t (flag_at w.fats t) o is (owned_by_me w sound k t berth out (call.Notify o) o m is shows own) (nobody_waits o m shows e))
   notify_run o m is shows true b (Some u) e =
       by_outcome w k t (call.Notify o) (action.Notify m) (answers g (answer.Reply reply.Notified) None (Some u)) (rw (b, e, post_is w.fats u (Waiting m n d) at, own) refl)
       (subst (λ (s : State). Run (shown w) (move.Notify t (Some u) ∷ move.Return t reply.Notified ∷ []) s) (sym shown_then)
-      (run_notified (shown w) t u (flag_at w.fats t) (flag_at w.fats u) o n d is (owned_by_me w sound k t seat out (call.Notify o) o m is shows own) waiting (λ x. apart (sym x))))
+      (run_notified (shown w) t u (flag_at w.fats t) (flag_at w.fats u) o n d is (owned_by_me w sound k t berth out (call.Notify o) o m is shows own) waiting (λ x. apart (sym x))))
     where
       own : (monitor_at w.fats m).owner ≡ Some t
-      own = mine w sound k t seat out (call.Notify o) o m is shows (monitor_at w.fats m).owner refl b
+      own = mine w sound k t berth out (call.Notify o) o m is shows (monitor_at w.fats m).owner refl b
 
       n : ℕ
       n = (first_waiting w.fats m u sound.fats e).0
@@ -124,14 +124,14 @@ module _ (w : WorldState) (sound : IsSound w) (k : ℕ) (t : ThreadId) (seat : s
       apart : u.0 ≡ t.0 → ⊥
       apart same = let never : Waiting m n d ≡ Out = same_Some _ _ (sym at ∙ ap (λ (i : ℕ). post_of w.fats (record { 0 = i })) same ∙ out) in absurd (cc)
 
-      live : IsSome (seat_of w.seats u)
+      live : IsSome (berth_of w.berths u)
       live = sound.live u (rw at refl)
 
       object_is : (monitor_at w.fats m).object ≡ o
       object_is = object_here w sound o m shows
 
       waiting : Is (shown w) u (flag_at w.fats u) (doing.Waits o n d)
-      waiting = by_one (seat_of w.seats u) live
+      waiting = by_one (berth_of w.berths u) live
         where
           by_one : (y : Option ℕ) → IsSome y → thread_of w u y ≡ Some (does (flag_at w.fats u) (doing.Waits o n d))
           by_one None h = absurd (cc)
@@ -139,33 +139,33 @@ module _ (w : WorldState) (sound : IsSound w) (k : ℕ) (t : ThreadId) (seat : s
               (ap (λ (q : Post). act_of w.fats q (place_at w j)) (post_is w.fats u (Waiting m n d) at) ∙ ap (λ (x : ObjectId). doing.Waits x n d) object_is)
 
       at_thread : (v : ThreadId) → (v.0 ≡ t.0) ⊎ (v.0 ≡ t.0 → ⊥) → (v.0 ≡ u.0) ⊎ (v.0 ≡ u.0 → ⊥)
-          → thread_of (with_go w k (fats_changed w g Idle did)) v (seat_of w.seats v) ≡ (now_is (now_is (shown w) u (flag_at w.fats u) (doing.Back o n why.Notified)) t (flag_at w.fats t) doing.Idle).thread v
+          → thread_of (with_go w k (fats_changed w g Idle did)) v (berth_of w.berths v) ≡ (now_is (now_is (shown w) u (flag_at w.fats u) (doing.Back o n why.Notified)) t (flag_at w.fats t) doing.Idle).thread v
       at_thread v (inl x) y =
-          rw (eq-eqb v.0 t.0 x) (own_thread w sound k t seat g Idle did (does (flag_at w.fats t) doing.Idle)
+          rw (eq-eqb v.0 t.0 x) (own_thread w sound k t berth g Idle did (does (flag_at w.fats t) doing.Idle)
           (ap (does (flag_at w.fats t)) (act_out g t Idle (post-with_post_other w.fats u t (Back m n why.Notified) (λ z. apart (sym (ap (λ (i : ThreadId). i.0) z))) ∙ out))) v x)
       at_thread v (inr ne) (inl y) =
           rw (ne_eqb v.0 t.0 ne, eq-eqb v.0 u.0 y, one_thread v u y)
-          (given_thread w sound k t seat g Idle did u (does (flag_at w.fats u) (doing.Back o n why.Notified)) apart live
+          (given_thread w sound k t berth g Idle did u (does (flag_at w.fats u) (doing.Back o n why.Notified)) apart live
           (λ q. ap (λ (x : Post). does (flag_at w.fats u) (act_of g x q)) (post_is g u (Back m n why.Notified) (post-with_post_same w.fats u (Back m n why.Notified))) ∙ ap (λ (x : ObjectId). does (flag_at w.fats u) (doing.Back x n why.Notified)) object_is))
       at_thread v (inr ne) (inr nu) =
           rw (ne_eqb v.0 t.0 ne, ne_eqb v.0 u.0 nu)
-          (kept_thread w sound k t seat g Idle did v ne
+          (kept_thread w sound k t berth g Idle did v ne
           (acts_alike w.fats g v sound.fats refl (same_post w.fats g v (post-with_post_other w.fats u v (Back m n why.Notified) (λ z. nu (ap (λ (i : ThreadId). i.0) z)))) (λ j l. refl)))
 
       shown_then : shown (with_go w k (fats_changed w g Idle did)) ≡ now_is (now_is (shown w) u (flag_at w.fats u) (doing.Back o n why.Notified)) t (flag_at w.fats t) doing.Idle
-      shown_then = shown_turned w sound k t seat g Idle did (now_is (now_is (shown w) u (flag_at w.fats u) (doing.Back o n why.Notified)) t (flag_at w.fats t) doing.Idle) refl refl
+      shown_then = shown_turned w sound k t berth g Idle did (now_is (now_is (shown w) u (flag_at w.fats u) (doing.Back o n why.Notified)) t (flag_at w.fats t) doing.Idle) refl refl
           (λ v. at_thread v (cases_eq v.0 t.0) (cases_eq v.0 u.0)) (monitors_kept w k g Idle did refl)
 
   notify_all_run : (o : ObjectId) (m : ℕ) (is : Is (shown w) t (flag_at w.fats t) (doing.Wants (call.NotifyAll o))) (shows : lock_at w o.0 ≡ Fat m)
       → (b : Bool) → is_owned_by (monitor_at w.fats m).owner t ≡ b → Goal w k t (call.NotifyAll o) (action.NotifyAll m)
-  notify_all_run o m is shows false b = illegal_run w sound k t seat out (call.NotifyAll o) (action.NotifyAll m) o m is shows refl b (rw b refl)
+  notify_all_run o m is shows false b = illegal_run w sound k t berth out (call.NotifyAll o) (action.NotifyAll m) o m is shows refl b (rw b refl)
   notify_all_run o m is shows true b =
       by_outcome w k t (call.NotifyAll o) (action.NotifyAll m) (answers g (answer.Reply reply.Notified) None None) (rw b refl)
       (subst (λ (s : State). Run (shown w) (move.NotifyAll t ∷ move.Return t reply.Notified ∷ []) s) (sym shown_then)
-      (run_notified_all (shown w) t (flag_at w.fats t) o is (owned_by_me w sound k t seat out (call.NotifyAll o) o m is shows own)))
+      (run_notified_all (shown w) t (flag_at w.fats t) o is (owned_by_me w sound k t berth out (call.NotifyAll o) o m is shows own)))
     where
       own : (monitor_at w.fats m).owner ≡ Some t
-      own = mine w sound k t seat out (call.NotifyAll o) o m is shows (monitor_at w.fats m).owner refl b
+      own = mine w sound k t berth out (call.NotifyAll o) o m is shows (monitor_at w.fats m).owner refl b
 
       g : FatState
       g = after_removals w.fats (line_of w.fats m WaitSet)
@@ -202,10 +202,10 @@ module _ (w : WorldState) (sound : IsSound w) (k : ℕ) (t : ThreadId) (seat : s
       woken_post (Back j n y) p h = refl
       woken_post (Granted r) p h = refl
 
-      at_thread : (v : ThreadId) → (v.0 ≡ t.0) ⊎ (v.0 ≡ t.0 → ⊥) → thread_of (with_go w k (fats_changed w g Idle did)) v (seat_of w.seats v) ≡ (now_is (all_notified (shown w) o) t (flag_at w.fats t) doing.Idle).thread v
+      at_thread : (v : ThreadId) → (v.0 ≡ t.0) ⊎ (v.0 ≡ t.0 → ⊥) → thread_of (with_go w k (fats_changed w g Idle did)) v (berth_of w.berths v) ≡ (now_is (all_notified (shown w) o) t (flag_at w.fats t) doing.Idle).thread v
       at_thread v (inl e) =
-          rw (eq-eqb v.0 t.0 e) (own_thread w sound k t seat g Idle did (does (flag_at w.fats t) doing.Idle) (rw (flags t) (ap (does (flag_at w.fats t)) (act_out g t Idle (posts t ∙ ap (λ (x : Option Post). option_map (called_back m) x) out)))) v e)
-      at_thread v (inr ne) = rw (ne_eqb v.0 t.0 ne) (by_seat w sound k t seat g Idle did v ne (seat_of w.seats v) refl ∙ by_one (seat_of w.seats v))
+          rw (eq-eqb v.0 t.0 e) (own_thread w sound k t berth g Idle did (does (flag_at w.fats t) doing.Idle) (rw (flags t) (ap (does (flag_at w.fats t)) (act_out g t Idle (posts t ∙ ap (λ (x : Option Post). option_map (called_back m) x) out)))) v e)
+      at_thread v (inr ne) = rw (ne_eqb v.0 t.0 ne) (by_berth w sound k t berth g Idle did v ne (berth_of w.berths v) refl ∙ by_one (berth_of w.berths v))
         where
           by_one : (x : Option ℕ) → option_map (λ (j : ℕ). thread_in g v (place_at w j)) x
               ≡ option_map (λ (y : Thread). let z : Thread = record { flag = y.flag; act = after_notify_all o y.act } in z) (thread_of w v x)
@@ -216,28 +216,28 @@ module _ (w : WorldState) (sound : IsSound w) (k : ℕ) (t : ThreadId) (seat : s
               ∙ woken_post (post_at w.fats v) (place_at w j) (proper_at w.fats v sound.fats)))
 
       shown_then : shown (with_go w k (fats_changed w g Idle did)) ≡ now_is (all_notified (shown w) o) t (flag_at w.fats t) doing.Idle
-      shown_then = shown_turned w sound k t seat g Idle did (now_is (all_notified (shown w) o) t (flag_at w.fats t) doing.Idle) refl (sym (moment-after_removals w.fats (line_of w.fats m WaitSet)))
+      shown_then = shown_turned w sound k t berth g Idle did (now_is (all_notified (shown w) o) t (flag_at w.fats t) doing.Idle) refl (sym (moment-after_removals w.fats (line_of w.fats m WaitSet)))
           (λ v. at_thread v (cases_eq v.0 t.0)) (monitors_kept w k g Idle did same)
 
   -- a Go that makes the action of an operation's own name
   pub act_run : (c : MonitorCall) (m : ℕ) (p : Place) → place_at w k ≡ p → doing_of p ≡ doing.Wants (call_of c) → lock_at w c.object.0 ≡ Fat m
       → Goal w k t (call_of c) (action_on c.operation m)
-  act_run c m p at wants shows = by_operation c.object c.operation (rw wants at (is_at w sound k t seat p at out)) shows
+  act_run c m p at wants shows = by_operation c.object c.operation (rw wants at (is_at w sound k t berth p at out)) shows
     where
       fair : (o : ObjectId) → lock_at w o.0 ≡ Fat m → IsFair (monitor_at w.fats m)
       fair o shows = let st : MayShow w o.0 (Fat m) = rw shows at (stands_at w sound o.0) in sound.fats.fair m st.0
 
       by_operation : (o : ObjectId) (p : Operation) → Is (shown w) t (flag_at w.fats t) (doing.Wants (call_on o p)) → lock_at w o.0 ≡ Fat m
           → Goal w k t (call_on o p) (action_on p m)
-      by_operation o op.Enter is shows = enter_run w sound k t seat out o m is shows (fair o shows) (monitor_at w.fats m).owner refl
-      by_operation o op.Exit is shows = exit_run w sound k t seat out o m is shows (fair o shows) (is_owned_by (monitor_at w.fats m).owner t) refl
-      by_operation o (op.Wait millis nanos) is shows = wait_run w sound k t seat out o millis nanos m is shows (is_owned_by (monitor_at w.fats m).owner t) refl
+      by_operation o op.Enter is shows = enter_run w sound k t berth out o m is shows (fair o shows) (monitor_at w.fats m).owner refl
+      by_operation o op.Exit is shows = exit_run w sound k t berth out o m is shows (fair o shows) (is_owned_by (monitor_at w.fats m).owner t) refl
+      by_operation o (op.Wait millis nanos) is shows = wait_run w sound k t berth out o millis nanos m is shows (is_owned_by (monitor_at w.fats m).owner t) refl
       by_operation o op.Notify is shows = notify_run o m is shows (is_owned_by (monitor_at w.fats m).owner t) refl (first_of w.fats m WaitSet) refl
       by_operation o op.NotifyAll is shows = notify_all_run o m is shows (is_owned_by (monitor_at w.fats m).owner t) refl
-      by_operation o op.Holds is shows = holds_run w sound k t seat out o m is shows (is_owned_by (monitor_at w.fats m).owner t) refl
+      by_operation o op.Holds is shows = holds_run w sound k t berth out o m is shows (is_owned_by (monitor_at w.fats m).owner t) refl
 
 -- a thread that was granted its reply returns with it
-module _ (w : WorldState) (sound : IsSound w) (k : ℕ) (t : ThreadId) (seat : seat_of w.seats t ≡ Some k) where
+module _ (w : WorldState) (sound : IsSound w) (k : ℕ) (t : ThreadId) (berth : berth_of w.berths t ≡ Some k) where
   plain : (r : Reply) → (r ≡ reply.Entered) ⊎ ((r ≡ reply.WaitOver) ⊎ (r ≡ reply.Interrupted)) → IsPlain r
   plain r (inl e) = rw e tt
   plain r (inr (inl e)) = rw e tt
@@ -257,12 +257,12 @@ module _ (w : WorldState) (sound : IsSound w) (k : ℕ) (t : ThreadId) (seat : s
       did = return_alone (atomic.Acted action.Collect (answer.Reply r)) t r
 
       has : Is (shown w) t (flag_at w.fats t) (doing.Has r)
-      has = rw (seat, at) (ap (λ (q : Post). Some (does (flag_at w.fats t) (act_of w.fats q AtPost))) (post_is w.fats t (Granted r) granted))
+      has = rw (berth, at) (ap (λ (q : Post). Some (does (flag_at w.fats t) (act_of w.fats q AtPost))) (post_is w.fats t (Granted r) granted))
 
-      at_thread : (v : ThreadId) → (v.0 ≡ t.0) ⊎ (v.0 ≡ t.0 → ⊥) → thread_of (with_go w k (fats_changed w g Idle did)) v (seat_of w.seats v) ≡ (now_is (shown w) t (flag_at w.fats t) doing.Idle).thread v
-      at_thread v (inl e) = rw (eq-eqb v.0 t.0 e) (own_thread w sound k t seat g Idle did (does (flag_at w.fats t) doing.Idle) (ap (does (flag_at w.fats t)) (act_out g t Idle (post-with_post_same w.fats t Out))) v e)
+      at_thread : (v : ThreadId) → (v.0 ≡ t.0) ⊎ (v.0 ≡ t.0 → ⊥) → thread_of (with_go w k (fats_changed w g Idle did)) v (berth_of w.berths v) ≡ (now_is (shown w) t (flag_at w.fats t) doing.Idle).thread v
+      at_thread v (inl e) = rw (eq-eqb v.0 t.0 e) (own_thread w sound k t berth g Idle did (does (flag_at w.fats t) doing.Idle) (ap (does (flag_at w.fats t)) (act_out g t Idle (post-with_post_same w.fats t Out))) v e)
       at_thread v (inr ne) =
-          rw (ne_eqb v.0 t.0 ne) (kept_thread w sound k t seat g Idle did v ne
+          rw (ne_eqb v.0 t.0 ne) (kept_thread w sound k t berth g Idle did v ne
           (acts_alike w.fats g v sound.fats refl (same_post w.fats g v (post-with_post_other w.fats t v Out (λ z. ne (ap (λ (i : ThreadId). i.0) z)))) (λ j l. refl)))
 
       monitors : (q : ObjectId) → monitor_of (with_go w k (fats_changed w g Idle did)) (lock_at w q.0) ≡ monitor_of w (lock_at w q.0)
@@ -274,4 +274,4 @@ module _ (w : WorldState) (sound : IsSound w) (k : ℕ) (t : ThreadId) (seat : s
           at_lock (Fat j) = refl
 
       shown_then : shown (with_go w k (fats_changed w g Idle did)) ≡ now_is (shown w) t (flag_at w.fats t) doing.Idle
-      shown_then = shown_turned w sound k t seat g Idle did (now_is (shown w) t (flag_at w.fats t) doing.Idle) refl refl (λ v. at_thread v (cases_eq v.0 t.0)) monitors
+      shown_then = shown_turned w sound k t berth g Idle did (now_is (shown w) t (flag_at w.fats t) doing.Idle) refl refl (λ v. at_thread v (cases_eq v.0 t.0)) monitors

@@ -4,7 +4,7 @@ use Rattle.std.proofs.Common.{arith, refl, ap, sym, subst}
 use Rattle.lock_word.specs.declared.ThreadId.{ThreadId}
 use Rattle.lock_word.specs.declared.Lock.{Lock}
 use Rattle.lock_word.specs.declared.Lock.TheVariants.{Thin}
-use Rattle.thread_index.specs.Indices.{seat_of}
+use Rattle.thread_index.specs.Indices.{berth_of}
 use Rattle.lock_word.specs.declared.ObjectId.{ObjectId}
 use Rattle.fast_path.specs.declared.calls.Operation.{Operation}
 use Rattle.fast_path.specs.declared.calls.Operation.TheVariants as op
@@ -44,9 +44,9 @@ pub storing : (w : WorldState) (k : ℕ) (c : MonitorCall) (l : Lock) → Fittin
 storing w k c l fit =
     subst (λ (x : Lock). StoresOwn w.split (k + 1) x l c.operation) (sym fit.1.1) (store_own w.split c.operation (Thin (k + 1) fit.1.0) l (k + 1) fit.1.2)
 
-module _ (w : WorldState) (sound : IsSound w) (k : ℕ) (t : ThreadId) (seat : seat_of w.seats t ≡ Some k) (out : post_of w.fats t ≡ Some Out) where
+module _ (w : WorldState) (sound : IsSound w) (k : ℕ) (t : ThreadId) (berth : berth_of w.berths t ≡ Some k) (out : post_of w.fats t ≡ Some Out) where
   owner_here : (c : MonitorCall) (n : ℕ) → lock_at w c.object.0 ≡ Thin (k + 1) n → OwnedBy (shown w) c.object t
-  owner_here c n e = rw e (ap (λ (m : Monitor). m.owner) (mine w sound k t seat n))
+  owner_here c n e = rw e (ap (λ (m : Monitor). m.owner) (mine w sound k t berth n))
 
   -- a bind that is refused may be refused: the thread is the owner, and the time of its wait is in its range
   may_refuse : (o : ObjectId) (p : Operation) (n : ℕ) (x : Cause) → IsScarce x → BindsOwn w.split (k + 1) (Thin (k + 1) n) p → OwnedBy (shown w) o t
@@ -67,22 +67,22 @@ module _ (w : WorldState) (sound : IsSound w) (k : ℕ) (t : ThreadId) (seat : s
   pub stage_run : (room : Bool) (s : Stage) → place_at w k ≡ InCall s → FittingStage w k s
       → Run (shown w) (moves_made (after_stage room w k t s).did.moves) (shown (with_go w k (after_stage room w k t s)))
   stage_run room (Begun c b) e fit =
-      load_run w sound k t seat out c b (next_of w.split c.operation (lock_at w c.object.0) (k + 1)) e
-      (load_facts w sound k t seat out c (lock_at w c.object.0) (is_at w sound k t seat (InCall (Begun c b)) e out) refl (stands_at w sound c.object.0) (ap bound_by e))
-  stage_run room (Taking o b) e fit = take_run w sound k t seat out o b (lock_at w o.0) e fit refl
-  stage_run room (Storing c l) e fit = store_run w sound k t seat out c l e fit.0 (storing w k c l fit)
+      load_run w sound k t berth out c b (next_of w.split c.operation (lock_at w c.object.0) (k + 1)) e
+      (load_facts w sound k t berth out c (lock_at w c.object.0) (is_at w sound k t berth (InCall (Begun c b)) e out) refl (stands_at w sound c.object.0) (ap bound_by e))
+  stage_run room (Taking o b) e fit = take_run w sound k t berth out o b (lock_at w o.0) e fit refl
+  stage_run room (Storing c l) e fit = store_run w sound k t berth out c l e fit.0 (storing w k c l fit)
   stage_run room (Binding c n) e fit =
       let own : OwnedBy (shown w) c.object t = owner_here c n fit.1 in
       let binds : BindsOwn w.split (k + 1) (Thin (k + 1) n) c.operation = bind_own w.split c.operation (Thin (k + 1) n) (k + 1) fit.2 in
-      bind_run w sound k t seat out c false (n + 1) (InCall (Binding c n)) (bind_cause room w.fats) e refl
-      (causes w sound k t seat out room (λ x. false ≡ false → MayRefuse (shown w) t (call_of c) x)
+      bind_run w sound k t berth out c false (n + 1) (InCall (Binding c n)) (bind_cause room w.fats) e refl
+      (causes w sound k t berth out room (λ x. false ≡ false → MayRefuse (shown w) t (call_of c) x)
       (λ _. may_refuse c.object c.operation n cause.NoMonitor tt binds own) (λ _. may_refuse c.object c.operation n cause.Memory tt binds own))
-  stage_run room (Acting c m) e fit = act_run w sound k t seat out c m (InCall (Acting c m)) e refl fit.1
+  stage_run room (Acting c m) e fit = act_run w sound k t berth out c m (InCall (Acting c m)) e refl fit.1
   stage_run room (Won o) e fit =
-      bind_run w sound k t seat out (entering o) true 1 (InCall (Won o)) (bind_cause room w.fats) e refl
-      (causes w sound k t seat out room (λ x. true ≡ false → MayRefuse (shown w) t (call.Enter o) x) (λ h. absurd (cc)) (λ h. absurd (cc)))
+      bind_run w sound k t berth out (entering o) true 1 (InCall (Won o)) (bind_cause room w.fats) e refl
+      (causes w sound k t berth out room (λ x. true ≡ false → MayRefuse (shown w) t (call.Enter o) x) (λ h. absurd (cc)) (λ h. absurd (cc)))
   stage_run room (Bound c won m) e fit =
       let a : m < length w.fats.monitors = fit.1 in let b : length w.fats.monitors ≤ w.fats.limit = sound.fats.few in let l : w.fats.limit ≤ 8388608 = sound.fats.limit in
-      publish_run w sound k t seat out c won m e fit (omega arith)
-  stage_run room (Inflated c m) e fit = act_run w sound k t seat out c m (InCall (Inflated c m)) e refl fit.1
-  stage_run room (Direct c) e fit = direct_run w sound k t seat out c e
+      publish_run w sound k t berth out c won m e fit (omega arith)
+  stage_run room (Inflated c m) e fit = act_run w sound k t berth out c m (InCall (Inflated c m)) e refl fit.1
+  stage_run room (Direct c) e fit = direct_run w sound k t berth out c e

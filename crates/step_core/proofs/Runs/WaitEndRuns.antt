@@ -8,7 +8,7 @@ use Rattle.lock_word.specs.declared.ThreadId.{ThreadId}
 use Rattle.lock_word.specs.declared.ObjectId.{ObjectId}
 use Rattle.lock_word.specs.declared.Lock.{Lock}
 use Rattle.lock_word.specs.declared.Lock.TheVariants.{Free, Thin, Fat}
-use Rattle.thread_index.specs.Indices.{seat_of}
+use Rattle.thread_index.specs.Indices.{berth_of}
 use Rattle.wait_lines.specs.declared.Role.TheVariants.{Waiting as WaitSet}
 use Rattle.fat_monitor.specs.declared.monitors.Monitor as fat
 use Rattle.fat_monitor.specs.declared.actions.Answer.TheVariants as answer
@@ -65,13 +65,13 @@ granting-back t why.Interrupted = refl
 granting-back t why.Elapsed = refl
 granting-back t why.Spurious = refl
 
-module _ (w : WorldState) (sound : IsSound w) (t : ThreadId) (k : ℕ) (seat : seat_of w.seats t ≡ Some k) where
-  -- nothing but the fat state changes, as where the thread at seat k keeps its place
+module _ (w : WorldState) (sound : IsSound w) (t : ThreadId) (k : ℕ) (berth : berth_of w.berths t ≡ Some k) where
+  -- nothing but the fat state changes, as where the thread at berth k keeps its place
   as_gone : (g : FatState) (did : Did) → shown (record w { fats = g }) ≡ shown (with_go w k (fats_changed w g (place_at w k) did))
   as_gone g did = ap (λ (ps : List Place). shown (record w { fats = g; places = ps })) (sym (set-get_or w.places k Idle))
 
   waits : (m n : ℕ) (d : Option ℕ) → post_of w.fats t ≡ Some (Waiting m n d) → Is (shown w) t (flag_at w.fats t) (doing.Waits (monitor_at w.fats m).object n d)
-  waits m n d at = rw (seat, post_is w.fats t (Waiting m n d) at) refl
+  waits m n d at = rw (berth, post_is w.fats t (Waiting m n d) at) refl
 
   -- t waits, and leaves its wait set for this reason, as the machine may
   module _ (x : WaitEnd) (y : Why) (m n : ℕ) (d : Option ℕ) (at : post_of w.fats t ≡ Some (Waiting m n d))
@@ -89,17 +89,17 @@ module _ (w : WorldState) (sound : IsSound w) (t : ThreadId) (k : ℕ) (seat : s
         g = after_sending_back w.fats t m (Back m n y) (Some owner)
 
         at_thread : (v : ThreadId) → (v.0 ≡ t.0) ⊎ (v.0 ≡ t.0 → ⊥)
-            → thread_of (with_go w k (fats_changed w g (place_at w k) did)) v (seat_of w.seats v) ≡ (now_is (shown w) t (flag_at w.fats t) (doing.Back (monitor_at w.fats m).object n y)).thread v
+            → thread_of (with_go w k (fats_changed w g (place_at w k) did)) v (berth_of w.berths v) ≡ (now_is (shown w) t (flag_at w.fats t) (doing.Back (monitor_at w.fats m).object n y)).thread v
         at_thread v (inl e) =
-            rw (eq-eqb v.0 t.0 e) (own_thread w sound k t seat g (place_at w k) did (does (flag_at w.fats t) (doing.Back (monitor_at w.fats m).object n y))
+            rw (eq-eqb v.0 t.0 e) (own_thread w sound k t berth g (place_at w k) did (does (flag_at w.fats t) (doing.Back (monitor_at w.fats m).object n y))
             (rw (post_is g t (Back m n y) (post-with_post_same w.fats t (Back m n y))) refl) v e)
         at_thread v (inr ne) =
-            rw (ne_eqb v.0 t.0 ne) (kept_thread w sound k t seat g (place_at w k) did v ne
+            rw (ne_eqb v.0 t.0 ne) (kept_thread w sound k t berth g (place_at w k) did v ne
             (acts_alike w.fats g v sound.fats refl (same_post w.fats g v (post-with_post_other w.fats t v (Back m n y) (λ z. ne (ap (λ (u : ThreadId). u.0) z)))) (λ j l. refl)))
 
         shown_then : shown (with_go w k (fats_changed w g (place_at w k) did)) ≡ now_is (shown w) t (flag_at w.fats t) (doing.Back (monitor_at w.fats m).object n y)
         shown_then =
-            shown_turned w sound k t seat g (place_at w k) did (now_is (shown w) t (flag_at w.fats t) (doing.Back (monitor_at w.fats m).object n y)) refl refl
+            shown_turned w sound k t berth g (place_at w k) did (now_is (shown w) t (flag_at w.fats t) (doing.Back (monitor_at w.fats m).object n y)) refl refl
             (λ v. at_thread v (cases_eq v.0 t.0)) (monitors_kept w k g (place_at w k) did refl)
 
     -- a monitor that nobody owns it gets at once
@@ -139,19 +139,19 @@ module _ (w : WorldState) (sound : IsSound w) (t : ThreadId) (k : ℕ) (seat : s
         same : (after_grant w.fats m t (Back m n y) WaitSet).monitors ≡ (with_owner w.fats m (Some t) n).monitors
         same = monitors-after_grant w.fats m t (Back m n y) WaitSet
 
-        at_thread : (v : ThreadId) → (v.0 ≡ t.0) ⊎ (v.0 ≡ t.0 → ⊥) → thread_of (with_go w k (fats_changed w g (place_at w k) did)) v (seat_of w.seats v) ≡ after.thread v
+        at_thread : (v : ThreadId) → (v.0 ≡ t.0) ⊎ (v.0 ≡ t.0 → ⊥) → thread_of (with_go w k (fats_changed w g (place_at w k) did)) v (berth_of w.berths v) ≡ after.thread v
         at_thread v (inl e) =
-            rw (eq-eqb v.0 t.0 e) (own_thread w sound k t seat g (place_at w k) did (does (flag_back y (flag_at w.fats t)) (doing.Has (reply_of y)))
+            rw (eq-eqb v.0 t.0 e) (own_thread w sound k t berth g (place_at w k) did (does (flag_back y (flag_at w.fats t)) (doing.Has (reply_of y)))
             (rw (theirs, flag, reply_back-of y) refl) v e)
         at_thread v (inr ne) =
             let other : v ≢ t = λ z. ne (ap (λ (u : ThreadId). u.0) z) in
-            rw (ne_eqb v.0 t.0 ne) (kept_thread w sound k t seat g (place_at w k) did v ne
+            rw (ne_eqb v.0 t.0 ne) (kept_thread w sound k t berth g (place_at w k) did v ne
             (acts_alike w.fats g v sound.fats (flag-after_grant_other w.fats m t p WaitSet v other) (same_post w.fats g v (post-after_grant_other w.fats m t p WaitSet v other))
             (λ j l. ap (λ (xs : List fat.Monitor). (get_or xs j unbound).object) same ∙ object-with_owner w.fats m (Some t) n j bound)))
 
         shown_then : shown (with_go w k (fats_changed w g (place_at w k) did)) ≡ after
         shown_then =
-            shown_turned w sound k t seat g (place_at w k) did after refl (sym (moment-after_grant w.fats m t p WaitSet))
+            shown_turned w sound k t berth g (place_at w k) did after refl (sym (moment-after_grant w.fats m t p WaitSet))
             (λ v. at_thread v (cases_eq v.0 t.0))
             (monitors_turned w sound o m shows k g (place_at w k) did (with_holds w m (Some t) n)
             (ap (λ (xs : List fat.Monitor). get_or xs m unbound) same ∙ get_or-set_same w.fats.monitors m (with_holds w m (Some t) n) unbound bound)
@@ -198,19 +198,19 @@ module _ (w : WorldState) (sound : IsSound w) (t : ThreadId) (k : ℕ) (seat : s
 abbrev pub WaitEndRun : WaitEnd → WorldState → ThreadId → Option ℕ → Type 0
 WaitEndRun x w t o = Run (shown w) (moves_of (after_wait_end x w t o).answer) (shown (after_wait_end x w t o).after)
 
-pub expire_run : (w : WorldState) → IsSound w → (t : ThreadId) → WaitEndRun time_over w t (seat_of w.seats t)
-expire_run w sound t = by_seat (seat_of w.seats t) refl
+pub expire_run : (w : WorldState) → IsSound w → (t : ThreadId) → WaitEndRun time_over w t (berth_of w.berths t)
+expire_run w sound t = by_berth (berth_of w.berths t) refl
   where
-    by_seat : (s : Option ℕ) → seat_of w.seats t ≡ s → WaitEndRun time_over w t s
-    by_seat None e = refl
-    by_seat (Some k) e = expire_at w sound t k e (post_of w.fats t) refl
+    by_berth : (s : Option ℕ) → berth_of w.berths t ≡ s → WaitEndRun time_over w t s
+    by_berth None e = refl
+    by_berth (Some k) e = expire_at w sound t k e (post_of w.fats t) refl
 
-pub wake_run : (w : WorldState) → IsSound w → (t : ThreadId) → WaitEndRun wake_up w t (seat_of w.seats t)
-wake_run w sound t = by_seat (seat_of w.seats t) refl
+pub wake_run : (w : WorldState) → IsSound w → (t : ThreadId) → WaitEndRun wake_up w t (berth_of w.berths t)
+wake_run w sound t = by_berth (berth_of w.berths t) refl
   where
-    by_seat : (s : Option ℕ) → seat_of w.seats t ≡ s → WaitEndRun wake_up w t s
-    by_seat None e = refl
-    by_seat (Some k) e = wake_at w sound t k e (post_of w.fats t) refl
+    by_berth : (s : Option ℕ) → berth_of w.berths t ≡ s → WaitEndRun wake_up w t s
+    by_berth None e = refl
+    by_berth (Some k) e = wake_at w sound t k e (post_of w.fats t) refl
 
 -- A tick is a run of the machine: the moment alone changes.
 pub tick_run : (w : WorldState) (now : ℕ) → Run (shown w) (moves_of (after_tick w now).answer) (shown (after_tick w now).after)
@@ -228,7 +228,7 @@ tick_run w now = cond_both (nat_lt now w.fats.moment) _ _ (λ (x : Stepped). Run
 
     shown_then : shown (record w { fats = with_moment w.fats now }) ≡ record (shown w) { moment = now }
     shown_then =
-        let threads : (shown (record w { fats = with_moment w.fats now })).thread ≡ (shown w).thread = fun_ext (λ v. thread_kept v (seat_of w.seats v)) in
+        let threads : (shown (record w { fats = with_moment w.fats now })).thread ≡ (shown w).thread = fun_ext (λ v. thread_kept v (berth_of w.berths v)) in
         let monitors : (shown (record w { fats = with_moment w.fats now })).monitor ≡ (shown w).monitor = fun_ext (λ o. monitor_kept (lock_at w o.0)) in
         λ i. record { thread = threads i; objects = length w.words; monitor = monitors i; moment = now }
 

@@ -11,7 +11,7 @@ use Rattle.lock_word.specs.declared.Lock.{Lock}
 use Rattle.lock_word.specs.declared.Lock.TheVariants.{Free, Thin, Fat}
 use Rattle.lock_word.proofs.Words.{greatest_count-bound}
 use Rattle.lock_word.specs.Layout.{Fits, count_of, greatest_count}
-use Rattle.thread_index.specs.Indices.{seat_of}
+use Rattle.thread_index.specs.Indices.{berth_of}
 use Rattle.fat_monitor.specs.declared.actions.Cause.{Cause}
 use Rattle.fat_monitor.specs.declared.actions.Cause.TheVariants as cause
 use Rattle.fat_monitor.specs.declared.actions.Reply.{Reply}
@@ -87,22 +87,22 @@ pub not_good : (millis nanos : ℤ) → are_good millis nanos ≡ false → AreG
 not_good millis nanos e (a, b, c) =
     let never : true ≡ false = rw (is_true (int_le (pos 0) millis) a.le, is_true (int_le (pos 0) nanos) b.le, is_true (int_le nanos (pos 999999)) c.le) at e in absurd (cc)
 
-module _ (w : WorldState) (sound : IsSound w) (k : ℕ) (t : ThreadId) (seat : seat_of w.seats t ≡ Some k) (out : post_of w.fats t ≡ Some Out) where
+module _ (w : WorldState) (sound : IsSound w) (k : ℕ) (t : ThreadId) (berth : berth_of w.berths t ≡ Some k) (out : post_of w.fats t ≡ Some Out) where
   -- nothing is shown of this Go
   pub quiet : (p p' : Place) (a : Atomic) → place_at w k ≡ p → doing_of p' ≡ doing_of p
       → Run (shown w) [] (shown (with_go w k (place_only w p' (no_move a))))
   quiet p p' a e same =
-      shown_stays w sound k t seat p' (no_move a) out ∙ (rw same (now_is_same (shown w) t (flag_at w.fats t) (doing_of p) (is_at w sound k t seat p e out)))
+      shown_stays w sound k t berth p' (no_move a) out ∙ (rw same (now_is_same (shown w) t (flag_at w.fats t) (doing_of p) (is_at w sound k t berth p e out)))
 
   -- a reply by this move that changes no monitor
   pub told : (a : Atomic) (m : Move) (r : Reply) → Run (shown w) (m ∷ move.Return t r ∷ []) (now_is (shown w) t (flag_at w.fats t) doing.Idle)
       → Run (shown w) (moves_made (move_and_return a m t r).moves) (shown (with_go w k (place_only w Idle (move_and_return a m t r))))
   told a m r run =
-      subst (λ (s : State). Run (shown w) (m ∷ move.Return t r ∷ []) s) (sym (shown_stays w sound k t seat Idle (move_and_return a m t r) out)) run
+      subst (λ (s : State). Run (shown w) (m ∷ move.Return t r ∷ []) s) (sym (shown_stays w sound k t berth Idle (move_and_return a m t r) out)) run
 
   -- the owner of a thin word of one's own
   owned_by : (o : ObjectId) (n : ℕ) → lock_at w o.0 ≡ Thin (k + 1) n → OwnedBy (shown w) o t
-  owned_by o n e = owned w sound k t seat o (Thin (k + 1) n) e (ap (λ (m : Monitor). m.owner) (mine w sound k t seat n))
+  owned_by o n e = owned w sound k t berth o (Thin (k + 1) n) e (ap (λ (m : Monitor). m.owner) (mine w sound k t berth n))
 
   -- nobody waits on an object whose word is one's own thin one: who waits, waits on a monitor that its
   -- object shows, or that its binder is to store
@@ -115,11 +115,11 @@ module _ (w : WorldState) (sound : IsSound w) (k : ℕ) (t : ThreadId) (seat : s
       let fit : Fitting w j (InCall (Bound b.0 b.1 m)) = subst (λ (x : Place). Fitting w j x) b.2 (sound.places j there) in
       let object : b.0.object ≡ o = sym (ap (λ (x : fat.Monitor). x.object) fit.2.2) ∙ same in
       let index : Thin (j + 1) fit.2.0 ≡ Thin (k + 1) n = sym fit.2.1 ∙ ap (λ (x : ObjectId). lock_at w x.0) object ∙ e in
-      let seat_same : j ≡ k = thin_index j k fit.2.0 n index in
-      let never : None ≡ Some m = sym none ∙ ap (λ (x : ℕ). bound_by (place_at w x)) (sym seat_same) ∙ bound in absurd (cc)
+      let berth_same : j ≡ k = thin_index j k fit.2.0 n index in
+      let never : None ≡ Some m = sym none ∙ ap (λ (x : ℕ). bound_by (place_at w x)) (sym berth_same) ∙ bound in absurd (cc)
 
   nobody_waits : (o : ObjectId) (n : ℕ) → lock_at w o.0 ≡ Thin (k + 1) n → bound_by (place_at w k) ≡ None → NobodyWaits (shown w) o
-  nobody_waits o n e none u flag x d is = by_seat (seat_of w.seats u) is
+  nobody_waits o n e none u flag x d is = by_berth (berth_of w.berths u) is
     where
       by_post : (p : Post) (q : Place) → IsProper w.fats p → act_of w.fats p q ≡ doing.Waits o x d → ⊥
       by_post Out q h same = not_waiting q same
@@ -128,9 +128,9 @@ module _ (w : WorldState) (sound : IsSound w) (k : ℕ) (t : ThreadId) (seat : s
       by_post (Back m y r) q h same = absurd (cc)
       by_post (Granted r) q h same = absurd (cc)
 
-      by_seat : (s : Option ℕ) → thread_of w u s ≡ Some (record { flag = flag; act = doing.Waits o x d }) → ⊥
-      by_seat None same = absurd (cc)
-      by_seat (Some j) same =
+      by_berth : (s : Option ℕ) → thread_of w u s ≡ Some (record { flag = flag; act = doing.Waits o x d }) → ⊥
+      by_berth None same = absurd (cc)
+      by_berth (Some j) same =
           by_post (post_at w.fats u) (place_at w j) (proper_at w.fats u sound.fats) (ap (λ (y : Thread). y.act) (same_Some _ _ same))
 
   -- an owner of a thin word: its notify finds nobody, since who waits on an object waits on its fat monitor
@@ -169,11 +169,11 @@ module _ (w : WorldState) (sound : IsSound w) (k : ℕ) (t : ThreadId) (seat : s
 
   pub load_facts : (c : MonitorCall) (l : Lock) → Is (shown w) t (flag_at w.fats t) (doing.Wants (call_of c)) → lock_at w c.object.0 ≡ l → MayShow w c.object.0 l → bound_by (place_at w k) ≡ None
       → LoadFact (shown w) t (flag_at w.fats t) c (next_of w.split c.operation l (k + 1))
-  load_facts c Free is e stands none = free_facts c.object (not_owned w sound k t seat c.object Free e (λ h. cc)) c.operation is
+  load_facts c Free is e stands none = free_facts c.object (not_owned w sound k t berth c.object Free e (λ h. cc)) c.operation is
   load_facts c (Thin i n) is e stands none =
       cond_both (i == k + 1) (when_own w.split c.operation (k + 1) n) (when_anothers c.operation) (LoadFact (shown w) t (flag_at w.fats t) c)
       (λ same. own_facts c.object c.operation n is (e ∙ ap (λ (j : ℕ). Thin j n) (eqb-true i (k + 1) same)) none)
-      (λ ne. anothers_facts c.object (not_owned w sound k t seat c.object (Thin i n) e (other w sound k t seat i n (eqb-false i (k + 1) ne) stands.0)) c.operation is)
+      (λ ne. anothers_facts c.object (not_owned w sound k t berth c.object (Thin i n) e (other w sound k t berth i n (eqb-false i (k + 1) ne) stands.0)) c.operation is)
   load_facts c (Fat m) is e stands none = tt
 
   pub load_run : (c : MonitorCall) (contended : Bool) (n : Next) → place_at w k ≡ InCall (Begun c contended) → LoadFact (shown w) t (flag_at w.fats t) c n
@@ -189,12 +189,12 @@ module _ (w : WorldState) (sound : IsSound w) (k : ℕ) (t : ThreadId) (seat : s
       → Run (shown w) (moves_made (after_take w k t o contended l).did.moves) (shown (with_go w k (after_take w k t o contended l)))
   take_run o true Free e h el =
       subst (λ (s : State). Run (shown w) (move.Lock t ∷ []) s)
-      (sym (shown_written w sound k t seat o (Thin (k + 1) 0) (held t 1) (InCall (Won o)) (one_move (won_at w o (Thin (k + 1) 0)) (move.Lock t)) out h (thin_fits w sound k t seat 0 (omega arith)) (mine w sound k t seat 0)))
-      (run_lock (shown w) t (flag_at w.fats t) o 0 (is_at w sound k t seat (InCall (Taking o true)) e out) (inl (rw el refl)) (rw el refl) (omega arith))
+      (sym (shown_written w sound k t berth o (Thin (k + 1) 0) (held t 1) (InCall (Won o)) (one_move (won_at w o (Thin (k + 1) 0)) (move.Lock t)) out h (thin_fits w sound k t berth 0 (omega arith)) (mine w sound k t berth 0)))
+      (run_lock (shown w) t (flag_at w.fats t) o 0 (is_at w sound k t berth (InCall (Taking o true)) e out) (inl (rw el refl)) (rw el refl) (omega arith))
   take_run o false Free e h el =
       subst (λ (s : State). Run (shown w) (move.Lock t ∷ move.Return t reply.Entered ∷ []) s)
-      (sym (shown_written w sound k t seat o (Thin (k + 1) 0) (held t 1) Idle (move_and_return (won_at w o (Thin (k + 1) 0)) (move.Lock t) t reply.Entered) out h (thin_fits w sound k t seat 0 (omega arith)) (mine w sound k t seat 0)))
-      (run_entered (shown w) t (flag_at w.fats t) o 0 (is_at w sound k t seat (InCall (Taking o false)) e out) (inl (rw el refl)) (rw el refl) (omega arith))
+      (sym (shown_written w sound k t berth o (Thin (k + 1) 0) (held t 1) Idle (move_and_return (won_at w o (Thin (k + 1) 0)) (move.Lock t) t reply.Entered) out h (thin_fits w sound k t berth 0 (omega arith)) (mine w sound k t berth 0)))
+      (run_entered (shown w) t (flag_at w.fats t) o 0 (is_at w sound k t berth (InCall (Taking o false)) e out) (inl (rw el refl)) (rw el refl) (omega arith))
   take_run o b (Thin i c) e h el = quiet (InCall (Taking o b)) (InCall (Begun (entering o) true)) (lost_at w o) e refl
   take_run o b (Fat m) e h el = quiet (InCall (Taking o b)) (InCall (Begun (entering o) true)) (lost_at w o) e refl
 
@@ -209,24 +209,24 @@ module _ (w : WorldState) (sound : IsSound w) (k : ℕ) (t : ThreadId) (seat : s
           let above : nat_lt 0 (suc m) ≡ true = lt-ltb 0 (suc m) (omega arith) in
           let held_still : (suc m == 0) ≡ false = ne_eqb (suc m) 0 (λ z. absurd (omega arith)) in
           let n : suc m - 1 + 1 ≡ suc m = omega arith in
-          rw (above, held_still) (mine w sound k t seat (suc m - 1) ∙ ap (λ (j : ℕ). held t j) n)
+          rw (above, held_still) (mine w sound k t berth (suc m - 1) ∙ ap (λ (j : ℕ). held t j) n)
 
       less_fits : (n : ℕ) → n ≤ greatest_count w.split → Fits w.split (if nat_lt 0 n then Thin (k + 1) (n - 1) else Free)
       less_fits zero b = tt
-      less_fits (suc m) b = rw (lt-ltb 0 (suc m) (omega arith)) (thin_fits w sound k t seat (suc m - 1) (omega arith))
+      less_fits (suc m) b = rw (lt-ltb 0 (suc m) (omega arith)) (thin_fits w sound k t berth (suc m - 1) (omega arith))
 
       by_operation : (o : ObjectId) (p : Operation) → place_at w k ≡ InCall (Storing (at_object o p) l) → o.0 < length w.words
           → StoresOwn w.split (k + 1) (lock_at w o.0) l p
           → Run (shown w) (moves_made (after_store w t (at_object o p) l).did.moves) (shown (with_go w k (after_store w t (at_object o p) l)))
       by_operation o op.Enter e h (n, old, few, new) =
           subst (λ (s : State). Run (shown w) (move.Lock t ∷ move.Return t reply.Entered ∷ []) s)
-          (sym (shown_written w sound k t seat o l (held t (n + 1 + 1)) Idle (move_and_return (stored_at w o l) (move.Lock t) t reply.Entered) out h (rw new (thin_fits w sound k t seat (n + 1) (omega arith))) (rw new (mine w sound k t seat (n + 1)))))
-          (run_entered (shown w) t (flag_at w.fats t) o (n + 1) (is_at w sound k t seat (InCall (Storing (at_object o op.Enter) l)) e out)
-          (inr (owned w sound k t seat o (Thin (k + 1) n) old (ap (λ (m : Monitor). m.owner) (mine w sound k t seat n)))) (rw old refl) (let most = greatest_count-bound w.split in omega arith))
+          (sym (shown_written w sound k t berth o l (held t (n + 1 + 1)) Idle (move_and_return (stored_at w o l) (move.Lock t) t reply.Entered) out h (rw new (thin_fits w sound k t berth (n + 1) (omega arith))) (rw new (mine w sound k t berth (n + 1)))))
+          (run_entered (shown w) t (flag_at w.fats t) o (n + 1) (is_at w sound k t berth (InCall (Storing (at_object o op.Enter) l)) e out)
+          (inr (owned w sound k t berth o (Thin (k + 1) n) old (ap (λ (m : Monitor). m.owner) (mine w sound k t berth n)))) (rw old refl) (let most = greatest_count-bound w.split in omega arith))
       by_operation o op.Exit e h (n, old, new) =
           subst (λ (s : State). Run (shown w) (move.Unlock t ∷ move.Return t reply.Exited ∷ []) s)
-          (sym (shown_written w sound k t seat o l (if n == 0 then free else held t n) Idle (move_and_return (stored_at w o l) (move.Unlock t) t reply.Exited) out h (rw new (less_fits n (rw old at (stands_at w sound o.0)).2)) (rw new (less n))))
-          (run_exited (shown w) t (flag_at w.fats t) o n (is_at w sound k t seat (InCall (Storing (at_object o op.Exit) l)) e out) (rw old (mine w sound k t seat n)))
+          (sym (shown_written w sound k t berth o l (if n == 0 then free else held t n) Idle (move_and_return (stored_at w o l) (move.Unlock t) t reply.Exited) out h (rw new (less_fits n (rw old at (stands_at w sound o.0)).2)) (rw new (less n))))
+          (run_exited (shown w) t (flag_at w.fats t) o n (is_at w sound k t berth (InCall (Storing (at_object o op.Exit) l)) e out) (rw old (mine w sound k t berth n)))
       by_operation o (op.Wait millis nanos) e h fact = absurd fact
       by_operation o op.Notify e h fact = absurd fact
       by_operation o op.NotifyAll e h fact = absurd fact
@@ -243,17 +243,17 @@ module _ (w : WorldState) (sound : IsSound w) (k : ℕ) (t : ThreadId) (seat : s
 
       kept : (won : Bool) (p : Place) (d : Did) → Fitting w k (InCall (Bound c won m))
           → shown (with_go w k (word_written w c.object (new_word w c.object (Fat m)) p d)) ≡ now_is (shown w) t (flag_at w.fats t) (doing_of p)
-      kept won p d fit = shown_kept w k t (word_written w c.object (new_word w c.object (Fat m)) p d) (flag_at w.fats t) (doing_of p) seat (within w sound k t seat) (length-set w.words c.object.0 (new_word w c.object (Fat m))) refl
+      kept won p d fit = shown_kept w k t (word_written w c.object (new_word w c.object (Fat m)) p d) (flag_at w.fats t) (doing_of p) berth (within w sound k t berth) (length-set w.words c.object.0 (new_word w c.object (Fat m))) refl
           (ap (does (flag_at w.fats t)) (act_out w.fats t p out)) (λ u ne x. refl)
-          (λ q. written w sound k t seat c.object (new_word w c.object (Fat m)) p d (Fat m) fit.0 (lock_of-new_word w c.object (Fat m) few) q
-          ∙ as_it_was w sound k t seat c.object (monitor_of w (Fat m)) (same won fit) q)
+          (λ q. written w sound k t berth c.object (new_word w c.object (Fat m)) p d (Fat m) fit.0 (lock_of-new_word w c.object (Fat m) few) q
+          ∙ as_it_was w sound k t berth c.object (monitor_of w (Fat m)) (same won fit) q)
 
       by_win : (won : Bool) → place_at w k ≡ InCall (Bound c won m) → Fitting w k (InCall (Bound c won m))
           → Run (shown w) (moves_made (after_publish w t c won m).did.moves) (shown (with_go w k (after_publish w t c won m)))
       by_win true e fit = subst (λ (s : State). Run (shown w) (move.Return t reply.Entered ∷ []) s)
           (sym (kept true Idle (return_alone (stored_at w c.object (Fat m)) t reply.Entered) fit))
-          (run_returned (shown w) t (flag_at w.fats t) reply.Entered tt (is_at w sound k t seat (InCall (Bound c true m)) e out))
-      by_win false e fit = kept false (InCall (Inflated c m)) (no_move (stored_at w c.object (Fat m))) fit ∙ now_is_same (shown w) t (flag_at w.fats t) (doing.Wants (call_of c)) (is_at w sound k t seat (InCall (Bound c false m)) e out)
+          (run_returned (shown w) t (flag_at w.fats t) reply.Entered tt (is_at w sound k t berth (InCall (Bound c true m)) e out))
+      by_win false e fit = kept false (InCall (Inflated c m)) (no_move (stored_at w c.object (Fat m))) fit ∙ now_is_same (shown w) t (flag_at w.fats t) (doing.Wants (call_of c)) (is_at w sound k t berth (InCall (Bound c false m)) e out)
 
   -- a new monitor is shown by no word
   after_bound : (o : ObjectId) (n : ℕ) (p : Place) (d : Did) (l : Lock) (q : ℕ) → MayShow w q l
@@ -278,14 +278,14 @@ module _ (w : WorldState) (sound : IsSound w) (k : ℕ) (t : ThreadId) (seat : s
       → MatchOption refused (Unit {0}) (λ x. won ≡ false → MayRefuse (shown w) t (call_of c) x)
       → Run (shown w) (moves_made (after_bind w t c won n refused).did.moves) (shown (with_go w k (after_bind w t c won n refused)))
   bind_run c won n p None e same may =
-      shown_kept w k t (after_bind w t c won n None) (flag_at w.fats t) (doing_of p) seat (within w sound k t seat) refl refl (ap (does (flag_at w.fats t)) (act_out (bound_with w.fats c.object t n) t (InCall (Bound c won (length w.fats.monitors))) out ∙ sym same)) (λ u ne. alike_bound c.object n u)
+      shown_kept w k t (after_bind w t c won n None) (flag_at w.fats t) (doing_of p) berth (within w sound k t berth) refl refl (ap (does (flag_at w.fats t)) (act_out (bound_with w.fats c.object t n) t (InCall (Bound c won (length w.fats.monitors))) out ∙ sym same)) (λ u ne. alike_bound c.object n u)
       (λ q. after_bound c.object n (InCall (Bound c won (length w.fats.monitors))) (no_move (atomic.Bound c.object (length w.fats.monitors))) (lock_at w q.0) q.0 (stands_at w sound q.0))
-      ∙ now_is_same (shown w) t (flag_at w.fats t) (doing_of p) (is_at w sound k t seat p e out)
+      ∙ now_is_same (shown w) t (flag_at w.fats t) (doing_of p) (is_at w sound k t berth p e out)
   bind_run c true n p (Some x) e same may =
       subst (λ (s : State). Run (shown w) (move.Return t reply.Entered ∷ []) s)
-      (sym (shown_stays w sound k t seat Idle (return_alone (atomic.NotBound c.object x) t reply.Entered) out))
-      (run_returned (shown w) t (flag_at w.fats t) reply.Entered tt (rw same at (is_at w sound k t seat p e out)))
-  bind_run c false n p (Some x) e same may = refused_run c x (rw same at (is_at w sound k t seat p e out)) (may refl)
+      (sym (shown_stays w sound k t berth Idle (return_alone (atomic.NotBound c.object x) t reply.Entered) out))
+      (run_returned (shown w) t (flag_at w.fats t) reply.Entered tt (rw same at (is_at w sound k t berth p e out)))
+  bind_run c false n p (Some x) e same may = refused_run c x (rw same at (is_at w sound k t berth p e out)) (may refl)
 
   -- a bind is refused for want of a monitor or of memory
   pub causes : (room : Bool) (P : Cause → Type 0) → P cause.NoMonitor → P cause.Memory → MatchOption (bind_cause room w.fats) (Unit {0}) P
@@ -297,10 +297,10 @@ module _ (w : WorldState) (sound : IsSound w) (k : ℕ) (t : ThreadId) (seat : s
       → Run (shown w) (moves_made (after_look_as w t n own).did.moves) (shown (with_go w k (after_look_as w t n own)))
   look_run n true e found =
       told (load_of w (record { 0 = n })) (move.Refuse t cause.StillOwner) (reply.Refused cause.StillOwner)
-      (run_refused (shown w) t (flag_at w.fats t) call.End cause.StillOwner (is_at w sound k t seat (Ending n) e out) (record { 0 = n }, owned_thinly (lock_at w n) found))
+      (run_refused (shown w) t (flag_at w.fats t) call.End cause.StillOwner (is_at w sound k t berth (Ending n) e out) (record { 0 = n }, owned_thinly (lock_at w n) found))
     where
       owned_thinly : (l : Lock) → is_own l (k + 1) ≡ true → (monitor_of w l).owner ≡ Some t
       owned_thinly Free h = absurd (cc)
-      owned_thinly (Thin i c) h = rw (eqb-true i (k + 1) h) (ap (λ (m : Monitor). m.owner) (mine w sound k t seat c))
+      owned_thinly (Thin i c) h = rw (eqb-true i (k + 1) h) (ap (λ (m : Monitor). m.owner) (mine w sound k t berth c))
       owned_thinly (Fat m) h = absurd (cc)
   look_run n false e found = quiet (Ending n) (Ending (n + 1)) (load_of w (record { 0 = n })) e refl

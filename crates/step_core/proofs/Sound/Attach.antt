@@ -1,4 +1,4 @@
--- A thread that attaches is live, has the lowest free seat, and is in no call.
+-- A thread that attaches is live, has the lowest free berth, and is in no call.
 use Rattle.step_core.proofs.Sound.End.{Right}
 use Rattle.std.specs.Prelude.{◌≡◌, ◌⊎◌, ℕ, ◌-◌, ◌<◌, Bool, true, false, if◌then◌else◌, ◌==◌, length, set, get_or, Option, Some, None, IsSome, is_some, count_by, ◌+◌, ◌≤◌}
 use Rattle.std.specs.Option.{unwrap_or}
@@ -11,8 +11,8 @@ use Rattle.lock_word.specs.Layout.{greatest_index}
 use Rattle.lock_word.specs.declared.ThreadId.{ThreadId}
 use Rattle.lock_word.specs.declared.Lock.{Lock}
 use Rattle.lock_word.specs.declared.Lock.TheVariants.{Free, Thin, Fat}
-use Rattle.thread_index.specs.Indices.{seat_of, free_seat, holder_at}
-use Rattle.thread_index.proofs.Seats.{seat_found, seat_same, free_found, seat_taken_same, seat_taken_other, IsOneToOne-taken}
+use Rattle.thread_index.specs.Indices.{berth_of, free_berth, holder_at}
+use Rattle.thread_index.proofs.Berths.{berth_found, berth_same, free_found, berth_taken_same, berth_taken_other, IsOneToOne-taken}
 use Rattle.fat_monitor.specs.declared.actions.Post.{Post}
 use Rattle.fat_monitor.specs.declared.actions.Post.TheVariants.{Out}
 use Rattle.fat_monitor.specs.declared.monitors.Monitor as fat
@@ -39,27 +39,27 @@ use Rattle.step_core.proofs.Facts.OneThread.{stands_at}
 use Rattle.step_core.proofs.Sound.Posts.{count_taken, count_below}
 
 module _ (w : WorldState) (sound : IsSound w) (t : ThreadId) where
-  -- a new thread at the lowest free seat
-  module _ (none : seat_of w.seats t ≡ None) (k : ℕ) (free : free_seat w.seats ≡ Some k) where
+  -- a new thread at the lowest free berth
+  module _ (none : berth_of w.berths t ≡ None) (k : ℕ) (free : free_berth w.berths ≡ Some k) where
     abbrev now : WorldState
     now = with_live w k t
 
     has_place : k < length w.places
-    has_place = rw sound.seated ((free_found w.seats k free).0)
+    has_place = rw sound.berthed ((free_found w.berths k free).0)
 
-    -- a seat that somebody has is another one
-    taken_elsewhere : (j : ℕ) → IsSome (holder_at w.seats j) → j ≡ k → ⊥
-    taken_elsewhere j h e = let never : is_some {T = ThreadId} None ≡ true = rw (e, (free_found w.seats k free).1) at h in absurd (cc)
+    -- a berth that somebody has is another one
+    taken_elsewhere : (j : ℕ) → IsSome (holder_at w.berths j) → j ≡ k → ⊥
+    taken_elsewhere j h e = let never : is_some {T = ThreadId} None ≡ true = rw (e, (free_found w.berths k free).1) at h in absurd (cc)
 
-    holder_kept : (j : ℕ) → (j ≡ k → ⊥) → holder_at (set w.seats k (Some t)) j ≡ holder_at w.seats j
-    holder_kept j ne = get_or-set_other w.seats k j (Some t) None ne
+    holder_kept : (j : ℕ) → (j ≡ k → ⊥) → holder_at (set w.berths k (Some t)) j ≡ holder_at w.berths j
+    holder_kept j ne = get_or-set_other w.berths k j (Some t) None ne
 
-    -- the seat of the new thread, and of another
-    seat_now_same : (u : ThreadId) → u.0 ≡ t.0 → seat_of now.seats u ≡ Some k
-    seat_now_same u e = seat_same now.seats t u e ∙ seat_taken_same w.seats t k none free
+    -- the berth of the new thread, and of another
+    berth_now_same : (u : ThreadId) → u.0 ≡ t.0 → berth_of now.berths u ≡ Some k
+    berth_now_same u e = berth_same now.berths t u e ∙ berth_taken_same w.berths t k none free
 
-    seat_now_other : (u : ThreadId) → (u.0 ≡ t.0 → ⊥) → seat_of now.seats u ≡ seat_of w.seats u
-    seat_now_other u ne = seat_taken_other w.seats t u k free ne
+    berth_now_other : (u : ThreadId) → (u.0 ≡ t.0 → ⊥) → berth_of now.berths u ≡ berth_of w.berths u
+    berth_now_other u ne = berth_taken_other w.berths t u k free ne
 
     -- another thread has the post and the flag that it had, and shows what it showed
     post_kept : (u : ThreadId) → (u.0 ≡ t.0 → ⊥) → post_of now.fats u ≡ post_of w.fats u
@@ -77,17 +77,17 @@ module _ (w : WorldState) (sound : IsSound w) (t : ThreadId) where
     alike : (u : ThreadId) → (u.0 ≡ t.0 → ⊥) → ActsAlike w.fats now.fats u
     alike u ne = acts_alike w.fats now.fats u sound.fats (flag_kept u ne) (ap (λ (o : Option Post). unwrap_or o Out) (post_kept u ne)) (λ m h. refl)
 
-    thread_kept : (u : ThreadId) → (u.0 ≡ t.0 → ⊥) → (o : Option ℕ) → seat_of w.seats u ≡ o → thread_of now u o ≡ thread_of w u o
+    thread_kept : (u : ThreadId) → (u.0 ≡ t.0 → ⊥) → (o : Option ℕ) → berth_of w.berths u ≡ o → thread_of now u o ≡ thread_of w u o
     thread_kept u ne None e = refl
     thread_kept u ne (Some j) e =
-        let found : holder_at w.seats j ≡ Some u = (seat_found w.seats u j e).1 in
+        let found : holder_at w.berths j ≡ Some u = (berth_found w.berths u j e).1 in
         rw (get_or-set_other w.places k j Idle Idle (taken_elsewhere j (rw found refl)))
         (ap (λ (x : Thread). Some x) (alike u ne (place_at w j)))
 
     new_thread : (u : ThreadId) → (u.0 ≡ t.0) ⊎ (u.0 ≡ t.0 → ⊥)
-        → thread_of now u (seat_of now.seats u) ≡ (if u.0 == t.0 then Some (record { flag = false; act = doing.Idle }) else thread_of w u (seat_of w.seats u))
-    new_thread u (inl same) = rw (seat_now_same u same, eq-eqb u.0 t.0 same, get_or-set_same w.places k Idle Idle has_place, post_own u same, flag_own u same) refl
-    new_thread u (inr ne) = rw (seat_now_other u ne, ne_eqb u.0 t.0 ne) (thread_kept u ne (seat_of w.seats u) refl)
+        → thread_of now u (berth_of now.berths u) ≡ (if u.0 == t.0 then Some (record { flag = false; act = doing.Idle }) else thread_of w u (berth_of w.berths u))
+    new_thread u (inl same) = rw (berth_now_same u same, eq-eqb u.0 t.0 same, get_or-set_same w.places k Idle Idle has_place, post_own u same, flag_own u same) refl
+    new_thread u (inr ne) = rw (berth_now_other u ne, ne_eqb u.0 t.0 ne) (thread_kept u ne (berth_of w.berths u) refl)
 
     old_monitor : (q : ℕ) (l : Lock) → MayShow w q l → monitor_of now l ≡ monitor_of w l
     old_monitor q Free st = refl
@@ -104,16 +104,16 @@ module _ (w : WorldState) (sound : IsSound w) (t : ThreadId) where
       where
         still : (c : MonitorCall) (won : Bool) (m : ℕ) → FittingStage w j (Bound c won m)
             → (m < length w.fats.monitors)
-            × (monitor_at w.fats m ≡ record { object = c.object; owner = holder_at now.seats j; holds = (monitor_at w.fats m).holds })
+            × (monitor_at w.fats m ≡ record { object = c.object; owner = holder_at now.berths j; holds = (monitor_at w.fats m).holds })
         still c won m fit = let kept = bound_kept w j c won m fit in (kept.0, rw (holder_kept j ne) kept.1)
 
-    attached_now : (u : ThreadId) → (u.0 ≡ t.0) ⊎ (u.0 ≡ t.0 → ⊥) → IsSome (seat_of now.seats u) → IsAttached now.fats u
+    attached_now : (u : ThreadId) → (u.0 ≡ t.0) ⊎ (u.0 ≡ t.0 → ⊥) → IsSome (berth_of now.berths u) → IsAttached now.fats u
     attached_now u (inl same) h = rw (post_own u same) refl
-    attached_now u (inr ne) h = rw (post_kept u ne) (sound.attached u (rw (seat_now_other u ne) at h))
+    attached_now u (inr ne) h = rw (post_kept u ne) (sound.attached u (rw (berth_now_other u ne) at h))
 
-    live_now : (u : ThreadId) → (u.0 ≡ t.0) ⊎ (u.0 ≡ t.0 → ⊥) → IsAttached now.fats u → IsSome (seat_of now.seats u)
-    live_now u (inl same) h = rw (seat_now_same u same) refl
-    live_now u (inr ne) h = rw (seat_now_other u ne) (sound.live u (rw (post_kept u ne) at h))
+    live_now : (u : ThreadId) → (u.0 ≡ t.0) ⊎ (u.0 ≡ t.0 → ⊥) → IsAttached now.fats u → IsSome (berth_of now.berths u)
+    live_now u (inl same) h = rw (berth_now_same u same) refl
+    live_now u (inr ne) h = rw (berth_now_other u ne) (sound.live u (rw (post_kept u ne) at h))
 
     -- nobody was attached under this thread's number
     fresh : post_of w.fats t ≡ None
@@ -126,57 +126,57 @@ module _ (w : WorldState) (sound : IsSound w) (t : ThreadId) where
             let never : is_some {T = ℕ} None ≡ true = rw none at (sound.live t here) in
             absurd (cc)
 
-    posted_now : (u : ThreadId) (j : ℕ) → (u.0 ≡ t.0) ⊎ (u.0 ≡ t.0 → ⊥) → seat_of now.seats u ≡ Some j → Agrees (place_at now j) (post_of now.fats u)
+    posted_now : (u : ThreadId) (j : ℕ) → (u.0 ≡ t.0) ⊎ (u.0 ≡ t.0 → ⊥) → berth_of now.berths u ≡ Some j → Agrees (place_at now j) (post_of now.fats u)
     posted_now u j (inl same) h =
-        let here : k ≡ j = same_Some k j (sym (seat_now_same u same) ∙ h) in
+        let here : k ≡ j = same_Some k j (sym (berth_now_same u same) ∙ h) in
         rw (← here, get_or-set_same w.places k Idle Idle has_place) (post_own u same)
     posted_now u j (inr ne) h =
-        let before : seat_of w.seats u ≡ Some j = sym (seat_now_other u ne) ∙ h in
-        let found : holder_at w.seats j ≡ Some u = (seat_found w.seats u j before).1 in
+        let before : berth_of w.berths u ≡ Some j = sym (berth_now_other u ne) ∙ h in
+        let found : holder_at w.berths j ≡ Some u = (berth_found w.berths u j before).1 in
         rw (get_or-set_other w.places k j Idle Idle (taken_elsewhere j (rw found refl)), post_kept u ne) (sound.posted u j before)
 
-    counted_now : thread_count now.fats ≡ count_by is_some now.seats
+    counted_now : thread_count now.fats ≡ count_by is_some now.berths
     counted_now =
-        let found = free_found w.seats k free in
+        let found = free_found w.berths k free in
         let more : thread_count now.fats ≡ thread_count w.fats + 1 = count-with_thread w.fats t fresh in
-        let taken : count_by is_some now.seats ≡ count_by is_some w.seats + 1 = count_taken w.seats k t found.0 found.1 in
-        let before : thread_count w.fats ≡ count_by is_some w.seats = sound.counted in
+        let taken : count_by is_some now.berths ≡ count_by is_some w.berths + 1 = count_taken w.berths k t found.0 found.1 in
+        let before : thread_count w.fats ≡ count_by is_some w.berths = sound.counted in
         omega arith
 
     -- there is room for one more thread
     has_room : thread_count w.fats < 32767
     has_room =
-        let found = free_found w.seats k free in
-        let below : count_by is_some w.seats < length w.seats = count_below w.seats k t found.0 found.1 in
-        let few : length w.seats ≤ greatest_index w.split = sound.few in
+        let found = free_found w.berths k free in
+        let below : count_by is_some w.berths < length w.berths = count_below w.berths k t found.0 found.1 in
+        let few : length w.berths ≤ greatest_index w.split = sound.few in
         let most : greatest_index w.split ≤ 32767 = greatest_index-bound w.split in
-        let before : thread_count w.fats ≡ count_by is_some w.seats = sound.counted in
+        let before : thread_count w.fats ≡ count_by is_some w.berths = sound.counted in
         omega arith
 
-    -- a free seat has bound nothing: a monitor that it had bound would have no owner
+    -- a free berth has bound nothing: a monitor that it had bound would have no owner
     none_bound : (m : ℕ) → bound_by (place_at w k) ≡ Some m → ⊥
     none_bound m bound =
         let b = who_bound (place_at w k) m bound in
         let fit : Fitting w k (InCall (Bound b.0 b.1 m)) = subst (λ (x : Place). Fitting w k x) b.2 (sound.places k has_place) in
-        let owner : (monitor_at w.fats m).owner ≡ None = ap (λ (x : fat.Monitor). x.owner) fit.2.2 ∙ (free_found w.seats k free).1 in
+        let owner : (monitor_at w.fats m).owner ≡ None = ap (λ (x : fat.Monitor). x.owner) fit.2.2 ∙ (free_found w.berths k free).1 in
         let holds : (monitor_at w.fats m).holds ≡ fit.2.0 + 1 = ap (λ (x : fat.Monitor). x.holds) fit.2.2 in
         let nothing : (monitor_at w.fats m).holds ≡ 0 = (sound.fats.fair m fit.1).1.0 owner in
         omega arith
 
     published_now : (m : ℕ) → IsPublished w m → IsPublished now m
     published_now m (inl shows) = inl shows
-    published_now m (inr (j, there, bound)) = by_seat (cases_eq j k)
+    published_now m (inr (j, there, bound)) = by_berth (cases_eq j k)
       where
-        by_seat : (j ≡ k) ⊎ (j ≡ k → ⊥) → IsPublished now m
-        by_seat (inl e) = absurd (none_bound m (rw e at bound))
-        by_seat (inr ne) = inr (j, rw (length-set w.places k Idle) there, rw (get_or-set_other w.places k j Idle Idle ne) bound)
+        by_berth : (j ≡ k) ⊎ (j ≡ k → ⊥) → IsPublished now m
+        by_berth (inl e) = absurd (none_bound m (rw e at bound))
+        by_berth (inr ne) = inr (j, rw (length-set w.places k Idle) there, rw (get_or-set_other w.places k j Idle Idle ne) bound)
 
     now_sound : IsSound now
     now_sound = record {
       many = sound.many;
-      seated = length-set w.places k Idle ∙ sound.seated ∙ sym (length-set w.seats k (Some t));
-      few = rw (length-set w.seats k (Some t)) sound.few;
-      one_to_one = IsOneToOne-taken w.seats t k sound.one_to_one none free;
+      berthed = length-set w.places k Idle ∙ sound.berthed ∙ sym (length-set w.berths k (Some t));
+      few = rw (length-set w.berths k (Some t)) sound.few;
+      one_to_one = IsOneToOne-taken w.berths t k sound.one_to_one none free;
       formed = sound.formed;
       words = λ p h. old_stands p (lock_at w p) (sound.words p h);
       fats = IsSound-with_thread w.fats t sound.fats fresh has_room;
@@ -185,11 +185,11 @@ module _ (w : WorldState) (sound : IsSound w) (t : ThreadId) where
       live = λ u h. live_now u (cases_eq u.0 t.0) h;
       posted = λ u j h. posted_now u j (cases_eq u.0 t.0) h;
       counted = counted_now;
-      places = λ j h. at_seat j h (cases_eq j k);
+      places = λ j h. at_berth j h (cases_eq j k);
     } where
-      at_seat : (j : ℕ) → j < length (set w.places k Idle) → (j ≡ k) ⊎ (j ≡ k → ⊥) → Fitting now j (get_or (set w.places k Idle) j Idle)
-      at_seat j h (inl e) = rw (e, get_or-set_same w.places k Idle Idle has_place) tt
-      at_seat j h (inr ne) =
+      at_berth : (j : ℕ) → j < length (set w.places k Idle) → (j ≡ k) ⊎ (j ≡ k → ⊥) → Fitting now j (get_or (set w.places k Idle) j Idle)
+      at_berth j h (inl e) = rw (e, get_or-set_same w.places k Idle Idle has_place) tt
+      at_berth j h (inr ne) =
           let l : j < length w.places = omega (arith, length-set w.places k Idle) in
           rw (get_or-set_other w.places k j Idle Idle ne) (old_fits j ne (place_at w j) (sound.places j l))
 
@@ -200,7 +200,7 @@ module _ (w : WorldState) (sound : IsSound w) (t : ThreadId) where
         (now_sound, (now_is (shown w) t false doing.Idle, (rw none refl, refl), (λ i. record { thread = threads i; objects = length w.words; monitor = monitors i; moment = w.fats.moment })))
 
   -- an attach that is refused changes nothing
-  pub attached_right : (room : Bool) (o f : Option ℕ) → seat_of w.seats t ≡ o → free_seat w.seats ≡ f → Right w (after_attach room w t o f)
+  pub attached_right : (room : Bool) (o f : Option ℕ) → berth_of w.berths t ≡ o → free_berth w.berths ≡ f → Right w (after_attach room w t o f)
   attached_right room (Some k) f e free = (sound, refl)
   attached_right room None None e free = (sound, refl)
   attached_right true None (Some k) e free = attach_right e k free

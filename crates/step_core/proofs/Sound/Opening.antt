@@ -12,8 +12,8 @@ use Rattle.lock_word.specs.declared.Lock.TheVariants.{Free}
 use Rattle.lock_word.specs.declared.Split.{Split}
 use Rattle.lock_word.specs.declared.Split.TheVariants.{Wide, Deep}
 use Rattle.lock_word.specs.Layout.{lock_of, greatest_index}
-use Rattle.thread_index.specs.Indices.{seat_of}
-use Rattle.thread_index.proofs.Seats.{seat_of-replicate, IsOneToOne-replicate}
+use Rattle.thread_index.specs.Indices.{berth_of}
+use Rattle.thread_index.proofs.Berths.{berth_of-replicate, IsOneToOne-replicate}
 use Rattle.fat_monitor.specs.declared.actions.Post.{Post}
 use Rattle.fat_monitor.specs.FatState.{IsAttached}
 use Rattle.fat_monitor.proofs.Soundness.{IsSound-opened}
@@ -34,11 +34,11 @@ free_at : (split : Split) (word : ℕ) → word < 256 → lock_of split word ≡
 free_at Wide word h = rw (lt-ltb word 2147483648 (omega arith), lt-ltb word 65536 (omega arith)) refl
 free_at Deep word h = rw (lt-ltb word 2147483648 (omega arith), lt-ltb word 1048576 (omega arith)) refl
 
--- no seat is taken
+-- no berth is taken
 none_taken : (n : ℕ) → count_by {X = Option ThreadId} is_some (replicate n None) ≡ 0
 none_taken n = sum_by-replicate (λ (x : Option ThreadId). cond (is_some x) 1 0) n None ∙ omega arith
 
--- every seat is idle
+-- every berth is idle
 idle_at : (n k : ℕ) → get_or (replicate n Idle) k Idle ≡ Idle
 idle_at zero k = refl
 idle_at (suc n) zero = refl
@@ -56,8 +56,8 @@ module _ (lows : List ℕ) (monitors indices : ℕ) (split : Split) (bytes : (k 
   lock_free p = free_at split (get_or (map low_word lows) p (low_word 0)).0 (low_words lows bytes p)
 
   -- nobody has an index, and nobody is attached
-  nobody : (t : ThreadId) → IsSome (seat_of world.seats t) → ⊥
-  nobody t h = let never : is_some {T = ℕ} None ≡ true = rw (seat_of-replicate indices t) at h in absurd (cc)
+  nobody : (t : ThreadId) → IsSome (berth_of world.berths t) → ⊥
+  nobody t h = let never : is_some {T = ℕ} None ≡ true = rw (berth_of-replicate indices t) at h in absurd (cc)
 
   none_attached : (t : ThreadId) → IsAttached world.fats t → ⊥
   none_attached t h = let never : is_some {T = Post} None ≡ true = rw (get-empty {X = Post} nat_cmp t.0) at h in absurd (cc)
@@ -65,7 +65,7 @@ module _ (lows : List ℕ) (monitors indices : ℕ) (split : Split) (bytes : (k 
   pub opened_sound : length lows ≤ 65535 → indices ≤ greatest_index split → monitors ≤ 8388608 → IsSound world
   opened_sound many few bounded = record {
     many = rw (length-map lows low_word) many;
-    seated = length-replicate indices Idle ∙ sym size;
+    berthed = length-replicate indices Idle ∙ sym size;
     few = rw size few;
     one_to_one = IsOneToOne-replicate indices;
     formed = λ p bad. let h : (get_or (map low_word lows) p (low_word 0)).0 < 256 = low_words lows bytes p in omega arith;
@@ -78,12 +78,12 @@ module _ (lows : List ℕ) (monitors indices : ℕ) (split : Split) (bytes : (k 
     counted = len-empty nat_cmp Post ∙ sym (none_taken indices);
     places = λ k h. rw (idle_at indices k) tt;
   } where
-    size : length world.seats ≡ indices
+    size : length world.berths ≡ indices
     size = length-replicate indices None
 
   pub opened_shows : shown world ≡ opening (length lows)
   opened_shows =
-      let threads : (shown world).thread ≡ (opening (length lows)).thread = fun_ext (λ t. rw (seat_of-replicate indices t) refl) in
+      let threads : (shown world).thread ≡ (opening (length lows)).thread = fun_ext (λ t. rw (berth_of-replicate indices t) refl) in
       let monitors_free : (shown world).monitor ≡ (opening (length lows)).monitor = fun_ext (λ o. rw (lock_free o.0) refl) in
       let size : length (map low_word lows) ≡ length lows = length-map lows low_word in
       λ i. record { thread = threads i; objects = size i; monitor = monitors_free i; moment = 0 }

@@ -10,8 +10,8 @@ use Rattle.lock_word.specs.declared.Lock.{Lock}
 use Rattle.lock_word.specs.declared.Lock.TheVariants.{Free, Thin, Fat}
 use Rattle.lock_word.specs.Layout.{Fits, IsMalformed, low_of}
 use Rattle.lock_word.proofs.Words.{formed-word_of}
-use Rattle.thread_index.specs.Indices.{seat_of, holder_at}
-use Rattle.thread_index.proofs.Seats.{seat_thread}
+use Rattle.thread_index.specs.Indices.{berth_of, holder_at}
+use Rattle.thread_index.proofs.Berths.{berth_thread}
 use Rattle.wait_lines.proofs.ThreadLemmas.{same_thread}
 use Rattle.fat_monitor.specs.declared.monitors.Monitor as fat
 use Rattle.fat_monitor.specs.declared.actions.Post.TheVariants.{Out}
@@ -32,7 +32,7 @@ use Rattle.step_core.proofs.Facts.PlaceFacts.{agrees_kept, fitting_kept, bound_k
 
 module _ (w : WorldState) (sound : IsSound w) where
   -- who shows a thin lock is live
-  pub thin_owner : (q j n : ℕ) → lock_at w q ≡ Thin (j + 1) n → IsSome (holder_at w.seats j)
+  pub thin_owner : (q j n : ℕ) → lock_at w q ≡ Thin (j + 1) n → IsSome (holder_at w.berths j)
   thin_owner q j n e =
       let stands : MayShow w q (Thin (j + 1) n) = rw e at (stands_at w sound q) in
       let here : j + 1 - 1 ≡ j = omega arith in
@@ -55,7 +55,7 @@ module _ (w : WorldState) (sound : IsSound w) where
     fits_changed ps j = fitting_kept w (with_fats ps) j refl refl (λ q n e. e) (λ q m e. e) bound (λ q e. e)
       where
         bound : (c : MonitorCall) (won : Bool) (m : ℕ) → FittingStage w j (Bound c won m)
-            → (m < length g.monitors) × (monitor_at g m ≡ record { object = c.object; owner = holder_at w.seats j; holds = (monitor_at w.fats m).holds })
+            → (m < length g.monitors) × (monitor_at g m ≡ record { object = c.object; owner = holder_at w.berths j; holds = (monitor_at w.fats m).holds })
         bound c won m fit =
             let object : (monitor_at w.fats m).object.0 ≡ c.object.0 = ap (λ (x : fat.Monitor). x.object.0) fit.2.2 in
             let owned : IsSome (monitor_at w.fats m).owner = rw fit.2.2 (thin_owner c.object.0 j fit.2.0 fit.2.1) in
@@ -69,7 +69,7 @@ module _ (w : WorldState) (sound : IsSound w) where
         → ((u : ThreadId) → (post_of g u ≡ Some Out) ↔ (post_of w.fats u ≡ Some Out)) → IsSound (record w { fats = g })
     sound_fats fats count attached out = record {
       many = sound.many;
-      seated = sound.seated;
+      berthed = sound.berthed;
       few = sound.few;
       one_to_one = sound.one_to_one;
       formed = sound.formed;
@@ -86,7 +86,7 @@ module _ (w : WorldState) (sound : IsSound w) where
       still_there m (inl shows) = inl (rw (objects m) shows)
       still_there m (inr there) = inr there
 
-module _ (w : WorldState) (sound : IsSound w) (k : ℕ) (t : ThreadId) (seat : seat_of w.seats t ≡ Some k) where
+module _ (w : WorldState) (sound : IsSound w) (k : ℕ) (t : ThreadId) (berth : berth_of w.berths t ≡ Some k) where
   -- a Go keeps the world sound where it keeps its words, its fat state, its own place and the others'
   sound_gone : (a : AfterGo) → length a.words ≡ length w.words
       → ((p : ℕ) → IsMalformed w.split (word_at (with_go w k a) p).0 → ⊥)
@@ -98,7 +98,7 @@ module _ (w : WorldState) (sound : IsSound w) (k : ℕ) (t : ThreadId) (seat : s
       → IsSound (with_go w k a)
   sound_gone a size formed words fats posts agrees own others published = record {
     many = rw size sound.many;
-    seated = length-set w.places k a.place ∙ sound.seated;
+    berthed = length-set w.places k a.place ∙ sound.berthed;
     few = sound.few;
     one_to_one = sound.one_to_one;
     formed = formed;
@@ -109,22 +109,22 @@ module _ (w : WorldState) (sound : IsSound w) (k : ℕ) (t : ThreadId) (seat : s
     live = λ u h. sound.live u ((posts.1 u).0 h);
     posted = λ u j h. at_post u j h (cases_eq j k);
     counted = posts.0 ∙ sound.counted;
-    places = λ j h. at_seat j h (cases_eq j k);
+    places = λ j h. at_berth j h (cases_eq j k);
   } where
-    at_post : (u : ThreadId) (j : ℕ) → seat_of w.seats u ≡ Some j → (j ≡ k) ⊎ (j ≡ k → ⊥) → Agrees (get_or (set w.places k a.place) j Idle) (post_of a.fats u)
+    at_post : (u : ThreadId) (j : ℕ) → berth_of w.berths u ≡ Some j → (j ≡ k) ⊎ (j ≡ k → ⊥) → Agrees (get_or (set w.places k a.place) j Idle) (post_of a.fats u)
     at_post u j h (inl e) =
-        let same : u ≡ t = same_thread t u (seat_thread w.seats t u k seat (rw e at h)) in
-        rw (e, get_or-set_same w.places k a.place Idle (within w sound k t seat), same) agrees
+        let same : u ≡ t = same_thread t u (berth_thread w.berths t u k berth (rw e at h)) in
+        rw (e, get_or-set_same w.places k a.place Idle (within w sound k t berth), same) agrees
     at_post u j h (inr ne) =
-        let other : u ≢ t = λ same. ne (same_Some j k (sym h ∙ ap (λ (x : ThreadId). seat_of w.seats x) same ∙ seat)) in
+        let other : u ≢ t = λ same. ne (same_Some j k (sym h ∙ ap (λ (x : ThreadId). berth_of w.berths x) same ∙ berth)) in
         rw (get_or-set_other w.places k j a.place Idle ne)
         (agrees_kept (place_at w j) (post_of w.fats u) (post_of a.fats u) (posts.2 u other) (sound.posted u j h))
 
-    at_seat : (j : ℕ) → j < length (set w.places k a.place) → (j ≡ k) ⊎ (j ≡ k → ⊥) → Fitting (with_go w k a) j (get_or (set w.places k a.place) j Idle)
-    at_seat j h (inl e) =
+    at_berth : (j : ℕ) → j < length (set w.places k a.place) → (j ≡ k) ⊎ (j ≡ k → ⊥) → Fitting (with_go w k a) j (get_or (set w.places k a.place) j Idle)
+    at_berth j h (inl e) =
         let l : k < length w.places = omega (arith, length-set w.places k a.place) in
         rw (e, get_or-set_same w.places k a.place Idle l) own
-    at_seat j h (inr ne) =
+    at_berth j h (inr ne) =
         let l : j < length w.places = omega (arith, length-set w.places k a.place) in
         rw (get_or-set_other w.places k j a.place Idle ne) (others j ne (sound.places j l))
 
@@ -135,11 +135,11 @@ module _ (w : WorldState) (sound : IsSound w) (k : ℕ) (t : ThreadId) (seat : s
       → (bound_by (place_at w k) ≡ Some m → IsPublished (with_go w k a) m)
       → IsPublished (with_go w k a) m
   still_published a m (inl shows) fat object own = inl (rw object (fat (monitor_at w.fats m).object.0 shows))
-  still_published a m (inr (j, there, bound)) fat object own = by_seat (cases_eq j k)
+  still_published a m (inr (j, there, bound)) fat object own = by_berth (cases_eq j k)
     where
-      by_seat : (j ≡ k) ⊎ (j ≡ k → ⊥) → IsPublished (with_go w k a) m
-      by_seat (inl e) = own (rw e at bound)
-      by_seat (inr ne) = inr (j, rw (length-set w.places k a.place) there, rw (get_or-set_other w.places k j a.place Idle ne) bound)
+      by_berth : (j ≡ k) ⊎ (j ≡ k → ⊥) → IsPublished (with_go w k a) m
+      by_berth (inl e) = own (rw e at bound)
+      by_berth (inr ne) = inr (j, rw (length-set w.places k a.place) there, rw (get_or-set_other w.places k j a.place Idle ne) bound)
 
   -- a thread that has bound nothing leaves nothing unpublished
   no_own : (a : AfterGo) (m : ℕ) → bound_by (place_at w k) ≡ None → bound_by (place_at w k) ≡ Some m → IsPublished (with_go w k a) m
@@ -248,7 +248,7 @@ module _ (w : WorldState) (sound : IsSound w) (k : ℕ) (t : ThreadId) (seat : s
       where
         still : (c : MonitorCall) (won : Bool) (m : ℕ) → FittingStage w j (Bound c won m)
             → (m < length (bound_with w.fats o t n).monitors)
-            × (monitor_at (bound_with w.fats o t n) m ≡ record { object = c.object; owner = holder_at w.seats j; holds = (monitor_at w.fats m).holds })
+            × (monitor_at (bound_with w.fats o t n) m ≡ record { object = c.object; owner = holder_at w.berths j; holds = (monitor_at w.fats m).holds })
         still c won m fit = let kept = bound_kept w j c won m fit in (more m fit.1, monitor_kept m fit.1 ∙ kept.1)
 
     -- the new monitor is the thread's to publish
@@ -256,7 +256,7 @@ module _ (w : WorldState) (sound : IsSound w) (k : ℕ) (t : ThreadId) (seat : s
         → (m : ℕ) → m < length (bound_with w.fats o t n).monitors → (m ≡ length w.fats.monitors) ⊎ (m ≡ length w.fats.monitors → ⊥)
         → IsPublished (with_go w k (bound p d)) m
     bound_published p d none own m h (inl e) =
-        let there : k < length w.places = within w sound k t seat in
+        let there : k < length w.places = within w sound k t berth in
         inr (k, rw (length-set w.places k p) there, rw (get_or-set_same w.places k p Idle there, e) own)
     bound_published p d none own m h (inr ne) =
         let l : m < length w.fats.monitors = omega (arith, length-append w.fats.monitors (record { object = o; owner = Some t; holds = n } ∷ [])) in

@@ -1,4 +1,4 @@
--- What a Go leaves of the posts of the threads, and how many seats are taken.
+-- What a Go leaves of the posts of the threads, and how many berths are taken.
 use Rattle.std.specs.Prelude.{◌≡◌, ◌≢◌, ◌⊎◌, ◌↔◌, ℕ, ◌+◌, ◌<◌, Bool, true, false, if◌then◌else◌, ◌==◌, nat_lt, cond, ℤ, List, length, set, count_by, Option, Some, None, IsSome, is_some, Result, Ok, Err}
 use Rattle.std.specs.Option.{option_map}
 use Rattle.std.specs.Ordering.{nat_cmp}
@@ -156,29 +156,29 @@ own_post f t action.Spurious sound out other = rw out tt
 own_post f t action.Collect sound out other = rw out tt
 own_post f t action.End sound out other = absurd (other refl)
 
--- ---- taken seats
+-- ---- taken berths
 
--- one seat more is taken
-pub count_taken : (seats : List (Option ThreadId)) (k : ℕ) (t : ThreadId) → k < length seats → holder_at seats k ≡ None
-    → count_by is_some (set seats k (Some t)) ≡ count_by is_some seats + 1
-count_taken seats k t within free =
-    let e = sum_by-set (λ (x : Option ThreadId). cond (is_some x) 1 0) seats k (Some t) None within in
-    let none : cond {A = ℕ} (is_some (holder_at seats k)) 1 0 ≡ 0 = rw free refl in
+-- one berth more is taken
+pub count_taken : (berths : List (Option ThreadId)) (k : ℕ) (t : ThreadId) → k < length berths → holder_at berths k ≡ None
+    → count_by is_some (set berths k (Some t)) ≡ count_by is_some berths + 1
+count_taken berths k t within free =
+    let e = sum_by-set (λ (x : Option ThreadId). cond (is_some x) 1 0) berths k (Some t) None within in
+    let none : cond {A = ℕ} (is_some (holder_at berths k)) 1 0 ≡ 0 = rw free refl in
     omega arith
 
 -- and one fewer
-pub count_given : (seats : List (Option ThreadId)) (k : ℕ) (t : ThreadId) → k < length seats → holder_at seats k ≡ Some t
-    → count_by is_some (set seats k None) + 1 ≡ count_by is_some seats
-count_given seats k t within held =
-    let e = sum_by-set (λ (x : Option ThreadId). cond (is_some x) 1 0) seats k None None within in
-    let one : cond {A = ℕ} (is_some (holder_at seats k)) 1 0 ≡ 1 = rw held refl in
+pub count_given : (berths : List (Option ThreadId)) (k : ℕ) (t : ThreadId) → k < length berths → holder_at berths k ≡ Some t
+    → count_by is_some (set berths k None) + 1 ≡ count_by is_some berths
+count_given berths k t within held =
+    let e = sum_by-set (λ (x : Option ThreadId). cond (is_some x) 1 0) berths k None None within in
+    let one : cond {A = ℕ} (is_some (holder_at berths k)) 1 0 ≡ 1 = rw held refl in
     omega arith
 
--- where a seat is free, fewer are taken than there are
-pub count_below : (seats : List (Option ThreadId)) (k : ℕ) (t : ThreadId) → k < length seats → holder_at seats k ≡ None
-    → count_by is_some seats < length seats
-count_below seats k t within free =
-    let more = count_taken seats k t within free in
-    let most = count_by-le-length is_some (set seats k (Some t)) in
-    let size = length-set seats k (Some t) in
+-- where a berth is free, fewer are taken than there are
+pub count_below : (berths : List (Option ThreadId)) (k : ℕ) (t : ThreadId) → k < length berths → holder_at berths k ≡ None
+    → count_by is_some berths < length berths
+count_below berths k t within free =
+    let more = count_taken berths k t within free in
+    let most = count_by-le-length is_some (set berths k (Some t)) in
+    let size = length-set berths k (Some t) in
     omega arith

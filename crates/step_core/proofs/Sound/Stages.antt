@@ -10,8 +10,8 @@ use Rattle.lock_word.specs.declared.Lock.{Lock}
 use Rattle.lock_word.specs.declared.Lock.TheVariants.{Free, Thin, Fat}
 use Rattle.lock_word.proofs.Words.{greatest_count-bound}
 use Rattle.lock_word.specs.Layout.{Fits, count_of, greatest_count}
-use Rattle.thread_index.specs.Indices.{seat_of}
-use Rattle.thread_index.proofs.Seats.{seat_found}
+use Rattle.thread_index.specs.Indices.{berth_of}
+use Rattle.thread_index.proofs.Berths.{berth_found}
 use Rattle.fat_monitor.specs.declared.monitors.Monitor as fat
 use Rattle.fat_monitor.specs.declared.actions.Answer.{Answer}
 use Rattle.fat_monitor.specs.declared.actions.Answer.TheVariants as answer
@@ -57,56 +57,56 @@ use Rattle.step_core.proofs.Sound.Parts.{sound_stays, NotAnothers, lock_there, s
 use Rattle.fat_monitor.specs.declared.actions.Cause.TheVariants as cause
 use Rattle.step_core.proofs.Runs.StageRuns.{storing}
 
-module _ (w : WorldState) (sound : IsSound w) (k : ℕ) (t : ThreadId) (seat : seat_of w.seats t ≡ Some k) where
+module _ (w : WorldState) (sound : IsSound w) (k : ℕ) (t : ThreadId) (berth : berth_of w.berths t ≡ Some k) where
   load_sound : (c : MonitorCall) (contended : Bool) (n : Next) → bound_by (place_at w k) ≡ None → post_of w.fats t ≡ Some Out → Reaches w c
       → next_of w.split c.operation (lock_at w c.object.0) (k + 1) ≡ n → IsSound (with_go w k (after_load w t c contended n))
-  load_sound c b (next.Reply r) none out h e = sound_stays w sound k t seat Idle (move_and_return (load_of w c.object) (move_for (call_of c) r None t) t r) none out tt
-  load_sound c b (next.Cas l) none out h e = sound_stays w sound k t seat (InCall (Taking c.object b)) (no_move (load_of w c.object)) none out h
+  load_sound c b (next.Reply r) none out h e = sound_stays w sound k t berth Idle (move_and_return (load_of w c.object) (move_for (call_of c) r None t) t r) none out tt
+  load_sound c b (next.Cas l) none out h e = sound_stays w sound k t berth (InCall (Taking c.object b)) (no_move (load_of w c.object)) none out h
   load_sound c b (next.Store l) none out h e =
       let own = own_of_store w.split c.operation (lock_at w c.object.0) l (k + 1) (store_own w.split c.operation (lock_at w c.object.0) l (k + 1) e) in
-      sound_stays w sound k t seat (InCall (Storing c l)) (no_move (load_of w c.object)) none out (h, (own.0, own.1, rw own.1 at e))
+      sound_stays w sound k t berth (InCall (Storing c l)) (no_move (load_of w c.object)) none out (h, (own.0, own.1, rw own.1 at e))
   load_sound c b next.Bind none out h e =
       let own = own_of_bind w.split c.operation (lock_at w c.object.0) (k + 1) (bind_own w.split c.operation (lock_at w c.object.0) (k + 1) e) in
       let count : lock_at w c.object.0 ≡ Thin (k + 1) (count_of (lock_at w c.object.0)) = own.1 ∙ ap (λ (x : Lock). Thin (k + 1) (count_of x)) (sym own.1) in
-      sound_stays w sound k t seat (InCall (Binding c (count_of (lock_at w c.object.0)))) (no_move (load_of w c.object)) none out
+      sound_stays w sound k t berth (InCall (Binding c (count_of (lock_at w c.object.0)))) (no_move (load_of w c.object)) none out
       (h, count, subst (λ (x : Lock). next_of w.split c.operation x (k + 1) ≡ next.Bind) count e)
-  load_sound c b (next.Fat m) none out h e = sound_stays w sound k t seat (InCall (Acting c m)) (no_move (load_of w c.object)) none out (h, fat_fact w.split c.operation (lock_at w c.object.0) (k + 1) m e)
-  load_sound c b next.Spin none out h e = sound_stays w sound k t seat (InCall (Begun c true)) (no_move (load_of w c.object)) none out h
+  load_sound c b (next.Fat m) none out h e = sound_stays w sound k t berth (InCall (Acting c m)) (no_move (load_of w c.object)) none out (h, fat_fact w.split c.operation (lock_at w c.object.0) (k + 1) m e)
+  load_sound c b next.Spin none out h e = sound_stays w sound k t berth (InCall (Begun c true)) (no_move (load_of w c.object)) none out h
 
   take_sound : (o : ObjectId) (contended : Bool) (l : Lock) → bound_by (place_at w k) ≡ None → post_of w.fats t ≡ Some Out → o.0 < length w.words → lock_at w o.0 ≡ l
       → IsSound (with_go w k (after_take w k t o contended l))
   take_sound o true Free none out h e =
-      sound_stores w sound k t seat o (Thin (k + 1) 0) h (thin_fits w sound k t seat 0 (omega arith)) (rw e tt) refl (InCall (Won o)) (one_move (won_at w o (Thin (k + 1) 0)) (move.Lock t)) none out (thin_stands w sound k t seat o.0 0 (omega arith))
-      (rw (length-set w.words o.0 (new_word w o (Thin (k + 1) 0))) h, lock_there w sound k t seat o (Thin (k + 1) 0) h (thin_fits w sound k t seat 0 (omega arith)) (rw e tt) refl (InCall (Won o)) (one_move (won_at w o (Thin (k + 1) 0)) (move.Lock t)))
+      sound_stores w sound k t berth o (Thin (k + 1) 0) h (thin_fits w sound k t berth 0 (omega arith)) (rw e tt) refl (InCall (Won o)) (one_move (won_at w o (Thin (k + 1) 0)) (move.Lock t)) none out (thin_stands w sound k t berth o.0 0 (omega arith))
+      (rw (length-set w.words o.0 (new_word w o (Thin (k + 1) 0))) h, lock_there w sound k t berth o (Thin (k + 1) 0) h (thin_fits w sound k t berth 0 (omega arith)) (rw e tt) refl (InCall (Won o)) (one_move (won_at w o (Thin (k + 1) 0)) (move.Lock t)))
   take_sound o false Free none out h e =
-      sound_stores w sound k t seat o (Thin (k + 1) 0) h (thin_fits w sound k t seat 0 (omega arith)) (rw e tt) refl Idle (move_and_return (won_at w o (Thin (k + 1) 0)) (move.Lock t) t reply.Entered) none out (thin_stands w sound k t seat o.0 0 (omega arith)) tt
-  take_sound o b (Thin i n) none out h e = sound_stays w sound k t seat (InCall (Begun (entering o) true)) (no_move (lost_at w o)) none out h
-  take_sound o b (Fat m) none out h e = sound_stays w sound k t seat (InCall (Begun (entering o) true)) (no_move (lost_at w o)) none out h
+      sound_stores w sound k t berth o (Thin (k + 1) 0) h (thin_fits w sound k t berth 0 (omega arith)) (rw e tt) refl Idle (move_and_return (won_at w o (Thin (k + 1) 0)) (move.Lock t) t reply.Entered) none out (thin_stands w sound k t berth o.0 0 (omega arith)) tt
+  take_sound o b (Thin i n) none out h e = sound_stays w sound k t berth (InCall (Begun (entering o) true)) (no_move (lost_at w o)) none out h
+  take_sound o b (Fat m) none out h e = sound_stays w sound k t berth (InCall (Begun (entering o) true)) (no_move (lost_at w o)) none out h
 
   -- the lock of a plain store fits a word, is no other thread's, and stands
   pub store_fits : (o : ObjectId) (p : Operation) (l : Lock) → StoresOwn w.split (k + 1) (lock_at w o.0) l p → Fits w.split l
-  store_fits o op.Enter l (n, old, few, new) = rw new (thin_fits w sound k t seat (n + 1) (omega arith))
+  store_fits o op.Enter l (n, old, few, new) = rw new (thin_fits w sound k t berth (n + 1) (omega arith))
   store_fits o op.Exit l (n, old, new) =
       let low : n ≤ greatest_count w.split = (rw old at (stands_at w sound o.0)).2 in
-      rw new (cond_both (nat_lt 0 n) _ _ (Fits w.split) (λ e. thin_fits w sound k t seat (n - 1) (omega arith)) (λ e. tt))
+      rw new (cond_both (nat_lt 0 n) _ _ (Fits w.split) (λ e. thin_fits w sound k t berth (n - 1) (omega arith)) (λ e. tt))
   store_fits o (op.Wait millis nanos) l fact = absurd fact
   store_fits o op.Notify l fact = absurd fact
   store_fits o op.NotifyAll l fact = absurd fact
   store_fits o op.Holds l fact = absurd fact
 
-  store_new : (o : ObjectId) (p : Operation) (l : Lock) → StoresOwn w.split (k + 1) (lock_at w o.0) l p → NotAnothers w sound k t seat l
+  store_new : (o : ObjectId) (p : Operation) (l : Lock) → StoresOwn w.split (k + 1) (lock_at w o.0) l p → NotAnothers w sound k t berth l
   store_new o op.Enter l (n, old, few, new) = rw new refl
-  store_new o op.Exit l (n, old, new) = rw new (cond_both (nat_lt 0 n) _ _ (NotAnothers w sound k t seat) (λ e. refl) (λ e. tt))
+  store_new o op.Exit l (n, old, new) = rw new (cond_both (nat_lt 0 n) _ _ (NotAnothers w sound k t berth) (λ e. refl) (λ e. tt))
   store_new o (op.Wait millis nanos) l fact = absurd fact
   store_new o op.Notify l fact = absurd fact
   store_new o op.NotifyAll l fact = absurd fact
   store_new o op.Holds l fact = absurd fact
 
   store_stands : (o : ObjectId) (p : Operation) (l : Lock) → StoresOwn w.split (k + 1) (lock_at w o.0) l p → MayShow w o.0 l
-  store_stands o op.Enter l (n, old, few, new) = rw new (thin_stands w sound k t seat o.0 (n + 1) (omega arith))
+  store_stands o op.Enter l (n, old, few, new) = rw new (thin_stands w sound k t berth o.0 (n + 1) (omega arith))
   store_stands o op.Exit l (n, old, new) =
       let low : n ≤ greatest_count w.split = (rw old at (stands_at w sound o.0)).2 in
-      rw new (cond_both (nat_lt 0 n) _ _ (MayShow w o.0) (λ e. thin_stands w sound k t seat o.0 (n - 1) (omega arith)) (λ e. tt))
+      rw new (cond_both (nat_lt 0 n) _ _ (MayShow w o.0) (λ e. thin_stands w sound k t berth o.0 (n - 1) (omega arith)) (λ e. tt))
   store_stands o (op.Wait millis nanos) l fact = absurd fact
   store_stands o op.Notify l fact = absurd fact
   store_stands o op.NotifyAll l fact = absurd fact
@@ -116,7 +116,7 @@ module _ (w : WorldState) (sound : IsSound w) (k : ℕ) (t : ThreadId) (seat : s
       → IsSound (with_go w k (after_store w t c l))
   store_sound c l none out fit =
       let own : StoresOwn w.split (k + 1) (lock_at w c.object.0) l c.operation = storing w k c l fit in
-      sound_stores w sound k t seat c.object l fit.0 (store_fits c.object c.operation l own) (rw fit.1.1 refl) (store_new c.object c.operation l own) Idle
+      sound_stores w sound k t berth c.object l fit.0 (store_fits c.object c.operation l own) (rw fit.1.1 refl) (store_new c.object c.operation l own) Idle
       (move_and_return (stored_at w c.object l) (move_for (call_of c) (stored_reply c.operation) None t) t (stored_reply c.operation)) none out
       (store_stands c.object c.operation l own) tt
 
@@ -131,13 +131,13 @@ module _ (w : WorldState) (sound : IsSound w) (k : ℕ) (t : ThreadId) (seat : s
   bind_sound c won n None none out h shows room =
       let few : n ≤ greatest_count w.split = (rw shows at (stands_at w sound c.object.0)).2 in
       let most = greatest_count-bound w.split in
-      sound_bound w sound k t seat c.object (n + 1) (omega arith) (omega arith) (room refl) (InCall (Bound c won (length w.fats.monitors))) (no_move (atomic.Bound c.object (length w.fats.monitors))) none refl out (
+      sound_bound w sound k t berth c.object (n + 1) (omega arith) (omega arith) (room refl) (InCall (Bound c won (length w.fats.monitors))) (no_move (atomic.Bound c.object (length w.fats.monitors))) none refl out (
         h,
         omega (arith, length-append w.fats.monitors (record { object = c.object; owner = Some t; holds = n + 1 } ∷ [])),
-        (n, shows, rw ((seat_found w.seats t k seat).1) (get_or_at w.fats.monitors (record { object = c.object; owner = Some t; holds = n + 1 }) [] unbound (length w.fats.monitors) refl)),
+        (n, shows, rw ((berth_found w.berths t k berth).1) (get_or_at w.fats.monitors (record { object = c.object; owner = Some t; holds = n + 1 }) [] unbound (length w.fats.monitors) refl)),
       )
-  bind_sound c true n (Some x) none out h shows room = sound_stays w sound k t seat Idle (return_alone (atomic.NotBound c.object x) t reply.Entered) none out tt
-  bind_sound c false n (Some x) none out h shows room = sound_stays w sound k t seat Idle (move_and_return (atomic.NotBound c.object x) (move.Refuse t x) t (reply.Refused x)) none out tt
+  bind_sound c true n (Some x) none out h shows room = sound_stays w sound k t berth Idle (return_alone (atomic.NotBound c.object x) t reply.Entered) none out tt
+  bind_sound c false n (Some x) none out h shows room = sound_stays w sound k t berth Idle (move_and_return (atomic.NotBound c.object x) (move.Refuse t x) t (reply.Refused x)) none out tt
 
   -- the number of a bound monitor fits a word
   pub number_fits : (m : ℕ) → m < length w.fats.monitors → Fits w.split (Fat m)
@@ -150,19 +150,19 @@ module _ (w : WorldState) (sound : IsSound w) (k : ℕ) (t : ThreadId) (seat : s
       let same : m ≡ j = same_Some m j (sym (ap bound_by e) ∙ some) in
       let object : (monitor_at w.fats m).object.0 ≡ c.object.0 = ap (λ (x : fat.Monitor). x.object.0) fit.2.2 in
       subst (λ (x : ℕ). IsPublished (with_go w k (word_written w c.object (new_word w c.object (Fat m)) p d)) x) same
-      (inl (rw object (lock_there w sound k t seat c.object (Fat m) fit.0 (number_fits m fit.1) (rw fit.2.1 refl) tt p d)))
+      (inl (rw object (lock_there w sound k t berth c.object (Fat m) fit.0 (number_fits m fit.1) (rw fit.2.1 refl) tt p d)))
 
   publish_sound : (c : MonitorCall) (won : Bool) (m : ℕ) → place_at w k ≡ InCall (Bound c won m) → post_of w.fats t ≡ Some Out → FittingStage w k (Bound c won m) → IsSound (with_go w k (after_publish w t c won m))
   publish_sound c true m e out fit =
-      sound_writes w sound k t seat c.object (Fat m) fit.0 (number_fits m fit.1) (rw fit.2.1 refl) tt Idle (return_alone (stored_at w c.object (Fat m)) t reply.Entered)
+      sound_writes w sound k t berth c.object (Fat m) fit.0 (number_fits m fit.1) (rw fit.2.1 refl) tt Idle (return_alone (stored_at w c.object (Fat m)) t reply.Entered)
       (published_now c true m Idle (return_alone (stored_at w c.object (Fat m)) t reply.Entered) e fit) out
       (fit.1, ap (λ (x : fat.Monitor). x.object.0) fit.2.2) tt
   publish_sound c false m e out fit =
-      sound_writes w sound k t seat c.object (Fat m) fit.0 (number_fits m fit.1) (rw fit.2.1 refl) tt (InCall (Inflated c m)) (no_move (stored_at w c.object (Fat m)))
+      sound_writes w sound k t berth c.object (Fat m) fit.0 (number_fits m fit.1) (rw fit.2.1 refl) tt (InCall (Inflated c m)) (no_move (stored_at w c.object (Fat m)))
       (published_now c false m (InCall (Inflated c m)) (no_move (stored_at w c.object (Fat m))) e fit) out
       (fit.1, ap (λ (x : fat.Monitor). x.object.0) fit.2.2) (
         rw (length-set w.words c.object.0 (new_word w c.object (Fat m))) fit.0,
-        lock_there w sound k t seat c.object (Fat m) fit.0 (number_fits m fit.1) (rw fit.2.1 refl) tt (InCall (Inflated c m)) (no_move (stored_at w c.object (Fat m))),
+        lock_there w sound k t berth c.object (Fat m) fit.0 (number_fits m fit.1) (rw fit.2.1 refl) tt (InCall (Inflated c m)) (no_move (stored_at w c.object (Fat m))),
       )
 
   -- The fat action of a call, where it leaves each monitor that is bound and not stored.
@@ -187,11 +187,11 @@ module _ (w : WorldState) (sound : IsSound w) (k : ℕ) (t : ThreadId) (seat : s
 
     told_sound : (r : Result Done ActFault) → (outcome_of w.fats t a).answer ≡ r → IsSound (with_go w k (after_told w t c a r left))
     told_sound (Ok d) e =
-        sound_changed w sound k t seat left (length-outcome_of w.fats t a) (object-outcome_of w.fats t a) thin
+        sound_changed w sound k t berth left (length-outcome_of w.fats t a) (object-outcome_of w.fats t a) thin
         (IsSound-outcome_of w.fats t a sound.fats may bound_there) kept (place_after d.answer) (did_action c a left t d) none
         (subst (λ (x : Result Done ActFault). OwnPost t x left) e (own_post w.fats t a sound.fats out no_end))
         (place_fits (fats_changed w left (place_after d.answer) (did_action c a left t d)) d.answer)
-    told_sound (Err x) e = sound_stays w sound k t seat Idle (no_move atomic.Label) none out tt
+    told_sound (Err x) e = sound_stays w sound k t berth Idle (no_move atomic.Label) none out tt
 
     acted_sound : IsSound (with_go w k (after_act w t c a))
     acted_sound = told_sound (outcome_of w.fats t a).answer refl
@@ -256,8 +256,8 @@ module _ (w : WorldState) (sound : IsSound w) (k : ℕ) (t : ThreadId) (seat : s
   look_sound n none out fit more = by_own (is_own (lock_at w n) (k + 1)) refl
     where
       by_own : (own : Bool) → is_own (lock_at w n) (k + 1) ≡ own → IsSound (with_go w k (after_look_as w t n own))
-      by_own true found = sound_stays w sound k t seat Idle (move_and_return (load_of w (record { 0 = n })) (move.Refuse t cause.StillOwner) t (reply.Refused cause.StillOwner)) none out tt
-      by_own false found = sound_stays w sound k t seat (Ending (n + 1)) (no_move (load_of w (record { 0 = n }))) none out (omega arith, λ q h. below q h (cases_eq q n))
+      by_own true found = sound_stays w sound k t berth Idle (move_and_return (load_of w (record { 0 = n })) (move.Refuse t cause.StillOwner) t (reply.Refused cause.StillOwner)) none out tt
+      by_own false found = sound_stays w sound k t berth (Ending (n + 1)) (no_move (load_of w (record { 0 = n }))) none out (omega arith, λ q h. below q h (cases_eq q n))
         where
           below : (q : ℕ) → q < n + 1 → (q ≡ n) ⊎ (q ≡ n → ⊥) → is_own (lock_at w q) (k + 1) ≡ false
           below q h (inl e) = rw e found
@@ -280,7 +280,7 @@ module _ (w : WorldState) (sound : IsSound w) (k : ℕ) (t : ThreadId) (seat : s
   pub collect_sound : (r : Reply) → place_at w k ≡ AtPost → post_of w.fats t ≡ Some (Granted r)
       → (d : Did) → IsSound (with_go w k (fats_changed w (with_post w.fats t Out) Idle d))
   collect_sound r e post d =
-      sound_changed w sound k t seat (with_post w.fats t Out) refl (λ m. refl) (λ m i n thin owned. refl) (rw after at (IsSound-outcome_of w.fats t action.Collect sound.fats here tt)) (rw after at kept) Idle d (rw e refl)
+      sound_changed w sound k t berth (with_post w.fats t Out) refl (λ m. refl) (λ m i n thin owned. refl) (rw after at (IsSound-outcome_of w.fats t action.Collect sound.fats here tt)) (rw after at kept) Idle d (rw e refl)
       (post-with_post_same w.fats t Out) tt
     where
       here : IsAttached w.fats t

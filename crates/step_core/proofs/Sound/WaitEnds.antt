@@ -5,7 +5,7 @@ use Rattle.std.proofs.Common.{refl, ap, sym, ◌∙◌, inl, inr}
 use Rattle.std.proofs.lemmas.Bool.{cases_eq, cond_both}
 use Rattle.lock_word.specs.declared.ThreadId.{ThreadId}
 use Rattle.wait_lines.specs.declared.Role.TheVariants.{Waiting as WaitSet}
-use Rattle.thread_index.specs.Indices.{seat_of}
+use Rattle.thread_index.specs.Indices.{berth_of}
 use Rattle.wait_lines.proofs.ThreadLemmas.{same_thread}
 use Rattle.fat_monitor.specs.declared.actions.Action.TheVariants as action
 use Rattle.fat_monitor.specs.declared.actions.ActFault.{ActFault}
@@ -90,7 +90,7 @@ module _ (w : WorldState) (sound : IsSound w) (t : ThreadId) where
         out_alike u (inr ne) = out-outcome_of w.fats t u x.action sound.fats (may here) (λ e. ne (ap (λ (v : ThreadId). v.0) e))
 
     -- and where it may not.
-    wait_end_sound : (o : Option ℕ) → seat_of w.seats t ≡ o → IsSound (after_wait_end x w t o).after
+    wait_end_sound : (o : Option ℕ) → berth_of w.berths t ≡ o → IsSound (after_wait_end x w t o).after
     wait_end_sound None e = sound
     wait_end_sound (Some k) e = by_answer (outcome_of w.fats t x.action).answer
       where
@@ -99,15 +99,15 @@ module _ (w : WorldState) (sound : IsSound w) (t : ThreadId) where
         by_answer (Err f) = sound
 
   -- Each of the two steps keeps the world sound, and is a run.
-  pub expired_right : Right w (after_wait_end time_over w t (seat_of w.seats t))
+  pub expired_right : Right w (after_wait_end time_over w t (berth_of w.berths t))
   expired_right = (
-    wait_end_sound time_over (λ e. cc) (λ m e. cc) tt (λ here. here) (expire_outcome_out w.fats t (post_of w.fats t) refl) (seat_of w.seats t) refl,
+    wait_end_sound time_over (λ e. cc) (λ m e. cc) tt (λ here. here) (expire_outcome_out w.fats t (post_of w.fats t) refl) (berth_of w.berths t) refl,
     expire_run w sound t,
   )
 
-  pub woken_right : Right w (after_wait_end wake_up w t (seat_of w.seats t))
+  pub woken_right : Right w (after_wait_end wake_up w t (berth_of w.berths t))
   woken_right = (
-    wait_end_sound wake_up (λ e. cc) (λ m e. cc) tt (λ here. here) (spurious_outcome_out w.fats t (post_of w.fats t) refl) (seat_of w.seats t) refl,
+    wait_end_sound wake_up (λ e. cc) (λ m e. cc) tt (λ here. here) (spurious_outcome_out w.fats t (post_of w.fats t) refl) (berth_of w.berths t) refl,
     wake_run w sound t,
   )
 

@@ -8,7 +8,7 @@ impl World {
     /// How many indices there are, so the most threads that are live at once: they are numbered
     /// from 1.
     pub fn indices(&self) -> u16
-        ensures { result ≡ length self.now.seats }
+        ensures { result ≡ length self.now.berths }
     {
         self.places.len() as u16
     }

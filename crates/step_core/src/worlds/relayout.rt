@@ -133,8 +133,8 @@ impl World {
     fn is_at_rest(&self) -> bool
         ensures { result ≡ is_at_rest self.now }
     {
-        for seat in 0..self.indices() {
-            if !self.rests(seat + 1) {
+        for berth in 0..self.indices() {
+            if !self.rests(berth + 1) {
                 return false;
             }
         }
@@ -143,7 +143,7 @@ impl World {
 
     /// The same of the thread that has this index, if one has it.
     fn rests(&self, index: u16) -> bool
-        ensures { result ≡ holder_rests (shown self.now) (holder_of self.now.seats index) }
+        ensures { result ≡ holder_rests (shown self.now) (holder_of self.now.berths index) }
     {
         let Some(thread) = self.thread_at(index) else {
             return true;
@@ -207,7 +207,7 @@ impl World {
     /// Writes every word in this split, which each lock fits.
     fn respell(&mut self, split: Split)
         requires rest { IsAtRest (shown self.old) }
-        requires few { length self.old.seats ≤ greatest_index split }
+        requires few { length self.old.berths ≤ greatest_index split }
         requires fit { (p : ℕ) → p < length self.old.words
             → is_too_deep split (lock_at self.old p) ≡ false }
         ensures exact { self.new ≡ respelled split self.old }

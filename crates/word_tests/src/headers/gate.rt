@@ -91,14 +91,14 @@ fn add_and_give(
     added
 }
 
-// Takes the book, adds the object and gives the book back, by at most `turns` tries.
-fn add_once(headers: &Headers<Names>, pass: &mut Pass<Names>, object: ObjectId, turns: u32) -> bool
+// Takes the book, adds the object and gives the book back, by at most `tries` tries.
+fn add_once(headers: &Headers<Names>, pass: &mut Pass<Names>, object: ObjectId, tries: u32) -> bool
     requires belongs { pass.old.opening ≡ headers.now }
     requires without { pass.old.has_gate ≡ false }
     ensures belongs { pass.new.opening ≡ headers.now }
     ensures without { pass.new.has_gate ≡ false }
 {
-    for _ in 0..turns {
+    for _ in 0..tries {
         if let Some(names) = headers.take(pass) {
             return add_and_give(headers, pass, names, object);
         }

@@ -9,8 +9,8 @@ use header_words::{Headers, Kept, Pass};
 use lock_word::Word;
 use std::thread::{Threads, join};
 
-// Acquires the object, by at most `turns` tries, nests, unnests and releases it.
-fn lock_once(headers: &Headers<Names>, pass: &mut Pass<Names>, turns: u32) -> bool
+// Acquires the object, by at most `tries` tries, nests, unnests and releases it.
+fn lock_once(headers: &Headers<Names>, pass: &mut Pass<Names>, tries: u32) -> bool
     requires belongs { pass.old.opening ≡ headers.now }
     requires object { 0 < length headers.now.lows }
     requires free { depth_at pass.old 0 ≡ 0 }
@@ -18,7 +18,7 @@ fn lock_once(headers: &Headers<Names>, pass: &mut Pass<Names>, turns: u32) -> bo
     ensures free { depth_at pass.new 0 ≡ 0 }
     ensures gate { pass.new.has_gate ≡ pass.old.has_gate }
 {
-    for _ in 0..turns {
+    for _ in 0..tries {
         if headers.acquire(pass, OBJECT) {
             headers.nest(pass, OBJECT);
             headers.unnest(pass, OBJECT);

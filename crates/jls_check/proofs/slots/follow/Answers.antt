@@ -5,6 +5,6 @@ use Rattle.jls_check.proofs.slots.follow.Goals as goal
 
 pub returns : goal.returns
 returns c =
-    let there = slice_get_read c.args.slots.now (length c.args.slots.now) c.args.place c.in-Some.slot.now refl c.in-Some.ensures.lookup.3.0 c.in-Some.ensures.lookup.1 in
+    let there = slice_get_read c.args.slots.now (length c.args.slots.now) c.args.position c.in-Some.slot.now refl c.in-Some.ensures.lookup.3.0 c.in-Some.ensures.lookup.1 in
     let value = sym (ap option_copied_mut c.in-Some-get_mut.is) ∙ c.get_mut.ensures.value in
-    rw (there) ((c.get_mut.follows.holds c.args.place).3 (subst IsSome value refl))
+    rw (there) ((c.get_mut.follows.holds c.args.position).3 (subst IsSome value refl))

@@ -3,7 +3,7 @@ use Rattle.std.proofs.Common.{arith, subst, sym, Some, IsSome}
 use Rattle.std.proofs.lemmas.Option.{same_Some}
 use Rattle.lock_word.specs.declared.ThreadId.{ThreadId}
 use Rattle.fat_monitor.specs.FatState.{post_of}
-use Rattle.fat_monitor.specs.Fats.{fat_state_in, AreSeated}
+use Rattle.fat_monitor.specs.Fats.{fat_state_in, AreNodesKept}
 use Rattle.fat_monitor.specs.Slots.{Posted}
 use Rattle.fat_monitor.proofs.Soundness.{IsSound-bound_with}
 use Rattle.fat_monitor.proofs.OwnedCounts.{AreCounted-bound, few_owned}
@@ -20,7 +20,7 @@ pub invariant_of-self : goal.invariant_of-self
 invariant_of-self c =
     record {
       sound = rw (c.in_default.ensures.items) c.self.invariant.sound;
-      seated = c.self.invariant.seated;
+      nodes_kept = c.self.invariant.nodes_kept;
       counted = rw (c.in_default.ensures.items) c.self.invariant.counted;
       reserved = let was = c.self.invariant.reserved in let len = c.in_default.ensures.len in let room = c.in_default.ensures.capacity in omega arith;
     }
@@ -34,7 +34,7 @@ invariant_of-self-2 c =
       sound =
           rw (c.in-Ok.ensures.items, c.hand_over.ensures, c.saturating_sub-self-inside.ensures)
           (IsSound-bound_with (fat_state_in c.self.inside) c.args.object c.args.owner c.args.holds c.self.invariant.sound (omega arith) c.requires.low (omega arith));
-      seated = subst (λ (p : Posted). AreSeated p.posts p.nodes c.self.inside.lines.nodes) (sym c.hand_over.ensures) c.self.invariant.seated;
+      nodes_kept = subst (λ (p : Posted). AreNodesKept p.posts p.nodes c.self.inside.lines.nodes) (sym c.hand_over.ensures) c.self.invariant.nodes_kept;
       counted =
           rw (c.in-Ok.ensures.items, c.hand_over.ensures)
           (AreCounted-bound c.self.inside.monitors.items c.self.inside.posts.owned (record { object = c.args.object; owner = Some c.args.owner; holds = c.args.holds }) c.self.invariant.counted);

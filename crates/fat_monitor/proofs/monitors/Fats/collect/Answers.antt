@@ -5,8 +5,8 @@ use Rattle.fat_monitor.specs.FatState.{FatState, IsSound, post_of, with_post}
 use Rattle.fat_monitor.specs.Fats.{fat_state_in}
 use Rattle.fat_monitor.proofs.Steps.{replies_at, sound_after}
 use Rattle.fat_monitor.specs.Slots.{Posted}
-use Rattle.fat_monitor.specs.Fats.{AreSeated, AreCounted}
-use Rattle.fat_monitor.proofs.Seats.{AreSeated-set}
+use Rattle.fat_monitor.specs.Fats.{AreNodesKept, AreCounted}
+use Rattle.fat_monitor.proofs.NodesKept.{AreNodesKept-set}
 use Rattle.fat_monitor.proofs.monitors.Fats.collect.Goals as goal
 
 pub returns : goal.returns
@@ -21,7 +21,7 @@ invariant_of-self c =
       sound =
           sound_after c.args.self.now _ c.args.thread Collect (Ok c.reply_with.result)
           (subst (λ (f : FatState). IsSound f) c.self.view_is c.self.invariant.sound) c.requires tt (returns c);
-      seated = subst (λ (p : Posted). AreSeated p.posts p.nodes c.self.inside.lines.nodes) (sym c.set.ensures) (AreSeated-set _ _ _ c.self.invariant.seated c.args.thread Out refl);
+      nodes_kept = subst (λ (p : Posted). AreNodesKept p.posts p.nodes c.self.inside.lines.nodes) (sym c.set.ensures) (AreNodesKept-set _ _ _ c.self.invariant.nodes_kept c.args.thread Out refl);
       counted = subst (λ (p : Posted). AreCounted c.self.inside.monitors.items p.owned) (sym c.set.ensures) c.self.invariant.counted;
       reserved = c.self.invariant.reserved;
     }

@@ -8,9 +8,9 @@ use Rattle.fat_monitor.specs.Slots.{Posted}
 use Rattle.fat_monitor.proofs.PostMaps.{get-insert_by, remove_insert}
 use Rattle.fat_monitor.proofs.Soundness.{IsSound-with_thread}
 use Rattle.fat_monitor.proofs.Steps.{attached_as, of_ok, of_err, room_crowded, room_left, attached_itself, attached_still}
-use Rattle.fat_monitor.specs.Fats.{AreSeated, AreCounted}
+use Rattle.fat_monitor.specs.Fats.{AreNodesKept, AreCounted}
 use Rattle.wait_lines.specs.Lines.{NodeMap}
-use Rattle.fat_monitor.proofs.Seats.{AreSeated-added}
+use Rattle.fat_monitor.proofs.NodesKept.{AreNodesKept-added}
 use Rattle.fat_monitor.proofs.OwnedCounts.{AreCounted-added}
 use Rattle.fat_monitor.proofs.monitors.Fats.enroll.Goals.{else-crowded-via-then-crowded+else-is_err, else-crowded-via-else-crowded}
 use Rattle.fat_monitor.proofs.monitors.Fats.enroll.Goals as goal
@@ -32,7 +32,7 @@ invariant_of-self-then-is_err c =
     record {
       sound =
           rw (posts_back c, lines_back c) c.self.invariant.sound;
-      seated = rw (posts_back c, lines_back c) c.self.invariant.seated;
+      nodes_kept = rw (posts_back c, lines_back c) c.self.invariant.nodes_kept;
       counted = rw (posts_back c) c.self.invariant.counted;
       reserved = c.self.invariant.reserved;
     }
@@ -52,8 +52,8 @@ invariant_of-self-else-is_err c =
           let more = of_ok c.reserve_one.result _ c.if-is_err.ensures.value c.reserve_one.ensures.ok in
           let after = attached_as f c.args.thread c.add.new.self c.reserve_one.new.self c.in_ok-add.ensures.ok c.reserve_one.ensures.lines (more ∙ sym (room_crowded (thread_count f) f.standing.reservations full)) in
           rw (after) (IsSound-with_thread f c.args.thread c.self.invariant.sound c.in_ok-add.ensures.fresh (rw (← c.self.view_is) at c.requires));
-      seated = subst (λ (m : NodeMap). AreSeated c.add.new.self.posts c.add.new.self.nodes m) (sym c.reserve_one.ensures.nodes)
-          (subst (λ (p : Posted). AreSeated p.posts p.nodes c.self.inside.lines.nodes) (sym c.in_ok-add.ensures.ok) (AreSeated-added _ _ _ c.self.invariant.seated c.args.thread 0));
+      nodes_kept = subst (λ (m : NodeMap). AreNodesKept c.add.new.self.posts c.add.new.self.nodes m) (sym c.reserve_one.ensures.nodes)
+          (subst (λ (p : Posted). AreNodesKept p.posts p.nodes c.self.inside.lines.nodes) (sym c.in_ok-add.ensures.ok) (AreNodesKept-added _ _ _ c.self.invariant.nodes_kept c.args.thread 0));
       counted = subst (λ (p : Posted). AreCounted c.self.inside.monitors.items p.owned) (sym c.in_ok-add.ensures.ok)
           (AreCounted-added c.self.inside.monitors.items c.self.inside.posts.owned c.args.thread c.self.invariant.counted c.in_ok-add.ensures.uncounted);
       reserved = c.self.invariant.reserved;
@@ -67,7 +67,7 @@ invariant_of-self-else-crowded c =
           let left : thread_count f ≡ f.standing.reservations → ⊥ = λ e. c.if-crowded.false (let n = c.len.ensures in let r = c.reservations.ensures.reservations in let k = c.from.ensures in omega arith) in
           let after = attached_as f c.args.thread c.add.new.self c.self.inside.lines c.in_ok-add.ensures.ok refl (sym (room_left (thread_count f) f.standing.reservations left)) in
           rw (after) (IsSound-with_thread f c.args.thread c.self.invariant.sound c.in_ok-add.ensures.fresh (rw (← c.self.view_is) at c.requires));
-      seated = subst (λ (p : Posted). AreSeated p.posts p.nodes c.self.inside.lines.nodes) (sym c.in_ok-add.ensures.ok) (AreSeated-added _ _ _ c.self.invariant.seated c.args.thread 0);
+      nodes_kept = subst (λ (p : Posted). AreNodesKept p.posts p.nodes c.self.inside.lines.nodes) (sym c.in_ok-add.ensures.ok) (AreNodesKept-added _ _ _ c.self.invariant.nodes_kept c.args.thread 0);
       counted = subst (λ (p : Posted). AreCounted c.self.inside.monitors.items p.owned) (sym c.in_ok-add.ensures.ok)
           (AreCounted-added c.self.inside.monitors.items c.self.inside.posts.owned c.args.thread c.self.invariant.counted c.in_ok-add.ensures.uncounted);
       reserved = c.self.invariant.reserved;

@@ -12,9 +12,9 @@ use Rattle.fat_monitor.proofs.Soundness.{stands_nowhere, room_to_join}
 use Rattle.fat_monitor.proofs.Steps.{written, after_parking_as, replies_at, answers_at, sound_after}
 use Rattle.std.specs.FinMap as map
 use Rattle.fat_monitor.specs.Slots.{Posted}
-use Rattle.fat_monitor.specs.Fats.{AreSeated, AreCounted}
+use Rattle.fat_monitor.specs.Fats.{AreNodesKept, AreCounted}
 use Rattle.wait_lines.specs.Lines.{NodeMap}
-use Rattle.fat_monitor.proofs.Seats.{AreSeated-joined}
+use Rattle.fat_monitor.proofs.NodesKept.{AreNodesKept-joined}
 use Rattle.fat_monitor.proofs.OwnedCounts.{AreCounted-kept, counted_as, few_owned}
 use Rattle.fat_monitor.proofs.monitors.Fats.enter.Goals as goal
 
@@ -30,7 +30,7 @@ invariant_of-self c =
       sound =
           sound_after c.args.self.now _ c.args.thread (Enter c.args.monitor) (Ok c.reply_with.result)
           (subst (λ (f : FatState). IsSound f) c.self.view_is c.self.invariant.sound) c.requires.out c.requires.bound (returns-in_default c);
-      seated = subst (λ (p : Posted). AreSeated p.posts p.nodes c.self.inside.lines.nodes) (sym c.hand_over.ensures) c.self.invariant.seated;
+      nodes_kept = subst (λ (p : Posted). AreNodesKept p.posts p.nodes c.self.inside.lines.nodes) (sym c.hand_over.ensures) c.self.invariant.nodes_kept;
       counted =
           counted_as c.self.inside.monitors.items c.self.inside.posts.owned c.hand_over.new.self.owned c.args.monitor c.give.new.self None (Some c.args.thread) c.self.invariant.counted
           (rw (← c.self.view_is) at c.requires.bound) (sym (rw (← c.self.view_is) at c.in_default.ensures)) (ap (λ (b : Monitor). b.owner) c.give.ensures) (ap (λ (p : Posted). p.owned) c.hand_over.ensures);
@@ -60,8 +60,8 @@ invariant_of-self-then-owner-thread c =
           (subst (λ (f : FatState). IsSound f) c.self.view_is c.self.invariant.sound) c.requires.out c.requires.bound
           (rw (← c.in-Some.ensures, ne_eqb c.in-Some.owner.0 c.args.thread.0 c.if-owner-thread.true, ← c.self.view_is)
           (answers_at c.tell.result _ _ _ _ _ c.tell.ensures after));
-      seated = subst (λ (m : NodeMap). AreSeated c.park.new.self.posts c.park.new.self.nodes m) (sym c.join-node.ensures.node)
-          (subst (λ (p : Posted). AreSeated p.posts p.nodes (map.insert c.self.inside.lines.nodes c.args.thread.0 c.join-node.result.0)) (sym c.park.ensures) (AreSeated-joined _ _ _ c.self.invariant.seated c.args.thread (Entering c.args.monitor) c.join-node.result.0));
+      nodes_kept = subst (λ (m : NodeMap). AreNodesKept c.park.new.self.posts c.park.new.self.nodes m) (sym c.join-node.ensures.node)
+          (subst (λ (p : Posted). AreNodesKept p.posts p.nodes (map.insert c.self.inside.lines.nodes c.args.thread.0 c.join-node.result.0)) (sym c.park.ensures) (AreNodesKept-joined _ _ _ c.self.invariant.nodes_kept c.args.thread (Entering c.args.monitor) c.join-node.result.0));
       counted = subst (λ (p : Posted). AreCounted c.self.inside.monitors.items p.owned) (sym c.park.ensures) c.self.invariant.counted;
       reserved = c.self.invariant.reserved;
     }
@@ -86,7 +86,7 @@ invariant_of-self-2 c =
       sound =
           sound_after c.args.self.now _ c.args.thread (Enter c.args.monitor) (Ok c.reply_with-2.result)
           (subst (λ (f : FatState). IsSound f) c.self.view_is c.self.invariant.sound) c.requires.out c.requires.bound (returns c);
-      seated = c.self.invariant.seated;
+      nodes_kept = c.self.invariant.nodes_kept;
       counted =
           AreCounted-kept c.self.inside.monitors.items c.self.inside.posts.owned c.args.monitor c.give-2.new.self c.self.invariant.counted (rw (← c.self.view_is) at c.requires.bound)
           (ap (λ (b : Monitor). b.owner) c.give-2.ensures ∙ (rw (← c.self.view_is) at c.in-Some.ensures));

@@ -24,7 +24,7 @@ invariant_of-self c =
       sound =
           sound_after c.args.self.now _ c.args.thread (Exit c.args.monitor) (Ok c.reply_with-then-holds-gt1.result)
           (subst (λ (f : FatState). IsSound f) c.self.view_is c.self.invariant.sound) c.requires.out c.requires.bound (returns-then-holds-gt1 c);
-      seated = c.self.invariant.seated;
+      nodes_kept = c.self.invariant.nodes_kept;
       counted =
           AreCounted-kept c.self.inside.monitors.items c.self.inside.posts.owned c.args.monitor c.give.new.self c.self.invariant.counted (rw (← c.self.view_is) at c.requires.bound)
           (ap (λ (b : Monitor). b.owner) c.give.ensures ∙ sym (owner_is _ c.args.thread (rw (← c.self.view_is) at (sym c.if-not-is_owner.ensures))));

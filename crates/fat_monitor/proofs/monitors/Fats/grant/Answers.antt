@@ -13,11 +13,11 @@ use Rattle.fat_monitor.proofs.SoundSteps.{line_key_bound}
 use Rattle.fat_monitor.proofs.SoundGrants.{flags_after_grant, IsSound-after_grant}
 use Rattle.fat_monitor.proofs.Steps.{has_line_key, flags_cleared, flags_kept, after_grant_as}
 use Rattle.fat_monitor.specs.Slots.{Posted, handed_over}
-use Rattle.fat_monitor.specs.Fats.{AreSeated}
+use Rattle.fat_monitor.specs.Fats.{AreNodesKept}
 use Rattle.std.specs.FinMap as map
 use Rattle.fat_monitor.specs.declared.actions.Post.TheVariants.{Granted}
 use Rattle.wait_lines.specs.Lines.{NodeMap}
-use Rattle.fat_monitor.proofs.Seats.{AreSeated-left, stands_at, line_key_stands}
+use Rattle.fat_monitor.proofs.NodesKept.{AreNodesKept-left, stands_at, line_key_stands}
 use Rattle.fat_monitor.proofs.OwnedCounts.{counted_as, one_owned, few_owned}
 use Rattle.fat_monitor.proofs.monitors.Fats.grant.Goals.{in-Interrupted, in_default}
 use Rattle.fat_monitor.proofs.monitors.Fats.grant.Goals as goal
@@ -58,7 +58,7 @@ returns c r in_line =
     let bound = line_key_bound f post.0 m r (c.self.invariant.sound.proper c.args.thread post.0 post.1) post.2 in
     let stands = c.self.invariant.sound.posted c.args.thread post.0 m r post.1 post.2 in
     let set = rw (settled c) at c.set.ensures in
-    let at_node = stands_at _ _ _ c.self.invariant.seated c.args.thread post.0 c.node.result.0 post.1 (line_key_stands post.0 m r post.2) c.node.ensures in
+    let at_node = stands_at _ _ _ c.self.invariant.nodes_kept c.args.thread post.0 c.node.result.0 post.1 (line_key_stands post.0 m r post.2) c.node.ensures in
     let lines = c.leave_at.ensures.left in
     let kept = c.leave_at.ensures.reservations in
     rw (← c.self.view_is, settled c) (
@@ -74,13 +74,13 @@ invariant_of-self c =
           let post = has_line_key f c.args.thread _ c.requires.stands.1 in
           let kept = IsSound-after_grant f c.args.monitor c.args.thread c.args.post post.0 c.requires.stands.0 (subst (λ (f : FatState). IsSound f) c.self.view_is c.self.invariant.sound) post.1 post.2 c.requires.comes in
           rw (returns c c.requires.stands.0 c.requires.stands.1) kept;
-      seated =
+      nodes_kept =
           let post = has_line_key (fat_state_in c.self.inside) c.args.thread _ (rw (← c.self.view_is) at c.requires.stands.1) in
-          let at_node = stands_at _ _ _ c.self.invariant.seated c.args.thread post.0 c.node.result.0 post.1 (line_key_stands post.0 c.args.monitor c.requires.stands.0 post.2) c.node.ensures in
+          let at_node = stands_at _ _ _ c.self.invariant.nodes_kept c.args.thread post.0 c.node.result.0 post.1 (line_key_stands post.0 c.args.monitor c.requires.stands.0 post.2) c.node.ensures in
           let set = rw (settled c) at c.set.ensures in
-          rw (settled c) (subst (λ (m : NodeMap). AreSeated c.set.new.self.posts c.set.new.self.nodes m) (sym (c.leave_at.ensures.nodes c.args.thread at_node))
-          (subst (λ (p : Posted). AreSeated p.posts p.nodes (map.remove c.self.inside.lines.nodes c.args.thread.0)) (sym set)
-          (AreSeated-left _ _ _ c.self.invariant.seated c.args.thread (Granted c.granted_to-holds.result.1) refl)));
+          rw (settled c) (subst (λ (m : NodeMap). AreNodesKept c.set.new.self.posts c.set.new.self.nodes m) (sym (c.leave_at.ensures.nodes c.args.thread at_node))
+          (subst (λ (p : Posted). AreNodesKept p.posts p.nodes (map.remove c.self.inside.lines.nodes c.args.thread.0)) (sym set)
+          (AreNodesKept-left _ _ _ c.self.invariant.nodes_kept c.args.thread (Granted c.granted_to-holds.result.1) refl)));
       counted =
           let post = has_line_key (fat_state_in c.self.inside) c.args.thread _ (rw (← c.self.view_is) at c.requires.stands.1) in
           let set = rw (settled c) at c.set.ensures in
@@ -105,5 +105,5 @@ pub leave_at-requires : goal.leave_at-requires
 leave_at-requires c =
     let post = has_line_key (fat_state_in c.self.inside) c.args.thread _ (rw (← c.self.view_is) at c.requires.stands.1) in
     record {
-      stands = (c.args.thread, stands_at _ _ _ c.self.invariant.seated c.args.thread post.0 c.node.result.0 post.1 (line_key_stands post.0 c.args.monitor c.requires.stands.0 post.2) c.node.ensures);
+      stands = (c.args.thread, stands_at _ _ _ c.self.invariant.nodes_kept c.args.thread post.0 c.node.result.0 post.1 (line_key_stands post.0 c.args.monitor c.requires.stands.0 post.2) c.node.ensures);
     }

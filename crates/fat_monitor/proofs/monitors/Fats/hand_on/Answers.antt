@@ -9,7 +9,7 @@ use Rattle.fat_monitor.proofs.Soundness.{IsSound-after_hand_on, post_at-is, come
 use Rattle.fat_monitor.proofs.Steps.{written}
 use Rattle.fat_monitor.specs.declared.monitors.Monitor.{Monitor}
 use Rattle.fat_monitor.specs.Slots.{Posted}
-use Rattle.fat_monitor.specs.Fats.{AreSeated}
+use Rattle.fat_monitor.specs.Fats.{AreNodesKept}
 use Rattle.fat_monitor.proofs.OwnedCounts.{counted_as, one_owned}
 use Rattle.fat_monitor.proofs.monitors.Fats.hand_on.Goals as goal
 
@@ -21,7 +21,7 @@ invariant_of-self c =
           let after = written (fat_state_in c.self.inside) c.args.monitor c.index_mut.result.now c.give.new.self None 0 bound c.index_mut.ensures.value c.give.ensures in
           let kept = rw (← c.in_default.ensures.first) at (IsSound-after_hand_on (fat_state_in c.self.inside) c.args.monitor c.self.invariant.sound bound) in
           rw (c.hand_over.ensures, after) kept;
-      seated = subst (λ (p : Posted). AreSeated p.posts p.nodes c.self.inside.lines.nodes) (sym c.hand_over.ensures) c.self.invariant.seated;
+      nodes_kept = subst (λ (p : Posted). AreNodesKept p.posts p.nodes c.self.inside.lines.nodes) (sym c.hand_over.ensures) c.self.invariant.nodes_kept;
       counted =
           counted_as c.self.inside.monitors.items c.self.inside.posts.owned c.hand_over.new.self.owned c.args.monitor c.give.new.self c.owner-owner.result None c.self.invariant.counted
           (rw (← c.self.view_is) at c.requires) (sym (rw (← c.self.view_is) at c.owner-owner.ensures)) (ap (λ (b : Monitor). b.owner) c.give.ensures) (ap (λ (p : Posted). p.owned) c.hand_over.ensures);

@@ -3,7 +3,7 @@ use Rattle.fat_monitor.specs.Fats.{fat_state_in}
 use Rattle.fat_monitor.proofs.SoundSteps.{IsSound-flags}
 use Rattle.fat_monitor.proofs.Steps.{flagged_as, replies_at, interrupt_outcome_outside}
 use Rattle.fat_monitor.specs.Slots.{Posted}
-use Rattle.fat_monitor.specs.Fats.{AreSeated, AreCounted}
+use Rattle.fat_monitor.specs.Fats.{AreNodesKept, AreCounted}
 use Rattle.fat_monitor.proofs.monitors.Fats.interrupt.Goals as goal
 
 pub returns-in_default : goal.returns-in_default
@@ -15,7 +15,7 @@ invariant_of-self c =
       sound =
           let f = fat_state_in c.self.inside in
           rw (flagged_as f c.args.target true c.set_flag.new.self c.set_flag.ensures) (IsSound-flags f _ c.self.invariant.sound);
-      seated = subst (λ (p : Posted). AreSeated p.posts p.nodes c.self.inside.lines.nodes) (sym c.set_flag.ensures) c.self.invariant.seated;
+      nodes_kept = subst (λ (p : Posted). AreNodesKept p.posts p.nodes c.self.inside.lines.nodes) (sym c.set_flag.ensures) c.self.invariant.nodes_kept;
       counted = subst (λ (p : Posted). AreCounted c.self.inside.monitors.items p.owned) (sym c.set_flag.ensures) c.self.invariant.counted;
       reserved = c.self.invariant.reserved;
     }
@@ -26,7 +26,7 @@ invariant_of-self-2 c =
       sound =
           let f = fat_state_in c.self.inside in
           rw (flagged_as f c.args.target true c.set_flag.new.self c.set_flag.ensures) (IsSound-flags f _ c.self.invariant.sound);
-      seated = subst (λ (p : Posted). AreSeated p.posts p.nodes c.self.inside.lines.nodes) (sym c.set_flag.ensures) c.self.invariant.seated;
+      nodes_kept = subst (λ (p : Posted). AreNodesKept p.posts p.nodes c.self.inside.lines.nodes) (sym c.set_flag.ensures) c.self.invariant.nodes_kept;
       counted = subst (λ (p : Posted). AreCounted c.self.inside.monitors.items p.owned) (sym c.set_flag.ensures) c.self.invariant.counted;
       reserved = c.self.invariant.reserved;
     }

@@ -6,7 +6,7 @@ pub invariant_of-self-then-self-binds : goal.invariant_of-self-then-self-binds
 invariant_of-self-then-self-binds c =
     record {
       sound = rw (c.reserve.ensures.items) (IsSound-spare (fat_state_in c.self.inside) c.args.binds c.self.invariant.sound);
-      seated = c.self.invariant.seated;
+      nodes_kept = c.self.invariant.nodes_kept;
       counted = rw (c.reserve.ensures.items) c.self.invariant.counted;
       reserved = c.in_ok-reserve.ensures.ok;
     }

@@ -16,9 +16,9 @@ use Rattle.fat_monitor.proofs.Soundness.{stands_nowhere, room_to_join, out-after
 use Rattle.fat_monitor.proofs.Steps.{monitor_read, after_parking_as, flagged_as, replies_at, answers_at, sound_after}
 use Rattle.std.specs.FinMap as map
 use Rattle.fat_monitor.specs.Slots.{Posted}
-use Rattle.fat_monitor.specs.Fats.{AreSeated, AreCounted}
+use Rattle.fat_monitor.specs.Fats.{AreNodesKept, AreCounted}
 use Rattle.wait_lines.specs.Lines.{NodeMap}
-use Rattle.fat_monitor.proofs.Seats.{AreSeated-joined}
+use Rattle.fat_monitor.proofs.NodesKept.{AreNodesKept-joined}
 use Rattle.fat_monitor.proofs.monitors.Fats.wait.Goals as goal
 
 pub returns-then-not-is_owner : goal.returns-then-not-is_owner
@@ -35,7 +35,7 @@ invariant_of-self c =
       sound =
           let f = fat_state_in c.self.inside in
           rw (flagged_as f c.args.thread false c.set_flag.new.self c.set_flag.ensures) (IsSound-flags f _ c.self.invariant.sound);
-      seated = subst (λ (p : Posted). AreSeated p.posts p.nodes c.self.inside.lines.nodes) (sym c.set_flag.ensures) c.self.invariant.seated;
+      nodes_kept = subst (λ (p : Posted). AreNodesKept p.posts p.nodes c.self.inside.lines.nodes) (sym c.set_flag.ensures) c.self.invariant.nodes_kept;
       counted = subst (λ (p : Posted). AreCounted c.self.inside.monitors.items p.owned) (sym c.set_flag.ensures) c.self.invariant.counted;
       reserved = c.self.invariant.reserved;
     }
@@ -99,8 +99,8 @@ invariant_of-self-2 c =
       sound =
           sound_after c.args.self.now _ c.args.thread (Wait c.args.monitor c.args.millis c.args.nanos) (Ok c.tell.result)
           (subst (λ (f : FatState). IsSound f) c.self.view_is c.self.invariant.sound) c.requires.out c.requires.bound (returns c);
-      seated = subst (λ (m : NodeMap). AreSeated c.park.new.self.posts c.park.new.self.nodes m) (sym c.join-node.ensures.node)
-          (subst (λ (p : Posted). AreSeated p.posts p.nodes (map.insert c.self-2.inside.lines.nodes c.args.thread.0 c.join-node.result.0)) (sym c.park.ensures) (AreSeated-joined _ _ _ c.self-2.invariant.seated c.args.thread _ c.join-node.result.0));
+      nodes_kept = subst (λ (m : NodeMap). AreNodesKept c.park.new.self.posts c.park.new.self.nodes m) (sym c.join-node.ensures.node)
+          (subst (λ (p : Posted). AreNodesKept p.posts p.nodes (map.insert c.self-2.inside.lines.nodes c.args.thread.0 c.join-node.result.0)) (sym c.park.ensures) (AreNodesKept-joined _ _ _ c.self-2.invariant.nodes_kept c.args.thread _ c.join-node.result.0));
       counted = subst (λ (p : Posted). AreCounted c.self-2.inside.monitors.items p.owned) (sym c.park.ensures) c.self-2.invariant.counted;
       reserved = c.self-2.invariant.reserved;
     }

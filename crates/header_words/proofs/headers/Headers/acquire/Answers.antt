@@ -1,6 +1,6 @@
 use Rattle.std.proofs.Common.{◌≡◌, ◌+◌, ◌*◌, sym, ap, ◌∙◌, refl, arith}
 use Rattle.std.specs.Prelude.{slice_index}
-use Rattle.header_words.specs.declared.event.Deed.TheVariants.{Win, Lose}
+use Rattle.header_words.specs.declared.event.EventKind.TheVariants.{Win, Lose}
 use Rattle.header_words.proofs.Passes.{made_at, made_word, row_kept, row_set, read_low, in_row, same_table, has_word, exchanges_at}
 use Rattle.header_words.proofs.headers.Headers.acquire.Goals as goal
 

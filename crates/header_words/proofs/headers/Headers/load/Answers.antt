@@ -1,7 +1,7 @@
 use Rattle.std.proofs.Common.{rules, refl}
 use Rattle.std.specs.Prelude.{slice_index}
 use Rattle.header_words.specs.Events.{depth}
-use Rattle.header_words.specs.declared.event.Deed.TheVariants.{Load}
+use Rattle.header_words.specs.declared.event.EventKind.TheVariants.{Load}
 use Rattle.header_words.proofs.Passes.{made_at, row_kept, same_table, has_word, loads_at, shows_at, own_word}
 use Rattle.header_words.proofs.headers.Headers.load.Goals as goal
 

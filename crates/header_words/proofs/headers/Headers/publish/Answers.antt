@@ -2,7 +2,7 @@ use Rattle.std.proofs.Common.{◌≡◌, ℕ, ◌+◌, ◌-◌, ◌*◌, ◌/◌
 use Rattle.std.specs.Prelude.{slice_index}
 use Rattle.header_words.specs.WideWords.{word_of}
 use Rattle.lock_word.specs.declared.Lock.TheVariants.{Fat}
-use Rattle.header_words.specs.declared.event.Deed.TheVariants.{Publish}
+use Rattle.header_words.specs.declared.event.EventKind.TheVariants.{Publish}
 use Rattle.header_words.specs.Events.{depth}
 use Rattle.header_words.specs.Passes.{Opening, MakesEvent}
 use Rattle.header_words.proofs.headers.Headers.publish.Goals as goal

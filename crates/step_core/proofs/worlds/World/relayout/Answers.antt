@@ -3,7 +3,7 @@ use Rattle.step_core.specs.World.{WorldState}
 use Rattle.step_core.specs.Shown.{shown}
 use Rattle.step_core.specs.Kept.{Keeps}
 use Rattle.step_core.specs.Relayout.{IsAtRest, respelled}
-use Rattle.step_core.proofs.Relaying.Whole.{at_rest, not_at_rest, spare_shows, inflated_seats, relaid_exact, relaid_keeps, done_exact}
+use Rattle.step_core.proofs.Relaying.Whole.{at_rest, not_at_rest, spare_shows, inflated_berths, relaid_exact, relaid_keeps, done_exact}
 use Rattle.step_core.proofs.worlds.World.relayout.Goals as goal
 
 pub returns-then-not-is_at_rest-clause-busy : goal.returns-then-not-is_at_rest-clause-busy
@@ -26,7 +26,7 @@ respell-requires-clause-rest c =
 
 pub respell-requires-clause-few : goal.respell-requires-clause-few
 respell-requires-clause-few c =
-    rw (c.inflate_deep.ensures.exact, inflated_seats c.args.split c.reserve.new.self, c.in-Ok.ensures.ok, ← c.indices.ensures, ← c.greatest_index.ensures) c.if-indices-greatest_index.false
+    rw (c.inflate_deep.ensures.exact, inflated_berths c.args.split c.reserve.new.self, c.in-Ok.ensures.ok, ← c.indices.ensures, ← c.greatest_index.ensures) c.if-indices-greatest_index.false
 
 pub returns-clause-exact : goal.returns-clause-exact
 returns-clause-exact c = (

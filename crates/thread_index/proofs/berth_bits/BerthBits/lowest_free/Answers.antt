@@ -1,6 +1,6 @@
 use Rattle.std.proofs.Common.{sym, ◌∙◌}
 use Rattle.thread_index.proofs.BitLemmas.{bit_of-lowest, bit_of-below, room_in, full_below}
-use Rattle.thread_index.proofs.seat_bits.SeatBits.lowest_free.Goals as goal
+use Rattle.thread_index.proofs.berth_bits.BerthBits.lowest_free.Goals as goal
 
 pub returns-clause-free : goal.returns-clause-free
 returns-clause-free c =

@@ -1,4 +1,4 @@
--- What slots and places show, and what stays of that when they change.
+-- What slots and positions show, and what stays of that when they change.
 use Rattle.std.specs.Prelude.{◌≡◌, ◌⊎◌, ℕ, zero, suc, ◌<◌, ◌==◌, List, [], ◌∷◌, ◌++◌, Option, Some, None, cond, length, slice_get, slice_set, slice_index_or, map as list_map}
 use Rattle.std.proofs.Common.{refl, ap, sym, ◌∙◌, inl, inr, subst, arith}
 use Rattle.std.proofs.lemmas.Bool.{cases_eq, eq-eqb, ne_eqb}
@@ -17,10 +17,10 @@ use Rattle.fat_monitor.proofs.PostMaps.{get-insert_by}
 use Rattle.jls_check.specs.declared.threads.ThreadRecord.{ThreadRecord}
 use Rattle.jls_check.specs.declared.slots.Slot.{Slot}
 use Rattle.jls_check.specs.LiveThreads.{live_in, notified_record, all_back}
-use Rattle.jls_check.specs.Slots.{record_in, records_in, LeadToSlots, HavePlaces, notified_slot}
+use Rattle.jls_check.specs.Slots.{record_in, records_in, LeadToSlots, HavePositions, notified_slot}
 use Rattle.jls_check.proofs.LiveMaps.{get_shown, get-all_back, at_key, len_shown}
 
--- ---- slots as a function of the place, and places as one of the number
+-- ---- slots as a function of the position, and positions as one of the number
 
 abbrev pub Leads : (ℕ → Option Slot) → (ℕ → Option ℕ) → Type 0
 Leads a p = (t k : ℕ) → p t ≡ Some k → (s : Slot) × (a k ≡ Some s) × (s.number ≡ t)
@@ -31,16 +31,16 @@ Haves a p = (k : ℕ) (s : Slot) → a k ≡ Some s → p s.number ≡ Some k
 abbrev pub value_at : (ℕ → Option Slot) → (ℕ → Option ℕ) → ℕ → Option ThreadRecord
 value_at a p q = option_map (λ k. record_in (a k)) (p q)
 
--- the slot at the place of a number is the number's
+-- the slot at the position of a number is the number's
 number_at : (a : ℕ → Option Slot) (p : ℕ → Option ℕ) (t k : ℕ) (s : Slot) → Leads a p → p t ≡ Some k → a k ≡ Some s → s.number ≡ t
 number_at a p t k s leads found e =
     ap (λ (x : Slot). x.number) (same_Some _ _ (sym e ∙ (leads t k found).1)) ∙ (leads t k found).2
 
--- two numbers with one place are one
-one_place : (a : ℕ → Option Slot) (p : ℕ → Option ℕ) (t q k : ℕ) → Leads a p → p t ≡ Some k → p q ≡ Some k → q ≡ t
-one_place a p t q k leads found e = sym (leads q k e).2 ∙ number_at a p t k (leads q k e).0 leads found (leads q k e).1
+-- two numbers with one position are one
+one_position : (a : ℕ → Option Slot) (p : ℕ → Option ℕ) (t q k : ℕ) → Leads a p → p t ≡ Some k → p q ≡ Some k → q ≡ t
+one_position a p t q k leads found e = sym (leads q k e).2 ∙ number_at a p t k (leads q k e).0 leads found (leads q k e).1
 
--- ---- a slot is put at a place that is nobody's, or its number's
+-- ---- a slot is put at a position that is nobody's, or its number's
 
 module _ (a a' : ℕ → Option Slot) (p p' : ℕ → Option ℕ) (k : ℕ) (new : Slot)
     (leads : Leads a p)
@@ -51,7 +51,7 @@ module _ (a a' : ℕ → Option Slot) (p p' : ℕ → Option ℕ) (k : ℕ) (new
     (others : (j : ℕ) → (j ≡ k → ⊥) → a' j ≡ a j)
     (led : p' new.number ≡ Some k)
     (rest : (q : ℕ) → (q ≡ new.number → ⊥) → p' q ≡ p q) where
-  -- another number's place is another one
+  -- another number's position is another one
   elsewhere : (q j : ℕ) → (q ≡ new.number → ⊥) → p q ≡ Some j → a' j ≡ a j
   elsewhere q j other e = others j (λ same. other (alone q (e ∙ ap (λ (i : ℕ). Some i) same)))
 
@@ -86,7 +86,7 @@ module _ (a a' : ℕ → Option Slot) (p p' : ℕ → Option ℕ) (k : ℕ) (new
           let was : p s.number ≡ Some j = haves j s (sym (others j other) ∙ e) in
           rest s.number (λ same. other (mine j (ap p (sym same) ∙ was))) ∙ was
 
--- ---- a number loses its place, and the slot there goes
+-- ---- a number loses its position, and the slot there goes
 
 module _ (a a' : ℕ → Option Slot) (p p' : ℕ → Option ℕ) (t k : ℕ)
     (leads : Leads a p)
@@ -97,7 +97,7 @@ module _ (a a' : ℕ → Option Slot) (p p' : ℕ → Option ℕ) (t k : ℕ)
     (led : p' t ≡ None)
     (rest : (q : ℕ) → (q ≡ t → ⊥) → p' q ≡ p q) where
   aside : (q j : ℕ) → (q ≡ t → ⊥) → p q ≡ Some j → a' j ≡ a j
-  aside q j other e = others j (λ same. other (one_place a p t q k leads found (e ∙ ap (λ (i : ℕ). Some i) same)))
+  aside q j other e = others j (λ same. other (one_position a p t q k leads found (e ∙ ap (λ (i : ℕ). Some i) same)))
 
   pub value-drop : (q : ℕ) → value_at a' p' q ≡ cond (q == t) None (value_at a p q)
   value-drop q = by (cases_eq q t)
@@ -152,48 +152,48 @@ push_elsewhere [] x (suc j) other = refl
 push_elsewhere (z ∷ zs) x zero other = refl
 push_elsewhere (z ∷ zs) x (suc j) other = push_elsewhere zs x j (λ e. other (ap suc e))
 
--- ---- what slots and places show
+-- ---- what slots and positions show
 
-abbrev pub place_in : List (ℕ × ℕ) → ℕ → Option ℕ
-place_in places q = lookup (is_at (nat_cmp q)) places
+abbrev pub position_in : List (ℕ × ℕ) → ℕ → Option ℕ
+position_in places q = lookup (is_at (nat_cmp q)) positions
 
-pub get_records : (slots : List Slot) (places : List (ℕ × ℕ)) (q : ℕ) → map.get (records_in slots places) q ≡ value_at (slice_get slots) (place_in places) q
-get_records slots places q =
-    get_shown (list_map (λ e. (e.0, record_in (slice_get slots e.1))) places) q
-    ∙ lookup-map_values (λ k. record_in (slice_get slots k)) (is_at (nat_cmp q)) places
+pub get_records : (slots : List Slot) (positions : List (ℕ × ℕ)) (q : ℕ) → map.get (records_in slots positions) q ≡ value_at (slice_get slots) (position_in places) q
+get_records slots positions q =
+    get_shown (list_map (λ e. (e.0, record_in (slice_get slots e.1))) positions) q
+    ∙ lookup-map_values (λ k. record_in (slice_get slots k)) (is_at (nat_cmp q)) positions
 
--- the record of a number that has a place, and of one that has none
-pub record_found : (slots : List Slot) (places : List (ℕ × ℕ)) (t k : ℕ) (s : Slot) → place_in places t ≡ Some k → slice_get slots k ≡ Some s → map.get (records_in slots places) t ≡ Some s.kept
-record_found slots places t k s found there = rw (get_records slots places t, found, there) refl
+-- the record of a number that has a position, and of one that has none
+pub record_found : (slots : List Slot) (positions : List (ℕ × ℕ)) (t k : ℕ) (s : Slot) → position_in places t ≡ Some k → slice_get slots k ≡ Some s → map.get (records_in slots positions) t ≡ Some s.kept
+record_found slots positions t k s found there = rw (get_records slots positions t, found, there) refl
 
-pub no_record : (slots : List Slot) (places : List (ℕ × ℕ)) (t : ℕ) → place_in places t ≡ None → map.get (records_in slots places) t ≡ None
-no_record slots places t none = rw (get_records slots places t, none) refl
+pub no_record : (slots : List Slot) (positions : List (ℕ × ℕ)) (t : ℕ) → position_in places t ≡ None → map.get (records_in slots positions) t ≡ None
+no_record slots positions t none = rw (get_records slots positions t, none) refl
 
--- a number without a record has no place
-pub no_place : (slots : List Slot) (places : List (ℕ × ℕ)) (t : ℕ) → map.get (records_in slots places) t ≡ None → place_in places t ≡ None
-no_place slots places t none = by (place_in places t) (sym (get_records slots places t) ∙ none)
+-- a number without a record has no position
+pub no_position : (slots : List Slot) (positions : List (ℕ × ℕ)) (t : ℕ) → map.get (records_in slots positions) t ≡ None → position_in places t ≡ None
+no_position slots positions t none = by (position_in places t) (sym (get_records slots positions t) ∙ none)
   where
     by : (o : Option ℕ) → option_map (λ k. record_in (slice_get slots k)) o ≡ None → o ≡ None
     by None e = refl
     by (Some k) e = absurd (cc)
 
--- a place has a slot
-pub slot_there : (slots : List Slot) (places : List (ℕ × ℕ)) (t k : ℕ) → LeadToSlots slots places → place_in places t ≡ Some k → slice_get slots k ≡ None → ⊥
-slot_there slots places t k leads found none = let never : None ≡ Some (leads t k found).0 = sym none ∙ (leads t k found).1 in absurd (cc)
+-- a position has a slot
+pub slot_there : (slots : List Slot) (positions : List (ℕ × ℕ)) (t k : ℕ) → LeadToSlots slots positions → position_in places t ≡ Some k → slice_get slots k ≡ None → ⊥
+slot_there slots positions t k leads found none = let never : None ≡ Some (leads t k found).0 = sym none ∙ (leads t k found).1 in absurd (cc)
 
-pub place_within : (slots : List Slot) (places : List (ℕ × ℕ)) (t k : ℕ) → LeadToSlots slots places → place_in places t ≡ Some k → k < length slots
-place_within slots places t k leads found = slice_get_within slots k (leads t k found).0 (leads t k found).1
+pub position_within : (slots : List Slot) (positions : List (ℕ × ℕ)) (t k : ℕ) → LeadToSlots slots positions → position_in places t ≡ Some k → k < length slots
+position_within slots positions t k leads found = slice_get_within slots k (leads t k found).0 (leads t k found).1
 
 -- the slot that was read there
-pub slot_read : (slots : List Slot) (places : List (ℕ × ℕ)) (t k : ℕ) (s : Slot) → LeadToSlots slots places → place_in places t ≡ Some k → s ≡ slice_index_or slots k s → slice_get slots k ≡ Some s
-slot_read slots places t k s leads found is = slice_get_read slots (length slots) k s refl (place_within slots places t k leads found) is
+pub slot_read : (slots : List Slot) (positions : List (ℕ × ℕ)) (t k : ℕ) (s : Slot) → LeadToSlots slots positions → position_in places t ≡ Some k → s ≡ slice_index_or slots k s → slice_get slots k ≡ Some s
+slot_read slots positions t k s leads found is = slice_get_read slots (length slots) k s refl (position_within slots positions t k leads found) is
 
 -- without a live thread there is no record
 pub no_live : (r : Option ThreadRecord) → live_in r ≡ None → r ≡ None
 no_live None e = refl
 no_live (Some x) e = absurd (cc)
 
--- as many records as places
+-- as many records as positions
 mapped_keys : (f : ℕ → ThreadRecord) (es : List (ℕ × ℕ)) → keys_of (list_map (λ e. (e.0, f e.1)) es) ≡ keys_of es
 mapped_keys f [] = refl
 mapped_keys f (e ∷ es) = ap (λ ks. e.0 ∷ ks) (mapped_keys f es)
@@ -202,117 +202,117 @@ mapped_length : (f : ℕ → ThreadRecord) (es : List (ℕ × ℕ)) → length {
 mapped_length f [] = refl
 mapped_length f (e ∷ es) = ap suc (mapped_length f es)
 
-pub len_records : (slots : List Slot) (places : List (ℕ × ℕ)) → IsStrictlySortedBy nat_cmp (keys_of places) → map.len (records_in slots places) ≡ length places
-len_records slots places ordered =
+pub len_records : (slots : List Slot) (positions : List (ℕ × ℕ)) → IsStrictlySortedBy nat_cmp (keys_of positions) → map.len (records_in slots positions) ≡ length positions
+len_records slots positions ordered =
     let f : ℕ → ThreadRecord = λ k. record_in (slice_get slots k) in
-    len_shown (list_map (λ e. (e.0, f e.1)) places) (subst (IsStrictlySortedBy nat_cmp) (sym (mapped_keys f places)) ordered) ∙ mapped_length f places
+    len_shown (list_map (λ e. (e.0, f e.1)) positions) (subst (IsStrictlySortedBy nat_cmp) (sym (mapped_keys f positions)) ordered) ∙ mapped_length f positions
 
 -- ---- a slot is written
 
-module _ (slots : List Slot) (places : List (ℕ × ℕ)) (t k : ℕ) (old new : Slot)
-    (leads : LeadToSlots slots places)
-    (haves : HavePlaces slots places)
-    (found : place_in places t ≡ Some k)
+module _ (slots : List Slot) (positions : List (ℕ × ℕ)) (t k : ℕ) (old new : Slot)
+    (leads : LeadToSlots slots positions)
+    (haves : HavePositions slots positions)
+    (found : position_in places t ≡ Some k)
     (there : slice_get slots k ≡ Some old)
     (same : new.number ≡ old.number) where
   of_t : new.number ≡ t
-  of_t = same ∙ number_at (slice_get slots) (place_in places) t k old leads found there
+  of_t = same ∙ number_at (slice_get slots) (position_in places) t k old leads found there
 
-  alone_there : (q : ℕ) → place_in places q ≡ Some k → q ≡ new.number
-  alone_there q e = one_place (slice_get slots) (place_in places) t q k leads found e ∙ sym of_t
+  alone_there : (q : ℕ) → position_in places q ≡ Some k → q ≡ new.number
+  alone_there q e = one_position (slice_get slots) (position_in places) t q k leads found e ∙ sym of_t
 
-  led_there : place_in places new.number ≡ Some k
-  led_there = ap (place_in places) of_t ∙ found
+  led_there : position_in places new.number ≡ Some k
+  led_there = ap (position_in places) of_t ∙ found
 
-  mine_there : (j : ℕ) → place_in places new.number ≡ Some j → j ≡ k
+  mine_there : (j : ℕ) → position_in places new.number ≡ Some j → j ≡ k
   mine_there j e = same_Some j k (sym e ∙ led_there)
 
-  pub leads-written : LeadToSlots (slice_set slots k new) places
+  pub leads-written : LeadToSlots (slice_set slots k new) positions
   leads-written =
-      leads-put (slice_get slots) (slice_get (slice_set slots k new)) (place_in places) (place_in places) k new leads haves alone_there mine_there
+      leads-put (slice_get slots) (slice_get (slice_set slots k new)) (position_in places) (position_in places) k new leads haves alone_there mine_there
       (set_here slots k new old there) (set_elsewhere slots k new) led_there (λ q other. refl)
 
-  pub haves-written : HavePlaces (slice_set slots k new) places
+  pub haves-written : HavePositions (slice_set slots k new) positions
   haves-written =
-      haves-put (slice_get slots) (slice_get (slice_set slots k new)) (place_in places) (place_in places) k new leads haves alone_there mine_there
+      haves-put (slice_get slots) (slice_get (slice_set slots k new)) (position_in places) (position_in places) k new leads haves alone_there mine_there
       (set_here slots k new old there) (set_elsewhere slots k new) led_there (λ q other. refl)
 
-  at_written : (q : ℕ) → map.get (records_in (slice_set slots k new) places) q ≡ map.get (map.insert (records_in slots places) t new.kept) q
+  at_written : (q : ℕ) → map.get (records_in (slice_set slots k new) positions) q ≡ map.get (map.insert (records_in slots positions) t new.kept) q
   at_written q =
-      get_records (slice_set slots k new) places q
-      ∙ value-put (slice_get slots) (slice_get (slice_set slots k new)) (place_in places) (place_in places) k new leads haves alone_there mine_there
+      get_records (slice_set slots k new) positions q
+      ∙ value-put (slice_get slots) (slice_get (slice_set slots k new)) (position_in places) (position_in places) k new leads haves alone_there mine_there
       (set_here slots k new old there) (set_elsewhere slots k new) led_there (λ p other. refl) q
-      ∙ ap (λ n. cond (q == n) (Some new.kept) (value_at (slice_get slots) (place_in places) q)) of_t
-      ∙ ap (λ o. cond (q == t) (Some new.kept) o) (sym (get_records slots places q))
-      ∙ sym (get-insert_by (records_in slots places) t new.kept q)
+      ∙ ap (λ n. cond (q == n) (Some new.kept) (value_at (slice_get slots) (position_in places) q)) of_t
+      ∙ ap (λ o. cond (q == t) (Some new.kept) o) (sym (get_records slots positions q))
+      ∙ sym (get-insert_by (records_in slots positions) t new.kept q)
 
-  pub records-written : records_in (slice_set slots k new) places ≡ map.insert (records_in slots places) t new.kept
+  pub records-written : records_in (slice_set slots k new) positions ≡ map.insert (records_in slots positions) t new.kept
   records-written = same_map nat_cmp_total nat_cmp-IsAntisymmetric _ _ at_written
 
 -- ---- a slot is added at the end
 
-module _ (slots : List Slot) (places places' : List (ℕ × ℕ)) (new : Slot)
-    (leads : LeadToSlots slots places)
-    (haves : HavePlaces slots places)
-    (none : place_in places new.number ≡ None)
-    (updates : (q : ℕ) → place_in places' q ≡ cond (is_at (nat_cmp new.number) q) (Some (length slots)) (place_in places q)) where
-  alone_new : (q : ℕ) → place_in places q ≡ Some (length slots) → q ≡ new.number
-  alone_new q e = absurd (slot_there slots places q (length slots) leads e (slice_get_past slots (length slots) (omega arith)))
+module _ (slots : List Slot) (positions positions' : List (ℕ × ℕ)) (new : Slot)
+    (leads : LeadToSlots slots positions)
+    (haves : HavePositions slots positions)
+    (none : position_in places new.number ≡ None)
+    (updates : (q : ℕ) → position_in places' q ≡ cond (is_at (nat_cmp new.number) q) (Some (length slots)) (position_in places q)) where
+  alone_new : (q : ℕ) → position_in places q ≡ Some (length slots) → q ≡ new.number
+  alone_new q e = absurd (slot_there slots positions q (length slots) leads e (slice_get_past slots (length slots) (omega arith)))
 
-  mine_new : (j : ℕ) → place_in places new.number ≡ Some j → j ≡ length slots
+  mine_new : (j : ℕ) → position_in places new.number ≡ Some j → j ≡ length slots
   mine_new j e = absurd (let never : None ≡ Some j = sym none ∙ e in cc)
 
-  led_new : place_in places' new.number ≡ Some (length slots)
-  led_new = updates new.number ∙ ap (λ b. cond b (Some (length slots)) (place_in places new.number)) (at_key new.number new.number ∙ eq-eqb new.number new.number refl)
+  led_new : position_in places' new.number ≡ Some (length slots)
+  led_new = updates new.number ∙ ap (λ b. cond b (Some (length slots)) (position_in places new.number)) (at_key new.number new.number ∙ eq-eqb new.number new.number refl)
 
-  rest_new : (q : ℕ) → (q ≡ new.number → ⊥) → place_in places' q ≡ place_in places q
-  rest_new q other = updates q ∙ ap (λ b. cond b (Some (length slots)) (place_in places q)) (at_key new.number q ∙ ne_eqb q new.number other)
+  rest_new : (q : ℕ) → (q ≡ new.number → ⊥) → position_in places' q ≡ position_in places q
+  rest_new q other = updates q ∙ ap (λ b. cond b (Some (length slots)) (position_in places q)) (at_key new.number q ∙ ne_eqb q new.number other)
 
-  pub leads-added : LeadToSlots (slots ++ new ∷ []) places'
+  pub leads-added : LeadToSlots (slots ++ new ∷ []) positions'
   leads-added =
-      leads-put (slice_get slots) (slice_get (slots ++ new ∷ [])) (place_in places) (place_in places') (length slots) new leads haves alone_new mine_new
+      leads-put (slice_get slots) (slice_get (slots ++ new ∷ [])) (position_in places) (position_in places') (length slots) new leads haves alone_new mine_new
       (push_here slots new) (push_elsewhere slots new) led_new rest_new
 
-  pub haves-added : HavePlaces (slots ++ new ∷ []) places'
+  pub haves-added : HavePositions (slots ++ new ∷ []) positions'
   haves-added =
-      haves-put (slice_get slots) (slice_get (slots ++ new ∷ [])) (place_in places) (place_in places') (length slots) new leads haves alone_new mine_new
+      haves-put (slice_get slots) (slice_get (slots ++ new ∷ [])) (position_in places) (position_in places') (length slots) new leads haves alone_new mine_new
       (push_here slots new) (push_elsewhere slots new) led_new rest_new
 
-  at_added : (q : ℕ) → map.get (records_in (slots ++ new ∷ []) places') q ≡ map.get (map.insert (records_in slots places) new.number new.kept) q
+  at_added : (q : ℕ) → map.get (records_in (slots ++ new ∷ []) positions') q ≡ map.get (map.insert (records_in slots positions) new.number new.kept) q
   at_added q =
-      get_records (slots ++ new ∷ []) places' q
-      ∙ value-put (slice_get slots) (slice_get (slots ++ new ∷ [])) (place_in places) (place_in places') (length slots) new leads haves alone_new mine_new
+      get_records (slots ++ new ∷ []) positions' q
+      ∙ value-put (slice_get slots) (slice_get (slots ++ new ∷ [])) (position_in places) (position_in places') (length slots) new leads haves alone_new mine_new
       (push_here slots new) (push_elsewhere slots new) led_new rest_new q
-      ∙ ap (λ o. cond (q == new.number) (Some new.kept) o) (sym (get_records slots places q))
-      ∙ sym (get-insert_by (records_in slots places) new.number new.kept q)
+      ∙ ap (λ o. cond (q == new.number) (Some new.kept) o) (sym (get_records slots positions q))
+      ∙ sym (get-insert_by (records_in slots positions) new.number new.kept q)
 
-  pub records-added : records_in (slots ++ new ∷ []) places' ≡ map.insert (records_in slots places) new.number new.kept
+  pub records-added : records_in (slots ++ new ∷ []) positions' ≡ map.insert (records_in slots positions) new.number new.kept
   records-added = same_map nat_cmp_total nat_cmp-IsAntisymmetric _ _ at_added
 
 -- ---- every slot is written
 
-module _ (slots : List Slot) (places : List (ℕ × ℕ)) (o : ObjectId) where
-  pub leads-notified : LeadToSlots slots places → LeadToSlots (list_map (notified_slot o) slots) places
+module _ (slots : List Slot) (positions : List (ℕ × ℕ)) (o : ObjectId) where
+  pub leads-notified : LeadToSlots slots positions → LeadToSlots (list_map (notified_slot o) slots) positions
   leads-notified leads t k e =
       let s = leads t k e in
       (notified_slot o s.0, slice_get-map (notified_slot o) slots k ∙ ap (option_map (notified_slot o)) s.1, s.2)
 
-  pub haves-notified : HavePlaces slots places → HavePlaces (list_map (notified_slot o) slots) places
+  pub haves-notified : HavePositions slots positions → HavePositions (list_map (notified_slot o) slots) positions
   haves-notified haves k s e = by (slice_get slots k) refl (sym (slice_get-map (notified_slot o) slots k) ∙ e)
     where
-      by : (x : Option Slot) → slice_get slots k ≡ x → option_map (notified_slot o) x ≡ Some s → place_in places s.number ≡ Some k
+      by : (x : Option Slot) → slice_get slots k ≡ x → option_map (notified_slot o) x ≡ Some s → position_in places s.number ≡ Some k
       by None is e = absurd (cc)
-      by (Some x) is e = ap (λ (y : Slot). place_in places y.number) (sym (same_Some (notified_slot o x) s e)) ∙ haves k x is
+      by (Some x) is e = ap (λ (y : Slot). position_in places y.number) (sym (same_Some (notified_slot o x) s e)) ∙ haves k x is
 
-  value-notified : LeadToSlots slots places → (q : ℕ) → value_at (slice_get (list_map (notified_slot o) slots)) (place_in places) q ≡ option_map (notified_record o) (value_at (slice_get slots) (place_in places) q)
-  value-notified leads q = by (place_in places q) refl
+  value-notified : LeadToSlots slots positions → (q : ℕ) → value_at (slice_get (list_map (notified_slot o) slots)) (position_in places) q ≡ option_map (notified_record o) (value_at (slice_get slots) (position_in places) q)
+  value-notified leads q = by (position_in places q) refl
     where
-      by : (x : Option ℕ) → place_in places q ≡ x
+      by : (x : Option ℕ) → position_in places q ≡ x
           → option_map (λ k. record_in (slice_get (list_map (notified_slot o) slots) k)) x ≡ option_map (notified_record o) (option_map (λ k. record_in (slice_get slots k)) x)
       by None is = refl
       by (Some k) is = rw (slice_get-map (notified_slot o) slots k, (leads q k is).1) refl
 
-  pub records-notified : LeadToSlots slots places → records_in (list_map (notified_slot o) slots) places ≡ all_back (records_in slots places) o
+  pub records-notified : LeadToSlots slots positions → records_in (list_map (notified_slot o) slots) positions ≡ all_back (records_in slots positions) o
   records-notified leads = same_map nat_cmp_total nat_cmp-IsAntisymmetric _ _ (λ q.
-      get_records (list_map (notified_slot o) slots) places q ∙ value-notified leads q
-      ∙ ap (option_map (notified_record o)) (sym (get_records slots places q)) ∙ sym (get-all_back (records_in slots places) o q))
+      get_records (list_map (notified_slot o) slots) positions q ∙ value-notified leads q
+      ∙ ap (option_map (notified_record o)) (sym (get_records slots positions q)) ∙ sym (get-all_back (records_in slots positions) o q))
