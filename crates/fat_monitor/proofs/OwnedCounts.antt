@@ -1,5 +1,5 @@
 -- How many monitors a thread owns, and the count that is kept of it.
-use Rattle.std.specs.Prelude.{◌≡◌, ◌⊎◌, ℕ, ◌+◌, ◌-◌, ◌<◌, ◌≤◌, ◌==◌, Bool, true, false, not, cond, List, [], ◌∷◌, ◌++◌, length, slice_index_or, slice_set, Option, Some, None, nat_eq}
+use Rattle.std.specs.Prelude.{◌≡◌, ◌⊎◌, ℕ, ◌+◌, ◌-◌, ◌<◌, ◌≤◌, ◌==◌, Bool, true, false, not, cond, List, [], ◌∷◌, ◌++◌, length, slice_index_or, slice_set, Option, Some, None, nat_eq, IsSome, is_some}
 use Rattle.std.specs.Option.{unwrap_or}
 use Rattle.std.specs.Ordering.{nat_cmp}
 use Rattle.std.specs.FinMap as map
@@ -17,7 +17,7 @@ use Rattle.fat_monitor.specs.declared.posts.Record.{Record}
 use Rattle.fat_monitor.specs.Slots.{count_of, one_less, one_more, handed_over, posted_in}
 use Rattle.fat_monitor.specs.Fats.{owned_count, AreCounted}
 use Rattle.fat_monitor.proofs.Counts.{count-set, count-has, count-none}
-use Rattle.fat_monitor.proofs.PostMaps.{get-insert_by, get-remove_by, value-values_of, no_value-values_of}
+use Rattle.fat_monitor.proofs.PostMaps.{get-insert_by, get-remove_by, keyless, value-values_of, no_value-values_of}
 
 abbrev Counts : Type 0
 Counts = map.FinMap nat_cmp ℕ
@@ -33,6 +33,14 @@ count-recorded records keys t key r found there = ap (λ (o : Option ℕ). unwra
 
 pub count-unrecorded : (records : Slab Record) (keys : List (ℕ × ℕ)) (t : ThreadId) → lookup (nat_eq t.0) keys ≡ None → count_of (posted_in records keys).owned t ≡ 0
 count-unrecorded records keys t absent = ap (λ (o : Option ℕ). unwrap_or o 0) (no_value-values_of (λ r. r.owned) 0 records keys t.0 absent)
+
+-- a thread that owns a monitor has a key
+pub counted_key : (records : Slab Record) (keys : List (ℕ × ℕ)) (t : ThreadId) → 0 < count_of (posted_in records keys).owned t → IsSome (lookup (nat_eq t.0) keys)
+counted_key records keys t some = at (is_some (lookup (nat_eq t.0) keys)) refl
+  where
+    at : (b : Bool) → is_some (lookup (nat_eq t.0) keys) ≡ b → IsSome (lookup (nat_eq t.0) keys)
+    at true h = h
+    at false h = absurd (let none = count-unrecorded records keys t (keyless (lookup (nat_eq t.0) keys) h) in omega (arith, none, some))
 
 -- the count of a thread after a count was written
 count-written : (counts : Counts) (u t : ThreadId) (n : ℕ) → count_of (map.insert counts u.0 n) t ≡ cond (u.0 == t.0) n (count_of counts t)

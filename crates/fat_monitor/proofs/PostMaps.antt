@@ -94,6 +94,14 @@ keyless (Some k) h = absurd (cc)
 pub not_posted : (records : Slab Record) (keys : List (ℕ × ℕ)) (q : ℕ) → is_some (lookup (nat_eq q) keys) ≡ false → IsSome (map.get (posted_in records keys).posts q) → ⊥
 not_posted records keys q h some = let n : is_some {T = Post} None ≡ true = rw (unvalued (λ r. r.post) Out records keys q h) at some in absurd (cc)
 
+-- a thread with a post has a key
+pub posted_key : (records : Slab Record) (keys : List (ℕ × ℕ)) (q : ℕ) → IsSome (map.get (posted_in records keys).posts q) → IsSome (lookup (nat_eq q) keys)
+posted_key records keys q some = at (is_some (lookup (nat_eq q) keys)) refl
+  where
+    at : (b : Bool) → is_some (lookup (nat_eq q) keys) ≡ b → IsSome (lookup (nat_eq q) keys)
+    at true h = h
+    at false h = absurd (not_posted records keys q h some)
+
 -- the record of a thread that has a key
 pub record_of : (s : Slab Record) (ks : List (ℕ × ℕ)) (t key : ℕ) (r : Record) → LeadToRecords s ks → lookup (nat_eq t) ks ≡ Some key → get s key ≡ Some r → r.thread.0 ≡ t
 record_of s ks t key r keyed found e =

@@ -9,7 +9,8 @@ ghost use Rattle.lock_word.specs.declared.ThreadId.{ThreadId};
 ghost use Rattle.fat_monitor.specs.declared.actions.Post.{Post};
 ghost use Rattle.fat_monitor.specs.FatState.{waits, wait_count};
 ghost use Rattle.fat_monitor.specs.Slots.{nobody_posted, with_thread_posted, without_thread_posted};
-ghost use Rattle.fat_monitor.specs.Slots.{HaveKeys, LeadsTo};
+ghost use Rattle.slab.specs.Slab.{ContainsKey};
+ghost use Rattle.fat_monitor.specs.Slots.{HaveKeys, LeadsTo, LeadToRecords};
 ghost use Rattle.fat_monitor.specs.Slots.{with_parked, count_of, one_less, one_more, handed_over};
 
 use crate::{AttachFault, Post};
@@ -80,7 +81,7 @@ fn is_at(records: &Slab<Record>, key: usize, thread: ThreadId) -> bool
 fn hinted_key_of(records: &Slab<Record>, hints: &Hints, thread: ThreadId) -> Option<usize>
     ensures { IfSome result (λ key. LeadsTo records.now thread.0 key) }
 {
-    let hint = hints.place(thread.0) as usize;
+    let hint = hints.position(thread.0) as usize;
     if is_at(records, hint, thread) {
         Some(hint)
     } else {
@@ -125,6 +126,26 @@ fn key_noting(
     Some(key)
 }
 
+// The key of the record of an attached thread, which has a hint from now on.
+#[inline(always)]
+fn attached_key(
+    records: &Slab<Record>,
+    keys: &HashMap<u32, usize>,
+    hints: &mut Hints,
+    thread: ThreadId,
+) -> usize
+    requires leads { LeadToRecords records.now keys.now.entries }
+    requires have { HaveKeys records.now keys.now.entries }
+    requires attached { IsSome (lookup (nat_eq thread.0) keys.now.entries) }
+    ensures found { lookup (nat_eq thread.0) keys.now.entries ≡ Some result }
+    ensures there { ContainsKey records.now result }
+{
+    match key_noting(records, keys, hints, thread) {
+        Some(key) => key,
+        None => unreachable!(),
+    }
+}
+
 // The key of a thread's record by the table of keys. It is a function of its own, so that a look by
 // a hint has nothing of it.
 #[inline(never)]
@@ -146,8 +167,8 @@ fn note(hints: &mut Hints, records: &Slab<Record>, thread: ThreadId, key: usize)
 }
 
 fn note_one(hints: &mut Hints, thread: ThreadId, key: usize) {
-    if let Ok(place) = u32::try_from(key) {
-        hints.note(thread.0, place);
+    if let Ok(position) = u32::try_from(key) {
+        hints.note(thread.0, position);
     }
 }
 
@@ -264,12 +285,8 @@ impl Posts {
         requires { IsSome (map.get self.old.posts thread.0) }
         ensures { self.new ≡ record self.old { posts = map.insert self.old.posts thread.0 post } }
     {
-        let Some(key) = key_noting(&self.records, &self.keys, &mut self.hints, thread) else {
-            unreachable!();
-        };
-        let Some(record) = self.records.get_mut(key) else {
-            unreachable!();
-        };
+        let key = attached_key(&self.records, &self.keys, &mut self.hints, thread);
+        let record = &mut self.records[key];
         let before = one_waiting(record.post);
         record.post = post;
         // No more threads wait than are attached.
@@ -296,12 +313,8 @@ impl Posts {
         requires { IsSome (map.get self.old.posts thread.0) }
         ensures { self.new ≡ with_parked self.old thread post node.0 }
     {
-        let Some(key) = key_noting(&self.records, &self.keys, &mut self.hints, thread) else {
-            unreachable!();
-        };
-        let Some(record) = self.records.get_mut(key) else {
-            unreachable!();
-        };
+        let key = attached_key(&self.records, &self.keys, &mut self.hints, thread);
+        let record = &mut self.records[key];
         let before = one_waiting(record.post);
         *record = Record {
             thread: record.thread,
@@ -320,13 +333,8 @@ impl Posts {
         requires { IsSome (map.get self.old.posts thread.0) }
         ensures { self.new ≡ record self.old { flags = map.insert self.old.flags thread.0 flag } }
     {
-        let Some(key) = key_noting(&self.records, &self.keys, &mut self.hints, thread) else {
-            unreachable!();
-        };
-        let Some(record) = self.records.get_mut(key) else {
-            unreachable!();
-        };
-        record.flag = flag;
+        let key = attached_key(&self.records, &self.keys, &mut self.hints, thread);
+        self.records[key].flag = flag;
     }
 
     /// Counts a monitor that goes from one owner to another: one less for the thread that owned it,
@@ -351,13 +359,8 @@ impl Posts {
         let Some(thread) = owner else {
             return;
         };
-        let Some(key) = key_noting(&self.records, &self.keys, &mut self.hints, thread) else {
-            unreachable!();
-        };
-        let Some(record) = self.records.get_mut(key) else {
-            unreachable!();
-        };
-        record.owned -= 1;
+        let key = attached_key(&self.records, &self.keys, &mut self.hints, thread);
+        self.records[key].owned -= 1;
     }
 
     #[inline(always)]
@@ -369,13 +372,8 @@ impl Posts {
         let Some(thread) = owner else {
             return;
         };
-        let Some(key) = key_noting(&self.records, &self.keys, &mut self.hints, thread) else {
-            unreachable!();
-        };
-        let Some(record) = self.records.get_mut(key) else {
-            unreachable!();
-        };
-        record.owned += 1;
+        let key = attached_key(&self.records, &self.keys, &mut self.hints, thread);
+        self.records[key].owned += 1;
     }
 
     /// Drops an attached thread.

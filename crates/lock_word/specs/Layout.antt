@@ -55,7 +55,7 @@ low_of word = word % 256
 abbrev pub with_lock : Split → ℕ → Lock → ℕ
 with_lock s word l = word_of s l (low_of word)
 
--- the locks of a thin lock, minus one; 0 for another lock
+-- how often a thin lock is held, less one; 0 for another lock
 abbrev pub count_of : Lock → ℕ
 count_of Free = 0
 count_of (Thin index count) = count

@@ -8,7 +8,7 @@ ghost use Rattle.std.specs.Prelude.{◌≡◌, ◌<◌, ◌^◌, ◌↔◌, ℕ,
 ghost use Rattle.lock_word.specs.declared.Lock.{Lock};
 ghost use Rattle.lock_word.specs.declared.Split.{Split};
 ghost use Rattle.lock_word.specs.Names.{hex_digit};
-ghost use Rattle.lock_word.specs.Layout.{greatest_index, greatest_count, word_of, lock_of, low_of};
+ghost use Rattle.lock_word.specs.Layout.{greatest_index, greatest_count, word_of, lock_of, low_of, count_of};
 ghost use Rattle.lock_word.specs.Layout.{with_lock, Fits, IsMalformed};
 
 use std::alloc::{AllocError, AllocFailed};
@@ -104,6 +104,19 @@ pub enum Lock {
     Thin { index: u16, count: u16 },
     /// The fat monitor with this number, 0 to 8,388,607, has owner and holds.
     Fat { monitor: u32 },
+}
+
+impl Lock {
+    /// How often a thin lock is held, less one; 0 for another lock.
+    #[inline(always)]
+    pub fn count(self) -> u16
+        ensures { result ≡ count_of self }
+    {
+        match self {
+            Lock::Thin { count, .. } => count,
+            Lock::Free | Lock::Fat { .. } => 0,
+        }
+    }
 }
 
 /// Want of memory: the system refused a growth. Whatever was asked to grow is unchanged.

@@ -29,7 +29,7 @@ use Rattle.step_core.specs.declared.paths.Point.{Point}
 use Rattle.step_core.specs.declared.paths.Point.TheVariants.{At, Expired, Said}
 use Rattle.step_core.specs.declared.steps.Step.{Step}
 use Rattle.step_core.specs.declared.steps.Step.TheVariants as step
-use Rattle.thread_index.specs.Indices.{seat_of}
+use Rattle.thread_index.specs.Indices.{berth_of}
 use Rattle.step_core.specs.World.{WorldState, place_at, is_own}
 use Rattle.step_core.specs.Step.{first_place}
 use Rattle.step_core.specs.Go.{action_on, action_about, entering, stored_reply}
@@ -73,12 +73,13 @@ IsBind o (atomic.Bound p m) = p ≡ o
 IsBind o (atomic.NotBound p x) = (p ≡ o) × IsBindCause x
 IsBind o a = ⊥
 
--- this fat action, which replies or parks
+-- the action of a call replies or parks
 abbrev pub IsTold : Answer → Type 0
 IsTold (answer.Reply r) = Unit {0}
 IsTold answer.Parked = Unit {0}
 IsTold answer.Quiet = ⊥
 
+-- this fat action, which replies or parks
 abbrev pub IsAct : Action → Atomic → Type 0
 IsAct b (atomic.Acted a x) = (a ≡ b) × IsTold x
 IsAct b a = ⊥
@@ -214,7 +215,7 @@ abbrev pub point_of : Option Reply → Place → Point
 point_of (Some r) p = Said r
 point_of None p = At p
 
--- The Go of the thread at seat k that did this is one step of the path of its call.
+-- The Go of the thread at berth k that did this is one step of the path of its call.
 abbrev pub StepsAt : WorldState → Option ℕ → Did → WorldState → Type 0
 StepsAt w None d w' = ⊥
 StepsAt w (Some k) d w' =
@@ -223,5 +224,5 @@ StepsAt w (Some k) d w' =
 
 -- A Go is one step of a path; other steps are not of the thread's own call.
 abbrev pub StepsOnPath : WorldState → Step → Did → WorldState → Type 0
-StepsOnPath w (step.Go t) d w' = StepsAt w (seat_of w.seats t) d w'
+StepsOnPath w (step.Go t) d w' = StepsAt w (berth_of w.berths t) d w'
 StepsOnPath w s d w' = Unit {0}

@@ -15,10 +15,10 @@ use Rattle.step_core.specs.World.{WorldState, low_word}
 
 -- a world of these parts
 abbrev pub world_of : Split → List Word → List (Option ThreadId) → List Place → FatState → WorldState
-world_of split words seats places fats = record {
+world_of split words berths places fats = record {
   split = split;
   words = words;
-  seats = seats;
+  berths = berths;
   places = places;
   fats = fats;
 }
@@ -45,8 +45,16 @@ IsReady split words f (Direct c) = Unit {0}
 
 -- the action is a call's own: no Expire, no Spurious, no Collect and no End
 abbrev pub IsOwnAction : Action → Type 0
+IsOwnAction (action.Enter m) = Unit {0}
+IsOwnAction (action.Exit m) = Unit {0}
+IsOwnAction (action.Wait m millis nanos) = Unit {0}
+IsOwnAction (action.Notify m) = Unit {0}
+IsOwnAction (action.NotifyAll m) = Unit {0}
+IsOwnAction (action.Holds m) = Unit {0}
+IsOwnAction (action.Interrupt t) = Unit {0}
+IsOwnAction action.Interrupted = Unit {0}
+IsOwnAction (action.IsInterrupted t) = Unit {0}
 IsOwnAction action.Expire = ⊥
 IsOwnAction action.Spurious = ⊥
 IsOwnAction action.Collect = ⊥
 IsOwnAction action.End = ⊥
-IsOwnAction a = Unit {0}

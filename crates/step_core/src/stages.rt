@@ -105,7 +105,7 @@ fn load(
         Next::Cas(_) => Stage::Taking { object, contended },
         Next::Store(lock) => Stage::Storing { call, lock },
         Next::Bind => {
-            let count = count_of(lock);
+            let count = lock.count();
             Stage::Binding { call, count }
         }
         Next::Fat(monitor) => Stage::Acting { call, monitor },
@@ -423,15 +423,5 @@ fn is_own(lock: Lock, me: u16) -> bool
     match lock {
         Lock::Thin { index, .. } => index == me,
         Lock::Free | Lock::Fat { .. } => false,
-    }
-}
-
-/// The count of a thin lock; 0 for another.
-fn count_of(lock: Lock) -> u16
-    ensures { result ≡ count_of lock }
-{
-    match lock {
-        Lock::Thin { count, .. } => count,
-        Lock::Free | Lock::Fat { .. } => 0,
     }
 }

@@ -1,18 +1,18 @@
-use Rattle.std.proofs.Common.{sym, ap, refl, ℕ, Option, is_some}
+use Rattle.std.proofs.Common.{ap, refl}
 use Rattle.std.proofs.Common.{arith}
 use Rattle.fat_monitor.specs.Slots.{Posted}
 use Rattle.fat_monitor.proofs.WaitCounts.{counts, counts-le, one_at_most, recounted}
-use Rattle.fat_monitor.proofs.PostMaps.{not_posted, posted_in-set, LeadToRecords-write, HaveKeys-write, Updates-with_value}
+use Rattle.fat_monitor.proofs.PostMaps.{posted_key, posted_in-set, LeadToRecords-write, HaveKeys-write, Updates-with_value}
 use Rattle.fat_monitor.proofs.posts.Posts.set.Goals as goal
 
-pub unreachable-requires : goal.unreachable-requires
-unreachable-requires c =
-    not_posted c.self.inside.records c.self.inside.keys.entries c.args.thread.0 (ap (λ (o : Option ℕ). is_some o) (sym c.in_default.ensures)) (rw (← c.self.view_is) at c.requires)
+pub attached_key-key-requires-clause-attached : goal.attached_key-key-requires-clause-attached
+attached_key-key-requires-clause-attached c =
+    posted_key c.self.inside.records c.self.inside.keys.entries c.args.thread.0 (rw (← c.self.view_is) at c.requires)
 
 pub overflow_sub-self : goal.overflow_sub-self
 overflow_sub-self c =
-    counts c.self.inside.records c.self.inside.keys.entries c.args.thread.0 c.in-Some.key c.in-Some-get_mut.record.now c.self.inside.waiting c.one_waiting-before.result
-    c.self.invariant.2 (sym c.in-Some.ensures) (sym c.in-Some-get_mut.ensures.value) c.one_waiting-before.ensures
+    counts c.self.inside.records c.self.inside.keys.entries c.args.thread.0 c.attached_key-key.result c.index_mut-record.result.now c.self.inside.waiting c.one_waiting-before.result
+    c.self.invariant.2 c.attached_key-key.ensures.found c.index_mut-record.ensures.value c.one_waiting-before.ensures
 
 pub overflow_add-self : goal.overflow_add-self
 overflow_add-self c =
@@ -24,21 +24,21 @@ overflow_add-self c =
 
 pub invariant_of-self : goal.invariant_of-self
 invariant_of-self c =
-    let there = sym c.in-Some-get_mut.ensures.value in
-    let found = sym c.in-Some.ensures in
-    let slot = Updates-with_value c.self.inside.records c.in-Some.key c.in-Some-get_mut.record.now (record c.in-Some-get_mut.record.now { post = c.args.post }) there in (
-      LeadToRecords-write c.self.inside.records _ c.self.inside.keys.entries c.args.thread.0 c.in-Some.key c.in-Some-get_mut.record.now _ c.self.invariant.0 c.self.invariant.1 found there slot refl,
-      HaveKeys-write c.self.inside.records _ c.self.inside.keys.entries c.args.thread.0 c.in-Some.key c.in-Some-get_mut.record.now _ c.self.invariant.0 c.self.invariant.1 found there slot refl,
-      recounted c.self.inside.records c.self.inside.keys.entries c.args.thread.0 c.in-Some.key c.in-Some-get_mut.record.now c.self.inside.waiting c.one_waiting-before.result
+    let there = c.index_mut-record.ensures.value in
+    let found = c.attached_key-key.ensures.found in
+    let slot = Updates-with_value c.self.inside.records c.attached_key-key.result c.index_mut-record.result.now (record c.index_mut-record.result.now { post = c.args.post }) there in (
+      LeadToRecords-write c.self.inside.records _ c.self.inside.keys.entries c.args.thread.0 c.attached_key-key.result c.index_mut-record.result.now _ c.self.invariant.0 c.self.invariant.1 found there slot refl,
+      HaveKeys-write c.self.inside.records _ c.self.inside.keys.entries c.args.thread.0 c.attached_key-key.result c.index_mut-record.result.now _ c.self.invariant.0 c.self.invariant.1 found there slot refl,
+      recounted c.self.inside.records c.self.inside.keys.entries c.args.thread.0 c.attached_key-key.result c.index_mut-record.result.now c.self.inside.waiting c.one_waiting-before.result
           c.self.invariant.2 found there c.one_waiting-before.ensures _ c.args.post c.one_waiting.result
-          (ap (λ (p : Posted). p.posts) (posted_in-set c.self.inside.records _ c.self.inside.keys.entries c.args.thread.0 c.in-Some.key c.in-Some-get_mut.record.now _ c.self.invariant.0 c.self.invariant.1 found there slot refl refl refl))
+          (ap (λ (p : Posted). p.posts) (posted_in-set c.self.inside.records _ c.self.inside.keys.entries c.args.thread.0 c.attached_key-key.result c.index_mut-record.result.now _ c.self.invariant.0 c.self.invariant.1 found there slot refl refl refl))
           c.one_waiting.ensures,
     )
 
 pub returns : goal.returns
 returns c =
-    let there = sym c.in-Some-get_mut.ensures.value in
-    let found = sym c.in-Some.ensures in
-    let slot = Updates-with_value c.self.inside.records c.in-Some.key c.in-Some-get_mut.record.now (record c.in-Some-get_mut.record.now { post = c.args.post }) there in
+    let there = c.index_mut-record.ensures.value in
+    let found = c.attached_key-key.ensures.found in
+    let slot = Updates-with_value c.self.inside.records c.attached_key-key.result c.index_mut-record.result.now (record c.index_mut-record.result.now { post = c.args.post }) there in
     rw (← c.self.view_is) (
-    posted_in-set c.self.inside.records _ c.self.inside.keys.entries c.args.thread.0 c.in-Some.key c.in-Some-get_mut.record.now _ c.self.invariant.0 c.self.invariant.1 found there slot refl refl refl)
+    posted_in-set c.self.inside.records _ c.self.inside.keys.entries c.args.thread.0 c.attached_key-key.result c.index_mut-record.result.now _ c.self.invariant.0 c.self.invariant.1 found there slot refl refl refl)
