@@ -22,7 +22,7 @@ use Rattle.header_words.specs.Steps.{ShowsDepth}
 use Rattle.header_words.specs.WideWords.{word_of}
 use Rattle.header_words.specs.Rule.{Each, part, IsMine, Knows, Ruled, spent_view, joined_view}
 use Rattle.header_words.specs.Passes.{PassValue, parts_of, seen_lists, Within, TookAll, IsClosed, Opening, opening_of, indices_of, HasAll}
-use Rattle.header_words.proofs.Gates.{not_holder}
+use Rattle.header_words.proofs.Gates.{not_taker}
 use Rattle.header_words.proofs.Traces.{small_word, fits_all, shows_depth, depth_is_holds}
 use Rattle.header_words.proofs.Keeps.{each_map}
 use Rattle.header_words.proofs.Seats.{merges}
@@ -141,7 +141,7 @@ gate_is_open bound lows count id v ps s r at is all = go (ℕ_discrete gate 0)
     go (yes e) = e
     go (no ne) = let h = r.gated.taken ne in
         let has = all gate (omega arith) h.0 in
-        absurd (not_holder bound count r.log r.seat_of gate s.homes s.views id v at is.plain r.gated ne (seat_of_all r.seat_of id ps gate seats has.0 has.1 has.2))
+        absurd (not_taker bound count r.log r.seat_of gate s.homes s.views id v at is.plain r.gated ne (seat_of_all r.seat_of id ps gate seats has.0 has.1 has.2))
 
 -- the words in the end, by the low bytes and the count
 ends_of : {B : Type 0} (bound : B → List ObjectId) (lows : List ℕ) (count id : ℕ) (v : View) (ps : List PassValue) (ws : List ℕ) (xs : List (Option B)) → Final (Seen (Ruled bound lows count) id v) ws xs → TookAll ps v → HasAll count ps → (b : B) → get_elem? xs 0 ≡ some (Some b)

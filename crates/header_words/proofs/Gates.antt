@@ -23,9 +23,9 @@ set_at (x ∷ xs) (suc i) a b e = set_at xs i a b e
 
 module _ {B : Type 0} (bound : B → List ObjectId) where
   -- a seat without the gate is not that of the pass that took it
-  pub not_holder : (count : ℕ) (log : List Event) (seat_of : ℕ → ℕ) (gate : ℕ) (homes : List (Home (Option B))) (views : List View) (id : ℕ) (v : View) → get_elem? views id ≡ some v → v.has_gate ≡ false
+  pub not_taker : (count : ℕ) (log : List Event) (seat_of : ℕ → ℕ) (gate : ℕ) (homes : List (Home (Option B))) (views : List View) (id : ℕ) (v : View) → get_elem? views id ≡ some v → v.has_gate ≡ false
       → Gated bound count log seat_of gate homes views → gate ≢ 0 → seat_of gate ≢ id
-  not_holder count log seat_of gate homes views id v at plain r shut is =
+  not_taker count log seat_of gate homes views id v at plain r shut is =
       let h = r.taken shut in
       let same : h.1 ≡ v = some-injective h.1 v (sym h.2 ∙ (ap (get_elem? views) is ∙ at)) in
       both_ways v.has_gate (ap (λ (u : View). u.has_gate) (sym same) ∙ h.3) plain
@@ -35,21 +35,21 @@ module _ {B : Type 0} (bound : B → List ObjectId) where
       → Gated bound count log seat_of gate homes views → Gated bound count now seat_of gate homes (set views id w)
   gated_seat count log now seat_of gate homes views id v w at seen same may r = record {
     home = λ free. let h = r.home free in
-        (h.0, h.1, λ m o p. h.2 m o (⊎_elim (λ (mine : v.has_gate ≡ true). absurd ((r.holders id v at mine).0 free)) (λ (still : HasPublishesOf now log). still m o p) may));
-    taken = λ shut. holder shut (ℕ_discrete (seat_of gate) id);
-    holders = λ k u found has. ⊎_elim
-        (λ (t : (k ≡ id) × (w ≡ u)). let was = r.holders id v at (sym same ∙ (ap (λ (z : View). z.has_gate) t.1 ∙ has)) in
+        (h.0, h.1, λ m o p. h.2 m o (⊎_elim (λ (mine : v.has_gate ≡ true). absurd ((r.takers id v at mine).0 free)) (λ (still : HasPublishesOf now log). still m o p) may));
+    taken = λ shut. taker shut (ℕ_discrete (seat_of gate) id);
+    takers = λ k u found has. ⊎_elim
+        (λ (t : (k ≡ id) × (w ≡ u)). let was = r.takers id v at (sym same ∙ (ap (λ (z : View). z.has_gate) t.1 ∙ has)) in
         (was.0, was.1 ∙ sym t.0, subst (λ (z : View). HasPublishesOf now z.seen) t.1 seen))
-        (λ (t : (k ≢ id) × (get_elem? views k ≡ some u)). let was = r.holders k u t.1 has in
-        (was.0, was.1, λ m o p. was.2 m o (⊎_elim (λ (mine : v.has_gate ≡ true). absurd (t.0 (sym was.1 ∙ (r.holders id v at mine).1))) (λ (still : HasPublishesOf now log). still m o p) may)))
+        (λ (t : (k ≢ id) × (get_elem? views k ≡ some u)). let was = r.takers k u t.1 has in
+        (was.0, was.1, λ m o p. was.2 m o (⊎_elim (λ (mine : v.has_gate ≡ true). absurd (t.0 (sym was.1 ∙ (r.takers id v at mine).1))) (λ (still : HasPublishesOf now log). still m o p) may)))
         (at_set views id k w u found);
   }
     where
-      holder : (shut : gate ≢ 0) → Dec (seat_of gate ≡ id) → (gate ≤ count) × (u : View) × (get_elem? (set views id w) (seat_of gate) ≡ some u) × (u.has_gate ≡ true)
-      holder shut (yes is) = let h = r.taken shut in
+      taker : (shut : gate ≢ 0) → Dec (seat_of gate ≡ id) → (gate ≤ count) × (u : View) × (get_elem? (set views id w) (seat_of gate) ≡ some u) × (u.has_gate ≡ true)
+      taker shut (yes is) = let h = r.taken shut in
           let found : h.1 ≡ v = some-injective h.1 v (sym h.2 ∙ (ap (get_elem? views) is ∙ at)) in
           (h.0, w, ap (get_elem? (set views id w)) is ∙ set_at views id v w at, same ∙ (ap (λ (z : View). z.has_gate) (sym found) ∙ h.3))
-      holder shut (no ne) = let h = r.taken shut in (h.0, h.1, set_else views id (seat_of gate) w ne ∙ h.2, h.3)
+      taker shut (no ne) = let h = r.taken shut in (h.0, h.1, set_else views id (seat_of gate) w ne ∙ h.2, h.3)
 
   -- indices go from seat to seat, and none of these has the gate
   pub gated_moved : (count : ℕ) (log : List Event) (seat_of now : ℕ → ℕ) (gate : ℕ) (homes : List (Home (Option B))) (views next : List View)
@@ -60,7 +60,7 @@ module _ {B : Type 0} (bound : B → List ObjectId) where
   gated_moved count log seat_of now gate homes views next old same stays r = record {
     home = r.home;
     taken = λ shut. let h = r.taken shut in (h.0, h.1, ap (get_elem? next) (same shut) ∙ stays shut h.1 h.2, h.3);
-    holders = λ k u found has. let was = r.holders k u (old k u found has) has in (was.0, same was.0 ∙ was.1, was.2);
+    takers = λ k u found has. let was = r.takers k u (old k u found has) has in (was.0, same was.0 ∙ was.1, was.2);
   }
 
   -- a seat takes the open gate and the book
@@ -69,21 +69,21 @@ module _ {B : Type 0} (bound : B → List ObjectId) where
   gated_taken count log seat_of gate homes views id index v w at free ne low mine seen has r = record {
     home = λ none_there. absurd (ne none_there);
     taken = λ _. (low, w, ap (get_elem? (set views id w)) mine ∙ set_at views id v w at, has);
-    holders = λ k u found held. ⊎_elim
+    takers = λ k u found held. ⊎_elim
         (λ (t : (k ≡ id) × (w ≡ u)). (ne, mine ∙ sym t.0, λ m o p. subst (HasPublish m o) (sym seen ∙ ap (λ (z : View). z.seen) t.1) p))
-        (λ (t : (k ≢ id) × (get_elem? views k ≡ some u)). absurd ((r.holders k u t.1 held).0 free))
+        (λ (t : (k ≢ id) × (get_elem? views k ≡ some u)). absurd ((r.takers k u t.1 held).0 free))
         (at_set views id k w u found);
   }
 
-  -- the holder gives the gate back, and a book that binds all that it has seen published
+  -- the taker gives the gate back, and a book that binds all that it has seen published
   pub gated_given : (count : ℕ) (log : List Event) (seat_of : ℕ → ℕ) (gate : ℕ) (homes : List (Home (Option B))) (views : List View) (id : ℕ) (v w : View) (b : B) → get_elem? views id ≡ some v → 0 < length homes → v.has_gate ≡ true → w.has_gate ≡ false → Covers (bound b) v.seen
       → Gated bound count log seat_of gate homes views → Gated bound count log seat_of 0 (set homes 0 (some (Some b))) (set views id w)
   gated_given count log seat_of gate homes views id v w b at room held plain covers r = record {
-    home = λ _. (b, set_here homes 0 (some (Some b)) room, λ m o p. covers m o ((r.holders id v at held).2 m o p));
+    home = λ _. (b, set_here homes 0 (some (Some b)) room, λ m o p. covers m o ((r.takers id v at held).2 m o p));
     taken = λ shut. absurd (shut refl);
-    holders = λ k u found has. ⊎_elim
+    takers = λ k u found has. ⊎_elim
         (λ (t : (k ≡ id) × (w ≡ u)). absurd (both_ways w.has_gate (ap (λ (z : View). z.has_gate) t.1 ∙ has) plain))
-        (λ (t : (k ≢ id) × (get_elem? views k ≡ some u)). absurd (t.0 (sym (r.holders k u t.1 has).1 ∙ (r.holders id v at held).1)))
+        (λ (t : (k ≢ id) × (get_elem? views k ≡ some u)). absurd (t.0 (sym (r.takers k u t.1 has).1 ∙ (r.takers id v at held).1)))
         (at_set views id k w u found);
   }
 
@@ -92,7 +92,7 @@ module _ {B : Type 0} (bound : B → List ObjectId) where
   gated_first count seat_of b v plain = record {
     home = λ _. (b, refl, λ m o p. absurd p);
     taken = λ shut. absurd (shut refl);
-    holders = λ k u found has. one k u found has;
+    takers = λ k u found has. one k u found has;
   }
     where
       one : (k : ℕ) (u : View) → get_elem? (v ∷ []) k ≡ some u → u.has_gate ≡ true → (let z : ℕ = 0 in z ≢ z) × (seat_of 0 ≡ k) × HasPublishesOf [] u.seen

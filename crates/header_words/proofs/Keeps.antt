@@ -146,7 +146,7 @@ told bound lows count s r id v o kind n at one inside legal is = record {
   word = word' ∙ ap (λ (ls : List ℕ). word_of (lock_at (locks_after e r.locks) o) (slice_index ls o)) (sym mine.same);
   small = subst (λ (x : ℕ). x < 4294967296) (sym word') (small_word (lock_at (locks_after e r.locks) o) (slice_index lows o) fits (r.bytes o));
   published = λ k fat. fat_published lows count o k (r.log ++ e ∷ []) (locks_after e r.locks) again (sym (ap lock_of word' ∙ lock_of-word_of Wide (lock_at (locks_after e r.locks) o) (slice_index lows o) fits (r.bytes o)) ∙ fat);
-  publishes = λ has k q h. (r.gated.holders id v at has).2 k q (subst (HasPublish k q) knows.seen.1 h);
+  publishes = λ has k q h. (r.gated.takers id v at has).2 k q (subst (HasPublish k q) knows.seen.1 h);
   shows = subst (λ (ls : List ℕ). ShowsDepth i (depth o (m ++ e ∷ [])) (slice_index ls o) n) (sym mine.same)
       (shows_depth i (depth o (m ++ e ∷ [])) (lock_at (locks_after e r.locks) o) (slice_index lows o) n fits (r.bytes o)
       (ap (depth o) (sym mine') ∙ depth_is_holds lows count i o (r.log ++ e ∷ []) (locks_after e r.locks) again) word');

@@ -14,7 +14,7 @@ use Rattle.header_words.specs.Events.{own_events}
 use Rattle.header_words.specs.Gate.{Gated}
 use Rattle.header_words.specs.Rule.{Each, IsMine, AreApart, Knows, Ruled, spent_view, with_parts, kept_view, given_view, joined_view}
 use Rattle.header_words.specs.Steps.{Syncs}
-use Rattle.header_words.proofs.Gates.{not_holder, gated_seat, gated_moved}
+use Rattle.header_words.proofs.Gates.{not_taker, gated_seat, gated_moved}
 use Rattle.header_words.proofs.Keeps.{each_map}
 use Rattle.header_words.proofs.Prefixes.{longer_prefix, longer_own}
 
@@ -70,7 +70,7 @@ forks_at bound lows count id v p ps plain s r at = record {
     gate = slice_index s.words 0
 
     away : gate ≢ 0 → r.seat_of gate ≢ id
-    away = not_holder bound count r.log r.seat_of gate s.homes s.views id (with_parts v v.steps (p ∷ ps)) at plain r.gated
+    away = not_taker bound count r.log r.seat_of gate s.homes s.views id (with_parts v v.steps (p ∷ ps)) at plain r.gated
 
     without : (u : View) → v.has_gate ≡ u.has_gate → u.has_gate ≡ true → ⊥
     without u same has = true≢false (sym has ∙ (sym same ∙ plain))
@@ -154,10 +154,10 @@ merges_at bound lows count id other v w p ps is plain_v plain_w s r at apart the
     was_there = ⊎_elim (λ (t : (other ≡ id) × (joined_view v w ≡ w)). absurd (apart t.0)) (λ (t : (other ≢ id) × (get_elem? s.views other ≡ some w)). t.1) (at_set s.views id other (joined_view v w) w there)
 
     away_v : gate ≢ 0 → r.seat_of gate ≢ id
-    away_v = not_holder bound count r.log r.seat_of gate s.homes s.views id v at plain_v r.gated
+    away_v = not_taker bound count r.log r.seat_of gate s.homes s.views id v at plain_v r.gated
 
     away_w : gate ≢ 0 → r.seat_of gate ≢ other
-    away_w = not_holder bound count r.log r.seat_of gate s.homes s.views other w was_there plain_w r.gated
+    away_w = not_taker bound count r.log r.seat_of gate s.homes s.views other w was_there plain_w r.gated
 
     without : (u : View) → false ≡ u.has_gate → u.has_gate ≡ true → ⊥
     without u same has = true≢false (sym has ∙ sym same)

@@ -9,7 +9,7 @@ use crate::MoveFault;
 use crate::acts::{has, owner_only, yes_or_no};
 use crate::machine::Machine;
 use crate::monitors::Held;
-use crate::threads::{Live, CallEdge};
+use crate::threads::{CallEdge, Live};
 use fast_path::Call;
 use fat_monitor::{Cause, Reply};
 use lock_word::ThreadId;

@@ -9,7 +9,8 @@ ghost use Rattle.jls_check.specs.CallEdges.{after_edge, crossed_record, edge_of,
 
 use crate::acts::has;
 use crate::slots::{
-    Slot, follow, free_empty, give_back, grow_hints, note, notify_slots, position_noting, position_of,
+    Slot, follow, free_empty, give_back, grow_hints, note, notify_slots, position_noting,
+    position_of,
 };
 use fast_path::Call;
 use fat_monitor::Reply;
@@ -163,7 +164,12 @@ impl Threads {
         ensures answer { result ≡ is_some (edge_of self.old thread edge) }
         ensures crossed { self.new ≡ crossed self.old thread edge }
     {
-        let Some(position) = position_noting(&self.slots, &self.positions, &mut self.hints, thread.0) else {
+        let Some(position) = position_noting(
+            &self.slots,
+            &self.positions,
+            &mut self.hints,
+            thread.0,
+        ) else {
             return false;
         };
         let Some(slot) = self.slots.get_mut(position) else {
@@ -180,7 +186,12 @@ impl Threads {
         ensures { self.new ≡ owning_one_less self.old owner }
     {
         let Some(thread) = owner else { return };
-        let Some(position) = position_noting(&self.slots, &self.positions, &mut self.hints, thread.0) else {
+        let Some(position) = position_noting(
+            &self.slots,
+            &self.positions,
+            &mut self.hints,
+            thread.0,
+        ) else {
             return;
         };
         let Some(slot) = self.slots.get_mut(position) else {
@@ -195,7 +206,12 @@ impl Threads {
         ensures { self.new ≡ owning_one_more self.old owner }
     {
         let Some(thread) = owner else { return };
-        let Some(position) = position_noting(&self.slots, &self.positions, &mut self.hints, thread.0) else {
+        let Some(position) = position_noting(
+            &self.slots,
+            &self.positions,
+            &mut self.hints,
+            thread.0,
+        ) else {
             return;
         };
         let Some(slot) = self.slots.get_mut(position) else {
