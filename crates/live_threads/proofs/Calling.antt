@@ -9,8 +9,8 @@ use Rattle.step_core.specs.declared.places.Place.TheVariants.{Idle, InCall, Endi
 use Rattle.step_core.specs.declared.places.Stage.TheVariants.{Begun, Direct}
 use Rattle.step_core.specs.declared.paths.Point.{Point}
 use Rattle.step_core.specs.declared.paths.Point.TheVariants.{At, Expired, Said}
-use Rattle.live_turns.specs.declared.turned.Standing.{Standing}
-use Rattle.live_turns.specs.declared.turned.Standing.TheVariants as standing
+use Rattle.live_turns.specs.declared.standings.Standing.{Standing}
+use Rattle.live_turns.specs.declared.standings.Standing.TheVariants as standing
 use Rattle.live_book.specs.declared.faults.LiveFault.{LiveFault}
 use Rattle.live_turns.specs.Points.{standing_at, resting, names_stranger}
 use Rattle.live_turns.specs.Ways.{Holding, Went, Halted}

@@ -21,9 +21,9 @@ use Rattle.step_core.specs.declared.places.Place.TheVariants.{Idle, InCall, Endi
 use Rattle.step_core.specs.declared.paths.Point.{Point}
 use Rattle.step_core.specs.declared.paths.Point.TheVariants.{At, Expired, Said}
 use Rattle.live_book.specs.declared.faults.LiveFault.{LiveFault}
-use Rattle.live_turns.specs.declared.turned.Turned.{Turned}
+use Rattle.live_turns.specs.declared.standings.Turned.{Turned}
 use Rattle.live_turns.specs.Points.{Visited, Loaded, RefusesThere, RestsAtPost, is_at_book}
-use Rattle.live_turns.specs.Ways.{Holding, Took, Gave, VisitsBook, parked}
+use Rattle.live_turns.specs.Ways.{Holding, TakesGate, GivesGate, VisitsBook, parked}
 
 -- an event on a word is no visit
 pub event_visit : (o : ℕ) (d : WordDeed) (n : ℕ) (p q : PassValue) → MakesEvent o d n p q → (length p.mine < length q.mine) × VisitsBook 0 p q
@@ -36,7 +36,7 @@ pub same_visit : (p q : PassValue) → q ≡ p → VisitsBook 0 p q
 same_visit p q same = subst (λ (x : PassValue). VisitsBook 0 p x) (sym same) (omega arith)
 
 -- the gate was taken, and given back
-pub held_visit : (p p' q' q : Holding) → Took p p' → VisitsBook 0 p'.words q'.words → Gave q' q → VisitsBook 1 p.words q.words
+pub held_visit : (p p' q' q : Holding) → TakesGate p p' → VisitsBook 0 p'.words q'.words → GivesGate q' q → VisitsBook 1 p.words q.words
 held_visit p p' q' q took visit gave =
     let took_steps : p'.words.steps ≡ suc p.words.steps = ap (λ (x : PassValue). x.steps) took.0.pass in
     let took_mine : length p'.words.mine ≡ length p.words.mine = ap (λ (x : PassValue). length x.mine) took.0.pass in
@@ -44,7 +44,7 @@ held_visit p p' q' q took visit gave =
     let gave_mine : length q.words.mine ≡ length q'.words.mine = ap (λ (x : PassValue). length x.mine) gave.0 in
     omega arith
 
-pub held_same : (p p' q' q : Holding) → Took p p' → q'.words ≡ p'.words → Gave q' q → VisitsBook 1 p.words q.words
+pub held_same : (p p' q' q : Holding) → TakesGate p p' → q'.words ≡ p'.words → GivesGate q' q → VisitsBook 1 p.words q.words
 held_same p p' q' q took same gave = held_visit p p' q' q took (same_visit p'.words q'.words same) gave
 
 pub visit_same : (p q r : PassValue) → VisitsBook 0 p q → r ≡ q → VisitsBook 0 p r

@@ -13,9 +13,9 @@ use Rattle.step_core.specs.declared.places.Stage.{Stage}
 use Rattle.step_core.specs.declared.places.Stage.TheVariants.{Begun, Binding, Acting, Won, Direct}
 use Rattle.step_core.specs.declared.paths.Point.{Point}
 use Rattle.step_core.specs.declared.paths.Point.TheVariants.{At, Expired, Said}
-use Rattle.live_turns.specs.declared.turned.Turned.{Turned}
-use Rattle.live_turns.specs.declared.turned.Standing.{Standing}
-use Rattle.live_turns.specs.declared.turned.Standing.TheVariants as standing
+use Rattle.live_turns.specs.declared.standings.Turned.{Turned}
+use Rattle.live_turns.specs.declared.standings.Standing.{Standing}
+use Rattle.live_turns.specs.declared.standings.Standing.TheVariants as standing
 use Rattle.live_book.specs.declared.faults.LiveFault.{LiveFault}
 use Rattle.live_book.specs.declared.faults.LiveFault.TheVariants as fault
 use Rattle.live_turns.specs.Ways.{Holding, Halted, VisitsBook}

@@ -129,12 +129,12 @@ pub record Halted (f : LiveFault) (s : Point) (p q : Holding) : Type 0 where
 abbrev pub Belongs : Opening → Bool → Holding → Type 0
 Belongs z gate p = (p.words.opening ≡ z) × (p.words.has_gate ≡ gate)
 
--- the pass took the gate, and gave it back
-abbrev pub Took : Holding → Holding → Type 0
-Took p q = HasTaken p.words q.words × (q.own ≡ p.own)
+-- the pass takes the gate, and gives it back
+abbrev pub TakesGate : Holding → Holding → Type 0
+TakesGate p q = HasTaken p.words q.words × (q.own ≡ p.own)
 
-abbrev pub Gave : Holding → Holding → Type 0
-Gave p q = (q.words ≡ has_given p.words) × (q.own ≡ p.own)
+abbrev pub GivesGate : Holding → Holding → Type 0
+GivesGate p q = (q.words ≡ has_given p.words) × (q.own ≡ p.own)
 
 -- the pass made no event on the words
 abbrev pub AddsNoEvent : PassValue → PassValue → Type 0

@@ -9,22 +9,22 @@ use Rattle.live_turns.proofs.turns.Turns.act_directly.Goals as goal
 
 pub give-requires-clause-covers : goal.give-requires-clause-covers
 give-requires-clause-covers g c =
-    covers_kept (bindings c.in-Some.desk.value.book) (bindings c.act_about-told.new.desk.value.book) c.take.new.holder.words c.act_about-told.new.self.words
+    covers_kept (bindings c.in-Some.desk.value.book) (bindings c.act_about-told.new.desk.value.book) c.take.new.hand.words c.act_about-told.new.self.words
     c.act_about-told.ensures.bindings c.act_about-told.ensures.words c.in-Some.ensures.2
 
 pub returns-clause-halted : goal.returns-clause-halted
 returns-clause-halted g c =
-    held_err c.act_about-told.result (At (InCall (Direct c.args.call))) c.args.holder.now c.take.new.holder c.act_about-told.new.self c.give.new.holder c.requires.belongs.1 c.in-Some.ensures.0 c.give.ensures.gave
-    (gave_up c.act_about-told.result (Direct c.args.call) c.take.new.holder c.act_about-told.new.self tt c.act_about-told.ensures.words c.act_about-told.ensures.none c.act_about-told.ensures.fault)
+    held_err c.act_about-told.result (At (InCall (Direct c.args.call))) c.args.hand.now c.take.new.hand c.act_about-told.new.self c.give.new.hand c.requires.belongs.1 c.in-Some.ensures.0 c.give.ensures.gave
+    (gave_up c.act_about-told.result (Direct c.args.call) c.take.new.hand c.act_about-told.new.self tt c.act_about-told.ensures.words c.act_about-told.ensures.none c.act_about-told.ensures.fault)
 
 pub returns-in_default-clause-visited : goal.returns-in_default-clause-visited
-returns-in_default-clause-visited g c = taken_away c.at.result (At (InCall (Direct c.args.call))) c.args.holder.now c.take.new.holder c.at.ensures refl c.in_default.ensures
+returns-in_default-clause-visited g c = taken_away c.at.result (At (InCall (Direct c.args.call))) c.args.hand.now c.take.new.hand c.at.ensures refl c.in_default.ensures
 
 pub returns-clause-visited : goal.returns-clause-visited
 returns-clause-visited g c =
-    visited_at c.act_about-told.result c.args.holder.now.words c.give.new.holder.words c.act_about-told.ensures.rests
-    (held_same c.args.holder.now c.take.new.holder c.act_about-told.new.self c.give.new.holder c.in-Some.ensures.0 c.act_about-told.ensures.words c.give.ensures.gave)
+    visited_at c.act_about-told.result c.args.hand.now.words c.give.new.hand.words c.act_about-told.ensures.rests
+    (held_same c.args.hand.now c.take.new.hand c.act_about-told.new.self c.give.new.hand c.in-Some.ensures.0 c.act_about-told.ensures.words c.give.ensures.gave)
 
 pub returns-clause-there : goal.returns-clause-there
 returns-clause-there g c =
-    err_always _ c.act_about-told.result (held_same c.args.holder.now c.take.new.holder c.act_about-told.new.self c.give.new.holder c.in-Some.ensures.0 c.act_about-told.ensures.words c.give.ensures.gave)
+    err_always _ c.act_about-told.result (held_same c.args.hand.now c.take.new.hand c.act_about-told.new.self c.give.new.hand c.in-Some.ensures.0 c.act_about-told.ensures.words c.give.ensures.gave)

@@ -14,24 +14,24 @@ returns-in-Ok-clause-covers g c =
     let xs = bindings c.args.desk.now.value.book in
     let ys = bindings c.bind.new.desk.value.book in
     let number = ap (λ (b : Receipt). b.monitor) c.in-Ok.ensures.receipt in
-    c.publish.ensures.covers ys (covers_bound xs ys c.args.object c.holder.inside.words.seen c.in-Ok.ensures.bindings (rw (← c.holder.view_is) at c.requires.covers))
+    c.publish.ensures.covers ys (covers_bound xs ys c.args.object c.hand.inside.words.seen c.in-Ok.ensures.bindings (rw (← c.hand.view_is) at c.requires.covers))
     (binds_bound xs ys c.args.object c.in-Ok.receipt.monitor c.in-Ok.ensures.bindings number)
 
 pub returns-in-Ok-clause-went : goal.returns-in-Ok-clause-went
 returns-in-Ok-clause-went g c =
-    let p : Holding = record { words = c.holder.inside.words; own = c.holder.inside.own.list.items } in
-    let q : Holding = record { words = c.holder.inside.words; own = c.bind.new.own.list.items } in
-    let me : c.thread-me.result ≡ thread_numbered c.holder.inside.words.index = c.thread-me.ensures.value ∙ ap (λ (h : Holding). thread_numbered h.words.index) (sym c.holder.view_is) in
+    let p : Holding = record { words = c.hand.inside.words; own = c.hand.inside.own.list.items } in
+    let q : Holding = record { words = c.hand.inside.words; own = c.bind.new.own.list.items } in
+    let me : c.thread-me.result ≡ thread_numbered c.hand.inside.words.index = c.thread-me.ensures.value ∙ ap (λ (h : Holding). thread_numbered h.words.index) (sym c.hand.view_is) in
     let m = length (bindings c.args.desk.now.value.book) in
     let number = ap (λ (b : Receipt). b.monitor) c.in-Ok.ensures.receipt in
-    rw (← c.holder.view_is) (settled_way c.args.object m c.in-Ok.receipt.monitor p q c.publish.new.holder number refl (rw me at c.in-Ok.ensures.own) (c.publish.ensures.went true))
+    rw (← c.hand.view_is) (settled_way c.args.object m c.in-Ok.receipt.monitor p q c.publish.new.hand number refl (rw me at c.in-Ok.ensures.own) (c.publish.ensures.went true))
 
 pub returns-in_default-clause-covers : goal.returns-in_default-clause-covers
 returns-in_default-clause-covers g c =
-    covers_kept (bindings c.args.desk.now.value.book) (bindings c.bind.new.desk.value.book) c.holder.inside.words c.holder.inside.words c.in_default.ensures.same refl (rw (← c.holder.view_is) at c.requires.covers)
+    covers_kept (bindings c.args.desk.now.value.book) (bindings c.bind.new.desk.value.book) c.hand.inside.words c.hand.inside.words c.in_default.ensures.same refl (rw (← c.hand.view_is) at c.requires.covers)
 
 pub returns-in_default-clause-went : goal.returns-in_default-clause-went
 returns-in_default-clause-went g c =
-    let p : Holding = record { words = c.holder.inside.words; own = c.holder.inside.own.list.items } in
-    let q : Holding = record { words = c.holder.inside.words; own = c.bind.new.own.list.items } in
-    rw (← c.holder.view_is) (dropped_way c.args.object cause.NoMonitor p q tt refl c.in_default.ensures.none)
+    let p : Holding = record { words = c.hand.inside.words; own = c.hand.inside.own.list.items } in
+    let q : Holding = record { words = c.hand.inside.words; own = c.bind.new.own.list.items } in
+    rw (← c.hand.view_is) (dropped_way c.args.object cause.NoMonitor p q tt refl c.in_default.ensures.none)

@@ -1,5 +1,5 @@
 use Rattle.std.proofs.Common.{rules}
-use Rattle.live_turns.proofs.turned.Turned.standing.Goals as goal
+use Rattle.live_turns.proofs.standings.Turned.standing.Goals as goal
 
 pub returns-in_default-2 : goal.returns-in_default-2
 returns-in_default-2 c = search rules

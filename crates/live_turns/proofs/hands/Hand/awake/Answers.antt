@@ -3,7 +3,7 @@ use Rattle.std.proofs.Common.{refl, ◌∙◌, ap, sym}
 use Rattle.live_book.specs.Log.{thread_numbered}
 use Rattle.live_turns.specs.Ways.{Holding}
 use Rattle.live_turns.proofs.Going.{awake_way}
-use Rattle.live_turns.proofs.holders.Holder.awake.Goals as goal
+use Rattle.live_turns.proofs.hands.Hand.awake.Goals as goal
 
 pub returns-in-Ok-Some-clause-went : goal.returns-in-Ok-Some-clause-went
 returns-in-Ok-Some-clause-went g c =

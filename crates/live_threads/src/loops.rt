@@ -1,4 +1,4 @@
-//! The loops over turns.
+//! The loops over turns: one call until it has its reply, and one tick until it was told.
 
 ghost use Rattle.std.specs.Prelude.{◌≡◌, IfOk, IfErr, OnOk, OnErr, ◌++◌, true, false};
 ghost use Rattle.step_core.specs.declared.paths.Point.TheVariants.{Said};

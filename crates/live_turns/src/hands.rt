@@ -1,4 +1,4 @@
-//! What a pass has: its words and its own deeds, and what it does while it has the gate.
+//! What a pass has in hand: its pass of the words, and its own deeds. With these it acts at the desk.
 
 ghost use Rattle.std.specs.Prelude.{◌≡◌, ◌≤◌, IfOk, IfErr, OnErr, OnOk, ◌++◌, true, false};
 ghost use Rattle.header_words.specs.Bindings.{Binds};
@@ -22,14 +22,14 @@ use lock_word::ThreadId;
 use std::marker::Model;
 use step_core::{Place, Point};
 
-/// The words of a pass, and its own deeds.
+/// What a pass has in hand: its pass of the words, and its own deeds.
 #[derive(Drop)]
-pub(crate) struct Holder<L: Crew> {
+pub(crate) struct Hand<L: Crew> {
     pub(crate) words: Pass<Box<Desk<L>>>,
     pub(crate) own: Own<L>,
 }
 
-impl<L: Crew> Model for Holder<L> {
+impl<L: Crew> Model for Hand<L> {
     ghost use Rattle.live_turns.specs.Ways.{Holding};
 
     ghost Value = { Holding };
@@ -70,7 +70,7 @@ fn woken(done: Done) -> Turned
     }
 }
 
-impl<L: Crew> Holder<L> {
+impl<L: Crew> Hand<L> {
     /// The thread of the pass.
     pub(crate) fn thread(&self) -> ThreadId
         ensures value { result ≡ thread_numbered self.now.words.index }

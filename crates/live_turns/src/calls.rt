@@ -1,4 +1,5 @@
-//! Calls that are driven by turns.
+//! The calls, turn by turn: the first turn of a call of either kind, and one more turn of the call that
+//! a pass is in. A tick tells the moment.
 
 ghost use Rattle.std.specs.Prelude.{◌≡◌, ◌≢◌, ◌<◌, IfOk, IfErr, MatchBool, OnErr, OnOk, length, ◌++◌, false, None};
 ghost use Rattle.step_core.specs.declared.places.Place.TheVariants.{Idle, InCall};
@@ -10,7 +11,7 @@ ghost use Rattle.live_turns.specs.Points.{Knows, KnowsStage, resting, GivenUpOn,
 ghost use Rattle.live_turns.specs.Ways.{AddsNoEvent, Belongs, Went, Halted, VisitsBook, ticked_by};
 
 use crate::desks::Crew;
-use crate::holders::Holder;
+use crate::hands::Hand;
 use crate::{LiveFault, TurnPass, Turned, Turns};
 use fast_path::{InterruptCall, MonitorCall};
 use step_core::{Place, Point, Stage};
@@ -56,7 +57,7 @@ impl<L: Crew> Turns<L> {
         if call.object.0 >= self.objects {
             return Err(LiveFault::NoObject);
         }
-        match self.turn_from_load(&mut pass.holder, call, false) {
+        match self.turn_from_load(&mut pass.hand, call, false) {
             Ok(turned) => {
                 rest(&mut pass.point, &turned.point);
                 Ok(turned)
@@ -92,7 +93,7 @@ impl<L: Crew> Turns<L> {
         if self.is_stranger(call) {
             return Err(LiveFault::NoThread);
         }
-        match self.act_directly(&mut pass.holder, call) {
+        match self.act_directly(&mut pass.hand, call) {
             Ok(turned) => {
                 rest(&mut pass.point, &turned.point);
                 Ok(turned)
@@ -134,9 +135,9 @@ impl<L: Crew> Turns<L> {
         // no copy of the point.
         let turned = match pass.point {
             Point::At(Place::InCall(Stage::Acting { call, monitor })) => {
-                self.act(&mut pass.holder, call, monitor)
+                self.act(&mut pass.hand, call, monitor)
             }
-            point => self.turn_from(&mut pass.holder, point),
+            point => self.turn_from(&mut pass.hand, point),
         };
         match turned {
             Ok(turned) => {
@@ -152,21 +153,21 @@ impl<L: Crew> Turns<L> {
 
     // One turn of a call that stands at this point.
     #[inline(never)]
-    fn turn_from(&self, holder: &mut Holder<L>, point: Point) -> Result<Turned, LiveFault>
-        requires belongs { Belongs self.now false holder.old }
-        requires knows { Knows point holder.old }
-        ensures belongs { Belongs self.now false holder.new }
-        ensures went { IfOk result (λ t. Went point t.point holder.old holder.new) }
-        ensures knows { IfOk result (λ t. Knows t.point holder.new) }
-        ensures halted { IfErr result (λ f. Halted f point holder.old holder.new) }
+    fn turn_from(&self, hand: &mut Hand<L>, point: Point) -> Result<Turned, LiveFault>
+        requires belongs { Belongs self.now false hand.old }
+        requires knows { Knows point hand.old }
+        ensures belongs { Belongs self.now false hand.new }
+        ensures went { IfOk result (λ t. Went point t.point hand.old hand.new) }
+        ensures knows { IfOk result (λ t. Knows t.point hand.new) }
+        ensures halted { IfErr result (λ f. Halted f point hand.old hand.new) }
         ensures did { IfOk result (λ t.
-            TurnedFrom point t.gate_taken t.point holder.old.words holder.new.words) }
-        ensures looked { OnErr result (VisitsBook 1 holder.old.words holder.new.words) }
+            TurnedFrom point t.gate_taken t.point hand.old.words hand.new.words) }
+        ensures looked { OnErr result (VisitsBook 1 hand.old.words hand.new.words) }
     {
         match point {
-            Point::At(Place::InCall(stage)) => self.turn_from_stage(holder, stage),
-            Point::At(Place::AtPost) => self.awake(holder, false),
-            Point::Expired => self.awake(holder, true),
+            Point::At(Place::InCall(stage)) => self.turn_from_stage(hand, stage),
+            Point::At(Place::AtPost) => self.awake(hand, false),
+            Point::Expired => self.awake(hand, true),
             _ => Ok(Turned {
                 point,
                 gate_taken: false,
@@ -176,23 +177,23 @@ impl<L: Crew> Turns<L> {
     }
 
     // One turn of a call that stands at this stage.
-    fn turn_from_stage(&self, holder: &mut Holder<L>, stage: Stage) -> Result<Turned, LiveFault>
-        requires belongs { Belongs self.now false holder.old }
-        requires knows { KnowsStage stage holder.old }
-        ensures belongs { Belongs self.now false holder.new }
-        ensures went { IfOk result (λ t. Went (At (InCall stage)) t.point holder.old holder.new) }
-        ensures knows { IfOk result (λ t. Knows t.point holder.new) }
-        ensures halted { IfErr result (λ f. Halted f (At (InCall stage)) holder.old holder.new) }
+    fn turn_from_stage(&self, hand: &mut Hand<L>, stage: Stage) -> Result<Turned, LiveFault>
+        requires belongs { Belongs self.now false hand.old }
+        requires knows { KnowsStage stage hand.old }
+        ensures belongs { Belongs self.now false hand.new }
+        ensures went { IfOk result (λ t. Went (At (InCall stage)) t.point hand.old hand.new) }
+        ensures knows { IfOk result (λ t. Knows t.point hand.new) }
+        ensures halted { IfErr result (λ f. Halted f (At (InCall stage)) hand.old hand.new) }
         ensures did { IfOk result (λ t.
-            TurnedStage stage t.gate_taken t.point holder.old.words holder.new.words) }
-        ensures looked { OnErr result (VisitsBook 1 holder.old.words holder.new.words) }
+            TurnedStage stage t.gate_taken t.point hand.old.words hand.new.words) }
+        ensures looked { OnErr result (VisitsBook 1 hand.old.words hand.new.words) }
     {
         match stage {
-            Stage::Begun { call, contended } => self.turn_from_load(holder, call, contended),
-            Stage::Binding { call, count } => self.inflate(holder, call, count),
-            Stage::Acting { call, monitor } => self.act_apart(holder, call, monitor),
-            Stage::Won { object } => Ok(self.settle(holder, object)),
-            Stage::Direct { call } => self.act_directly(holder, call),
+            Stage::Begun { call, contended } => self.turn_from_load(hand, call, contended),
+            Stage::Binding { call, count } => self.inflate(hand, call, count),
+            Stage::Acting { call, monitor } => self.act_apart(hand, call, monitor),
+            Stage::Won { object } => Ok(self.settle(hand, object)),
+            Stage::Direct { call } => self.act_directly(hand, call),
             _ => unreachable!(),
         }
     }
@@ -219,26 +220,26 @@ impl<L: Crew> Turns<L> {
         ensures refused { OnErr result
             (VisitsBook 1 pass.old.holding.words pass.new.holding.words) }
     {
-        self.tell(&mut pass.holder, now)
+        self.tell(&mut pass.hand, now)
     }
 
-    fn tell(&self, holder: &mut Holder<L>, now: u64) -> Result<bool, LiveFault>
-        requires belongs { Belongs self.now false holder.old }
-        ensures belongs { Belongs self.now false holder.new }
-        ensures words { AddsNoEvent holder.old.words holder.new.words }
-        ensures own { IfOk result (λ told. holder.new.own ≡ holder.old.own
-            ++ ticked_by told holder.old.words.index now) }
-        ensures none { OnErr result (holder.new.own ≡ holder.old.own) }
+    fn tell(&self, hand: &mut Hand<L>, now: u64) -> Result<bool, LiveFault>
+        requires belongs { Belongs self.now false hand.old }
+        ensures belongs { Belongs self.now false hand.new }
+        ensures words { AddsNoEvent hand.old.words hand.new.words }
+        ensures own { IfOk result (λ told. hand.new.own ≡ hand.old.own
+            ++ ticked_by told hand.old.words.index now) }
+        ensures none { OnErr result (hand.new.own ≡ hand.old.own) }
         ensures fault { IfErr result IsTickFault }
         ensures looked { IfOk result (λ told. MatchBool told
-            (VisitsBook 1 holder.old.words holder.new.words) (holder.new ≡ holder.old)) }
-        ensures refused { OnErr result (VisitsBook 1 holder.old.words holder.new.words) }
+            (VisitsBook 1 hand.old.words hand.new.words) (hand.new ≡ hand.old)) }
+        ensures refused { OnErr result (VisitsBook 1 hand.old.words hand.new.words) }
     {
-        let Some(mut desk) = self.take(holder) else {
+        let Some(mut desk) = self.take(hand) else {
             return Ok(false);
         };
-        let told = holder.tick(&mut desk, now);
-        self.give(holder, desk);
+        let told = hand.tick(&mut desk, now);
+        self.give(hand, desk);
         match told {
             Ok(()) => Ok(true),
             Err(fault) => Err(fault),

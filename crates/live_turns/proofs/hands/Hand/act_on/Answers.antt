@@ -3,7 +3,7 @@ use Rattle.std.proofs.Common.{refl, ◌∙◌, ap, sym}
 use Rattle.live_book.specs.Log.{thread_numbered}
 use Rattle.live_turns.specs.Ways.{Holding}
 use Rattle.live_turns.proofs.Going.{act_way, late_act_way}
-use Rattle.live_turns.proofs.holders.Holder.act_on.Goals as goal
+use Rattle.live_turns.proofs.hands.Hand.act_on.Goals as goal
 
 pub returns-clause-acting : goal.returns-clause-acting
 returns-clause-acting g c =

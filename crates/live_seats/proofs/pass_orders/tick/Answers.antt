@@ -1,5 +1,5 @@
 use Rattle.std.proofs.Common.{rules}
-use Rattle.live_seats.proofs.turning.tick.Goals as goal
+use Rattle.live_seats.proofs.pass_orders.tick.Goals as goal
 
 pub returns-then-not-is_idle-clause-belongs : goal.returns-then-not-is_idle-clause-belongs
 returns-then-not-is_idle-clause-belongs g c = search rules

@@ -1,4 +1,5 @@
-//! The turns of a call.
+//! What a turn does at the word of an object: the load that it begins with, and the exchange or the
+//! store that the word calls for.
 
 ghost use Rattle.std.specs.Prelude.{◌≡◌, ◌<◌, ◌≤◌, ◌+◌, ◌↔◌, ℕ, IfOk, IfErr, OnOk, OnErr, Bool, length, true, false, None};
 ghost use Rattle.lock_word.specs.declared.Lock.TheVariants.{Thin, Fat};
@@ -17,7 +18,7 @@ ghost use Rattle.live_turns.specs.Points.{Knows, Loaded};
 ghost use Rattle.live_turns.specs.Ways.{Belongs, Went, Halted, VisitsBook};
 
 use crate::desks::Crew;
-use crate::holders::Holder;
+use crate::hands::Hand;
 use crate::{LiveFault, TurnPass, Turned, Turns};
 use fast_path::{InterruptCall, MonitorCall, Next, Operation};
 use fat_monitor::Reply;
@@ -37,60 +38,54 @@ pub(crate) fn count_of(lock: Lock) -> u16
 impl<L: Crew> Turns<L> {
     // Loads the word of an object.
     #[inline(always)]
-    pub(crate) fn load(&self, holder: &mut Holder<L>, object: ObjectId) -> Lock
-        requires belongs { Belongs self.now false holder.old }
+    pub(crate) fn load(&self, hand: &mut Hand<L>, object: ObjectId) -> Lock
+        requires belongs { Belongs self.now false hand.old }
         requires object { object.0 < length self.now.lows }
-        ensures belongs { Belongs self.now false holder.new }
+        ensures belongs { Belongs self.now false hand.new }
         ensures went { (c : MonitorCall) (k : Bool) → c.object ≡ object →
             Went (At (InCall (Begun c k)))
-            (point_next c k result (next_of Wide c.operation result holder.old.words.index))
-            holder.old holder.new }
-        ensures index { holder.new.words.index ≡ holder.old.words.index }
-        ensures visit { VisitsBook 0 holder.old.words holder.new.words }
-        ensures event { length holder.old.words.mine < length holder.new.words.mine }
-        ensures thin { (n : ℕ) → (depth_at holder.new.words object.0 ≡ n + 1)
-            ↔ (result ≡ Thin holder.new.words.index n) }
+            (point_next c k result (next_of Wide c.operation result hand.old.words.index))
+            hand.old hand.new }
+        ensures index { hand.new.words.index ≡ hand.old.words.index }
+        ensures visit { VisitsBook 0 hand.old.words hand.new.words }
+        ensures event { length hand.old.words.mine < length hand.new.words.mine }
+        ensures thin { (n : ℕ) → (depth_at hand.new.words object.0 ≡ n + 1)
+            ↔ (result ≡ Thin hand.new.words.index n) }
         ensures fits { Fits Wide result }
-        ensures fat { (m : ℕ) → result ≡ Fat m → HasPublish m object.0 holder.new.words.seen }
+        ensures fat { (m : ℕ) → result ≡ Fat m → HasPublish m object.0 hand.new.words.seen }
     {
-        let word = self.headers.load(&mut holder.words, object);
+        let word = self.headers.load(&mut hand.words, object);
         lock_of(Split::Wide, word)
     }
 
     // The store that the word of the object calls for, which has this lock.
     #[inline(always)]
-    pub(crate) fn store(
-        &self,
-        holder: &mut Holder<L>,
-        call: MonitorCall,
-        old: Lock,
-        new: Lock,
-    ) -> Reply
-        requires belongs { Belongs self.now false holder.old }
+    pub(crate) fn store(&self, hand: &mut Hand<L>, call: MonitorCall, old: Lock, new: Lock) -> Reply
+        requires belongs { Belongs self.now false hand.old }
         requires object { call.object.0 < length self.now.lows }
-        requires thin { (n : ℕ) → (depth_at holder.old.words call.object.0 ≡ n + 1)
-            ↔ (old ≡ Thin holder.old.words.index n) }
+        requires thin { (n : ℕ) → (depth_at hand.old.words call.object.0 ≡ n + 1)
+            ↔ (old ≡ Thin hand.old.words.index n) }
         requires fits { Fits Wide old }
-        requires calls { next_of Wide call.operation old holder.old.words.index
+        requires calls { next_of Wide call.operation old hand.old.words.index
             ≡ next.Store new }
-        ensures belongs { Belongs self.now false holder.new }
+        ensures belongs { Belongs self.now false hand.new }
         ensures went { Went (At (InCall (Storing call new))) (Said result)
-            holder.old holder.new }
-        ensures loaded { (p : PassValue) → Loaded false (Said result) p holder.new.words }
-        ensures visit { VisitsBook 0 holder.old.words holder.new.words }
+            hand.old hand.new }
+        ensures loaded { (p : PassValue) → Loaded false (Said result) p hand.new.words }
+        ensures visit { VisitsBook 0 hand.old.words hand.new.words }
     {
         let object = call.object;
         match (call.operation, new) {
             (Operation::Enter, _) => {
-                self.headers.nest(&mut holder.words, object);
+                self.headers.nest(&mut hand.words, object);
                 Reply::Entered
             }
             (Operation::Exit, Lock::Free) => {
-                self.headers.release(&mut holder.words, object);
+                self.headers.release(&mut hand.words, object);
                 Reply::Exited
             }
             (Operation::Exit, Lock::Thin { .. }) => {
-                self.headers.unnest(&mut holder.words, object);
+                self.headers.unnest(&mut hand.words, object);
                 Reply::Exited
             }
             _ => unreachable!(),
@@ -99,17 +94,17 @@ impl<L: Crew> Turns<L> {
 
     // The exchange of the free word, and the inflation where others were met.
     #[inline(always)]
-    fn acquire(&self, holder: &mut Holder<L>, object: ObjectId, contended: bool) -> Turned
-        requires belongs { Belongs self.now false holder.old }
+    fn acquire(&self, hand: &mut Hand<L>, object: ObjectId, contended: bool) -> Turned
+        requires belongs { Belongs self.now false hand.old }
         requires object { object.0 < length self.now.lows }
-        requires free { depth_at holder.old.words object.0 ≡ 0 }
-        ensures belongs { Belongs self.now false holder.new }
+        requires free { depth_at hand.old.words object.0 ≡ 0 }
+        ensures belongs { Belongs self.now false hand.new }
         ensures went { Went (At (InCall (Taking object contended))) result.point
-            holder.old holder.new }
-        ensures knows { Knows result.point holder.new }
-        ensures loaded { Loaded result.gate_taken result.point holder.old.words holder.new.words }
+            hand.old hand.new }
+        ensures knows { Knows result.point hand.new }
+        ensures loaded { Loaded result.gate_taken result.point hand.old.words hand.new.words }
     {
-        if !self.headers.acquire(&mut holder.words, object) {
+        if !self.headers.acquire(&mut hand.words, object) {
             let call = MonitorCall {
                 object,
                 operation: Operation::Enter,
@@ -118,7 +113,7 @@ impl<L: Crew> Turns<L> {
             return Turned::at(Stage::Begun { call, contended }, false);
         }
         if contended {
-            return self.settle(holder, object);
+            return self.settle(hand, object);
         }
         Turned::said(Reply::Entered)
     }
@@ -127,33 +122,33 @@ impl<L: Crew> Turns<L> {
     #[inline(always)]
     pub(crate) fn turn_from_load(
         &self,
-        holder: &mut Holder<L>,
+        hand: &mut Hand<L>,
         call: MonitorCall,
         contended: bool,
     ) -> Result<Turned, LiveFault>
-        requires belongs { Belongs self.now false holder.old }
+        requires belongs { Belongs self.now false hand.old }
         requires object { call.object.0 < length self.now.lows }
-        ensures belongs { Belongs self.now false holder.new }
+        ensures belongs { Belongs self.now false hand.new }
         ensures went { IfOk result (λ t.
-            Went (At (InCall (Begun call contended))) t.point holder.old holder.new) }
-        ensures knows { IfOk result (λ t. Knows t.point holder.new) }
+            Went (At (InCall (Begun call contended))) t.point hand.old hand.new) }
+        ensures knows { IfOk result (λ t. Knows t.point hand.new) }
         ensures halted { IfErr result (λ f.
-            Halted f (At (InCall (Begun call contended))) holder.old holder.new) }
+            Halted f (At (InCall (Begun call contended))) hand.old hand.new) }
         ensures loaded { IfOk result (λ t.
-            Loaded t.gate_taken t.point holder.old.words holder.new.words) }
-        ensures there { OnErr result (VisitsBook 1 holder.old.words holder.new.words) }
+            Loaded t.gate_taken t.point hand.old.words hand.new.words) }
+        ensures there { OnErr result (VisitsBook 1 hand.old.words hand.new.words) }
     {
-        let lock = self.load(holder, call.object);
-        match call.operation.next(Split::Wide, lock, holder.index()) {
+        let lock = self.load(hand, call.object);
+        match call.operation.next(Split::Wide, lock, hand.index()) {
             Next::Reply(reply) => Ok(Turned::said(reply)),
             Next::Spin => {
                 let contended = true;
                 Ok(Turned::at(Stage::Begun { call, contended }, false))
             }
-            Next::Cas(_) => Ok(self.acquire(holder, call.object, contended)),
-            Next::Store(new) => Ok(Turned::said(self.store(holder, call, lock, new))),
-            Next::Bind => self.inflate(holder, call, count_of(lock)),
-            Next::Fat(monitor) => self.act_apart(holder, call, monitor),
+            Next::Cas(_) => Ok(self.acquire(hand, call.object, contended)),
+            Next::Store(new) => Ok(Turned::said(self.store(hand, call, lock, new))),
+            Next::Bind => self.inflate(hand, call, count_of(lock)),
+            Next::Fat(monitor) => self.act_apart(hand, call, monitor),
         }
     }
 }

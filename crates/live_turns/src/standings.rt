@@ -1,4 +1,4 @@
-//! What one turn of a call came to.
+//! What one turn of a call came to, and where the call stands then.
 
 ghost use Rattle.std.specs.Prelude.{◌≡◌, true, false, None};
 ghost use Rattle.live_turns.specs.Points.{standing_of};

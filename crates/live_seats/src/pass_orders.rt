@@ -6,9 +6,9 @@ ghost use Rattle.live_turns.specs.Ways.{Belongs};
 ghost use Rattle.step_core.specs.declared.places.Place.TheVariants.{Idle};
 ghost use Rattle.step_core.specs.declared.paths.Point.TheVariants.{At};
 ghost use Rattle.live_seats.specs.Seats.{IsOfPass, Serves};
-ghost use Rattle.live_seats.specs.declared.orders.Order.TheVariants.{BeginOn, BeginAbout, Turn, Tick};
+ghost use Rattle.live_seats.specs.declared.orders.SeatOrder.TheVariants.{BeginOn, BeginAbout, Turn, Tick};
 
-use crate::orders::{Order, Told};
+use crate::orders::{SeatOrder, Told};
 use fast_path::{InterruptCall, MonitorCall};
 use live_turns::{Crew, TurnPass, Turned, Turns};
 use step_core::{Place, Point};
@@ -106,18 +106,18 @@ fn tick<L: Crew>(turns: &Turns<L>, pass: &mut TurnPass<L>, now: u64) -> Told
 }
 
 /// What a pass does at an order that it carries out itself.
-pub(crate) fn carry_out<L: Crew>(turns: &Turns<L>, pass: &mut TurnPass<L>, order: Order) -> Told
+pub(crate) fn carry_out<L: Crew>(turns: &Turns<L>, pass: &mut TurnPass<L>, order: SeatOrder) -> Told
     requires belongs { Belongs turns.now false pass.old.holding }
     requires own { IsOfPass order }
     ensures belongs { Belongs turns.now false pass.new.holding }
     ensures serves { Serves turns.now order result pass.old pass.new }
 {
     match order {
-        Order::BeginOn(call) => begin_on(turns, pass, call),
-        Order::BeginAbout(call) => begin_about(turns, pass, call),
-        Order::Turn => turn(turns, pass),
-        Order::Tick(now) => tick(turns, pass, now),
-        Order::Thread => Told::Thread(pass.thread()),
-        Order::Share | Order::Leave => unreachable!(),
+        SeatOrder::BeginOn(call) => begin_on(turns, pass, call),
+        SeatOrder::BeginAbout(call) => begin_about(turns, pass, call),
+        SeatOrder::Turn => turn(turns, pass),
+        SeatOrder::Tick(now) => tick(turns, pass, now),
+        SeatOrder::Thread => Told::Thread(pass.thread()),
+        SeatOrder::Share | SeatOrder::Leave => unreachable!(),
     }
 }

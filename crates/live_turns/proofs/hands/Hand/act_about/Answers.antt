@@ -3,7 +3,7 @@ use Rattle.std.proofs.Common.{refl, ◌∙◌, ap, sym}
 use Rattle.live_book.specs.Log.{thread_numbered}
 use Rattle.live_turns.specs.Ways.{Holding}
 use Rattle.live_turns.proofs.Going.{direct_way}
-use Rattle.live_turns.proofs.holders.Holder.act_about.Goals as goal
+use Rattle.live_turns.proofs.hands.Hand.act_about.Goals as goal
 
 pub returns-clause-went : goal.returns-clause-went
 returns-clause-went g c =

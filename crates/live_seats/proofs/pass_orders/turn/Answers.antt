@@ -1,5 +1,5 @@
 use Rattle.std.proofs.Common.{rules}
-use Rattle.live_seats.proofs.turning.turn.Goals as goal
+use Rattle.live_seats.proofs.pass_orders.turn.Goals as goal
 
 pub returns-then-is_idle-clause-belongs : goal.returns-then-is_idle-clause-belongs
 returns-then-is_idle-clause-belongs g c = search rules
