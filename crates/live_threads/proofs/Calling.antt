@@ -18,13 +18,13 @@ use Rattle.live_turns.proofs.Going.{went_then, given_up_on, given_up_about}
 use Rattle.live_threads.specs.Calls.{CalledOn, CalledAbout}
 
 -- the reply of a standing, if it has one
-abbrev reply_of : Standing → Reply → Reply
-reply_of (standing.Said r) d = r
-reply_of s d = d
+abbrev reply_in : Standing → Reply → Reply
+reply_in (standing.Said r) d = r
+reply_in s d = d
 
 -- a call whose standing has a reply stands there
 pub said_at : (b : Bool) (p : Point) (r : Reply) → standing_at b p ≡ standing.Said r → p ≡ Said r
-said_at b (Said x) r e = ap (λ s. Said (reply_of s r)) e
+said_at b (Said x) r e = ap (λ s. Said (reply_in s r)) e
 said_at true (At p) r e = absurd (cc)
 said_at false (At (InCall s)) r e = absurd (cc)
 said_at false (At Idle) r e = absurd (cc)

@@ -50,10 +50,7 @@ impl<L: Crew> Live<L> {
     {
         let mut waiting = Waiting::new();
         for _ in rt.forever() {
-            let turned = match self.turns.turn(pass) {
-                Ok(turned) => turned,
-                Err(fault) => return Err(fault),
-            };
+            let turned = self.turns.turn(pass)?;
             self.ring(turned.granted);
             let standing = turned.standing();
             if let Standing::Said(reply) = standing {
@@ -79,10 +76,9 @@ impl<L: Crew> Live<L> {
         ensures here { pass.new.holding.words.opening ≡ self.now }
         ensures rests { IsAtRest pass.new }
     {
-        match self.turns.start_on(pass, call) {
-            Ok(Some(reply)) => Ok(reply),
-            Ok(None) => self.finish(rt, pass, parker),
-            Err(fault) => Err(fault),
+        match self.turns.start_on(pass, call)? {
+            Some(reply) => Ok(reply),
+            None => self.finish(rt, pass, parker),
         }
     }
 
@@ -100,10 +96,8 @@ impl<L: Crew> Live<L> {
         ensures here { pass.new.holding.words.opening ≡ self.now }
         ensures rests { IsAtRest pass.new }
     {
-        match self.turns.start_about(pass, call) {
-            Ok(()) => self.finish(rt, pass, parker),
-            Err(fault) => Err(fault),
-        }
+        self.turns.start_about(pass, call)?;
+        self.finish(rt, pass, parker)
     }
 
     // Tells the moment, as soon as the gate is open.
@@ -126,11 +120,10 @@ impl<L: Crew> Live<L> {
     {
         let mut waiting = Waiting::new();
         for _ in rt.forever() {
-            match self.turns.tick(pass, now) {
-                Ok(true) => return Ok(()),
-                Ok(false) => waiting.back_off(rt),
-                Err(fault) => return Err(fault),
+            if self.turns.tick(pass, now)? {
+                return Ok(());
             }
+            waiting.back_off(rt);
         }
         unreachable!()
     }

@@ -60,12 +60,6 @@ gave_up_parked (Ok t) e p q words own is = tt
 gave_up_parked (Err f) e p q words own is =
     halted_here f (parked e) p q (subst (λ (x : LiveFault). MayHalt x (parked e)) (sym is) (torn_parked e)) words own
 
--- what was done while the pass had the gate
-pub held_err : (r : Result Turned LiveFault) (s : Point) (p p' q' q : Holding) → p.words.has_gate ≡ false → TakesGate p p' → GivesGate q' q → IfErr r (λ f. Halted f s p' q')
-    → IfErr r (λ f. Halted f s p q)
-held_err (Ok t) s p p' q' q out took gave h = tt
-held_err (Err f) s p p' q' q out took gave h = halted_held f s p p' q' q out took h gave
-
 -- what a turn came to, after the steps that led to it
 pub ok_after : (r : Result Turned LiveFault) (s t : Point) (p q u : Holding) → Went s t p q → IfOk r (λ x. Went t x.point q u) → IfOk r (λ x. Went s x.point p u)
 ok_after (Ok x) s t p q u h k = went_then s t x.point p q u h k

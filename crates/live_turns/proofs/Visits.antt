@@ -50,32 +50,7 @@ held_same p p' q' q took same gave = held_visit p p' q' q took (same_visit p'.wo
 pub visit_same : (p q r : PassValue) → VisitsBook 0 p q → r ≡ q → VisitsBook 0 p r
 visit_same p q r h same = subst (λ (x : PassValue). VisitsBook 0 p x) (sym same) h
 
--- a turn that met another pass at the gate
-parked_at_book : (b : Bool) → is_at_book (parked b) ≡ true
-parked_at_book true = refl
-parked_at_book false = refl
-
-pub taken_away : (t : Turned) (s : Point) (p q : Holding) → t ≡ record { point = s; gate_taken = true; granted = None } → is_at_book s ≡ true → q ≡ p
-    → Visited t.gate_taken t.point p.words q.words
-taken_away t s p q is at same =
-    subst (λ (x : Turned). Visited x.gate_taken x.point p.words q.words) (sym is) (at, same_visit p.words q.words (ap (λ (h : Holding). h.words) same))
-
-pub taken_parked : (t : Turned) (b : Bool) (p q : Holding) → t ≡ record { point = parked b; gate_taken = true; granted = None } → q ≡ p
-    → Visited t.gate_taken t.point p.words q.words
-taken_parked t b p q is same = taken_away t (parked b) p q is (parked_at_book b) same
-
--- and one that ends with a reply
-pub visited_said : (t : Turned) (r : Reply) (p q : PassValue) → t ≡ record { point = Said r; gate_taken = false; granted = None } → VisitsBook 1 p q
-    → Visited t.gate_taken t.point p q
-visited_said t r p q is visit = subst (λ (x : Turned). Visited x.gate_taken x.point p q) (sym is) (tt, visit)
-
--- what a turn came to that was at the book
-pub visited_at : (r : Result Turned LiveFault) (p q : PassValue) → IfOk r (λ t. (t.gate_taken ≡ false) × RestsAtPost t.point) → VisitsBook 1 p q
-    → IfOk r (λ t. Visited t.gate_taken t.point p q)
-visited_at (Ok t) p q rests visit = subst (λ (b : Bool). Visited b t.point p q) (sym rests.0) (rests.1, visit)
-visited_at (Err f) p q rests visit = tt
-
--- and before which no other event was made
+-- a turn at the book, before which no other event was made
 visited_after : (b : Bool) (s : Point) (p q r : PassValue) → VisitsBook 0 p q → Visited b s q r → Visited b s p r
 visited_after true s p q r h k = let more : VisitsBook 0 q r = k.1 in (k.0, omega arith)
 visited_after false s p q r h k = let more : VisitsBook 1 q r = k.1 in (k.0, omega arith)

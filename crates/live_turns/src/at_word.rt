@@ -14,7 +14,7 @@ ghost use Rattle.step_core.specs.declared.places.Place.TheVariants.{Idle, InCall
 ghost use Rattle.step_core.specs.declared.places.Stage.TheVariants.{Begun, Taking, Storing, Direct};
 ghost use Rattle.step_core.specs.declared.paths.Point.TheVariants.{At, Said};
 ghost use Rattle.step_core.specs.Path.{point_next};
-ghost use Rattle.live_turns.specs.Points.{Knows, Loaded};
+ghost use Rattle.live_turns.specs.Points.{IsTurnFrom, Knows, Loaded};
 ghost use Rattle.live_turns.specs.Ways.{Belongs, Went, Halted, VisitsBook};
 
 use crate::desks::Crew;
@@ -113,12 +113,12 @@ impl<L: Crew> Turns<L> {
             return Turned::at(Stage::Begun { call, contended }, false);
         }
         if contended {
-            return self.settle(hand, object);
+            return self.turn_from_won(hand, object);
         }
         Turned::said(Reply::Entered)
     }
 
-    // A turn of a call on an object, from its load on.
+    // A call on an object, from its load on.
     #[inline(always)]
     pub(crate) fn turn_from_load(
         &self,
@@ -128,15 +128,7 @@ impl<L: Crew> Turns<L> {
     ) -> Result<Turned, LiveFault>
         requires belongs { Belongs self.now false hand.old }
         requires object { call.object.0 < length self.now.lows }
-        ensures belongs { Belongs self.now false hand.new }
-        ensures went { IfOk result (λ t.
-            Went (At (InCall (Begun call contended))) t.point hand.old hand.new) }
-        ensures knows { IfOk result (λ t. Knows t.point hand.new) }
-        ensures halted { IfErr result (λ f.
-            Halted f (At (InCall (Begun call contended))) hand.old hand.new) }
-        ensures loaded { IfOk result (λ t.
-            Loaded t.gate_taken t.point hand.old.words hand.new.words) }
-        ensures there { OnErr result (VisitsBook 1 hand.old.words hand.new.words) }
+        ensures { IsTurnFrom self.now (At (InCall (Begun call contended))) result hand.old hand.new }
     {
         let lock = self.load(hand, call.object);
         match call.operation.next(Split::Wide, lock, hand.index()) {
@@ -147,8 +139,8 @@ impl<L: Crew> Turns<L> {
             }
             Next::Cas(_) => Ok(self.acquire(hand, call.object, contended)),
             Next::Store(new) => Ok(Turned::said(self.store(hand, call, lock, new))),
-            Next::Bind => self.inflate(hand, call, count_of(lock)),
-            Next::Fat(monitor) => self.act_apart(hand, call, monitor),
+            Next::Bind => self.turn_from_bind(hand, call, count_of(lock)),
+            Next::Fat(monitor) => self.turn_from_action_apart(hand, call, monitor),
         }
     }
 }

@@ -7,7 +7,7 @@ ghost use Rattle.step_core.specs.declared.places.Stage.TheVariants.{Begun, Direc
 ghost use Rattle.step_core.specs.declared.paths.Point.TheVariants.{At};
 ghost use Rattle.live_turns.specs.Asked.{IsTickFault};
 ghost use Rattle.live_book.specs.declared.faults.LiveFault.{LiveFault};
-ghost use Rattle.live_turns.specs.Points.{Knows, KnowsStage, resting, GivenUpOn, GivenUpAbout, Loaded, TurnedFrom, TurnedStage, Visited, names_stranger};
+ghost use Rattle.live_turns.specs.Points.{Knows, KnowsStage, resting, GivenUpOn, GivenUpAbout, IsTurnFrom, Loaded, TurnedFrom, Visited, names_stranger};
 ghost use Rattle.live_turns.specs.Ways.{AddsNoEvent, Belongs, Went, Halted, VisitsBook, ticked_by};
 
 use crate::desks::Crew;
@@ -57,13 +57,9 @@ impl<L: Crew> Turns<L> {
         if call.object.0 >= self.objects {
             return Err(LiveFault::NoObject);
         }
-        match self.turn_from_load(&mut pass.hand, call, false) {
-            Ok(turned) => {
-                rest(&mut pass.point, &turned.point);
-                Ok(turned)
-            }
-            Err(fault) => Err(fault),
-        }
+        let turned = self.turn_from_load(&mut pass.hand, call, false)?;
+        rest(&mut pass.point, &turned.point);
+        Ok(turned)
     }
 
     /// The first turn of a call about interrupts (JLS SE 8, 17.2.3), which never parks.
@@ -93,13 +89,9 @@ impl<L: Crew> Turns<L> {
         if self.is_stranger(call) {
             return Err(LiveFault::NoThread);
         }
-        match self.act_directly(&mut pass.hand, call) {
-            Ok(turned) => {
-                rest(&mut pass.point, &turned.point);
-                Ok(turned)
-            }
-            Err(fault) => Err(fault),
-        }
+        let turned = self.turn_from_direct(&mut pass.hand, call)?;
+        rest(&mut pass.point, &turned.point);
+        Ok(turned)
     }
 
     // Whether the call names a thread that the service does not have.
@@ -135,7 +127,7 @@ impl<L: Crew> Turns<L> {
         // no copy of the point.
         let turned = match pass.point {
             Point::At(Place::InCall(Stage::Acting { call, monitor })) => {
-                self.act(&mut pass.hand, call, monitor)
+                self.turn_from_action(&mut pass.hand, call, monitor)
             }
             point => self.turn_from(&mut pass.hand, point),
         };
@@ -151,23 +143,17 @@ impl<L: Crew> Turns<L> {
         }
     }
 
-    // One turn of a call that stands at this point.
+    // A call that stands at this point.
     #[inline(never)]
     fn turn_from(&self, hand: &mut Hand<L>, point: Point) -> Result<Turned, LiveFault>
         requires belongs { Belongs self.now false hand.old }
         requires knows { Knows point hand.old }
-        ensures belongs { Belongs self.now false hand.new }
-        ensures went { IfOk result (λ t. Went point t.point hand.old hand.new) }
-        ensures knows { IfOk result (λ t. Knows t.point hand.new) }
-        ensures halted { IfErr result (λ f. Halted f point hand.old hand.new) }
-        ensures did { IfOk result (λ t.
-            TurnedFrom point t.gate_taken t.point hand.old.words hand.new.words) }
-        ensures looked { OnErr result (VisitsBook 1 hand.old.words hand.new.words) }
+        ensures { IsTurnFrom self.now point result hand.old hand.new }
     {
         match point {
             Point::At(Place::InCall(stage)) => self.turn_from_stage(hand, stage),
-            Point::At(Place::AtPost) => self.awake(hand, false),
-            Point::Expired => self.awake(hand, true),
+            Point::At(Place::AtPost) => self.turn_from_post(hand, false),
+            Point::Expired => self.turn_from_post(hand, true),
             _ => Ok(Turned {
                 point,
                 gate_taken: false,
@@ -176,24 +162,18 @@ impl<L: Crew> Turns<L> {
         }
     }
 
-    // One turn of a call that stands at this stage.
+    // A call that stands at this stage.
     fn turn_from_stage(&self, hand: &mut Hand<L>, stage: Stage) -> Result<Turned, LiveFault>
         requires belongs { Belongs self.now false hand.old }
         requires knows { KnowsStage stage hand.old }
-        ensures belongs { Belongs self.now false hand.new }
-        ensures went { IfOk result (λ t. Went (At (InCall stage)) t.point hand.old hand.new) }
-        ensures knows { IfOk result (λ t. Knows t.point hand.new) }
-        ensures halted { IfErr result (λ f. Halted f (At (InCall stage)) hand.old hand.new) }
-        ensures did { IfOk result (λ t.
-            TurnedStage stage t.gate_taken t.point hand.old.words hand.new.words) }
-        ensures looked { OnErr result (VisitsBook 1 hand.old.words hand.new.words) }
+        ensures { IsTurnFrom self.now (At (InCall stage)) result hand.old hand.new }
     {
         match stage {
             Stage::Begun { call, contended } => self.turn_from_load(hand, call, contended),
-            Stage::Binding { call, count } => self.inflate(hand, call, count),
-            Stage::Acting { call, monitor } => self.act_apart(hand, call, monitor),
-            Stage::Won { object } => Ok(self.settle(hand, object)),
-            Stage::Direct { call } => self.act_directly(hand, call),
+            Stage::Binding { call, count } => self.turn_from_bind(hand, call, count),
+            Stage::Acting { call, monitor } => self.turn_from_action_apart(hand, call, monitor),
+            Stage::Won { object } => Ok(self.turn_from_won(hand, object)),
+            Stage::Direct { call } => self.turn_from_direct(hand, call),
             _ => unreachable!(),
         }
     }
@@ -240,9 +220,7 @@ impl<L: Crew> Turns<L> {
         };
         let told = hand.tick(&mut desk, now);
         self.give(hand, desk);
-        match told {
-            Ok(()) => Ok(true),
-            Err(fault) => Err(fault),
-        }
+        told?;
+        Ok(true)
     }
 }

@@ -210,9 +210,9 @@ impl<L: Crew> Desk<L> {
         self.make(own, thread, action)
     }
 
-    #[tactic(auto, using(crate::proofs::Asking::asking))]
     /// The fat action of a call on an object, by a thread that is in no action. It stands in place,
     /// as [`make`](Desk::make) does.
+    #[tactic(auto, using(crate::proofs::Asking::asking))]
     #[inline(always)]
     pub(crate) fn act_on(
         &mut self,
@@ -239,8 +239,8 @@ impl<L: Crew> Desk<L> {
         }
     }
 
-    #[tactic(auto, using(crate::proofs::Asking::asking))]
     /// The fat action of a call about interrupts, by a thread that is in no action.
+    #[tactic(auto, using(crate::proofs::Asking::asking))]
     pub(crate) fn act_about(
         &mut self,
         own: &mut Own<L>,
@@ -258,10 +258,10 @@ impl<L: Crew> Desk<L> {
         self.make_apart(own, thread, action_about(call))
     }
 
-    #[tactic(auto, using(crate::proofs::Asking::waking))]
     /// What a parked thread may do itself: it collects its reply where it was granted one, or its
     /// wait expires where its time is over and `expired` does not say that this was done; None
     /// where it stays parked.
+    #[tactic(auto, using(crate::proofs::Asking::waking))]
     pub(crate) fn awake(
         &mut self,
         own: &mut Own<L>,

@@ -132,7 +132,7 @@ impl<L: Crew> Hand<L> {
     }
 
     /// What a parked thread does itself, if there is something to do.
-    pub(crate) fn awake(
+    pub(crate) fn wake_up(
         &mut self,
         desk: &mut Box<Desk<L>>,
         expired: bool,
@@ -145,17 +145,10 @@ impl<L: Crew> Hand<L> {
         ensures fault { IfErr result (λ f. f ≡ LiveFault.Torn) }
     {
         let me = self.thread();
-        match desk.awake(&mut self.own, me, expired) {
-            Ok(Some(done)) => {
-                return Ok(woken(done));
-            }
-            Ok(None) => {
-                return Ok(Turned::parked(expired, false));
-            }
-            Err(fault) => {
-                return Err(fault);
-            }
-        }
+        let Some(done) = desk.awake(&mut self.own, me, expired)? else {
+            return Ok(Turned::parked(expired, false));
+        };
+        Ok(woken(done))
     }
 
     /// Tells the moment.

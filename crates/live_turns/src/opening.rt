@@ -68,8 +68,8 @@ fn new_desk<L: Crew>(
     Ok((Box::new(alloc, desk)?, owns))
 }
 
-#[tactic(auto, using(crate::proofs::Rows::moved_over))]
 // The passes of these words, each with deeds of its own.
+#[tactic(auto, using(crate::proofs::Rows::moved_over))]
 fn with_owns<L: Crew>(
     mut words: Vec<Pass<Box<Desk<L>>>>,
     mut owns: Vec<Fresh<L>>,

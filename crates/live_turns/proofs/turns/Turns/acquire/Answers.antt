@@ -23,8 +23,8 @@ pub returns-then-contended-clause-went : goal.returns-then-contended-clause-went
 returns-then-contended-clause-went g c =
     let p : Holding = record { words = c.hand.inside.words; own = c.hand.inside.own.list.items } in
     let q : Holding = record { words = c.acquire.new.pass; own = c.hand.inside.own.list.items } in
-    rw (← c.hand.view_is, c.if-contended.true) (went_then (At (InCall (Taking c.args.object true))) (At (InCall (Won c.args.object))) c.settle.result.point p q c.settle.new.hand
-    (win_way c.args.object true _ p q c.if-not-acquire.ensures.won refl) c.settle.ensures.went)
+    rw (← c.hand.view_is, c.if-contended.true) (went_then (At (InCall (Taking c.args.object true))) (At (InCall (Won c.args.object))) c.turn_from_won.result.point p q c.turn_from_won.new.hand
+    (win_way c.args.object true _ p q c.if-not-acquire.ensures.won refl) c.turn_from_won.ensures.went)
 
 pub returns-clause-went : goal.returns-clause-went
 returns-clause-went g c =
@@ -40,8 +40,8 @@ returns-then-not-acquire-clause-loaded g c =
 
 pub returns-then-contended-clause-loaded : goal.returns-then-contended-clause-loaded
 returns-then-contended-clause-loaded g c =
-    rw (← c.hand.view_is) (loaded_at c.settle.result.gate_taken c.settle.result.point c.hand.inside.words c.acquire.new.pass c.settle.new.hand.words
-    (event_visit c.args.object.0 _ _ c.hand.inside.words c.acquire.new.pass c.if-not-acquire.ensures.won).1 c.settle.ensures.visited)
+    rw (← c.hand.view_is) (loaded_at c.turn_from_won.result.gate_taken c.turn_from_won.result.point c.hand.inside.words c.acquire.new.pass c.turn_from_won.new.hand.words
+    (event_visit c.args.object.0 _ _ c.hand.inside.words c.acquire.new.pass c.if-not-acquire.ensures.won).1 c.turn_from_won.ensures.did)
 
 pub returns-clause-loaded : goal.returns-clause-loaded
 returns-clause-loaded g c =

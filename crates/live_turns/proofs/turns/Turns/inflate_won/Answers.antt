@@ -7,7 +7,7 @@ use Rattle.live_book.specs.Book.{bindings}
 use Rattle.live_turns.specs.Ways.{Holding}
 use Rattle.live_turns.proofs.Going.{settled_way, dropped_way}
 use Rattle.live_turns.proofs.Gates.{covers_kept, covers_bound, binds_bound}
-use Rattle.live_turns.proofs.turns.Turns.settle_at.Goals as goal
+use Rattle.live_turns.proofs.turns.Turns.inflate_won.Goals as goal
 
 pub returns-in-Ok-clause-covers : goal.returns-in-Ok-clause-covers
 returns-in-Ok-clause-covers g c =

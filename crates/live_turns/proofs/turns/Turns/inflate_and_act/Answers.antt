@@ -13,7 +13,7 @@ use Rattle.live_turns.specs.Ways.{Holding, Went}
 use Rattle.live_turns.proofs.Going.{inflated_way, refused_way, halted_here}
 use Rattle.live_turns.proofs.Gates.{covers_kept, covers_bound, binds_bound, may_halt, gave_up_after, ok_after}
 use Rattle.live_turns.proofs.Visits.{visit_same}
-use Rattle.live_turns.proofs.turns.Turns.inflate_at.Goals as goal
+use Rattle.live_turns.proofs.turns.Turns.inflate_and_act.Goals as goal
 
 pub returns-in-Ok-clause-covers : goal.returns-in-Ok-clause-covers
 returns-in-Ok-clause-covers g c =
