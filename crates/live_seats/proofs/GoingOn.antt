@@ -9,7 +9,7 @@ use Rattle.step_core.specs.declared.paths.Point.{Point}
 use Rattle.step_core.specs.declared.paths.Point.TheVariants.{At}
 use Rattle.live_turns.specs.Ways.{PassState, Went}
 use Rattle.live_turns.proofs.Going.{went_then, given_up_on}
-use Rattle.live_seats.specs.declared.orders.Order.TheVariants.{BeginOn, Turn}
+use Rattle.live_seats.specs.declared.orders.SeatOrder.TheVariants.{BeginOn, Turn}
 use Rattle.live_seats.specs.declared.orders.Told.{Told}
 use Rattle.live_seats.specs.declared.orders.Told.TheVariants as told
 use Rattle.live_seats.specs.Seats.{IsIdle, Serves}

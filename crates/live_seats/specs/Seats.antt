@@ -10,12 +10,12 @@ use Rattle.live_book.specs.Log.{thread_numbered}
 use Rattle.live_turns.specs.Points.{resting, standing_of, GivenUpOn, GivenUpAbout}
 use Rattle.live_turns.specs.Ways.{PassState, Went, Halted, AddsNoEvent, ticked_by, new_state}
 use Rattle.fast_path.specs.declared.calls.MonitorCall.{MonitorCall}
-use Rattle.live_turns.specs.declared.turned.Standing.TheVariants as standing
-use Rattle.live_turns.specs.declared.turned.Turned.{Turned}
+use Rattle.live_turns.specs.declared.standings.Standing.TheVariants as standing
+use Rattle.live_turns.specs.declared.standings.Turned.{Turned}
 use Rattle.live_book.specs.declared.faults.LiveFault.{LiveFault}
 use Rattle.live_seats.specs.declared.opening.Draft.{Draft}
-use Rattle.live_seats.specs.declared.orders.Order.{Order}
-use Rattle.live_seats.specs.declared.orders.Order.TheVariants.{BeginOn, BeginAbout, Turn, Tick, Thread, Share, Leave}
+use Rattle.live_seats.specs.declared.orders.SeatOrder.{SeatOrder}
+use Rattle.live_seats.specs.declared.orders.SeatOrder.TheVariants.{BeginOn, BeginAbout, Turn, Tick, Thread, Share, Leave}
 use Rattle.live_seats.specs.declared.orders.Started.{Started}
 use Rattle.live_seats.specs.declared.orders.Started.TheVariants as started
 use Rattle.live_seats.specs.declared.orders.Told.{Told}
@@ -33,7 +33,7 @@ abbrev pub IsIdle : PassState → Type 0
 IsIdle p = p.point ≡ At Idle
 
 -- the point that the turn of this order begins at
-abbrev pub begun_at : Order → Point → Point
+abbrev pub begun_at : SeatOrder → Point → Point
 begun_at (BeginOn c) p = At (InCall (Begun c false))
 begun_at (BeginAbout c) p = At (InCall (Direct c))
 begun_at Turn p = p
@@ -43,7 +43,7 @@ begun_at Share p = p
 begun_at Leave p = p
 
 -- an order that is taken where the pass is in no call, and one that is taken where it is in one
-abbrev pub IsTaken : Order → PassState → Type 0
+abbrev pub IsTaken : SeatOrder → PassState → Type 0
 IsTaken (BeginOn c) p = IsIdle p
 IsTaken (BeginAbout c) p = IsIdle p
 IsTaken Turn p = p.point ≢ At Idle
@@ -53,7 +53,7 @@ IsTaken Share p = ⊥
 IsTaken Leave p = ⊥
 
 -- what a fault leaves of the order
-abbrev pub GaveUp : Opening → Order → LiveFault → PassState → PassState → Type 0
+abbrev pub GaveUp : Opening → SeatOrder → LiveFault → PassState → PassState → Type 0
 GaveUp z (BeginOn c) f p q = IsIdle q × GivenUpOn z c f p.holding q.holding
 GaveUp z (BeginAbout c) f p q = IsIdle q × GivenUpAbout z c f p.holding q.holding
 GaveUp z Turn f p q = IsIdle q × Halted f p.point p.holding q.holding
@@ -64,7 +64,7 @@ GaveUp z Share f p q = ⊥
 GaveUp z Leave f p q = ⊥
 
 -- the order was a turn of a call
-abbrev pub IsTurn : Order → Type 0
+abbrev pub IsTurn : SeatOrder → Type 0
 IsTurn (BeginOn c) = Unit {0}
 IsTurn (BeginAbout c) = Unit {0}
 IsTurn Turn = Unit {0}
@@ -74,7 +74,7 @@ IsTurn Share = ⊥
 IsTurn Leave = ⊥
 
 -- the moment was told, or not
-abbrev pub Ticks : Order → Bool → PassState → PassState → Type 0
+abbrev pub Ticks : SeatOrder → Bool → PassState → PassState → Type 0
 Ticks (BeginOn c) b p q = ⊥
 Ticks (BeginAbout c) b p q = ⊥
 Ticks Turn b p q = ⊥
@@ -86,7 +86,7 @@ Ticks Share b p q = ⊥
 Ticks Leave b p q = ⊥
 
 -- the order begins something
-abbrev pub IsBegin : Order → Type 0
+abbrev pub IsBegin : SeatOrder → Type 0
 IsBegin (BeginOn c) = Unit {0}
 IsBegin (BeginAbout c) = Unit {0}
 IsBegin Turn = ⊥
@@ -97,7 +97,7 @@ IsBegin Leave = ⊥
 
 -- What came of an order of a pass: it was none for a pass that stands so; it took a turn of the call, by steps of its
 -- path; it told the moment; or it gave up.
-abbrev pub Serves : Opening → Order → Told → PassState → PassState → Type 0
+abbrev pub Serves : Opening → SeatOrder → Told → PassState → PassState → Type 0
 Serves z o told.InCall p q = IsBegin o × (p.point ≢ At Idle) × (q ≡ p)
 Serves z o told.NotCalling p q = (o ≡ Turn) × IsIdle p × (q ≡ p)
 Serves z o (told.Turned s g) p q =
@@ -138,7 +138,7 @@ SeatStarts s c x (Some q) =
     (q.opening ≡ s.opening) × (q.limit ≡ s.limit) × (q.rest ≡ s.rest) × Starts s.opening c x s.pass q.pass
 
 -- An order that a pass carries out leaves the seat with all else that it has.
-abbrev pub PassServes : SeatState → Order → Told → Option SeatState → Option SeatState → Type 0
+abbrev pub PassServes : SeatState → SeatOrder → Told → Option SeatState → Option SeatState → Type 0
 PassServes s o x None u = ⊥
 PassServes s o x (Some q) (Some u) = ⊥
 PassServes s o x (Some q) None =
@@ -166,7 +166,7 @@ Shares s told.Memory q u = (s.rest ≢ []) × (q ≡ Some s) × (u ≡ None)
 Shares s told.Left q u = ⊥
 
 -- What came of an order: the seat afterwards, if it is not gone, and a new one, if there is one.
-abbrev pub SeatServes : SeatState → Order → Told → Option SeatState → Option SeatState → Type 0
+abbrev pub SeatServes : SeatState → SeatOrder → Told → Option SeatState → Option SeatState → Type 0
 SeatServes s (BeginOn c) x q u = PassServes s (BeginOn c) x q u
 SeatServes s (BeginAbout c) x q u = PassServes s (BeginAbout c) x q u
 SeatServes s Turn x q u = PassServes s Turn x q u
@@ -176,7 +176,7 @@ SeatServes s Share x q u = Shares s x q u
 SeatServes s Leave x q u = (x ≡ told.Left) × (q ≡ None) × (u ≡ None)
 
 -- a pass carries the order out by itself
-abbrev pub IsOfPass : Order → Type 0
+abbrev pub IsOfPass : SeatOrder → Type 0
 IsOfPass (BeginOn c) = Unit {0}
 IsOfPass (BeginAbout c) = Unit {0}
 IsOfPass Turn = Unit {0}

@@ -98,8 +98,8 @@ fn put_into<L: Crew>(turns: &Turns<L>, hooks: &[Hook<L>], pass: TurnPass<L>)
     }
 }
 
-#[tactic(auto, using(crate::proofs::Passes::more_after))]
 // The passes on these hooks, behind those that are there.
+#[tactic(auto, using(crate::proofs::Passes::more_after))]
 fn take_from<L: Crew>(turns: &Turns<L>, hooks: &[Hook<L>], passes: &mut Vec<TurnPass<L>>)
     requires same { All (λ z. z ≡ turns.now) hooks.now }
     requires room { vec_len passes.old + length hooks.now ≤ vec_capacity passes.old }

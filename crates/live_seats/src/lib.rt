@@ -8,16 +8,16 @@ mod house;
 mod member;
 mod opening;
 mod orders;
+mod pass_orders;
 mod seat;
 mod serving;
 mod starting;
-mod turning;
 mod unclosed;
 
 pub use closing::Ended;
 pub use ending::{Closing, ServiceEnd};
 pub use opening::{Draft, Opened};
-pub use orders::{Order, Started, Told};
+pub use orders::{SeatOrder, Started, Told};
 pub use seat::Seat;
 pub use serving::Served;
 pub use starting::Begun;

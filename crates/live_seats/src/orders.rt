@@ -7,7 +7,7 @@ use lock_word::ThreadId;
 
 /// What a seat is asked to do.
 #[derive(Clone, Copy)]
-pub enum Order {
+pub enum SeatOrder {
     /// The first turn of a call on an object.
     BeginOn(MonitorCall),
     /// The first turn of a call about interrupts.

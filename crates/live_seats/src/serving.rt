@@ -5,13 +5,13 @@ ghost use Rattle.std.specs.Arc.{arc_value};
 ghost use Rattle.live_turns.specs.Ways.{Belongs};
 ghost use Rattle.live_seats.specs.Seats.{SeatState, SeatServes, IsOfPass, HasShared, Serves, Shares};
 ghost use Rattle.live_seats.specs.Kept.{ServesKept};
-ghost use Rattle.live_seats.specs.declared.orders.Order.TheVariants.{Share, Leave};
+ghost use Rattle.live_seats.specs.declared.orders.SeatOrder.TheVariants.{Share, Leave};
 
 use crate::house::House;
 use crate::member::Member;
-use crate::orders::{Order, Told};
+use crate::orders::{SeatOrder, Told};
+use crate::pass_orders::carry_out;
 use crate::seat::Seat;
-use crate::turning::carry_out;
 use c_slots::{MaybeParts, Parts};
 use live_turns::{Crew, TurnPass};
 use std::alloc::Global;
@@ -27,7 +27,7 @@ pub struct Served<L: Crew> {
 }
 
 // What the pass of a member does at an order.
-fn carry_out_at<L: Crew>(home: &Option<House<L>>, pass: &mut TurnPass<L>, order: Order) -> Told
+fn carry_out_at<L: Crew>(home: &Option<House<L>>, pass: &mut TurnPass<L>, order: SeatOrder) -> Told
     requires there { home.now ≡ Some pass.old.holding.words.opening }
     requires gate { pass.old.holding.words.has_gate ≡ false }
     requires own { IsOfPass order }
@@ -55,7 +55,7 @@ fn come_back<L: Crew>(home: &Option<House<L>>, pass: TurnPass<L>, mut rest: Vec<
 
 impl<L: Crew> Member<L> {
     // Carries out an order that its pass carries out.
-    fn turn(&mut self, order: Order) -> Told
+    fn turn(&mut self, order: SeatOrder) -> Told
         requires { IsOfPass order }
         ensures { SeatServes self.old order result (Some self.new) None }
     {
@@ -118,7 +118,7 @@ impl<L: Crew> Member<L> {
 }
 
 // What a seat tells of an order that its pass carries out.
-fn told<L: Crew>(seat: &mut Seat<L>, order: Order) -> Told
+fn told<L: Crew>(seat: &mut Seat<L>, order: SeatOrder) -> Told
     requires some { IsSome seat.old.member }
     requires own { IsOfPass order }
     ensures { (v : SeatState) × (q : SeatState) × (seat.old.member ≡ Some v)
@@ -131,7 +131,7 @@ fn told<L: Crew>(seat: &mut Seat<L>, order: Order) -> Told
 }
 
 // An order that the pass of a seat carries out.
-fn turned<L: Crew>(alloc: Global, mut seat: Box<Seat<L>>, order: Order) -> Served<L>
+fn turned<L: Crew>(alloc: Global, mut seat: Box<Seat<L>>, order: SeatOrder) -> Served<L>
     requires some { IsSome seat.value.member }
     requires own { IsOfPass order }
     ensures { ServesKept seat.value.member order result.told result.seat.value result.other.value }
@@ -199,15 +199,15 @@ fn left<L: Crew>(alloc: Global, seat: Box<Seat<L>>) -> Served<L>
 impl<L: Crew> Seat<L> {
     /// Carries out an order of a seat that is taken apart: by one turn of a call at most, and
     /// without waiting. Only a new seat asks for memory.
-    pub fn serve(alloc: Global, seat: Parts<Seat<L>, Global>, order: Order) -> Served<L>
+    pub fn serve(alloc: Global, seat: Parts<Seat<L>, Global>, order: SeatOrder) -> Served<L>
         requires { IsSome seat.value.member }
         ensures { ServesKept seat.value.member order result.told result.seat.value
             result.other.value }
     {
         let seat = seat.into_box();
         match order {
-            Order::Share => shared(alloc, seat),
-            Order::Leave => left(alloc, seat),
+            SeatOrder::Share => shared(alloc, seat),
+            SeatOrder::Leave => left(alloc, seat),
             _ => turned(alloc, seat, order),
         }
     }

@@ -8,8 +8,8 @@ ghost use Rattle.live_seats.specs.Kept.{StartsKept};
 use crate::house::House;
 use crate::member::Member;
 use crate::orders::Started;
+use crate::pass_orders::is_idle;
 use crate::seat::Seat;
-use crate::turning::is_idle;
 use c_slots::{MaybeParts, Parts};
 use fast_path::MonitorCall;
 use live_turns::{Crew, TurnPass, Turns};
@@ -79,8 +79,8 @@ fn started<L: Crew>(seat: &mut Seat<L>, call: MonitorCall) -> Started
 impl<L: Crew> Seat<L> {
     /// Starts a call on an object, of a seat that is taken apart, by its steps on the word of the
     /// object: a load, and an exchange or a store where the word calls for one. Where they are the
-    /// whole call this is what [`serve`](Seat::serve) does with [`BeginOn`](crate::Order::BeginOn),
-    /// but what is told of it is small. Where the call goes on, [`Turn`](crate::Order::Turn) does.
+    /// whole call this is what [`serve`](Seat::serve) does with [`BeginOn`](crate::SeatOrder::BeginOn),
+    /// but what is told of it is small. Where the call goes on, [`Turn`](crate::SeatOrder::Turn) does.
     #[inline(always)]
     pub fn start(seat: Parts<Seat<L>, Global>, call: MonitorCall) -> Begun<L>
         requires { IsSome seat.value.member }

@@ -9,8 +9,8 @@ use Rattle.step_core.specs.declared.places.Place.TheVariants.{Idle, InCall, Endi
 use Rattle.step_core.specs.declared.places.Stage.TheVariants.{Begun, Direct}
 use Rattle.step_core.specs.declared.paths.Point.{Point}
 use Rattle.step_core.specs.declared.paths.Point.TheVariants.{At, Expired, Said}
-use Rattle.live_turns.specs.declared.turned.Standing.{Standing}
-use Rattle.live_turns.specs.declared.turned.Standing.TheVariants as standing
+use Rattle.live_turns.specs.declared.standings.Standing.{Standing}
+use Rattle.live_turns.specs.declared.standings.Standing.TheVariants as standing
 use Rattle.live_book.specs.declared.faults.LiveFault.{LiveFault}
 use Rattle.live_turns.specs.Points.{standing_at, resting, names_stranger}
 use Rattle.live_turns.specs.Ways.{Holding, Went, Halted}
@@ -18,13 +18,13 @@ use Rattle.live_turns.proofs.Going.{went_then, given_up_on, given_up_about}
 use Rattle.live_threads.specs.Calls.{CalledOn, CalledAbout}
 
 -- the reply of a standing, if it has one
-abbrev reply_of : Standing → Reply → Reply
-reply_of (standing.Said r) d = r
-reply_of s d = d
+abbrev reply_in : Standing → Reply → Reply
+reply_in (standing.Said r) d = r
+reply_in s d = d
 
 -- a call whose standing has a reply stands there
 pub said_at : (b : Bool) (p : Point) (r : Reply) → standing_at b p ≡ standing.Said r → p ≡ Said r
-said_at b (Said x) r e = ap (λ s. Said (reply_of s r)) e
+said_at b (Said x) r e = ap (λ s. Said (reply_in s r)) e
 said_at true (At p) r e = absurd (cc)
 said_at false (At (InCall s)) r e = absurd (cc)
 said_at false (At Idle) r e = absurd (cc)

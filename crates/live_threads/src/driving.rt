@@ -202,8 +202,8 @@ fn new_flags(alloc: Global, count: usize) -> Result<Vec<AtomicCell<bool>>, Memor
     Ok(flags)
 }
 
-#[tactic(auto, using(crate::proofs::Drives::moved_back))]
 // The works, with those of the jobs behind them, from the last to the first.
+#[tactic(auto, using(crate::proofs::Drives::moved_back))]
 fn taken_back<L: Crew>(mut works: Vec<Work<L>>, mut jobs: Vec<Job<L>>) -> Vec<Work<L>>
     requires room { length works.items + length jobs.items ≤ vec_capacity works }
     ensures { result.items ≡ works.items ++ reverse (map (λ j. j.work) jobs.items) }
@@ -223,8 +223,8 @@ fn last_work<L: Crew>(works: &mut Vec<Work<L>>) -> Option<Work<L>>
     works.pop()
 }
 
-#[tactic(auto, using(crate::proofs::Drives::moved_on))]
 // These works, each with room for its answers. Where the system refuses some, the works come back.
+#[tactic(auto, using(crate::proofs::Drives::moved_on))]
 fn with_answers<L: Crew>(
     alloc: Global,
     mut works: Vec<Work<L>>,

@@ -9,8 +9,8 @@ mod driving;
 mod ending;
 mod live;
 mod looking;
+mod loops;
 mod opening;
-mod turning;
 mod waiting;
 
 pub use driving::{DriveFault, Gate, Work, Worked, drive};

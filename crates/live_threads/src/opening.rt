@@ -39,8 +39,8 @@ fn last_pass<L: Crew>(passes: &mut Vec<TurnPass<L>>) -> Option<TurnPass<L>>
     passes.pop()
 }
 
-#[tactic(auto, using(live_turns::proofs::Rows::moved_over))]
 // These passes, each with its parker.
+#[tactic(auto, using(live_turns::proofs::Rows::moved_over))]
 pub(crate) fn with_parkers<L: Crew>(
     mut turns: Vec<TurnPass<L>>,
     mut parkers: Vec<Parker>,

@@ -12,9 +12,9 @@ use Rattle.step_core.specs.declared.paths.Point.{Point}
 use Rattle.step_core.specs.declared.paths.Point.TheVariants.{At}
 use Rattle.live_book.specs.declared.faults.LiveFault.{LiveFault}
 use Rattle.live_book.specs.declared.faults.LiveFault.TheVariants as fault
-use Rattle.live_turns.specs.declared.turned.Turned.{Turned}
+use Rattle.live_turns.specs.declared.standings.Turned.{Turned}
 use Rattle.live_turns.specs.Asked.{IsDeskFault}
-use Rattle.live_turns.specs.Ways.{Holding, Went, Halted, MayHalt, NeedsBook, Took, Gave, parked}
+use Rattle.live_turns.specs.Ways.{Holding, Went, Halted, MayHalt, NeedsBook, TakesGate, GivesGate, parked}
 use Rattle.live_turns.proofs.Going.{went_then, halted_here, halted_held, halted_then}
 
 pub covers_bound : (xs ys : List ObjectId) (x : ObjectId) (seen : List Event) → ys ≡ xs ++ x ∷ [] → Covers xs seen → Covers ys seen
@@ -59,12 +59,6 @@ pub gave_up_parked : (r : Result Turned LiveFault) (e : Bool) (p q : Holding) �
 gave_up_parked (Ok t) e p q words own is = tt
 gave_up_parked (Err f) e p q words own is =
     halted_here f (parked e) p q (subst (λ (x : LiveFault). MayHalt x (parked e)) (sym is) (torn_parked e)) words own
-
--- what was done while the pass had the gate
-pub held_err : (r : Result Turned LiveFault) (s : Point) (p p' q' q : Holding) → p.words.has_gate ≡ false → Took p p' → Gave q' q → IfErr r (λ f. Halted f s p' q')
-    → IfErr r (λ f. Halted f s p q)
-held_err (Ok t) s p p' q' q out took gave h = tt
-held_err (Err f) s p p' q' q out took gave h = halted_held f s p p' q' q out took h gave
 
 -- what a turn came to, after the steps that led to it
 pub ok_after : (r : Result Turned LiveFault) (s t : Point) (p q u : Holding) → Went s t p q → IfOk r (λ x. Went t x.point q u) → IfOk r (λ x. Went s x.point p u)

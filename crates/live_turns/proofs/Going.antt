@@ -33,7 +33,7 @@ use Rattle.live_book.specs.declared.faults.LiveFault.TheVariants as fault
 use Rattle.live_book.specs.Log.{thread_numbered}
 use Rattle.live_turns.specs.Asked.{own_action, IsAwake}
 use Rattle.live_turns.specs.Points.{GivenUpOn, GivenUpAbout, names_stranger}
-use Rattle.live_turns.specs.Ways.{by, Holding, stored_deed, event_of, events_of, deed_of, deeds_of, Went, Halted, MayHalt, Took, Gave, parked}
+use Rattle.live_turns.specs.Ways.{by, Holding, stored_deed, event_of, events_of, deed_of, deeds_of, Went, Halted, MayHalt, TakesGate, GivesGate, parked}
 
 Leads-append : (me : ℕ) (s t u : Point) (es fs : List Atomic) → Leads Wide me s es t → Leads Wide me t fs u → Leads Wide me s (es ++ fs) u
 Leads-append me s t u [] fs h k = subst (λ (x : Point). Leads Wide me x fs u) (sym h) k
@@ -101,7 +101,7 @@ went_same s p q words own = record {
 }
 
 -- what was done while the pass had the gate: the taking and the giving add nothing
-pub went_held : (s t : Point) (p p' q' q : Holding) → p.words.has_gate ≡ false → Took p p' → Went s t p' q' → Gave q' q → Went s t p q
+pub went_held : (s t : Point) (p p' q' q : Holding) → p.words.has_gate ≡ false → TakesGate p p' → Went s t p' q' → GivesGate q' q → Went s t p q
 went_held s t p p' q' q out took h gave =
     let new = took.0.pass in
     let index : p'.words.index ≡ p.words.index = ap (λ (k : PassValue). k.index) new in
@@ -120,7 +120,7 @@ went_held s t p p' q' q out took h gave =
 pub halted_then : (f : LiveFault) (s t : Point) (p q r : Holding) → Went s t p q → Halted f t q r → Halted f s p r
 halted_then f s t p q r w k = record { point = k.point; last = k.last; went = went_then s t k.point p q r w k.went }
 
-pub halted_held : (f : LiveFault) (s : Point) (p p' q' q : Holding) → p.words.has_gate ≡ false → Took p p' → Halted f s p' q' → Gave q' q → Halted f s p q
+pub halted_held : (f : LiveFault) (s : Point) (p p' q' q : Holding) → p.words.has_gate ≡ false → TakesGate p p' → Halted f s p' q' → GivesGate q' q → Halted f s p q
 halted_held f s p p' q' q out took k gave = record { point = k.point; last = k.last; went = went_held s k.point p p' q' q out took k.went gave }
 
 pub halted_here : (f : LiveFault) (s : Point) (p q : Holding) → MayHalt f s → q.words ≡ p.words → q.own ≡ p.own → Halted f s p q

@@ -4,5 +4,6 @@ pub mod Gates
 pub mod Visits
 pub mod Words
 pub mod Rows
+pub mod TurnLaws
 pub mod Ends
 pub mod Records

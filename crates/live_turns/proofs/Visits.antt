@@ -21,9 +21,9 @@ use Rattle.step_core.specs.declared.places.Place.TheVariants.{Idle, InCall, Endi
 use Rattle.step_core.specs.declared.paths.Point.{Point}
 use Rattle.step_core.specs.declared.paths.Point.TheVariants.{At, Expired, Said}
 use Rattle.live_book.specs.declared.faults.LiveFault.{LiveFault}
-use Rattle.live_turns.specs.declared.turned.Turned.{Turned}
+use Rattle.live_turns.specs.declared.standings.Turned.{Turned}
 use Rattle.live_turns.specs.Points.{Visited, Loaded, RefusesThere, RestsAtPost, is_at_book}
-use Rattle.live_turns.specs.Ways.{Holding, Took, Gave, VisitsBook, parked}
+use Rattle.live_turns.specs.Ways.{Holding, TakesGate, GivesGate, VisitsBook, parked}
 
 -- an event on a word is no visit
 pub event_visit : (o : ℕ) (d : WordDeed) (n : ℕ) (p q : PassValue) → MakesEvent o d n p q → (length p.mine < length q.mine) × VisitsBook 0 p q
@@ -36,7 +36,7 @@ pub same_visit : (p q : PassValue) → q ≡ p → VisitsBook 0 p q
 same_visit p q same = subst (λ (x : PassValue). VisitsBook 0 p x) (sym same) (omega arith)
 
 -- the gate was taken, and given back
-pub held_visit : (p p' q' q : Holding) → Took p p' → VisitsBook 0 p'.words q'.words → Gave q' q → VisitsBook 1 p.words q.words
+pub held_visit : (p p' q' q : Holding) → TakesGate p p' → VisitsBook 0 p'.words q'.words → GivesGate q' q → VisitsBook 1 p.words q.words
 held_visit p p' q' q took visit gave =
     let took_steps : p'.words.steps ≡ suc p.words.steps = ap (λ (x : PassValue). x.steps) took.0.pass in
     let took_mine : length p'.words.mine ≡ length p.words.mine = ap (λ (x : PassValue). length x.mine) took.0.pass in
@@ -44,38 +44,13 @@ held_visit p p' q' q took visit gave =
     let gave_mine : length q.words.mine ≡ length q'.words.mine = ap (λ (x : PassValue). length x.mine) gave.0 in
     omega arith
 
-pub held_same : (p p' q' q : Holding) → Took p p' → q'.words ≡ p'.words → Gave q' q → VisitsBook 1 p.words q.words
+pub held_same : (p p' q' q : Holding) → TakesGate p p' → q'.words ≡ p'.words → GivesGate q' q → VisitsBook 1 p.words q.words
 held_same p p' q' q took same gave = held_visit p p' q' q took (same_visit p'.words q'.words same) gave
 
 pub visit_same : (p q r : PassValue) → VisitsBook 0 p q → r ≡ q → VisitsBook 0 p r
 visit_same p q r h same = subst (λ (x : PassValue). VisitsBook 0 p x) (sym same) h
 
--- a turn that met another pass at the gate
-parked_at_book : (b : Bool) → is_at_book (parked b) ≡ true
-parked_at_book true = refl
-parked_at_book false = refl
-
-pub taken_away : (t : Turned) (s : Point) (p q : Holding) → t ≡ record { point = s; gate_taken = true; granted = None } → is_at_book s ≡ true → q ≡ p
-    → Visited t.gate_taken t.point p.words q.words
-taken_away t s p q is at same =
-    subst (λ (x : Turned). Visited x.gate_taken x.point p.words q.words) (sym is) (at, same_visit p.words q.words (ap (λ (h : Holding). h.words) same))
-
-pub taken_parked : (t : Turned) (b : Bool) (p q : Holding) → t ≡ record { point = parked b; gate_taken = true; granted = None } → q ≡ p
-    → Visited t.gate_taken t.point p.words q.words
-taken_parked t b p q is same = taken_away t (parked b) p q is (parked_at_book b) same
-
--- and one that ends with a reply
-pub visited_said : (t : Turned) (r : Reply) (p q : PassValue) → t ≡ record { point = Said r; gate_taken = false; granted = None } → VisitsBook 1 p q
-    → Visited t.gate_taken t.point p q
-visited_said t r p q is visit = subst (λ (x : Turned). Visited x.gate_taken x.point p q) (sym is) (tt, visit)
-
--- what a turn came to that was at the book
-pub visited_at : (r : Result Turned LiveFault) (p q : PassValue) → IfOk r (λ t. (t.gate_taken ≡ false) × RestsAtPost t.point) → VisitsBook 1 p q
-    → IfOk r (λ t. Visited t.gate_taken t.point p q)
-visited_at (Ok t) p q rests visit = subst (λ (b : Bool). Visited b t.point p q) (sym rests.0) (rests.1, visit)
-visited_at (Err f) p q rests visit = tt
-
--- and before which no other event was made
+-- a turn at the book, before which no other event was made
 visited_after : (b : Bool) (s : Point) (p q r : PassValue) → VisitsBook 0 p q → Visited b s q r → Visited b s p r
 visited_after true s p q r h k = let more : VisitsBook 0 q r = k.1 in (k.0, omega arith)
 visited_after false s p q r h k = let more : VisitsBook 1 q r = k.1 in (k.0, omega arith)

@@ -14,7 +14,7 @@ use Rattle.header_words.specs.Passes.{Opening, PassValue, HasTaken, has_given}
 use Rattle.step_core.specs.declared.places.Place.{Place}
 use Rattle.step_core.specs.declared.places.Place.TheVariants.{Idle, InCall, AtPost}
 use Rattle.step_core.specs.declared.places.Stage.{Stage}
-use Rattle.step_core.specs.declared.places.Stage.TheVariants.{Binding, Acting, Won, Inflated, Direct}
+use Rattle.step_core.specs.declared.places.Stage.TheVariants.{Begun, Taking, Storing, Binding, Acting, Won, Bound, Inflated, Direct}
 use Rattle.step_core.specs.declared.paths.Point.{Point}
 use Rattle.step_core.specs.declared.paths.Point.TheVariants.{At, Expired}
 use Rattle.step_core.specs.declared.steps.Atomic.{Atomic}
@@ -61,7 +61,10 @@ event_of me (atomic.Load o x) = event me o.0 (word.Load x.0) ∷ []
 event_of me (atomic.Won o x y) = event me o.0 word.Win ∷ []
 event_of me (atomic.Lost o x) = event me o.0 word.Lose ∷ []
 event_of me (atomic.Stored o x y) = event me o.0 (stored_deed (lock_of x.0) (lock_of y.0)) ∷ []
-event_of me a = []
+event_of me atomic.Label = []
+event_of me (atomic.Bound o m) = []
+event_of me (atomic.NotBound o c) = []
+event_of me (atomic.Acted a x) = []
 
 abbrev pub events_of : ℕ → List Atomic → List Event
 events_of me [] = []
@@ -69,9 +72,15 @@ events_of me (a ∷ es) = event_of me a ++ events_of me es
 
 -- with how many holds the bind at this point is
 abbrev pub holds_in : Stage → ℕ
+holds_in (Begun c contended) = 0
+holds_in (Taking o contended) = 0
+holds_in (Storing c l) = 0
 holds_in (Binding c n) = n + 1
+holds_in (Acting c m) = 0
 holds_in (Won o) = 1
-holds_in s = 0
+holds_in (Bound c won m) = 0
+holds_in (Inflated c m) = 0
+holds_in (Direct c) = 0
 
 abbrev pub holds_at : Place → ℕ
 holds_at (InCall s) = holds_in s
@@ -85,7 +94,12 @@ bound_holds p = 0
 abbrev pub deed_of : ℕ → Point → Atomic → List Logged
 deed_of me p (atomic.Bound o m) = by (thread_numbered me) (deed.Bound o (bound_holds p) m) ∷ []
 deed_of me p (atomic.Acted a x) = by (thread_numbered me) (deed.Acted a x) ∷ []
-deed_of me p a = []
+deed_of me p atomic.Label = []
+deed_of me p (atomic.Load o x) = []
+deed_of me p (atomic.Won o x y) = []
+deed_of me p (atomic.Lost o x) = []
+deed_of me p (atomic.Stored o x y) = []
+deed_of me p (atomic.NotBound o c) = []
 
 abbrev pub deeds_of : ℕ → Point → List Atomic → List Logged
 deeds_of me p [] = []
@@ -104,11 +118,15 @@ pub record Went (s s' : Point) (p q : Holding) : Type 0 where
 
 -- the stages whose next step needs the book
 abbrev pub NeedsBook : Stage → Type 0
+NeedsBook (Begun c contended) = ⊥
+NeedsBook (Taking o contended) = ⊥
+NeedsBook (Storing c l) = ⊥
 NeedsBook (Binding c n) = Unit {0}
 NeedsBook (Acting c m) = Unit {0}
+NeedsBook (Won o) = ⊥
+NeedsBook (Bound c won m) = ⊥
 NeedsBook (Inflated c m) = Unit {0}
 NeedsBook (Direct c) = Unit {0}
-NeedsBook s = ⊥
 
 -- A call may be given up before its bind and before its fat action; where the pass is torn from the book, also once it
 -- has parked.
@@ -129,12 +147,12 @@ pub record Halted (f : LiveFault) (s : Point) (p q : Holding) : Type 0 where
 abbrev pub Belongs : Opening → Bool → Holding → Type 0
 Belongs z gate p = (p.words.opening ≡ z) × (p.words.has_gate ≡ gate)
 
--- the pass took the gate, and gave it back
-abbrev pub Took : Holding → Holding → Type 0
-Took p q = HasTaken p.words q.words × (q.own ≡ p.own)
+-- the pass takes the gate, and gives it back
+abbrev pub TakesGate : Holding → Holding → Type 0
+TakesGate p q = HasTaken p.words q.words × (q.own ≡ p.own)
 
-abbrev pub Gave : Holding → Holding → Type 0
-Gave p q = (q.words ≡ has_given p.words) × (q.own ≡ p.own)
+abbrev pub GivesGate : Holding → Holding → Type 0
+GivesGate p q = (q.words ≡ has_given p.words) × (q.own ≡ p.own)
 
 -- the pass made no event on the words
 abbrev pub AddsNoEvent : PassValue → PassValue → Type 0

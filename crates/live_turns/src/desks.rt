@@ -1,4 +1,5 @@
-//! What lies behind the gate, and what a pass keeps of it.
+//! The desk behind the gate: the book of fat monitors, with the tally of its deeds; and the deeds that a
+//! pass keeps of its own.
 
 ghost use Rattle.std.specs.Prelude.{◌≡◌, ◌<◌, ◌≤◌, ◌+◌, IfOk, IfErr, OnErr, OnOk, MatchOption, ℕ, length, [], ◌∷◌, ◌++◌, vec_len, vec_capacity, Some, false, Ok};
 ghost use Rattle.fat_monitor.specs.FatState.{post_of};
@@ -20,7 +21,7 @@ use fat_monitor::{Action, Cause, Done, Post, Receipt};
 use header_words::Kept;
 use lock_word::{ObjectId, ThreadId};
 use std::marker::Brand;
-use std::sync::ledger::{self, Ledger, Share};
+use std::sync::ledger::{Book as Tally, Ledger, Share};
 use step_core::{action_about, action_on};
 
 /// Which service a ledger is of: how many monitors and passes it has, and places of its record.
@@ -50,11 +51,12 @@ pub(crate) struct Own<L: Crew> {
     pub(crate) ghost room: { L.places ≤ vec_capacity list },
 }
 
-/// What lies behind the gate: the book, and the ledger's count of its deeds.
+/// What lies behind the gate: the book of fat monitors, and the tally of its deeds, which the ledger
+/// keeps.
 #[derive(Drop)]
 pub(crate) struct Desk<L: Crew> {
     pub(crate) book: Book,
-    pub(crate) total: ledger::Book<L>,
+    pub(crate) total: Tally<L>,
     // What is left of the ledger once each pass has a part.
     pub(crate) rest: Share<L>,
     pub(crate) ghost none: { rest.parts ≡ 0 },
@@ -208,9 +210,9 @@ impl<L: Crew> Desk<L> {
         self.make(own, thread, action)
     }
 
-    #[tactic(auto, using(crate::proofs::Asking::asking))]
     /// The fat action of a call on an object, by a thread that is in no action. It stands in place,
     /// as [`make`](Desk::make) does.
+    #[tactic(auto, using(crate::proofs::Asking::asking))]
     #[inline(always)]
     pub(crate) fn act_on(
         &mut self,
@@ -237,8 +239,8 @@ impl<L: Crew> Desk<L> {
         }
     }
 
-    #[tactic(auto, using(crate::proofs::Asking::asking))]
     /// The fat action of a call about interrupts, by a thread that is in no action.
+    #[tactic(auto, using(crate::proofs::Asking::asking))]
     pub(crate) fn act_about(
         &mut self,
         own: &mut Own<L>,
@@ -256,10 +258,10 @@ impl<L: Crew> Desk<L> {
         self.make_apart(own, thread, action_about(call))
     }
 
-    #[tactic(auto, using(crate::proofs::Asking::waking))]
     /// What a parked thread may do itself: it collects its reply where it was granted one, or its
     /// wait expires where its time is over and `expired` does not say that this was done; None
     /// where it stays parked.
+    #[tactic(auto, using(crate::proofs::Asking::waking))]
     pub(crate) fn awake(
         &mut self,
         own: &mut Own<L>,
@@ -329,7 +331,7 @@ impl<L: Crew> Desk<L> {
 
 // Notes a deed of the pass, which the ledger counts.
 #[inline(always)]
-fn note<L: Crew>(total: &mut ledger::Book<L>, own: &mut Own<L>, entry: Logged)
+fn note<L: Crew>(total: &mut Tally<L>, own: &mut Own<L>, entry: Logged)
     requires { vec_len own.old.list < vec_capacity own.old.list }
     ensures list { own.new.list.items ≡ own.old.list.items ++ entry ∷ [] }
     ensures total { total.new.total ≡ total.old.total + 1 }

@@ -9,7 +9,7 @@ ghost use Rattle.live_turns.specs.Ends.{HasOwn, IsEnd, IsHandedBack, IsTorn, IsT
 use crate::agreeing::agrees;
 use crate::closed::{Closed, TurnsClose};
 use crate::desks::{Crew, Desk, Own};
-use crate::holders::Holder;
+use crate::hands::Hand;
 use crate::numbered::{Numbered, has_each};
 use crate::{Logged, TurnPass, Turns};
 use header_words::{CloseFault, Pass};
@@ -49,7 +49,7 @@ impl<L: Crew> Numbered for TurnPass<L> {
     ghost numbered = { λ p. p.holding.words.index };
 
     fn number(&self) -> u16 {
-        self.holder.index()
+        self.hand.index()
     }
 }
 
@@ -59,7 +59,7 @@ fn counts_of<L: Crew>(alloc: Global, passes: &[TurnPass<L>]) -> Result<Vec<u64>,
 {
     let mut counts = Vec::with_capacity(alloc, passes.len())?;
     for pass in passes {
-        counts.push(pass.holder.own.list.len() as u64)?;
+        counts.push(pass.hand.own.list.len() as u64)?;
     }
     Ok(counts)
 }
@@ -122,8 +122,8 @@ fn take_apart<L: Crew>(
     ensures room { length passes.old.items ≤ vec_capacity passes.new }
 {
     while let Some(pass) = passes.pop() {
-        let TurnPass { holder, point } = pass;
-        let Holder { words: row, own } = holder;
+        let TurnPass { hand, point } = pass;
+        let Hand { words: row, own } = hand;
         let index = row.index();
         rests.push_reserved(Rest {
             own,
@@ -154,7 +154,7 @@ fn put_together<L: Crew>(
             unreachable!()
         };
         passes.push_reserved(TurnPass {
-            holder: Holder { words, own },
+            hand: Hand { words, own },
             point,
         });
     }

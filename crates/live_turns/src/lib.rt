@@ -9,18 +9,19 @@
 #![tactic(auto)]
 
 mod agreeing;
+mod at_gate;
+mod at_word;
+mod calls;
 mod closed;
 mod desks;
-mod driving;
 mod ending;
-mod holders;
+mod hands;
 mod looking;
 mod numbered;
 mod opening;
 mod pass;
+mod standings;
 mod starting;
-mod turned;
-mod turning;
 mod turns;
 
 pub use closed::{Closed, TurnsClose};
@@ -28,5 +29,5 @@ pub use desks::Crew;
 pub use live_book::{Book, BookFault, Deed, LiveFault, Logged};
 pub use numbered::{Numbered, has_each};
 pub use pass::TurnPass;
-pub use turned::{Standing, Turned};
+pub use standings::{Standing, Turned};
 pub use turns::Turns;

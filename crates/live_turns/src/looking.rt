@@ -8,7 +8,7 @@ ghost use Rattle.live_turns.specs.Ways.{AddsNoEvent, Belongs, VisitsBook};
 ghost use Rattle.live_turns.specs.Ends.{IsLookedAt};
 
 use crate::desks::Crew;
-use crate::holders::Holder;
+use crate::hands::Hand;
 use crate::{Book, TurnPass, Turns};
 
 impl<L: Crew> Turns<L> {
@@ -31,26 +31,26 @@ impl<L: Crew> Turns<L> {
             (VisitsBook 1 pass.old.holding.words pass.new.holding.words) }
         ensures kept { OnErr result (pass.new ≡ pass.old) }
     {
-        self.lend(&mut pass.holder, f)
+        self.lend(&mut pass.hand, f)
     }
 
-    fn lend<F: FnOnce(&Book) -> bool>(&self, holder: &mut Holder<L>, f: F) -> Result<bool, F>
-        requires belongs { Belongs self.now false holder.old }
+    fn lend<F: FnOnce(&Book) -> bool>(&self, hand: &mut Hand<L>, f: F) -> Result<bool, F>
+        requires belongs { Belongs self.now false hand.old }
         requires callable { F.IsAlwaysCallable f }
-        ensures belongs { Belongs self.now false holder.new }
-        ensures words { AddsNoEvent holder.old.words holder.new.words }
-        ensures own { holder.new.own ≡ holder.old.own }
+        ensures belongs { Belongs self.now false hand.new }
+        ensures words { AddsNoEvent hand.old.words hand.new.words }
+        ensures own { hand.new.own ≡ hand.old.own }
         ensures told { IfOk result (λ told.
             IsLookedAt (λ book. FnOnceReturnsAt F.FnOnce f book told)) }
         ensures back { IfErr result (λ g. g ≡ f) }
-        ensures looked { OnOk result (VisitsBook 1 holder.old.words holder.new.words) }
-        ensures kept { OnErr result (holder.new ≡ holder.old) }
+        ensures looked { OnOk result (VisitsBook 1 hand.old.words hand.new.words) }
+        ensures kept { OnErr result (hand.new ≡ hand.old) }
     {
-        let Some(desk) = self.take(holder) else {
+        let Some(desk) = self.take(hand) else {
             return Err(f);
         };
         let told = f(&desk.book);
-        self.give(holder, desk);
+        self.give(hand, desk);
         Ok(told)
     }
 }

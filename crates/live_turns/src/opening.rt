@@ -5,7 +5,7 @@ ghost use Rattle.header_words.specs.Passes.{new_passes};
 ghost use Rattle.live_turns.specs.Ways.{new_state};
 
 use crate::desks::{Crew, Desk, Own};
-use crate::holders::Holder;
+use crate::hands::Hand;
 use crate::{Book, Logged, TurnPass, Turns};
 use header_words::{Headers, Pass};
 use lock_word::Memory;
@@ -68,8 +68,8 @@ fn new_desk<L: Crew>(
     Ok((Box::new(alloc, desk)?, owns))
 }
 
-#[tactic(auto, using(crate::proofs::Rows::moved_over))]
 // The passes of these words, each with deeds of its own.
+#[tactic(auto, using(crate::proofs::Rows::moved_over))]
 fn with_owns<L: Crew>(
     mut words: Vec<Pass<Box<Desk<L>>>>,
     mut owns: Vec<Fresh<L>>,
@@ -86,7 +86,7 @@ fn with_owns<L: Crew>(
         };
         let own = Own { list, share };
         passes.push_reserved(TurnPass {
-            holder: Holder { words, own },
+            hand: Hand { words, own },
             point: Point::At(Place::Idle),
         });
     }

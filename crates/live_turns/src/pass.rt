@@ -4,7 +4,7 @@ ghost use Rattle.std.specs.Prelude.{◌≡◌};
 ghost use Rattle.live_book.specs.Log.{thread_numbered};
 
 use crate::desks::Crew;
-use crate::holders::Holder;
+use crate::hands::Hand;
 use lock_word::ThreadId;
 use std::marker::Model;
 use step_core::Point;
@@ -13,7 +13,7 @@ use step_core::Point;
 /// stands. One thread of the system has it at a time.
 #[derive(Drop)]
 pub struct TurnPass<L: Crew> {
-    pub(crate) holder: Holder<L>,
+    pub(crate) hand: Hand<L>,
     pub(crate) point: Point,
 }
 
@@ -23,9 +23,9 @@ impl<L: Crew> Model for TurnPass<L> {
 
     ghost Value = { PassState };
 
-    ghost view = { λ p. record { holding = p.holder; point = p.point } };
+    ghost view = { λ p. record { holding = p.hand; point = p.point } };
 
-    ghost invariant = { λ p. Knows p.point p.holder };
+    ghost invariant = { λ p. Knows p.point p.hand };
 }
 
 impl<L: Crew> TurnPass<L> {
@@ -33,7 +33,7 @@ impl<L: Crew> TurnPass<L> {
     pub fn thread(&self) -> ThreadId
         ensures { result ≡ thread_numbered self.now.holding.words.index }
     {
-        self.holder.thread()
+        self.hand.thread()
     }
 
     /// Where the call of the pass stands: at `Idle` where it is in none.

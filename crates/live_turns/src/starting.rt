@@ -12,9 +12,9 @@ ghost use Rattle.live_book.specs.declared.faults.LiveFault.{LiveFault};
 ghost use Rattle.live_turns.specs.Points.{RestsStarted, started, names_stranger};
 ghost use Rattle.live_turns.specs.Ways.{Belongs, Went, VisitsBook};
 
+use crate::at_word::count_of;
 use crate::desks::Crew;
-use crate::holders::Holder;
-use crate::turning::count_of;
+use crate::hands::Hand;
 use crate::{LiveFault, TurnPass, Turns};
 use fast_path::{InterruptCall, MonitorCall, Next};
 use fat_monitor::Reply;
@@ -58,18 +58,18 @@ fn stay_acting(point: &mut Point, call: &MonitorCall, monitor: u32)
 impl<L: Crew> Turns<L> {
     // The exchange of the free word, by an enter that has met nobody: whether it won the word.
     #[inline(always)]
-    fn exchange(&self, holder: &mut Holder<L>, object: ObjectId) -> bool
-        requires belongs { Belongs self.now false holder.old }
+    fn exchange(&self, hand: &mut Hand<L>, object: ObjectId) -> bool
+        requires belongs { Belongs self.now false hand.old }
         requires object { object.0 < length self.now.lows }
-        requires free { depth_at holder.old.words object.0 ≡ 0 }
-        ensures belongs { Belongs self.now false holder.new }
+        requires free { depth_at hand.old.words object.0 ≡ 0 }
+        ensures belongs { Belongs self.now false hand.new }
         ensures won { OnTrue result (Went (At (InCall (Taking object false))) (Said reply.Entered)
-            holder.old holder.new) }
+            hand.old hand.new) }
         ensures lost { OnFalse result (Went (At (InCall (Taking object false)))
-            (At (InCall (Begun (entering object) true))) holder.old holder.new) }
-        ensures visit { VisitsBook 0 holder.old.words holder.new.words }
+            (At (InCall (Begun (entering object) true))) hand.old hand.new) }
+        ensures visit { VisitsBook 0 hand.old.words hand.new.words }
     {
-        self.headers.acquire(&mut holder.words, object)
+        self.headers.acquire(&mut hand.words, object)
     }
 
     /// Starts a call on an object (JLS SE 8, 17.1 and 17.2) by its steps on the word of the object:
@@ -100,12 +100,12 @@ impl<L: Crew> Turns<L> {
         if object.0 >= self.objects {
             return Err(LiveFault::NoObject);
         }
-        let lock = self.load(&mut pass.holder, object);
-        match call.operation.next(Split::Wide, lock, pass.holder.index()) {
+        let lock = self.load(&mut pass.hand, object);
+        match call.operation.next(Split::Wide, lock, pass.hand.index()) {
             Next::Reply(reply) => Ok(Some(reply)),
-            Next::Store(new) => Ok(Some(self.store(&mut pass.holder, call, lock, new))),
+            Next::Store(new) => Ok(Some(self.store(&mut pass.hand, call, lock, new))),
             Next::Cas(_) => {
-                if self.exchange(&mut pass.holder, object) {
+                if self.exchange(&mut pass.hand, object) {
                     return Ok(Some(Reply::Entered));
                 }
                 stay_contended(&mut pass.point, &call);

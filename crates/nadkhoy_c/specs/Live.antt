@@ -6,11 +6,11 @@ use Rattle.fast_path.specs.declared.calls.Subject.{Subject}
 use Rattle.fast_path.specs.declared.calls.Subject.TheVariants as subject
 use Rattle.fast_path.specs.Calls.{subject_of}
 use Rattle.live_book.specs.Names.{live_fault_number}
-use Rattle.live_turns.specs.declared.turned.Standing.{Standing}
-use Rattle.live_turns.specs.declared.turned.Standing.TheVariants as standing
+use Rattle.live_turns.specs.declared.standings.Standing.{Standing}
+use Rattle.live_turns.specs.declared.standings.Standing.TheVariants as standing
 use Rattle.live_seats.specs.Seats.{SeatState, IsOpenedWith}
-use Rattle.live_seats.specs.declared.orders.Order.{Order}
-use Rattle.live_seats.specs.declared.orders.Order.TheVariants as order
+use Rattle.live_seats.specs.declared.orders.SeatOrder.{SeatOrder}
+use Rattle.live_seats.specs.declared.orders.SeatOrder.TheVariants as order
 use Rattle.live_seats.specs.declared.orders.Told.{Told}
 use Rattle.live_seats.specs.declared.orders.Told.TheVariants as told
 use Rattle.nadkhoy_c.specs.declared.plain.PlainCall.{PlainCall}
@@ -22,16 +22,16 @@ use Rattle.nadkhoy_c.specs.Statuses.{status_number}
 use Rattle.nadkhoy_c.specs.Writing.{reply_number, cause_of}
 
 -- the order that begins a call on a subject, if a live service has such a call
-abbrev pub order_on : Subject → Option Order
+abbrev pub order_on : Subject → Option SeatOrder
 order_on (subject.Monitor c) = Some (order.BeginOn c)
 order_on (subject.Interrupt c) = Some (order.BeginAbout c)
 order_on subject.End = None
 
-abbrev pub order_for : Option Call → Option Order
+abbrev pub order_for : Option Call → Option SeatOrder
 order_for None = None
 order_for (Some c) = order_on (subject_of c)
 
-abbrev pub order_from_numbers : PlainCall → Option Order
+abbrev pub order_from_numbers : PlainCall → Option SeatOrder
 order_from_numbers p = order_for (call_from_numbers p)
 
 abbrev pub standing_number : Standing → ℕ
@@ -109,13 +109,13 @@ number_out told.Memory x = x
 number_out told.Left x = x
 
 -- an order that a seat carried out: what is answered of it, the slot then, and what stands where the call writes
-abbrev pub HasAnswered : {X : Type 0} → (Told → X → X) → Order → Option SeatState → X → ℕ → Option SeatState → X
+abbrev pub HasAnswered : {X : Type 0} → (Told → X → X) → SeatOrder → Option SeatState → X → ℕ → Option SeatState → X
     → Type 0
 HasAnswered write o s x n s' x' = (t : Told) × HasServed s o t s' None × (n ≡ told_status t) × (x' ≡ write t x)
 
 -- An order of the seat in a slot, if the numbers name one: what is answered, what the slot has then, and what stands
 -- where the call writes. write says what is written of what the seat tells.
-abbrev pub Answers : {X : Type 0} → (Told → X → X) → Option Order → Option SeatState → X → ℕ → Option SeatState → X
+abbrev pub Answers : {X : Type 0} → (Told → X → X) → Option SeatOrder → Option SeatState → X → ℕ → Option SeatState → X
     → Type 0
 Answers write o None x n s' x' = (n ≡ status_number status.Closed) × (s' ≡ None) × (x' ≡ x)
 Answers write None (Some v) x n s' x' = (n ≡ status_number status.NoStep) × (s' ≡ Some v) × (x' ≡ x)

@@ -15,7 +15,7 @@ use Rattle.live_seats.specs.Kept.{kept}
 use Rattle.live_seats.specs.Seats.{SeatState, SeatServes, SeatStarts}
 use Rattle.live_seats.specs.contracts.seat.Seat as Seat
 use Rattle.fast_path.specs.declared.calls.MonitorCall.{MonitorCall}
-use Rattle.live_seats.specs.declared.orders.Order.{Order}
+use Rattle.live_seats.specs.declared.orders.SeatOrder.{SeatOrder}
 use Rattle.live_seats.specs.declared.orders.Started.{Started}
 use Rattle.live_seats.specs.declared.orders.Told.{Told}
 use Rattle.c_slots.specs.Maybe.{maybe_owns}
@@ -45,7 +45,7 @@ abbrev pub seat_owns : Numbers → Global → Ptr → Option SeatState → Fml
 seat_owns n a p x = maybe_owns (ghosts.dealloc_token a) (seat_row n) p (kept x)
 
 -- a seat carried out this order
-abbrev pub HasServed : Option SeatState → Order → Told → Option SeatState → Option SeatState → Type 0
+abbrev pub HasServed : Option SeatState → SeatOrder → Told → Option SeatState → Option SeatState → Type 0
 HasServed s o x q u = (v : SeatState) × (s ≡ Some v) × SeatServes v o x q u
 
 -- a seat started this call

@@ -5,7 +5,7 @@ ghost use Rattle.std.specs.Prelude.{◌≡◌, ◌≤◌, Option, Some, None, le
 ghost use Rattle.live_seats.specs.Ends.{Closes};
 ghost use Rattle.live_seats.specs.declared.ending.ServiceEnd.{ServiceEnd};
 ghost use Rattle.live_seats.specs.Seats.{SeatState, Shares};
-ghost use Rattle.live_seats.specs.declared.orders.Order.TheVariants as order;
+ghost use Rattle.live_seats.specs.declared.orders.SeatOrder.TheVariants as order;
 ghost use Rattle.nadkhoy_c.specs.Ends.{ClosesSeat, HasClosed};
 ghost use Rattle.nadkhoy_c.specs.Live.{Answers, IsNewService, Opens, SharesSeat, leave_status, order_from_numbers, turned_out, number_out};
 ghost use Rattle.nadkhoy_c.specs.RawSeat.{HasServed};
@@ -19,7 +19,7 @@ use crate::ends::{EndSlot, RawEnd, closing_status};
 use crate::plain::{PlainCall, PlainTurned};
 use crate::status::Status;
 use beginning::{begin_lock, begin_other, take_turn};
-use live_seats::{Closing, Draft, Order, Told};
+use live_seats::{Closing, Draft, SeatOrder, Told};
 pub use raw::{Answered, Finished, OpenedSeat, RawSeat, StartedSeat};
 pub use slot::LiveSlot;
 use std::alloc::Global;
@@ -128,7 +128,7 @@ pub extern "C" fn nadkhoy_live_share(
         seat,
         other: next,
         told,
-    } = seat.serve(alloc, Order::Share);
+    } = seat.serve(alloc, SeatOrder::Share);
     *slot = LiveSlot::of(alloc, seat);
     put_seat(alloc, other, told, next);
     told_status(told)
@@ -195,7 +195,7 @@ pub extern "C" fn nadkhoy_live_tick(
     let Some(seat) = slot.take(alloc) else {
         return Status::Closed.number();
     };
-    let answered = seat.serve(alloc, Order::Tick(now));
+    let answered = seat.serve(alloc, SeatOrder::Tick(now));
     *slot = LiveSlot::of(alloc, answered.seat);
     write_number(answered.told, told);
     told_status(answered.told)
@@ -212,7 +212,7 @@ pub extern "C" fn nadkhoy_live_thread(alloc: Global, slot: &mut LiveSlot, thread
     let Some(seat) = slot.take(alloc) else {
         return Status::Closed.number();
     };
-    let answered = seat.serve(alloc, Order::Thread);
+    let answered = seat.serve(alloc, SeatOrder::Thread);
     *slot = LiveSlot::of(alloc, answered.seat);
     write_number(answered.told, thread);
     told_status(answered.told)
@@ -228,7 +228,7 @@ pub extern "C" fn nadkhoy_live_leave(alloc: Global, slot: &mut LiveSlot) -> u32
     ensures empty { slot.new.raw.value ≡ None }
 {
     match slot.take(alloc) {
-        Some(seat) => told_status(seat.serve(alloc, Order::Leave).told),
+        Some(seat) => told_status(seat.serve(alloc, SeatOrder::Leave).told),
         None => Status::Closed.number(),
     }
 }

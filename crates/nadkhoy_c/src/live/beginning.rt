@@ -2,7 +2,7 @@
 
 ghost use Rattle.std.specs.Prelude.{◌≡◌, None, IsSome};
 ghost use Rattle.live_seats.specs.Seats.{IsOfPass};
-ghost use Rattle.live_seats.specs.declared.orders.Order.TheVariants as order;
+ghost use Rattle.live_seats.specs.declared.orders.SeatOrder.TheVariants as order;
 ghost use Rattle.nadkhoy_c.specs.Live.{Answers, HasAnswered, order_from_numbers, turned_out};
 
 use super::raw::{RawSeat, StartedSeat};
@@ -11,7 +11,7 @@ use super::telling::{order_of, started_status, told_status, write_said, write_tu
 use crate::plain::{PlainCall, PlainTurned};
 use crate::status::Status;
 use fast_path::MonitorCall;
-use live_seats::{Order, Started};
+use live_seats::{SeatOrder, Started};
 use std::alloc::Global;
 
 // An order that the pass of a seat carries out, for an empty slot: what is answered of it.
@@ -19,7 +19,7 @@ fn carry_out(
     alloc: Global,
     slot: &mut LiveSlot,
     seat: RawSeat,
-    order: Order,
+    order: SeatOrder,
     turned: &mut PlainTurned,
 ) -> u32
     requires seat { IsSome seat.value }
@@ -46,7 +46,7 @@ pub(crate) fn take_turn(
     ensures { HasAnswered turned_out order.Turn seat.value turned.old result
         slot.new.raw.value turned.new }
 {
-    carry_out(alloc, slot, seat, Order::Turn, turned)
+    carry_out(alloc, slot, seat, SeatOrder::Turn, turned)
 }
 
 /// Any call, for an empty slot, if the numbers name one.

@@ -8,7 +8,7 @@ ghost use Rattle.nadkhoy_c.specs.RawSeat.{Numbers, seat_owns, HasServed, HasStar
 use crate::ends::RawEnd;
 use c_slots::{MaybeParts, Parts};
 use fast_path::MonitorCall;
-use live_seats::{Begun, Closing, Draft, Ended, Opened, Order, Seat, Served, Started, Told};
+use live_seats::{Begun, Closing, Draft, Ended, Opened, Seat, SeatOrder, Served, Started, Told};
 use std::alloc::Global;
 use std::marker::{Brand, Model};
 use std::ptr;
@@ -83,7 +83,7 @@ impl RawSeat {
     }
 
     /// Carries out an order of a seat.
-    pub fn serve(self, alloc: Global, order: Order) -> Answered
+    pub fn serve(self, alloc: Global, order: SeatOrder) -> Answered
         requires { IsSome self.value }
         ensures { HasServed self.value order result.told result.seat.value result.other.value }
     {

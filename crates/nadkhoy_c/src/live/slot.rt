@@ -3,7 +3,7 @@
 ghost use Rattle.std.specs.Prelude.{◌≡◌, Some, None, IsSome, IfSome, IsNone, true, false};
 
 use super::raw::RawSeat;
-use live_seats::Order;
+use live_seats::SeatOrder;
 use std::alloc::Global;
 use std::mem;
 
@@ -79,7 +79,7 @@ impl LiveSlot {
 fn leave(alloc: Global, seat: RawSeat)
     requires { IsSome seat.value }
 {
-    let _ = seat.serve(alloc, Order::Leave);
+    let _ = seat.serve(alloc, SeatOrder::Leave);
 }
 
 // A slot that is written over gives its seat up.

@@ -2,8 +2,8 @@
 
 ghost use Rattle.std.specs.Prelude.{◌≡◌, IfSome, Some, None};
 ghost use Rattle.live_seats.specs.Seats.{told_of};
-ghost use Rattle.live_seats.specs.declared.orders.Order.TheVariants.{BeginOn};
-ghost use Rattle.live_turns.specs.declared.turned.Standing.TheVariants.{Said};
+ghost use Rattle.live_seats.specs.declared.orders.SeatOrder.TheVariants.{BeginOn};
+ghost use Rattle.live_turns.specs.declared.standings.Standing.TheVariants.{Said};
 ghost use Rattle.nadkhoy_c.specs.Live.{plain_turned, told_status, turned_out, number_out, order_from_numbers, standing_number, granted_number};
 
 use crate::plain::{PlainCall, PlainTurned};
@@ -12,18 +12,18 @@ use crate::status::Status;
 use crate::writing::{cause_of, reply_number};
 use fast_path::{MonitorCall, Operation, Subject};
 use fat_monitor::Reply;
-use live_seats::{Order, Started, Told};
+use live_seats::{SeatOrder, Started, Told};
 use live_turns::Standing;
 use step_core::{ObjectId, ThreadId};
 
 /// The order that begins the call that the numbers name; None where they name none, or the end of a
 /// thread, which a live service does not have.
-pub(crate) fn order_of(plain: &PlainCall) -> Option<Order>
+pub(crate) fn order_of(plain: &PlainCall) -> Option<SeatOrder>
     ensures { result ≡ order_from_numbers plain.now }
 {
     match call_of(plain)?.subject() {
-        Subject::Monitor(call) => Some(Order::BeginOn(call)),
-        Subject::Interrupt(call) => Some(Order::BeginAbout(call)),
+        Subject::Monitor(call) => Some(SeatOrder::BeginOn(call)),
+        Subject::Interrupt(call) => Some(SeatOrder::BeginAbout(call)),
         Subject::End => None,
     }
 }

@@ -4,7 +4,7 @@ use Rattle.step_core.specs.declared.places.Place.TheVariants.{InCall}
 use Rattle.step_core.specs.declared.places.Stage.TheVariants.{Taking, Won}
 use Rattle.step_core.specs.declared.paths.Point.{Point}
 use Rattle.step_core.specs.declared.paths.Point.TheVariants.{At}
-use Rattle.live_turns.specs.declared.turned.Turned.{Turned}
+use Rattle.live_turns.specs.declared.standings.Turned.{Turned}
 use Rattle.live_turns.specs.Ways.{Holding, Went}
 use Rattle.live_turns.proofs.Going.{went_then}
 use Rattle.live_turns.proofs.Words.{win_way, lose_way}
@@ -14,35 +14,35 @@ use Rattle.live_turns.proofs.turns.Turns.acquire.Goals as goal
 
 pub returns-then-not-acquire-clause-went : goal.returns-then-not-acquire-clause-went
 returns-then-not-acquire-clause-went g c =
-    let p : Holding = record { words = c.holder.inside.words; own = c.holder.inside.own.list.items } in
-    let q : Holding = record { words = c.acquire.new.pass; own = c.holder.inside.own.list.items } in
-    rw (← c.holder.view_is) (subst (λ (u : Point). Went (At (InCall (Taking c.args.object c.args.contended))) u p q) (sym (ap (λ (x : Turned). x.point) c.at.ensures))
+    let p : Holding = record { words = c.hand.inside.words; own = c.hand.inside.own.list.items } in
+    let q : Holding = record { words = c.acquire.new.pass; own = c.hand.inside.own.list.items } in
+    rw (← c.hand.view_is) (subst (λ (u : Point). Went (At (InCall (Taking c.args.object c.args.contended))) u p q) (sym (ap (λ (x : Turned). x.point) c.at.ensures))
     (lose_way c.args.object c.args.contended c.if-not-acquire.ensures.lost.0 p q c.if-not-acquire.ensures.lost.1 refl))
 
 pub returns-then-contended-clause-went : goal.returns-then-contended-clause-went
 returns-then-contended-clause-went g c =
-    let p : Holding = record { words = c.holder.inside.words; own = c.holder.inside.own.list.items } in
-    let q : Holding = record { words = c.acquire.new.pass; own = c.holder.inside.own.list.items } in
-    rw (← c.holder.view_is, c.if-contended.true) (went_then (At (InCall (Taking c.args.object true))) (At (InCall (Won c.args.object))) c.settle.result.point p q c.settle.new.holder
-    (win_way c.args.object true _ p q c.if-not-acquire.ensures.won refl) c.settle.ensures.went)
+    let p : Holding = record { words = c.hand.inside.words; own = c.hand.inside.own.list.items } in
+    let q : Holding = record { words = c.acquire.new.pass; own = c.hand.inside.own.list.items } in
+    rw (← c.hand.view_is, c.if-contended.true) (went_then (At (InCall (Taking c.args.object true))) (At (InCall (Won c.args.object))) c.turn_from_won.result.point p q c.turn_from_won.new.hand
+    (win_way c.args.object true _ p q c.if-not-acquire.ensures.won refl) c.turn_from_won.ensures.went)
 
 pub returns-clause-went : goal.returns-clause-went
 returns-clause-went g c =
-    let p : Holding = record { words = c.holder.inside.words; own = c.holder.inside.own.list.items } in
-    let q : Holding = record { words = c.acquire.new.pass; own = c.holder.inside.own.list.items } in
-    rw (← c.holder.view_is, c.if-contended.false) (subst (λ (u : Point). Went (At (InCall (Taking c.args.object false))) u p q) (sym (ap (λ (x : Turned). x.point) c.said.ensures))
+    let p : Holding = record { words = c.hand.inside.words; own = c.hand.inside.own.list.items } in
+    let q : Holding = record { words = c.acquire.new.pass; own = c.hand.inside.own.list.items } in
+    rw (← c.hand.view_is, c.if-contended.false) (subst (λ (u : Point). Went (At (InCall (Taking c.args.object false))) u p q) (sym (ap (λ (x : Turned). x.point) c.said.ensures))
     (win_way c.args.object false _ p q c.if-not-acquire.ensures.won refl))
 
 pub returns-then-not-acquire-clause-loaded : goal.returns-then-not-acquire-clause-loaded
 returns-then-not-acquire-clause-loaded g c =
-    rw (← c.holder.view_is) (subst (λ (x : Turned). Loaded x.gate_taken x.point c.holder.inside.words c.acquire.new.pass) (sym c.at.ensures)
-    (event_visit c.args.object.0 _ c.if-not-acquire.ensures.lost.0 c.holder.inside.words c.acquire.new.pass c.if-not-acquire.ensures.lost.1))
+    rw (← c.hand.view_is) (subst (λ (x : Turned). Loaded x.gate_taken x.point c.hand.inside.words c.acquire.new.pass) (sym c.at.ensures)
+    (event_visit c.args.object.0 _ c.if-not-acquire.ensures.lost.0 c.hand.inside.words c.acquire.new.pass c.if-not-acquire.ensures.lost.1))
 
 pub returns-then-contended-clause-loaded : goal.returns-then-contended-clause-loaded
 returns-then-contended-clause-loaded g c =
-    rw (← c.holder.view_is) (loaded_at c.settle.result.gate_taken c.settle.result.point c.holder.inside.words c.acquire.new.pass c.settle.new.holder.words
-    (event_visit c.args.object.0 _ _ c.holder.inside.words c.acquire.new.pass c.if-not-acquire.ensures.won).1 c.settle.ensures.visited)
+    rw (← c.hand.view_is) (loaded_at c.turn_from_won.result.gate_taken c.turn_from_won.result.point c.hand.inside.words c.acquire.new.pass c.turn_from_won.new.hand.words
+    (event_visit c.args.object.0 _ _ c.hand.inside.words c.acquire.new.pass c.if-not-acquire.ensures.won).1 c.turn_from_won.ensures.did)
 
 pub returns-clause-loaded : goal.returns-clause-loaded
 returns-clause-loaded g c =
-    rw (← c.holder.view_is) (subst (λ (x : Turned). Loaded x.gate_taken x.point c.holder.inside.words c.acquire.new.pass) (sym c.said.ensures) tt)
+    rw (← c.hand.view_is) (subst (λ (x : Turned). Loaded x.gate_taken x.point c.hand.inside.words c.acquire.new.pass) (sym c.said.ensures) tt)

@@ -1,8 +1,8 @@
 use Rattle.std.proofs.Common.{rules}
 use Rattle.live_turns.proofs.turns.Turns.begin_on.Goals as goal
 
-pub returns-in-Ok-clause-there : goal.returns-in-Ok-clause-there
-returns-in-Ok-clause-there g c = search rules
+pub returns-clause-there : goal.returns-clause-there
+returns-clause-there g c = search rules
 
-pub returns-in-Err-clause-fault : goal.returns-in-Err-clause-fault
-returns-in-Err-clause-fault g c = search rules
+pub returns-in_err-turned-clause-fault : goal.returns-in_err-turned-clause-fault
+returns-in_err-turned-clause-fault g c = search rules

@@ -5,4 +5,4 @@ use Rattle.live_turns.specs.Ways.{Holding}
 use Rattle.live_turns.proofs.turns.Turns.give.Goals as goal
 
 pub give-requires-clause-covers : goal.give-requires-clause-covers
-give-requires-clause-covers g c = subst (λ (p : Holding). Covers (bindings c.args.desk.value.book) p.words.seen) (sym c.holder.view_is) c.requires.covers
+give-requires-clause-covers g c = subst (λ (p : Holding). Covers (bindings c.args.desk.value.book) p.words.seen) (sym c.hand.view_is) c.requires.covers

@@ -6,4 +6,4 @@ pub returns-clause-told : goal.returns-clause-told
 returns-clause-told g c = (_, (_, c.f-told.ensures, refl))
 
 pub returns-clause-looked : goal.returns-clause-looked
-returns-clause-looked g c = held_same c.args.holder.now c.take.new.holder c.take.new.holder c.give.new.holder c.in-Some.ensures.0 refl c.give.ensures.gave
+returns-clause-looked g c = held_same c.args.hand.now c.take.new.hand c.take.new.hand c.give.new.hand c.in-Some.ensures.0 refl c.give.ensures.gave

@@ -8,8 +8,8 @@ use Rattle.nadkhoy_c.specs.contracts.live.raw.RawSeat as Sealed
 use Rattle.nadkhoy_c.specs.contracts.live.raw.Answered as Result
 use Rattle.nadkhoy_c.proofs.live.raw.RawSeat.TheLaws as sealed
 use Rattle.nadkhoy_c.proofs.live.raw.Answered.TheLaws as result
-use Rattle.live_seats.specs.contracts.orders.Order as Asked
-use Rattle.live_seats.proofs.orders.Order.TheLaws as asked
+use Rattle.live_seats.specs.contracts.orders.SeatOrder as Asked
+use Rattle.live_seats.proofs.orders.SeatOrder.TheLaws as asked
 use Rattle.live_seats.specs.contracts.orders.Told as Said
 use Rattle.live_seats.proofs.orders.Told.TheLaws as said
 use Rattle.live_seats.specs.Seats.{SeatState}

@@ -1,0 +1,166 @@
+//! What a pass has in hand: its pass of the words, and its own deeds. With these it acts at the desk.
+
+ghost use Rattle.std.specs.Prelude.{◌≡◌, ◌≤◌, IfOk, IfErr, OnErr, OnOk, ◌++◌, true, false};
+ghost use Rattle.header_words.specs.Bindings.{Binds};
+ghost use Rattle.step_core.specs.declared.places.Place.TheVariants.{InCall};
+ghost use Rattle.step_core.specs.declared.places.Stage.TheVariants.{Acting, Inflated, Direct};
+ghost use Rattle.step_core.specs.declared.paths.Point.TheVariants.{At};
+ghost use Rattle.step_core.specs.Path.{point_told, point_waited};
+ghost use Rattle.live_book.specs.Log.{thread_numbered};
+ghost use Rattle.live_book.specs.Book.{bindings};
+ghost use Rattle.live_turns.specs.Asked.{IsDeskFault, IsTickFault};
+ghost use Rattle.live_book.specs.declared.faults.LiveFault.{LiveFault};
+ghost use Rattle.live_turns.specs.Points.{RestsAtPost};
+ghost use Rattle.live_turns.specs.Ways.{Went, parked, ticked_by};
+
+use crate::desks::{Crew, Desk, Own};
+use crate::{LiveFault, Turned};
+use fast_path::{InterruptCall, MonitorCall};
+use fat_monitor::{Answer, Done};
+use header_words::Pass;
+use lock_word::ThreadId;
+use std::marker::Model;
+use step_core::{Place, Point};
+
+/// What a pass has in hand: its pass of the words, and its own deeds.
+#[derive(Drop)]
+pub(crate) struct Hand<L: Crew> {
+    pub(crate) words: Pass<Box<Desk<L>>>,
+    pub(crate) own: Own<L>,
+}
+
+impl<L: Crew> Model for Hand<L> {
+    ghost use Rattle.live_turns.specs.Ways.{Holding};
+
+    ghost Value = { Holding };
+
+    ghost view = { λ p. record { words = p.words; own = p.own.list.items } };
+}
+
+// What the answer to the action of a call came to.
+#[inline(always)]
+fn told(done: Done) -> Turned
+    ensures point { result.point ≡ point_told done.answer }
+    ensures gate { result.gate_taken ≡ false }
+{
+    let point = match done.answer {
+        Answer::Reply(reply) => Point::Said(reply),
+        Answer::Parked | Answer::Quiet => Point::At(Place::AtPost),
+    };
+    Turned {
+        point,
+        gate_taken: false,
+        granted: done.granted,
+    }
+}
+
+// What the answer to an action of a parked thread's own came to.
+fn woken(done: Done) -> Turned
+    ensures point { result.point ≡ point_waited done.answer }
+    ensures gate { result.gate_taken ≡ false }
+{
+    let point = match done.answer {
+        Answer::Reply(reply) => Point::Said(reply),
+        Answer::Parked | Answer::Quiet => Point::Expired,
+    };
+    Turned {
+        point,
+        gate_taken: false,
+        granted: done.granted,
+    }
+}
+
+impl<L: Crew> Hand<L> {
+    /// The thread of the pass.
+    pub(crate) fn thread(&self) -> ThreadId
+        ensures value { result ≡ thread_numbered self.now.words.index }
+        ensures low { 1 ≤ self.now.words.index }
+        ensures high { self.now.words.index ≤ 32767 }
+    {
+        ThreadId(u32::from(self.words.index()))
+    }
+
+    /// The index of the pass.
+    pub(crate) fn index(&self) -> u16
+        ensures { result ≡ self.now.words.index }
+    {
+        self.words.index()
+    }
+
+    /// The fat action of a call on an object. It stands in place, so that its answer comes by no
+    /// copy.
+    #[inline(always)]
+    pub(crate) fn act_on(
+        &mut self,
+        desk: &mut Box<Desk<L>>,
+        call: MonitorCall,
+        monitor: u32,
+    ) -> Result<Turned, LiveFault>
+        requires binds { Binds (bindings desk.old.value.book) monitor call.object.0 }
+        ensures words { self.new.words ≡ self.old.words }
+        ensures bindings { bindings desk.new.value.book ≡ bindings desk.old.value.book }
+        ensures acting { IfOk result (λ t.
+            Went (At (InCall (Acting call monitor))) t.point self.old self.new) }
+        ensures inflated { IfOk result (λ t.
+            Went (At (InCall (Inflated call monitor))) t.point self.old self.new) }
+        ensures rests { IfOk result (λ t. (t.gate_taken ≡ false) × RestsAtPost t.point) }
+        ensures none { OnErr result (self.new.own ≡ self.old.own) }
+        ensures fault { IfErr result IsDeskFault }
+    {
+        let me = self.thread();
+        let done = desk.act_on(&mut self.own, me, call, monitor)?;
+        Ok(told(done))
+    }
+
+    /// The fat action of a call about interrupts.
+    pub(crate) fn act_about(
+        &mut self,
+        desk: &mut Box<Desk<L>>,
+        call: InterruptCall,
+    ) -> Result<Turned, LiveFault>
+        ensures words { self.new.words ≡ self.old.words }
+        ensures bindings { bindings desk.new.value.book ≡ bindings desk.old.value.book }
+        ensures went { IfOk result (λ t.
+            Went (At (InCall (Direct call))) t.point self.old self.new) }
+        ensures rests { IfOk result (λ t. (t.gate_taken ≡ false) × RestsAtPost t.point) }
+        ensures none { OnErr result (self.new.own ≡ self.old.own) }
+        ensures fault { IfErr result IsDeskFault }
+    {
+        let me = self.thread();
+        let done = desk.act_about(&mut self.own, me, call)?;
+        Ok(told(done))
+    }
+
+    /// What a parked thread does itself, if there is something to do.
+    pub(crate) fn wake_up(
+        &mut self,
+        desk: &mut Box<Desk<L>>,
+        expired: bool,
+    ) -> Result<Turned, LiveFault>
+        ensures words { self.new.words ≡ self.old.words }
+        ensures bindings { bindings desk.new.value.book ≡ bindings desk.old.value.book }
+        ensures went { IfOk result (λ t. Went (parked expired) t.point self.old self.new) }
+        ensures rests { IfOk result (λ t. (t.gate_taken ≡ false) × RestsAtPost t.point) }
+        ensures none { OnErr result (self.new.own ≡ self.old.own) }
+        ensures fault { IfErr result (λ f. f ≡ LiveFault.Torn) }
+    {
+        let me = self.thread();
+        let Some(done) = desk.awake(&mut self.own, me, expired)? else {
+            return Ok(Turned::parked(expired, false));
+        };
+        Ok(woken(done))
+    }
+
+    /// Tells the moment.
+    pub(crate) fn tick(&mut self, desk: &mut Box<Desk<L>>, now: u64) -> Result<(), LiveFault>
+        ensures words { self.new.words ≡ self.old.words }
+        ensures bindings { bindings desk.new.value.book ≡ bindings desk.old.value.book }
+        ensures own { OnOk result (self.new.own ≡ self.old.own
+            ++ ticked_by true self.old.words.index now) }
+        ensures none { OnErr result (self.new.own ≡ self.old.own) }
+        ensures fault { IfErr result IsTickFault }
+    {
+        let me = self.thread();
+        desk.tick(&mut self.own, me, now)
+    }
+}
