@@ -20,7 +20,7 @@ use Rattle.step_core.specs.World.{WorldState, opening_world}
 use Rattle.history.specs.Histories.{move_text, moves_text, steps_in, objects_text, first_world, HasMemory, HaveMemory, Told, Tells, IsHistoryOf}
 use Rattle.history.specs.Plans.{IsPlanOf}
 use Rattle.history.specs.declared.plans.Plan.{Plan}
-use Rattle.history_streams.specs.declared.faults.FileFault.{FileFault}
+use Rattle.text_streams.specs.declared.faults.FileFault.{FileFault}
 use Rattle.std.specs.Io.KnownBytes.{Appends}
 
 -- ---- moves

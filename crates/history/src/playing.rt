@@ -1,7 +1,7 @@
 //! Playing a script, for the world that it leads to.
 
 ghost use Rattle.std.specs.Prelude.{◌≡◌, ◌<◌, List, Err, IfErr, IfOk, OnOk, Some, length};
-ghost use Rattle.history_streams.specs.declared.faults.FileFault.TheVariants.{Memory as WantOfMemory};
+ghost use Rattle.text_streams.specs.declared.faults.FileFault.TheVariants.{Memory as WantOfMemory};
 ghost use Rattle.history_text.specs.declared.lines.Line.{Line as LineData};
 ghost use Rattle.history_text.specs.Lines.{IsScript, script_text};
 ghost use Rattle.history_text.specs.Scripts.{IsReasonFor};
@@ -12,11 +12,11 @@ ghost use Rattle.history.specs.Plays.{PlaysOne, IsPlayOf, Plays};
 use crate::names::Names;
 use crate::plans::{Plan, plan_of};
 use crate::running::plan_in;
-use history_streams::FileFault;
 use history_text::{MOST_BYTES, Script};
 use lock_word::Memory;
 use std::alloc::Global;
 use step_core::{Fault, RelayoutFault, Request, World};
+use text_streams::FileFault;
 
 /// Plays a script: the world behind its last step, with the names of its threads and objects.
 ///

@@ -11,19 +11,19 @@ ghost use Rattle.history.specs.SoFar.{IsPlanSoFar};
 ghost use Rattle.history.specs.Plans.{IsPlanOf};
 ghost use Rattle.history.specs.Reports.{IsReportOf};
 ghost use Rattle.history.specs.declared.plans.Plan.{Plan as PlanData};
-ghost use Rattle.history_streams.specs.declared.faults.FileFault.TheVariants.{BadLine, BadMove};
-ghost use Rattle.history_streams.specs.declared.faults.FileFault.TheVariants.{Broken};
-ghost use Rattle.history_streams.specs.declared.faults.FileFault.TheVariants.{Read as ReadFault};
-ghost use Rattle.history_streams.specs.declared.faults.FileFault.TheVariants.{Write as WriteFault};
-ghost use Rattle.history_streams.specs.declared.faults.FileFault.TheVariants.{Memory};
+ghost use Rattle.text_streams.specs.declared.faults.FileFault.TheVariants.{BadLine, BadMove};
+ghost use Rattle.text_streams.specs.declared.faults.FileFault.TheVariants.{Broken};
+ghost use Rattle.text_streams.specs.declared.faults.FileFault.TheVariants.{Read as ReadFault};
+ghost use Rattle.text_streams.specs.declared.faults.FileFault.TheVariants.{Write as WriteFault};
+ghost use Rattle.text_streams.specs.declared.faults.FileFault.TheVariants.{Memory};
 
 use crate::names::Names;
 use crate::plans::Plan;
 use crate::reports::report_of;
-use history_streams::{FileFault, Sink, Source, write_out};
 use history_text::{Line, LineReader, MOST_BYTES, read_script};
 use std::alloc::Global;
 use std::simd::prelude::*;
+use text_streams::{FileFault, Sink, Source, write_out};
 
 /// How many bytes are read at once.
 const CHUNK: usize = 4096;

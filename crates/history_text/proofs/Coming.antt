@@ -1,7 +1,7 @@
 -- Lines that come one by one.
 use Rattle.std.proofs.Common.{◌≡◌, ◌≤◌, ◌<◌, ◌+◌, ℕ, List, [], ◌∷◌, ◌++◌, length, Bool, true, false, not, ◌&&◌, ◌||◌, ◌==◌, None, Some, refl, sym, ap, ◌∙◌, subst, arith, inl, inr, ◌⊎◌, append-nil, length-append}
 use Rattle.std.proofs.lemmas.Bool.{eqb-true, ne_eqb}
-use Rattle.history_streams.specs.declared.faults.FileFault.TheVariants as faults
+use Rattle.text_streams.specs.declared.faults.FileFault.TheVariants as faults
 use Rattle.history_text.specs.declared.lines.Line.{Line}
 use Rattle.history_text.specs.declared.lines.Line.TheVariants.{Step}
 use Rattle.history_text.specs.declared.lines.StepLine.{StepLine}

@@ -8,8 +8,8 @@ use Rattle.std.proofs.lemmas.List.Sums.{fails_before_first}
 use Rattle.std.proofs.lemmas.List.{take_more}
 use Rattle.history_text.specs.declared.lines.Line.{Line}
 use Rattle.history_text.specs.Lines.{line_at, next_from, lines_from, may_follow, parts_of, line_text, script_text, Fits, Continues, IsScript, IsFirstBad}
-use Rattle.history_streams.specs.declared.faults.FileFault.{FileFault}
-use Rattle.history_streams.specs.declared.faults.FileFault.TheVariants as faults
+use Rattle.text_streams.specs.declared.faults.FileFault.{FileFault}
+use Rattle.text_streams.specs.declared.faults.FileFault.TheVariants as faults
 use Rattle.history_text.specs.Scripts.{Fails, IsReasonFor}
 use Rattle.history_text.proofs.Choices.{by_cond}
 use Rattle.history_text.proofs.LineLaws.{line_takes, line_again, line_printable}

@@ -2,8 +2,8 @@
 use Rattle.std.specs.Prelude.{◌≡◌, ◌<◌, ◌≤◌, ℕ, List, length, Result, Ok, Err}
 use Rattle.history_text.specs.declared.lines.Line.{Line}
 use Rattle.history_text.specs.Lines.{IsFirstBad, IsScript, script_text}
-use Rattle.history_streams.specs.declared.faults.FileFault.{FileFault}
-use Rattle.history_streams.specs.declared.faults.FileFault.TheVariants as faults
+use Rattle.text_streams.specs.declared.faults.FileFault.{FileFault}
+use Rattle.text_streams.specs.declared.faults.FileFault.TheVariants as faults
 
 -- What a function returned is what reading gives, unless memory ran out.
 abbrev pub Fails : FileFault → Result (List Line) ℕ → Type 0

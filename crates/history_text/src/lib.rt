@@ -16,8 +16,8 @@ mod scripts;
 mod walking;
 
 pub use declared::Declared;
-pub use history_streams::FileFault;
 pub use lines::{Call, Line, StepLine};
 pub use names::Name;
 pub use scripts::{MOST_BYTES, Script, one_fault, print_script, read_beginning, read_script};
+pub use text_streams::FileFault;
 pub use walking::LineReader;

@@ -14,11 +14,11 @@ use crate::lines::Line;
 use crate::numbering::number_of_name;
 use crate::printing::print_lines;
 use crate::reading::line_of;
-use history_streams::{FileFault, line_end};
 use indexmap::IndexSet;
 use lock_word::Memory;
 use std::alloc::{AllocError, Global};
 use std::marker::Model;
+use text_streams::{FileFault, line_end};
 
 /// The most bytes that a script has.
 pub const MOST_BYTES: usize = 16_777_216;

@@ -3,7 +3,7 @@
 ghost use Rattle.std.specs.Prelude.{◌≡◌, ◌<◌, ◌≤◌, ◌+◌, ◌++◌, ◌∷◌, [], ℕ, List, false, true, length};
 ghost use Rattle.std.specs.Prelude.{Err, IfErr, IfOk, IfSome, IsOk, MatchOption, MatchResult};
 ghost use Rattle.std.specs.Prelude.{None, Ok, OnErr};
-ghost use Rattle.history_streams.specs.declared.faults.FileFault.TheVariants.{BadLine};
+ghost use Rattle.text_streams.specs.declared.faults.FileFault.TheVariants.{BadLine};
 ghost use Rattle.history_text.specs.declared.lines.Line.{Line as LineData};
 ghost use Rattle.history_text.specs.declared.lines.Line.TheVariants.{Step};
 ghost use Rattle.history_text.specs.Lines.{IsScript, may_follow, parts_of, script_text};
@@ -16,9 +16,9 @@ use crate::lines::{Line, StepLine};
 use crate::quick::{seldom_step, usual_step};
 use crate::reading::line_of;
 use crate::scripts::{MOST_BYTES, cut_line, follows, still_declaring};
-use history_streams::FileFault;
 use std::alloc::Global;
 use std::marker::Model;
+use text_streams::FileFault;
 
 /// Hands out the lines of a script one by one, each where it may follow those before it.
 #[derive(Drop)]

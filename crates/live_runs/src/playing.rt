@@ -14,7 +14,6 @@ ghost use Rattle.live_runs.specs.Runs.{IsLiveRun};
 
 use crate::RunFault;
 use crate::works::{taken_apart, works_of};
-use history_streams::FileFault;
 use live_scripts::{LivePlan, LiveScript, plan_of};
 use live_text::live_text;
 use live_threads::{Gate, Live, LiveClose, LivePass, Work, drive};
@@ -25,6 +24,7 @@ use std::sync::Wait;
 use std::sync::ledger::Blank;
 use std::thread::Threads;
 use std::time::Clock;
+use text_streams::FileFault;
 
 /// How many deeds the record of a run has room for.
 const PLACES: u32 = 65_536;

@@ -7,10 +7,10 @@ ghost use Rattle.live_scripts.specs.Rules.{IsFirstBadLive, IsLiveReasonFor, IsLi
 ghost use Rattle.live_scripts.specs.Reading.{GivesLive};
 
 use crate::rules::running_lines;
-use history_streams::FileFault;
 use history_text::{Line, MOST_BYTES, read_beginning};
 use std::alloc::{AllocError, Global};
 use std::marker::Model;
+use text_streams::FileFault;
 
 /// A script whose threads may run on threads of the system.
 #[derive(Drop)]

@@ -1,6 +1,6 @@
 use Rattle.std.proofs.Common.{length}
-use Rattle.history_streams.proofs.Pieces.{Wrote}
-use Rattle.history_streams.proofs.writing.write_out.Given as goal
+use Rattle.text_streams.proofs.Pieces.{Wrote}
+use Rattle.text_streams.proofs.writing.write_out.Given as goal
 
 abbrev pub invariant-writing : goal.invariant-writing
 invariant-writing g l = record {

@@ -1,5 +1,5 @@
-use Rattle.history_streams.proofs.Pieces.{Wrote-more, Wrote-prefix}
-use Rattle.history_streams.proofs.writing.write_out.Goals as goal
+use Rattle.text_streams.proofs.Pieces.{Wrote-more, Wrote-prefix}
+use Rattle.text_streams.proofs.writing.write_out.Goals as goal
 
 pub returns-in_default-clause-prefix : goal.returns-in_default-clause-prefix
 returns-in_default-clause-prefix g c =

@@ -1,7 +1,7 @@
 //! Why a script was not played, or a history not checked, to its end.
 
 ghost use Rattle.std.specs.Prelude.{◌≡◌};
-ghost use Rattle.history_streams.specs.declared.faults.FileFault.TheVariants.{Memory as OutOfMemory};
+ghost use Rattle.text_streams.specs.declared.faults.FileFault.TheVariants.{Memory as OutOfMemory};
 
 use lock_word::Memory;
 use std::alloc::{AllocError, AllocFailed};
