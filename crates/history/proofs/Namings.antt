@@ -10,7 +10,7 @@ use Rattle.std.proofs.lemmas.Map.Keys.{apart_from_distinct, IsDistinct-tail}
 use Rattle.std.proofs.lemmas.Slice.Eq.{bytes_eq-Decides}
 use Rattle.std.proofs.lemmas.List.Sums.{prefix_len-le-length}
 use Rattle.std.proofs.lemmas.Option.{cond_some}
-use Rattle.history_text.specs.Names.{is_named, position_of, with_name}
+use Rattle.script_text.specs.Names.{is_named, position_of, with_name}
 
 -- the test by which a set finds a name
 abbrev pub is_text : List ℕ → String Global → Bool

@@ -1,11 +1,11 @@
 -- A plan that is made as its lines come.
 use Rattle.std.proofs.Common.{◌≡◌, ◌<◌, ℕ, List, [], ◌∷◌, ◌++◌, drop, true, refl, sym, ap, ◌∙◌, subst, arith, Option, None, Some, MatchOption}
 use Rattle.lock_word.specs.declared.Split.{Split}
-use Rattle.history_text.specs.declared.lines.Line.{Line}
-use Rattle.history_text.specs.declared.lines.Line.TheVariants.{World, Object, Step}
-use Rattle.history_text.specs.Lines.{IsScript, may_follow, script_text}
-use Rattle.history_text.specs.Noted.{object_names, with_object}
-use Rattle.history_text.specs.Places.{HasCome, Place}
+use Rattle.script_text.specs.declared.lines.Line.{Line}
+use Rattle.script_text.specs.declared.lines.Line.TheVariants.{World, Object, Step}
+use Rattle.script_text.specs.Lines.{IsScript, may_follow, script_text}
+use Rattle.script_text.specs.Noted.{object_names, with_object}
+use Rattle.script_text.specs.Places.{HasCome, Place}
 use Rattle.step_core.specs.declared.steps.Request.{Request}
 use Rattle.history.specs.NameLists.{NameLists}
 use Rattle.history.specs.Numbering.{IsWorldWith, MayTake, names_then, no_names, requests_of, requests_then, with_low}

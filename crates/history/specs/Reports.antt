@@ -13,7 +13,7 @@ use Rattle.thread_index.specs.Indices.{index_of}
 use Rattle.fat_monitor.specs.declared.actions.Answer.TheVariants.{Parked, Quiet, Reply as Replied}
 use Rattle.fat_monitor.specs.declared.actions.Reply.{Reply}
 use Rattle.fat_monitor.specs.Names.{action_name, cause_name, reply_name}
-use Rattle.history_text.specs.Lines.{split_name}
+use Rattle.script_text.specs.Lines.{split_name}
 use Rattle.step_core.specs.declared.steps.Atomic.{Atomic}
 use Rattle.step_core.specs.declared.steps.Atomic.TheVariants.{Label, Load, Won, Lost, Stored, Bound, NotBound, Acted}
 use Rattle.step_core.specs.declared.steps.Did.{Did}

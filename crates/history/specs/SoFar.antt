@@ -1,7 +1,7 @@
 -- What a script plays, as far as its lines came.
 use Rattle.std.specs.Prelude.{◌≡◌, ℕ, List}
-use Rattle.history_text.specs.declared.lines.Line.{Line}
-use Rattle.history_text.specs.Places.{HasCome, Place}
+use Rattle.script_text.specs.declared.lines.Line.{Line}
+use Rattle.script_text.specs.Places.{HasCome, Place}
 use Rattle.history.specs.Numbering.{IsWorldWith, low_bytes, names_of, requests_of}
 use Rattle.history.specs.declared.plans.Plan.{Plan}
 

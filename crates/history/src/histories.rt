@@ -3,7 +3,7 @@
 ghost use Rattle.std.specs.Prelude.{◌≡◌, ◌≤◌, ◌<◌, ◌⊎◌, ◌++◌, ◌∷◌, [], ℕ, List, Err, IfErr, IfOk};
 ghost use Rattle.std.specs.Prelude.{IfSome, IsErrOf, OnOk, length, take};
 ghost use Rattle.std.specs.Io.KnownBytes.{Keeps, Appends};
-ghost use Rattle.history_text.specs.Lines.{IsFirstBad};
+ghost use Rattle.script_text.specs.Lines.{IsFirstBad};
 ghost use Rattle.text_streams.specs.declared.faults.FileFault.TheVariants.{BadLine, BadMove};
 ghost use Rattle.text_streams.specs.declared.faults.FileFault.TheVariants.{Broken};
 ghost use Rattle.text_streams.specs.declared.faults.FileFault.TheVariants.{Read as ReadFault};
@@ -17,15 +17,15 @@ ghost use Rattle.history.specs.Plans.{IsPlanOf};
 ghost use Rattle.history.specs.declared.plans.Plan.{Plan as PlanData};
 ghost use Rattle.history.specs.Histories.{IsHistoryOf, Tells, Told, first_world, moves_text};
 ghost use Rattle.history.specs.Histories.{objects_text};
-ghost use Rattle.history_text.specs.Scripts.{IsReasonFor};
+ghost use Rattle.script_text.specs.Scripts.{IsReasonFor};
 ghost use Rattle.step_core.specs.Machine.{opening};
 ghost use Rattle.step_core.specs.Shown.{shown};
 
 use crate::plans::Plan;
 use crate::running::{plan_in, read_all};
 use history_moves::{first_line, push_move};
-use history_text::MOST_BYTES;
 use lock_word::Memory;
+use script_text::MOST_BYTES;
 use std::alloc::Global;
 use step_core::{Did, Fault, Move, RelayoutFault, Request, World};
 use text_streams::{FileFault, Sink, Source, write_out};

@@ -3,7 +3,7 @@
 ghost use Rattle.std.specs.Prelude.{◌≡◌, ◌<◌, ◌++◌, ◌∷◌, [], Err, IfOk, OnOk, codes, decimal};
 ghost use Rattle.std.specs.Prelude.{length, map, string_bytes, unwrap_or, vec_items};
 ghost use Rattle.lock_word.specs.Names.{word_text};
-ghost use Rattle.history_text.specs.Lines.{split_name};
+ghost use Rattle.script_text.specs.Lines.{split_name};
 ghost use Rattle.step_core.specs.Names.{fault_name, fault_number};
 ghost use Rattle.step_core.specs.Names.{relayout_fault_name, relayout_fault_number};
 ghost use Rattle.thread_index.specs.Indices.{index_of};

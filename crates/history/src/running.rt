@@ -4,9 +4,9 @@ ghost use Rattle.std.specs.Prelude.{◌≡◌, ◌+◌, ◌<◌, ◌≤◌, ◌�
 ghost use Rattle.std.specs.Prelude.{string_bytes};
 ghost use Rattle.std.specs.Prelude.{IfSome, OnOk, OnErr, IfOk, IfErr, Err};
 ghost use Rattle.std.specs.Io.KnownBytes.{Keeps, Appends};
-ghost use Rattle.history_text.specs.Lines.{IsFirstBad};
-ghost use Rattle.history_text.specs.Places.{HasCome};
-ghost use Rattle.history_text.specs.Scripts.{IsReasonFor, IsScriptText};
+ghost use Rattle.script_text.specs.Lines.{IsFirstBad};
+ghost use Rattle.script_text.specs.Places.{HasCome};
+ghost use Rattle.script_text.specs.Scripts.{IsReasonFor, IsScriptText};
 ghost use Rattle.history.specs.SoFar.{IsPlanSoFar};
 ghost use Rattle.history.specs.Plans.{IsPlanOf};
 ghost use Rattle.history.specs.Reports.{IsReportOf};
@@ -20,7 +20,7 @@ ghost use Rattle.text_streams.specs.declared.faults.FileFault.TheVariants.{Memor
 use crate::names::Names;
 use crate::plans::Plan;
 use crate::reports::report_of;
-use history_text::{Line, LineReader, MOST_BYTES, read_script};
+use script_text::{Line, LineReader, MOST_BYTES, read_script};
 use std::alloc::Global;
 use std::simd::prelude::*;
 use text_streams::{FileFault, Sink, Source, write_out};

@@ -6,13 +6,13 @@ use Rattle.std.specs.Str.{bytes_eq}
 use Rattle.std.proofs.lemmas.Bool.{and_parts}
 use Rattle.std.proofs.lemmas.List.Elements.{All-nil, All-cons, All-append, All-map}
 use Rattle.fast_path.specs.declared.calls.Call.{Call}
-use Rattle.history_text.specs.declared.lines.Call.{Call as CallLine}
-use Rattle.history_text.specs.declared.lines.Call.TheVariants as line
-use Rattle.history_text.specs.declared.lines.Line.{Line}
-use Rattle.history_text.specs.declared.lines.Line.TheVariants.{World, Object, Step}
-use Rattle.history_text.specs.declared.lines.StepLine.{StepLine}
-use Rattle.history_text.specs.declared.lines.StepLine.TheVariants.{Attach, Begin, Go, Expire, Spurious, Tick, Relayout}
-use Rattle.history_text.specs.Names.{is_named}
+use Rattle.script_text.specs.declared.lines.Call.{Call as CallLine}
+use Rattle.script_text.specs.declared.lines.Call.TheVariants as line
+use Rattle.script_text.specs.declared.lines.Line.{Line}
+use Rattle.script_text.specs.declared.lines.Line.TheVariants.{World, Object, Step}
+use Rattle.script_text.specs.declared.lines.StepLine.{StepLine}
+use Rattle.script_text.specs.declared.lines.StepLine.TheVariants.{Attach, Begin, Go, Expire, Spurious, Tick, Relayout}
+use Rattle.script_text.specs.Names.{is_named}
 use Rattle.live_scripts.specs.Rules.{IsLiveScript, Runs, attached, is_live_call, may_do, may_run, most_threads}
 use Rattle.live_scripts.specs.Plans.{call_in, calls_in, calls_of, lows_of, monitors_in, objects_of}
 use Rattle.live_scripts.proofs.Few.{few_objects, few_threads}

@@ -4,8 +4,8 @@ use Rattle.std.specs.List.{All}
 use Rattle.std.specs.declared.alloc.Global.{Global}
 use Rattle.fat_monitor.specs.declared.actions.Reply.{Reply}
 use Rattle.fast_path.specs.declared.calls.Call.{Call}
-use Rattle.history_text.specs.declared.lines.Line.{Line}
-use Rattle.history_text.specs.Lines.{script_text}
+use Rattle.script_text.specs.declared.lines.Line.{Line}
+use Rattle.script_text.specs.Lines.{script_text}
 use Rattle.header_words.specs.Passes.{Opening, new_passes}
 use Rattle.live_scripts.specs.Rules.{IsLiveScript, attached}
 use Rattle.live_scripts.specs.Plans.{calls_of, lows_of, monitors_in, objects_of}

@@ -2,11 +2,11 @@
 use Rattle.std.proofs.Common.{◌≡◌, ◌≤◌, List, [], ◌∷◌, ◌++◌, length, true, not, ◌&&◌, nat_lt, sym, ap, subst, arith, append-nil, append_assoc, length-append}
 use Rattle.std.specs.List.{list_all, list_any}
 use Rattle.std.proofs.lemmas.Bool.{and_parts, ltb-true}
-use Rattle.history_text.specs.declared.lines.Line.{Line}
-use Rattle.history_text.specs.declared.lines.Line.TheVariants.{World, Object, Step}
-use Rattle.history_text.specs.declared.lines.StepLine.TheVariants.{Attach, Begin, Go, Expire, Spurious, Tick, Relayout}
-use Rattle.history_text.specs.Lines.{Continues, may_follow, is_object, is_object_named}
-use Rattle.history_text.specs.Names.{is_named}
+use Rattle.script_text.specs.declared.lines.Line.{Line}
+use Rattle.script_text.specs.declared.lines.Line.TheVariants.{World, Object, Step}
+use Rattle.script_text.specs.declared.lines.StepLine.TheVariants.{Attach, Begin, Go, Expire, Spurious, Tick, Relayout}
+use Rattle.script_text.specs.Lines.{Continues, may_follow, is_object, is_object_named}
+use Rattle.script_text.specs.Names.{is_named}
 use Rattle.live_scripts.specs.Rules.{IsLiveScript, Runs, attached, may_run, most_threads}
 use Rattle.live_scripts.specs.Plans.{objects_of}
 use Rattle.live_scripts.proofs.Positions.{objects_of-append}

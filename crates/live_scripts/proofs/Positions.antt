@@ -2,7 +2,7 @@
 use Rattle.std.proofs.Common.{◌≡◌, ℕ, suc, ◌+◌, ◌<◌, List, [], ◌∷◌, ◌++◌, length, take, get_or, map, Bor, refl, sym, ap, ◌∙◌, append-nil, append_assoc}
 use Rattle.std.proofs.lemmas.List.{take_more}
 use Rattle.fast_path.specs.declared.calls.Call.{Call}
-use Rattle.history_text.specs.declared.lines.Line.{Line}
+use Rattle.script_text.specs.declared.lines.Line.{Line}
 use Rattle.live_scripts.specs.Rules.{attached}
 use Rattle.live_scripts.specs.Plans.{calls_in, calls_of, objects_in, objects_of, lows_in, lows_of}
 

@@ -3,9 +3,9 @@ use Rattle.std.proofs.Common.{◌≡◌, ℕ, zero, suc, ◌+◌, ◌<◌, ◌�
 use Rattle.std.specs.List.{join_with_byte}
 use Rattle.std.proofs.lemmas.Bool.{both_ways}
 use Rattle.std.proofs.lemmas.List.Splits.{join_with_byte-slice_split}
-use Rattle.history_text.specs.declared.lines.Line.{Line}
-use Rattle.history_text.specs.Lines.{Fits, Continues, IsScript, IsBeginning, line_text, may_follow, next_from, parts_of, script_text, lines_from}
-use Rattle.history_text.proofs.ScriptLaws.{lines_again, next_again, parts_of_line, script_text-append}
+use Rattle.script_text.specs.declared.lines.Line.{Line}
+use Rattle.script_text.specs.Lines.{Fits, Continues, IsScript, IsBeginning, line_text, may_follow, next_from, parts_of, script_text, lines_from}
+use Rattle.script_text.proofs.ScriptLaws.{lines_again, next_again, parts_of_line, script_text-append}
 use Rattle.live_scripts.specs.Rules.{IsFirstBadLive, IsLiveScript, Runs, attached, may_run}
 use Rattle.live_scripts.specs.Running.{IsRunning}
 

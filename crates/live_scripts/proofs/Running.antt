@@ -2,7 +2,7 @@
 use Rattle.std.proofs.Common.{◌≡◌, ◌<◌, ◌≤◌, ◌+◌, ◌==◌, ℕ, zero, suc, List, [], ◌∷◌, ◌++◌, length, take, get_or, if◌then◌else◌, Bool, true, false, refl, sym, ap, ◌∙◌, subst, arith, append-nil, append_assoc}
 use Rattle.std.proofs.lemmas.Bool.{ne_eqb}
 use Rattle.std.proofs.lemmas.List.{take_more}
-use Rattle.history_text.specs.declared.lines.Line.{Line}
+use Rattle.script_text.specs.declared.lines.Line.{Line}
 use Rattle.live_scripts.specs.Rules.{Runs, attached, attached_in, indices_of, may_run, may_run_with, most_threads}
 use Rattle.live_scripts.specs.Running.{IsRunning}
 

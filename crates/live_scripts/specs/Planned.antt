@@ -1,6 +1,6 @@
 -- The plan of a live script.
 use Rattle.std.specs.Prelude.{◌≡◌, List, map}
-use Rattle.history_text.specs.declared.lines.Line.{Line}
+use Rattle.script_text.specs.declared.lines.Line.{Line}
 use Rattle.live_scripts.specs.declared.plans.LivePlan.{LivePlan}
 use Rattle.live_scripts.specs.Rules.{attached}
 use Rattle.live_scripts.specs.Plans.{calls_of, lows_of, monitors_in, objects_of}

@@ -4,16 +4,16 @@ use Rattle.std.specs.Prelude.{nat_lt}
 use Rattle.lock_word.specs.declared.Split.{Split}
 use Rattle.lock_word.specs.declared.Split.TheVariants.{Wide, Deep}
 use Rattle.text_streams.specs.declared.faults.FileFault.{FileFault}
-use Rattle.history_text.specs.declared.lines.Line.{Line}
-use Rattle.history_text.specs.declared.lines.Line.TheVariants.{World, Object, Step}
-use Rattle.history_text.specs.declared.lines.StepLine.{StepLine}
-use Rattle.history_text.specs.declared.lines.StepLine.TheVariants.{Attach, Begin, Go, Expire, Spurious, Tick, Relayout}
-use Rattle.history_text.specs.declared.lines.Call.{Call}
-use Rattle.history_text.specs.declared.lines.Call.TheVariants.{Enter, Exit, Wait, Notify, NotifyAll, Holds, Interrupt}
-use Rattle.history_text.specs.declared.lines.Call.TheVariants.{Interrupted, IsInterrupted, End}
-use Rattle.history_text.specs.Names.{is_named}
-use Rattle.history_text.specs.Scripts.{IsReasonBy}
-use Rattle.history_text.specs.Lines.{Fits, Continues, IsScript, may_follow, line_text, script_text}
+use Rattle.script_text.specs.declared.lines.Line.{Line}
+use Rattle.script_text.specs.declared.lines.Line.TheVariants.{World, Object, Step}
+use Rattle.script_text.specs.declared.lines.StepLine.{StepLine}
+use Rattle.script_text.specs.declared.lines.StepLine.TheVariants.{Attach, Begin, Go, Expire, Spurious, Tick, Relayout}
+use Rattle.script_text.specs.declared.lines.Call.{Call}
+use Rattle.script_text.specs.declared.lines.Call.TheVariants.{Enter, Exit, Wait, Notify, NotifyAll, Holds, Interrupt}
+use Rattle.script_text.specs.declared.lines.Call.TheVariants.{Interrupted, IsInterrupted, End}
+use Rattle.script_text.specs.Names.{is_named}
+use Rattle.script_text.specs.Scripts.{IsReasonBy}
+use Rattle.script_text.specs.Lines.{Fits, Continues, IsScript, may_follow, line_text, script_text}
 
 abbrev pub attached_by : StepLine → List (List ℕ)
 attached_by (Attach thread) = thread ∷ []

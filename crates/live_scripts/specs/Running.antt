@@ -1,6 +1,6 @@
 -- How many lines at the front of a script may run.
 use Rattle.std.specs.Prelude.{◌≡◌, ◌<◌, ◌≤◌, ℕ, List, [], length, take, get_or, false}
-use Rattle.history_text.specs.declared.lines.Line.{Line}
+use Rattle.script_text.specs.declared.lines.Line.{Line}
 use Rattle.live_scripts.specs.Rules.{Runs, attached, may_run}
 
 pub record IsRunning (ls : List Line) (n : ℕ) (threads : List (List ℕ)) : Type 0 where

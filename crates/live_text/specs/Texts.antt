@@ -5,7 +5,7 @@ use Rattle.lock_word.specs.Names.{word_text}
 use Rattle.fat_monitor.specs.declared.actions.Reply.{Reply}
 use Rattle.fat_monitor.specs.declared.actions.Reply.TheVariants as reply
 use Rattle.fat_monitor.specs.Names.{cause_name}
-use Rattle.history_text.specs.declared.lines.Line.{Line}
+use Rattle.script_text.specs.declared.lines.Line.{Line}
 use Rattle.live_scripts.specs.Rules.{attached}
 use Rattle.live_scripts.specs.Plans.{objects_of}
 use Rattle.live_turns.specs.declared.closed.Closed.{Closed}

@@ -1,7 +1,7 @@
 //! Lines of a script that a reader hands out by the way of the usual ones.
 
-use history_text::LineReader;
 use indexmap::IndexSet;
+use script_text::LineReader;
 use std::alloc::Global;
 
 /// A script with usual steps and others.
