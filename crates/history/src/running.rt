@@ -20,7 +20,7 @@ ghost use Rattle.text_streams.specs.declared.faults.FileFault.TheVariants.{Memor
 use crate::names::Names;
 use crate::plans::Plan;
 use crate::reports::report_of;
-use script_text::{Line, LineReader, MOST_BYTES, read_script};
+use script_text::{Line, MOST_BYTES, ScriptReader, read_script};
 use std::alloc::Global;
 use std::simd::prelude::*;
 use text_streams::{FileFault, Sink, Source, write_out};
@@ -128,7 +128,7 @@ fn plan_as_read(alloc: Global, bytes: &[u8]) -> Result<Plan, FileFault>
     ensures too_long { MOST_BYTES < length bytes.now → result ≡ Err FileFault.Read }
     ensures fault { IfErr result (IsReasonFor bytes.now) }
 {
-    let mut lines = LineReader::new(bytes)?;
+    let mut lines = ScriptReader::new(bytes)?;
     let mut plan = first_plan(alloc, &mut lines, bytes)?;
     let mut is_checked = false;
     'lines: loop {
@@ -180,7 +180,7 @@ fn line_feeds_in(blocks: &[[u8; 16]]) -> usize {
 
 /// The world of the first line, without objects and steps. Room is asked for as many steps as these
 /// bytes can have, which are counted only where the first line is right.
-fn first_plan(alloc: Global, lines: &mut LineReader<'_>, bytes: &[u8]) -> Result<Plan, FileFault>
+fn first_plan(alloc: Global, lines: &mut ScriptReader<'_>, bytes: &[u8]) -> Result<Plan, FileFault>
     requires { HasCome lines.old.rest [] [] lines.old }
     ensures plan { IfOk result (λ plan. IsPlanSoFar lines.old.rest plan lines.new) }
     ensures fault { IfErr result (IsReasonFor lines.old.rest) }

@@ -9,7 +9,7 @@ ghost use Rattle.history_check.specs.Behind.{state_of};
 ghost use Rattle.history_check.specs.Histories.{NoFeed, LineLeads, Refuses, IsRightSoFar, IsRunOf};
 ghost use Rattle.history_check.specs.Histories.{IsFaultOf};
 
-use history_moves::{LineReader, line_first};
+use history_moves::{MoveReader, line_first};
 use jls_check::{Machine, MoveFault};
 use std::alloc::Global;
 use text_streams::{FileFault, line_end};
@@ -26,7 +26,7 @@ pub(crate) struct Check {
     // The whole lines.
     count: u64,
     line: Vec<u8>,
-    reader: LineReader,
+    reader: MoveReader,
 }
 
 impl Check {
@@ -40,7 +40,7 @@ impl Check {
             machine: None,
             count: 0,
             line: Vec::new(alloc),
-            reader: LineReader::new(alloc),
+            reader: MoveReader::new(alloc),
         }
     }
 
@@ -179,7 +179,7 @@ impl Check {
 #[tactic(auto, unfolding(crate::specs::Behind::state_of))]
 fn judge(
     alloc: Global,
-    reader: &mut LineReader,
+    reader: &mut MoveReader,
     machine: &mut Option<Machine>,
     line: &[u8],
     number: u64,

@@ -19,7 +19,7 @@ mod tokens;
 mod words;
 mod writing;
 
-pub use lines::{LineReader, each_line_is_one_move, first_line, line_first, line_move, move_line};
+pub use lines::{MoveReader, each_line_is_one_move, first_line, line_first, line_move, move_line};
 pub use pushing::push_move;
 pub use reading::{each_value_is_one_move, read_move};
 pub use writing::write_move;

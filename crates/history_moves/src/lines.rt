@@ -100,7 +100,7 @@ const MOSTLY_BLANK: usize = 512;
 /// tokens, those with an escape and long ones: room for a line below 4,096 bytes, from the first such
 /// line on.
 #[derive(Drop)]
-pub struct LineReader {
+pub struct MoveReader {
     alloc: Global,
     scratch: Option<Box<Scratch>>,
 }
@@ -112,10 +112,10 @@ fn new_scratch(alloc: Global) -> Option<Box<Scratch>> {
     Box::new(alloc, Scratch::new(alloc)).ok()
 }
 
-impl LineReader {
+impl MoveReader {
     /// A reader of lines. It asks for no memory yet.
-    pub fn new(alloc: Global) -> LineReader {
-        LineReader {
+    pub fn new(alloc: Global) -> MoveReader {
+        MoveReader {
             alloc,
             scratch: None,
         }

@@ -20,4 +20,4 @@ pub use lines::{Call, Line, StepLine};
 pub use names::Name;
 pub use scripts::{MOST_BYTES, Script, one_fault, print_script, read_beginning, read_script};
 pub use text_streams::FileFault;
-pub use walking::LineReader;
+pub use walking::ScriptReader;

@@ -22,7 +22,7 @@ use text_streams::FileFault;
 
 /// Hands out the lines of a script one by one, each where it may follow those before it.
 #[derive(Drop)]
-pub struct LineReader<'a> {
+pub struct ScriptReader<'a> {
     // How many lines were handed out.
     count: usize,
     // Whether objects may follow them.
@@ -31,7 +31,7 @@ pub struct LineReader<'a> {
     rest: &'a [u8],
 }
 
-impl<'a> Model for LineReader<'a> {
+impl<'a> Model for ScriptReader<'a> {
     ghost use Rattle.std.specs.Prelude.{◌≤◌, ◌+◌, length};
     ghost use Rattle.script_text.specs.Places.{Place};
 
@@ -42,9 +42,9 @@ impl<'a> Model for LineReader<'a> {
     ghost invariant = { λ r. r.count + length r.rest.now ≤ 16777216 };
 }
 
-impl<'a> LineReader<'a> {
+impl<'a> ScriptReader<'a> {
     /// A reader of the lines of some bytes, which are to be no more than a script has.
-    pub fn new(bytes: &'a [u8]) -> Result<LineReader<'a>, FileFault>
+    pub fn new(bytes: &'a [u8]) -> Result<ScriptReader<'a>, FileFault>
         ensures start { IfOk result (HasCome bytes.now [] []) }
         ensures short { length bytes.now ≤ MOST_BYTES → IsOk result }
         ensures too_long { MOST_BYTES < length bytes.now → result ≡ Err FileFault.Read }
@@ -53,7 +53,7 @@ impl<'a> LineReader<'a> {
         if bytes.len() > MOST_BYTES {
             return Err(FileFault::Read);
         }
-        Ok(LineReader {
+        Ok(ScriptReader {
             count: 0,
             declaring: true,
             rest: bytes,
@@ -98,7 +98,7 @@ impl<'a> LineReader<'a> {
 
     /// The next line, where it is one of the steps that a script has most of: a `go`, or the `begin`
     /// of an enter or an exit. Nothing is taken where it is none of these, or is the first, or is
-    /// bad; [`next`](LineReader::next) then tells what it is.
+    /// bad; [`next`](ScriptReader::next) then tells what it is.
     #[inline(always)]
     pub fn next_usual(&mut self) -> Option<StepLine<'a>>
         ensures told { (bytes : List ℕ) (came : List LineData) (names : List (List ℕ))
@@ -119,7 +119,7 @@ impl<'a> LineReader<'a> {
     }
 
     /// The next line, where it is one of the other steps that name a thread, and no wait. It stands
-    /// apart, so that [`next_usual`](LineReader::next_usual), which stands in place, stays small.
+    /// apart, so that [`next_usual`](ScriptReader::next_usual), which stands in place, stays small.
     /// Nothing is taken where it is none of these, or is the first, or is bad.
     pub fn next_seldom(&mut self) -> Option<StepLine<'a>>
         ensures told { (bytes : List ℕ) (came : List LineData) (names : List (List ℕ))
@@ -149,7 +149,7 @@ impl<'a> LineReader<'a> {
             (λ _. self.now.declaring ≡ false → IsScriptText bytes)
             (IsReasonFor bytes) }
     {
-        let mut ahead = LineReader {
+        let mut ahead = ScriptReader {
             count: self.count,
             declaring: self.declaring,
             rest: self.rest,

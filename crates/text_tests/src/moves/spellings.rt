@@ -3,7 +3,7 @@
 
 ghost use Rattle.std.specs.Prelude.{◌≤◌, length};
 
-use history_moves::{LineReader, line_move};
+use history_moves::{MoveReader, line_move};
 use std::alloc::{AllocError, Global};
 use std::process::Abort;
 use std::test::Fail;
@@ -116,7 +116,7 @@ const OPEN: [(&str, &str); 10] = [
     ),
 ];
 
-fn agrees(rt: &impl Abort, alloc: Global, reader: &mut LineReader, line: &[u8]) {
+fn agrees(rt: &impl Abort, alloc: Global, reader: &mut MoveReader, line: &[u8]) {
     let read = reader.line_move(line);
     assert!(rt; read == line_move(alloc, line));
 }
@@ -125,7 +125,7 @@ fn agrees(rt: &impl Abort, alloc: Global, reader: &mut LineReader, line: &[u8]) 
 fn agrees_escaped(
     rt: &impl Abort,
     alloc: Global,
-    reader: &mut LineReader,
+    reader: &mut MoveReader,
     line: &str,
 ) -> Result<(), AllocError> {
     agrees(rt, alloc, reader, line.as_bytes());
@@ -169,7 +169,7 @@ fn push_turned(
 fn turned_agree(
     rt: &impl Abort,
     alloc: Global,
-    reader: &mut LineReader,
+    reader: &mut MoveReader,
     kind: &str,
     more: &str,
 ) -> Result<(), AllocError> {
@@ -193,7 +193,7 @@ fn turned_agree(
 #[test]
 fn orders_blanks_and_members_more(rt: HostRuntime) -> Result<(), Fail> {
     let alloc = rt.alloc();
-    let mut reader = LineReader::new(alloc);
+    let mut reader = MoveReader::new(alloc);
     for &kind in &KINDS {
         for &more in &MORE {
             turned_agree(&rt, alloc, &mut reader, kind, more)?;
@@ -205,7 +205,7 @@ fn orders_blanks_and_members_more(rt: HostRuntime) -> Result<(), Fail> {
 #[test]
 fn values_of_any_kind(rt: HostRuntime) -> Result<(), Fail> {
     let alloc = rt.alloc();
-    let mut reader = LineReader::new(alloc);
+    let mut reader = MoveReader::new(alloc);
     for &(begin, end) in &OPEN {
         for &value in &VALUES {
             let line = format!(in alloc; "{begin}{value}{end}")?;
@@ -232,7 +232,7 @@ const OTHERS: &[u8] = b"\xff\"\\ 1,:}{.e-\x00\r\t\n\x0b\x0c\x7fa";
 fn cut_and_filled(
     rt: &impl Abort,
     alloc: Global,
-    reader: &mut LineReader,
+    reader: &mut MoveReader,
     whole: &str,
 ) -> Result<(), AllocError> {
     let bytes = whole.as_bytes();
@@ -276,7 +276,7 @@ const ODD: [&str; 12] = [
 #[test]
 fn odd_lines(rt: HostRuntime) {
     let alloc = rt.alloc();
-    let mut reader = LineReader::new(alloc);
+    let mut reader = MoveReader::new(alloc);
     for line in &ODD {
         agrees(&rt, alloc, &mut reader, line.as_bytes());
         assert!(rt; matches!(reader.line_move(line.as_bytes()), Ok(None)));
@@ -286,7 +286,7 @@ fn odd_lines(rt: HostRuntime) {
 #[test]
 fn cut_lines_and_other_bytes(rt: HostRuntime) -> Result<(), Fail> {
     let alloc = rt.alloc();
-    let mut reader = LineReader::new(alloc);
+    let mut reader = MoveReader::new(alloc);
     cut_and_filled(&rt, alloc, &mut reader, NOTIFY)?;
     for &whole in &PLAIN {
         cut_and_filled(&rt, alloc, &mut reader, whole)?;
@@ -319,7 +319,7 @@ fn padded(alloc: Global, line: &str, bytes: usize, first: bool) -> Result<Vec<u8
 #[test]
 fn long_lines_and_short_ones(rt: HostRuntime) -> Result<(), Fail> {
     let alloc = rt.alloc();
-    let mut reader = LineReader::new(alloc);
+    let mut reader = MoveReader::new(alloc);
     for &bytes in &[49usize, 4094, 4095, 4096, 60, 4097, 9000, 49, 511, 512, 513] {
         for line in [NOTIFY, PLAIN[0]] {
             for first in [false, true] {

@@ -3,7 +3,7 @@ use Rattle.script_text.specs.Lines.{parts_of}
 use Rattle.script_text.specs.Noted.{may_follow_by}
 use Rattle.script_text.specs.Places.{HasCome, Place}
 use Rattle.script_text.proofs.Coming.{come_more, no_line_bad, refused_bad}
-use Rattle.script_text.proofs.walking.LineReader.next.Goals as goal
+use Rattle.script_text.proofs.walking.ScriptReader.next.Goals as goal
 
 pub returns-in_default-2-clause-told : goal.returns-in_default-2-clause-told
 returns-in_default-2-clause-told g c =

@@ -1,7 +1,7 @@
 use Rattle.std.proofs.Common.{sym, subst}
 use Rattle.script_text.specs.Places.{HasCome}
 use Rattle.script_text.proofs.Coming.{come_step}
-use Rattle.script_text.proofs.walking.LineReader.next_usual.Goals as goal
+use Rattle.script_text.proofs.walking.ScriptReader.next_seldom.Goals as goal
 
 pub returns-clause-told : goal.returns-clause-told
 returns-clause-told c = λ bytes came names come.

@@ -1,8 +1,8 @@
 use Rattle.std.proofs.Common.{◌≡◌, ◌==◌, length, true, false, sym, ◌∙◌, subst}
 use Rattle.script_text.specs.Places.{Place}
 use Rattle.script_text.proofs.Coming.{come_whole, empty_bad, rest_bad}
-use Rattle.script_text.proofs.walking.LineReader.end.Goals.{then-self-eq0-via-then-self-eq0, then-self-eq0-via-else-self-eq0+then-not-is_empty}
-use Rattle.script_text.proofs.walking.LineReader.end.Goals as goal
+use Rattle.script_text.proofs.walking.ScriptReader.end.Goals.{then-self-eq0-via-then-self-eq0, then-self-eq0-via-else-self-eq0+then-not-is_empty}
+use Rattle.script_text.proofs.walking.ScriptReader.end.Goals as goal
 
 pub returns-then-self-eq0 : goal.returns-then-self-eq0
 returns-then-self-eq0 c =

@@ -5,7 +5,7 @@ use Rattle.script_text.specs.declared.lines.Line.TheVariants.{Step}
 use Rattle.script_text.specs.Lines.{may_follow}
 use Rattle.script_text.specs.Places.{HasCome}
 use Rattle.script_text.proofs.Ahead.{ahead_more, next_line, no_next_line, object_ahead, same_names}
-use Rattle.script_text.proofs.walking.LineReader.check_rest.Goals as goal
+use Rattle.script_text.proofs.walking.ScriptReader.check_rest.Goals as goal
 
 pub lines-preserved-in-Some : goal.lines-preserved-in-Some
 lines-preserved-in-Some g c = λ bytes came come.
