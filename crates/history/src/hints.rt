@@ -25,7 +25,7 @@ pub(crate) struct Mixed(u64);
 /// The number of a name, and its mark: a hint of another name mostly has another mark, so that this
 /// is seen without a look at that name.
 #[derive(Clone, Copy)]
-struct Hint {
+struct NameHint {
     number: u32,
     mark: u32,
 }
@@ -33,8 +33,8 @@ struct Hint {
 /// A table that tells the number of a name by what its bytes are mixed to. Each place has the name
 /// that was put there last.
 #[derive(Drop)]
-pub(crate) struct Hints {
-    hints: Vec<Hint>,
+pub(crate) struct NameHints {
+    hints: Vec<NameHint>,
 }
 
 /// Fewer than eight bytes as one number: the first four, the next two and the last one, as far as they
@@ -99,10 +99,10 @@ impl Mixed {
     }
 }
 
-impl Hints {
+impl NameHints {
     /// No hint.
-    pub(crate) fn new(alloc: Global) -> Hints {
-        Hints {
+    pub(crate) fn new(alloc: Global) -> NameHints {
+        NameHints {
             hints: Vec::new(alloc),
         }
     }
@@ -126,7 +126,7 @@ impl Hints {
     pub(crate) fn put(&mut self, name: Mixed, number: u32) {
         let place = name.place(self.hints.len());
         if let Some(hint) = self.hints.get_mut(place) {
-            *hint = Hint {
+            *hint = NameHint {
                 number,
                 mark: name.mark(),
             };
@@ -144,7 +144,7 @@ impl Hints {
             return;
         }
         if names.len() > self.hints.len() / 2 && self.hints.len() < MOST_HINTS {
-            let larger = Hints::with_names(alloc, names);
+            let larger = NameHints::with_names(alloc, names);
             if let Ok(larger) = larger {
                 *self = larger;
                 return;
@@ -155,16 +155,16 @@ impl Hints {
 
     /// Gives the memory of the table back.
     pub(crate) fn clear(&mut self, alloc: Global) {
-        *self = Hints::new(alloc);
+        *self = NameHints::new(alloc);
     }
 
     /// A table with these names, with four times as many places where there may be as many.
-    fn with_names(alloc: Global, names: &[String]) -> Result<Hints, AllocError>
+    fn with_names(alloc: Global, names: &[String]) -> Result<NameHints, AllocError>
         requires { length names.now ≤ 4294967295 }
     {
         let len = (names.len() * 4).clamp(FEWEST_HINTS, MOST_HINTS);
-        let none = Hint { number: 0, mark: 0 };
-        let mut hints = Hints {
+        let none = NameHint { number: 0, mark: 0 };
+        let mut hints = NameHints {
             hints: vec![in alloc; none; len]?,
         };
         'names: for (number, name) in names.iter().enumerate() {
