@@ -17,8 +17,8 @@ const MOST_HINTS: usize = 65_536;
 /// 2^64 over the golden ratio, as Knuth takes it for multiplicative hashing.
 const MULTIPLIER: u64 = 0x9e37_79b9_7f4a_7c15;
 
-/// What the bytes of a name are mixed to. The upper half tells the name's place in a table of hints,
-/// and the lower half is the mark of the name there.
+/// What the bytes of a name are mixed to. The upper half tells the name's position in a table of
+/// hints, and the lower half is the mark of the name there.
 #[derive(Clone, Copy)]
 pub(crate) struct Mixed(u64);
 
@@ -30,8 +30,8 @@ struct NameHint {
     mark: u32,
 }
 
-/// A table that tells the number of a name by what its bytes are mixed to. Each place has the name
-/// that was put there last.
+/// A table that tells the number of a name by what its bytes are mixed to. Each position has the
+/// name that was put there last.
 #[derive(Drop)]
 pub(crate) struct NameHints {
     hints: Vec<NameHint>,
@@ -89,8 +89,8 @@ impl Mixed {
         Mixed(mixed_with(mixed, number_at_end(bytes)))
     }
 
-    /// The place in a table of so many hints.
-    fn place(self, hints: usize) -> usize {
+    /// The position in a table of so many hints.
+    fn position(self, hints: usize) -> usize {
         ((self.0 >> 32) as usize).wrapping_mul(hints) >> 32
     }
 
@@ -112,9 +112,9 @@ impl NameHints {
         self.hints.is_empty()
     }
 
-    /// The number of the name that was put at the place of this one last, where it has its mark.
+    /// The number of the name that was put at the position of this one last, where it has its mark.
     pub(crate) fn number(&self, name: Mixed) -> Option<u32> {
-        let hint = self.hints.get(name.place(self.hints.len()))?;
+        let hint = self.hints.get(name.position(self.hints.len()))?;
         if hint.mark == name.mark() {
             Some(hint.number)
         } else {
@@ -122,10 +122,10 @@ impl NameHints {
         }
     }
 
-    /// Puts the number of a name at its place, if the place is there.
+    /// Puts the number of a name at its position, if the position is there.
     pub(crate) fn put(&mut self, name: Mixed, number: u32) {
-        let place = name.place(self.hints.len());
-        if let Some(hint) = self.hints.get_mut(place) {
+        let position = name.position(self.hints.len());
+        if let Some(hint) = self.hints.get_mut(position) {
             *hint = NameHint {
                 number,
                 mark: name.mark(),
@@ -158,7 +158,7 @@ impl NameHints {
         *self = NameHints::new(alloc);
     }
 
-    /// A table with these names, with four times as many places where there may be as many.
+    /// A table with these names, with four times as many positions where there may be as many.
     fn with_names(alloc: Global, names: &[String]) -> Result<NameHints, AllocError>
         requires { length names.now ≤ 4294967295 }
     {

@@ -5,7 +5,7 @@ ghost use Rattle.std.specs.Prelude.{string_bytes};
 ghost use Rattle.std.specs.Prelude.{IfSome, OnOk, OnErr, IfOk, IfErr, Err};
 ghost use Rattle.std.specs.Io.KnownBytes.{Keeps, Appends};
 ghost use Rattle.script_text.specs.Lines.{IsFirstBad};
-ghost use Rattle.script_text.specs.Places.{HasCome};
+ghost use Rattle.script_text.specs.Positions.{HasCome};
 ghost use Rattle.script_text.specs.Scripts.{IsReasonFor, IsScriptText};
 ghost use Rattle.history.specs.SoFar.{IsPlanSoFar};
 ghost use Rattle.history.specs.Plans.{IsPlanOf};
@@ -168,7 +168,7 @@ fn line_feeds(bytes: &[u8]) -> usize {
 }
 
 /// How many line feeds there are in no more blocks than [`MOST_BLOCKS`]: each lane counts those at its
-/// place.
+/// position.
 fn line_feeds_in(blocks: &[[u8; 16]]) -> usize {
     let mut counts = u8x16::splat(0);
     for block in blocks {

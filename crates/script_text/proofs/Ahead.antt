@@ -6,11 +6,11 @@ use Rattle.script_text.specs.declared.lines.Line.{Line}
 use Rattle.script_text.specs.declared.lines.Line.TheVariants.{World, Object, Step}
 use Rattle.script_text.specs.Lines.{IsScript, is_object, may_follow, script_text}
 use Rattle.script_text.specs.Noted.{with_object}
-use Rattle.script_text.specs.Places.{HasCome, Place}
+use Rattle.script_text.specs.Positions.{HasCome, Position}
 use Rattle.script_text.specs.Scripts.{IsScriptText}
 
 -- it stands behind the lines of the other and maybe more, and no object may follow there if none may here
-pub record IsAhead (bytes : List ℕ) (names : List (List ℕ)) (here ahead : Place) : Type 0 where
+pub record IsAhead (bytes : List ℕ) (names : List (List ℕ)) (here ahead : Position) : Type 0 where
   pub came : List Line
   pub come : HasCome bytes came names ahead
   pub closed : here.declaring ≡ false → ahead.declaring ≡ false
@@ -27,11 +27,11 @@ closed_more : (came : List Line) (l : Line) → list_all is_object (drop 1 came)
 closed_more [] l h = absurd (cc)
 closed_more (first ∷ more) l h = all_part is_object more (l ∷ []) h
 
-pub ahead_here : (bytes : List ℕ) (came : List Line) (names : List (List ℕ)) (here : Place) → HasCome bytes came names here → IsAhead bytes names here here
+pub ahead_here : (bytes : List ℕ) (came : List Line) (names : List (List ℕ)) (here : Position) → HasCome bytes came names here → IsAhead bytes names here here
 ahead_here bytes came names here come = record { came = came; come = come; closed = λ closed. closed }
 
 -- one line more
-pub ahead_more : (bytes : List ℕ) (names : List (List ℕ)) (here ahead next : Place) (l : Line) → (is : IsAhead bytes names here ahead)
+pub ahead_more : (bytes : List ℕ) (names : List (List ℕ)) (here ahead next : Position) (l : Line) → (is : IsAhead bytes names here ahead)
     → HasCome bytes (is.came ++ l ∷ []) names next → IsAhead bytes names here next
 ahead_more bytes names here ahead next l is come = record {
   came = is.came ++ l ∷ [];
@@ -40,14 +40,14 @@ ahead_more bytes names here ahead next l is come = record {
 }
 
 -- what a reader hands out next, where there is a next line
-pub next_line : (bytes : List ℕ) (came : List Line) (names : List (List ℕ)) (next : Place) (found : Option Line) (l : Line)
+pub next_line : (bytes : List ℕ) (came : List Line) (names : List (List ℕ)) (next : Position) (found : Option Line) (l : Line)
     → MatchOption found (IsScript came × (bytes ≡ script_text came)) (λ l. (may_follow came l ≡ true) × HasCome bytes (came ++ l ∷ []) (with_object names l) next) → found ≡ Some l
     → (may_follow came l ≡ true) × HasCome bytes (came ++ l ∷ []) (with_object names l) next
 next_line bytes came names next found l is there =
     subst (λ (found : Option Line). MatchOption found (IsScript came × (bytes ≡ script_text came)) (λ l. (may_follow came l ≡ true) × HasCome bytes (came ++ l ∷ []) (with_object names l) next)) there is
 
 -- and where there is none
-pub no_next_line : (bytes : List ℕ) (came : List Line) (names : List (List ℕ)) (next : Place) (found : Option Line)
+pub no_next_line : (bytes : List ℕ) (came : List Line) (names : List (List ℕ)) (next : Position) (found : Option Line)
     → MatchOption found (IsScript came × (bytes ≡ script_text came)) (λ l. (may_follow came l ≡ true) × HasCome bytes (came ++ l ∷ []) (with_object names l) next) → found ≡ None
     → IsScriptText bytes
 no_next_line bytes came names next found is none =
@@ -65,6 +65,6 @@ no_object [] name low closed follows = cc
 no_object (first ∷ more) name low closed follows = let all = (and_parts (list_all is_object more) _ (and_parts _ _ follows).0).0 in cc
 
 -- where no object may follow, none does
-pub object_ahead : (bytes : List ℕ) (names : List (List ℕ)) (here ahead : Place) (name : List ℕ) (low : ℕ) → (is : IsAhead bytes names here ahead)
+pub object_ahead : (bytes : List ℕ) (names : List (List ℕ)) (here ahead : Position) (name : List ℕ) (low : ℕ) → (is : IsAhead bytes names here ahead)
     → may_follow is.came (Object name low) ≡ true → here.declaring ≡ false → ⊥
 object_ahead bytes names here ahead name low is follows closed = no_object is.came name low (sym is.come.noted.objects ∙ is.closed closed) follows

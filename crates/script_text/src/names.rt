@@ -29,7 +29,7 @@ impl<'a> Model for Name<'a> {
     ghost invariant = { λ n. is_name n.text.now ≡ true };
 }
 
-/// The bytes that may stand in a name, each at its own place, and a dot at every other place.
+/// The bytes that may stand in a name, each at its own position, and a dot at every other.
 static NAME_BYTES: [u8; 256] = *b"\
     ................................\
     ................0123456789......\

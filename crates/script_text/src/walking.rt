@@ -8,7 +8,7 @@ ghost use Rattle.script_text.specs.declared.lines.Line.{Line as LineData};
 ghost use Rattle.script_text.specs.declared.lines.Line.TheVariants.{Step};
 ghost use Rattle.script_text.specs.Lines.{IsScript, may_follow, parts_of, script_text};
 ghost use Rattle.script_text.specs.Noted.{with_object};
-ghost use Rattle.script_text.specs.Places.{HasCome};
+ghost use Rattle.script_text.specs.Positions.{HasCome};
 ghost use Rattle.script_text.specs.Scripts.{IsReasonFor, IsScriptText};
 
 use crate::declared::Declared;
@@ -33,9 +33,9 @@ pub struct ScriptReader<'a> {
 
 impl<'a> Model for ScriptReader<'a> {
     ghost use Rattle.std.specs.Prelude.{◌≤◌, ◌+◌, length};
-    ghost use Rattle.script_text.specs.Places.{Place};
+    ghost use Rattle.script_text.specs.Positions.{Position};
 
-    ghost Value = { Place };
+    ghost Value = { Position };
 
     ghost view = { λ r. record { count = r.count; declaring = r.declaring; rest = r.rest.now } };
 

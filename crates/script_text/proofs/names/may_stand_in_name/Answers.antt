@@ -6,7 +6,7 @@ use Rattle.script_text.specs.declared.names.TheConstants.{NAME_BYTES}
 use Rattle.script_text.specs.Words.{is_name_byte}
 use Rattle.script_text.proofs.names.may_stand_in_name.Goals as goal
 
--- from this byte on, those that have a place of their own are those of names
+-- from this byte on, those that stand at their own positions are those of names
 alike : ℕ → List ℕ → Bool
 alike from [] = true
 alike from (c ∷ cs) = beq (not (nat_eq c 46)) (is_name_byte from) && alike (suc from) cs

@@ -3,7 +3,7 @@ use Rattle.std.proofs.lemmas.Result.{err_from_is_err_and}
 use Rattle.script_text.specs.declared.lines.Line.{Line}
 use Rattle.script_text.specs.declared.lines.Line.TheVariants.{Step}
 use Rattle.script_text.specs.Lines.{may_follow}
-use Rattle.script_text.specs.Places.{HasCome}
+use Rattle.script_text.specs.Positions.{HasCome}
 use Rattle.script_text.proofs.Ahead.{ahead_more, next_line, no_next_line, object_ahead, same_names}
 use Rattle.script_text.proofs.walking.ScriptReader.check_rest.Goals as goal
 

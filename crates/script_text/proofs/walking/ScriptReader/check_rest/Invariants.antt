@@ -1,6 +1,6 @@
 use Rattle.std.proofs.Common.{ℕ, List, length}
 use Rattle.script_text.specs.declared.lines.Line.{Line as LineData}
-use Rattle.script_text.specs.Places.{HasCome}
+use Rattle.script_text.specs.Positions.{HasCome}
 use Rattle.script_text.proofs.Ahead.{IsAhead}
 use Rattle.script_text.proofs.walking.ScriptReader.check_rest.Given as goal
 

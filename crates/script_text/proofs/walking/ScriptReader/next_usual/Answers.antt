@@ -1,5 +1,5 @@
 use Rattle.std.proofs.Common.{sym, subst}
-use Rattle.script_text.specs.Places.{HasCome}
+use Rattle.script_text.specs.Positions.{HasCome}
 use Rattle.script_text.proofs.Coming.{come_step}
 use Rattle.script_text.proofs.walking.ScriptReader.next_usual.Goals as goal
 

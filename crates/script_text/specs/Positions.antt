@@ -5,15 +5,15 @@ use Rattle.script_text.specs.Lines.{Continues, script_text}
 use Rattle.script_text.specs.Noted.{IsNoted}
 
 -- how many lines it handed out, whether objects may follow them, and the bytes behind them
-pub record Place : Type 0 where
+pub record Position : Type 0 where
   pub count : ℕ
   pub declaring : Bool
   pub rest : List ℕ
 
 -- These lines of the bytes came: they keep the rules, their objects have these names, and the rest is behind them.
-pub record HasCome (bytes : List ℕ) (came : List Line) (names : List (List ℕ)) (place : Place) : Type 0 where
+pub record HasCome (bytes : List ℕ) (came : List Line) (names : List (List ℕ)) (position : Position) : Type 0 where
   pub few : length bytes ≤ 16777216
   pub right : Continues [] came
-  pub parts : bytes ≡ script_text came ++ place.rest
-  pub count : place.count ≡ length came
-  pub noted : IsNoted came place.declaring names
+  pub parts : bytes ≡ script_text came ++ position.rest
+  pub count : position.count ≡ length came
+  pub noted : IsNoted came position.declaring names
