@@ -16,7 +16,7 @@ use Rattle.live_turns.specs.Ways.{Holding, new_holding}
 use Rattle.live_threads.specs.declared.driving.Worked.{Worked}
 use Rattle.live_threads.specs.Driving.{Answered}
 use Rattle.live_threads.specs.Ends.{at_rest}
-use Rattle.live_text.specs.Texts.{live_text}
+use Rattle.live_runs.specs.Texts.{live_text}
 
 -- a worker: what its pass had, its calls, what they came to, whether it was stopped, and what its pass has then
 pub record Worker : Type 0 where

@@ -13,9 +13,9 @@ ghost use Rattle.live_runs.specs.Faults.{IsOfRun};
 ghost use Rattle.live_runs.specs.Runs.{IsLiveRun};
 
 use crate::RunFault;
+use crate::texts::live_text;
 use crate::works::{taken_apart, works_of};
 use live_scripts::{LivePlan, LiveScript, plan_of};
-use live_text::live_text;
 use live_threads::{Gate, Live, LiveClose, LivePass, Work, drive};
 use live_turns::{Closed, Crew};
 use std::alloc::Global;

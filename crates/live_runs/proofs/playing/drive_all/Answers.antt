@@ -9,7 +9,7 @@ use Rattle.live_threads.specs.Ends.{at_rest}
 use Rattle.live_threads.proofs.Ends.{each_is_back}
 use Rattle.live_scripts.specs.Rules.{attached}
 use Rattle.live_scripts.specs.Plans.{calls_of, monitors_in, objects_of}
-use Rattle.live_text.specs.Texts.{live_text}
+use Rattle.live_runs.specs.Texts.{live_text}
 use Rattle.live_runs.specs.Runs.{told_in, told_in_row}
 use Rattle.live_runs.proofs.Plans.{as_many_lows, rows_are, rows_live}
 use Rattle.live_runs.proofs.Workers.{as_many, can_drive, passes_belong, workers_after, workers_before, workers_calls, workers_of, workers_told, workers_worked}

@@ -1,6 +1,6 @@
 -- A line for each name, with what stands at its position: one name more.
 use Rattle.std.proofs.Common.{◌≡◌, ℕ, zero, suc, ◌+◌, ◌<◌, List, [], ◌∷◌, ◌++◌, length, take, get_or, map, sym, ap, ◌∙◌, arith, append-nil, append_assoc}
-use Rattle.live_text.specs.Texts.{each_text}
+use Rattle.live_runs.specs.Texts.{each_text}
 
 each_suc : {X Y Z : Type 0} (line : List ℕ → X → List ℕ) (f : Y → List ℕ) (g : Z → X) (ns : List Y) (xs : List Z) (i : ℕ) (dn : Y) (dx : Z) → i < length ns → length xs ≡ length ns
     → each_text line (map f (take (suc i) ns)) (map g (take (suc i) xs)) ≡ each_text line (map f (take i ns)) (map g (take i xs)) ++ line (f (get_or ns i dn)) (g (get_or xs i dx))

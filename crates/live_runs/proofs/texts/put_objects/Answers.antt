@@ -1,7 +1,7 @@
 use Rattle.std.proofs.Common.{string_bytes}
-use Rattle.live_text.specs.Texts.{object_text}
-use Rattle.live_text.proofs.Each.{each_more}
-use Rattle.live_text.proofs.texts.put_objects.Goals as goal
+use Rattle.live_runs.specs.Texts.{object_text}
+use Rattle.live_runs.proofs.Each.{each_more}
+use Rattle.live_runs.proofs.texts.put_objects.Goals as goal
 
 pub objects-preserved : goal.objects-preserved
 objects-preserved c =

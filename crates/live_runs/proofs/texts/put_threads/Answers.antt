@@ -1,7 +1,7 @@
 use Rattle.std.proofs.Common.{string_bytes, vec_items, ◌++◌, ◌∙◌, ap, get_or, []}
-use Rattle.live_text.specs.Texts.{thread_text}
-use Rattle.live_text.proofs.Each.{each_more}
-use Rattle.live_text.proofs.texts.put_threads.Goals as goal
+use Rattle.live_runs.specs.Texts.{thread_text}
+use Rattle.live_runs.proofs.Each.{each_more}
+use Rattle.live_runs.proofs.texts.put_threads.Goals as goal
 
 pub threads-preserved : goal.threads-preserved
 threads-preserved c =

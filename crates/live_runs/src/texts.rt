@@ -4,8 +4,8 @@ ghost use Rattle.std.specs.Prelude.{◌≡◌, ◌<◌, ◌^◌, ◌++◌, ◌�
 ghost use Rattle.std.specs.Prelude.{string_bytes, sum, vec_items};
 ghost use Rattle.live_scripts.specs.Plans.{objects_of};
 ghost use Rattle.live_scripts.specs.Rules.{attached};
-ghost use Rattle.live_text.specs.Texts.{answer_text, answers_text, deeds_text, each_text};
-ghost use Rattle.live_text.specs.Texts.{live_text, object_text, stop_text, thread_text};
+ghost use Rattle.live_runs.specs.Texts.{answer_text, answers_text, deeds_text, each_text};
+ghost use Rattle.live_runs.specs.Texts.{live_text, object_text, stop_text, thread_text};
 
 use fat_monitor::Reply;
 use live_scripts::{LiveScript, plan_of};
