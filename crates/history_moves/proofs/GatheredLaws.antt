@@ -10,9 +10,9 @@ use Rattle.lock_word.specs.declared.ThreadId.{ThreadId}
 use Rattle.history_moves.specs.Members.{count, IsBelow, AreInOrder, text_at, whole_at, signed_of, signed_at, chosen_at}
 use Rattle.history_moves.specs.Words.{Row}
 use Rattle.history_moves.specs.Gathered.{maybe, members_of, rows_of, members_in, nothing, of_text, of_choice, IsCounted, Takes, Fills, lack, scalar_data, short, short_signed, thread_of, choice}
-use Rattle.history_moves.specs.declared.gathered.Gathered.{Gathered}
-use Rattle.history_moves.specs.declared.gathered.Scalar.{Scalar}
-use Rattle.history_moves.specs.declared.gathered.Scalar.TheVariants as scalar
+use Rattle.history_moves.specs.declared.spelled.gathered.Gathered.{Gathered}
+use Rattle.history_moves.specs.declared.spelled.gathered.Scalar.{Scalar}
+use Rattle.history_moves.specs.declared.spelled.gathered.Scalar.TheVariants as scalar
 use Rattle.history_moves.proofs.MemberLaws.{below_all, absent, same_key}
 
 abbrev Rows : Type 0

@@ -13,11 +13,11 @@ use Rattle.json.proofs.Printed.Decimals.{IsNumber-decimal}
 use Rattle.serde_json.specs.Data.{Members, no_members}
 use Rattle.serde_json.specs.Read.{of_members, converted}
 use Rattle.history_moves.specs.Gathered.{members_in, nothing, IsCounted, Takes, token_data, key_text, scalar_data, scalar_token, BeginsWith}
-use Rattle.history_moves.specs.declared.gathered.Gathered.{Gathered}
-use Rattle.history_moves.specs.declared.gathered.Key.{Key}
-use Rattle.history_moves.specs.declared.gathered.Key.TheVariants as key
-use Rattle.history_moves.specs.declared.gathered.Scalar.{Scalar}
-use Rattle.history_moves.specs.declared.gathered.Scalar.TheVariants as scalar
+use Rattle.history_moves.specs.declared.spelled.gathered.Gathered.{Gathered}
+use Rattle.history_moves.specs.declared.spelled.gathered.Key.{Key}
+use Rattle.history_moves.specs.declared.spelled.gathered.Key.TheVariants as key
+use Rattle.history_moves.specs.declared.spelled.gathered.Scalar.{Scalar}
+use Rattle.history_moves.specs.declared.spelled.gathered.Scalar.TheVariants as scalar
 use Rattle.history_moves.proofs.GatheredLaws.{nothing_in, nothing_counted}
 use Rattle.history_moves.proofs.TokenLaws.{one_member, no_member_more}
 

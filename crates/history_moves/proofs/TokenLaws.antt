@@ -14,7 +14,7 @@ use Rattle.history_moves.specs.Members.{text_at}
 use Rattle.history_moves.specs.Lines.{IsMove}
 use Rattle.history_moves.specs.Reading.{move_named, move_from}
 use Rattle.history_moves.specs.Gathered.{members_in, IsCounted, token_data}
-use Rattle.history_moves.specs.declared.gathered.Gathered.{Gathered}
+use Rattle.history_moves.specs.declared.spelled.gathered.Gathered.{Gathered}
 use Rattle.history_moves.proofs.Found.{none_some, same_some}
 use Rattle.history_moves.proofs.GatheredLaws.{in_order}
 use Rattle.history_moves.proofs.MoveLaws.{move_takes}

@@ -9,11 +9,11 @@ use Rattle.lock_word.specs.declared.ThreadId.{ThreadId}
 use Rattle.history_moves.specs.Moves.{of_number}
 use Rattle.history_moves.specs.Members.{count}
 use Rattle.history_moves.specs.Words.{Row}
-use Rattle.history_moves.specs.declared.gathered.Gathered.{Gathered}
-use Rattle.history_moves.specs.declared.gathered.Key.{Key}
-use Rattle.history_moves.specs.declared.gathered.Key.TheVariants as key
-use Rattle.history_moves.specs.declared.gathered.Scalar.{Scalar}
-use Rattle.history_moves.specs.declared.gathered.Scalar.TheVariants as scalar
+use Rattle.history_moves.specs.declared.spelled.gathered.Gathered.{Gathered}
+use Rattle.history_moves.specs.declared.spelled.gathered.Key.{Key}
+use Rattle.history_moves.specs.declared.spelled.gathered.Key.TheVariants as key
+use Rattle.history_moves.specs.declared.spelled.gathered.Scalar.{Scalar}
+use Rattle.history_moves.specs.declared.spelled.gathered.Scalar.TheVariants as scalar
 
 -- a member, where there is a value
 abbrev pub maybe : List ℕ → Option Data → Members → Members
