@@ -9,10 +9,10 @@ ghost use Rattle.json.specs.Word.{ends_word as ends_a_word};
 ghost use Rattle.json.specs.Lex.{lex, between, class, space, token, colon};
 ghost use Rattle.json.specs.Print.{escape, escape_byte};
 ghost use Rattle.history_moves.specs.Lines.{IsMove};
-ghost use Rattle.history_moves.specs.Gathered.{key_text, BeginsWith};
+ghost use Rattle.history_moves.specs.GatheredMembers.{key_text, BeginsWith};
 
 use crate::pieces::{behind, number_in};
-use crate::spelled::gathered::{Gathered, Key, Scalar, key_front};
+use crate::spelled::gathered::{GatheredMembers, Key, Scalar, key_front};
 use step_core::Move;
 
 #[inline(always)]
@@ -125,7 +125,7 @@ pub(crate) fn spelled_move(text: &str) -> Option<Move>
     ensures { IfSome result (IsMove text.now) }
 {
     let mut rest = behind(past_blanks(text.as_bytes()), b"{")?;
-    let mut found = Gathered::new();
+    let mut found = GatheredMembers::new();
     'members: loop {
         let (key, after) = key_in(rest)?;
         let (value, after) = value_in(after)?;

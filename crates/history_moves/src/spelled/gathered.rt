@@ -4,8 +4,8 @@ ghost use Rattle.std.specs.Prelude.{◌≡◌, ◌++◌, IfSome, IsTrue};
 ghost use Rattle.serde_json.specs.Data.{object as object_data, string};
 ghost use Rattle.history_moves.specs.Moves.{of_number};
 ghost use Rattle.history_moves.specs.Reading.{move_from};
-ghost use Rattle.history_moves.specs.Gathered.{members_in, nothing, Takes, Fills, IsCounted};
-ghost use Rattle.history_moves.specs.Gathered.{key_text, scalar_data, choice};
+ghost use Rattle.history_moves.specs.GatheredMembers.{members_in, nothing, Takes, Fills, IsCounted};
+ghost use Rattle.history_moves.specs.GatheredMembers.{key_text, scalar_data, choice};
 
 use crate::pieces::behind;
 use crate::values::members::{Fields, short_signed, small_number};
@@ -43,7 +43,7 @@ pub(crate) enum Scalar<'a> {
 /// The members of an object as far as they were read. Each has its key once, the last value that it
 /// had there, and one of the kind that a move has there.
 #[derive(Clone, Copy, Drop)]
-pub(crate) struct Gathered<'a> {
+pub(crate) struct GatheredMembers<'a> {
     count: usize,
     name: Option<&'a [u8]>,
     verb: Option<&'a [u8]>,
@@ -114,13 +114,13 @@ fn fill<T: Copy>(count: &mut usize, slot: &mut Option<T>, value: T) -> bool
     true
 }
 
-impl<'a> Gathered<'a> {
+impl<'a> GatheredMembers<'a> {
     /// No member.
     #[inline(always)]
-    pub(crate) fn new() -> Gathered<'a>
+    pub(crate) fn new() -> GatheredMembers<'a>
         ensures { result ≡ nothing }
     {
-        Gathered {
+        GatheredMembers {
             count: 0,
             name: None,
             verb: None,
@@ -201,7 +201,7 @@ fn choice(number: Option<u64>) -> Option<Option<ThreadId>>
     }
 }
 
-impl<'a> Fields for Gathered<'a> {
+impl<'a> Fields for GatheredMembers<'a> {
     ghost seen = { λ g. object_data (members_in g) };
 
     fn name(&self) -> Option<&[u8]> {

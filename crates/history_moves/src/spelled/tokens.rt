@@ -5,10 +5,10 @@ ghost use Rattle.json.specs.Reads.{token_of};
 ghost use Rattle.serde_json.specs.Data.{unsigned};
 ghost use Rattle.serde_json.specs.Read.{number_of};
 ghost use Rattle.history_moves.specs.Lines.{IsMove};
-ghost use Rattle.history_moves.specs.Gathered.{key_text, scalar_data, token_data};
+ghost use Rattle.history_moves.specs.GatheredMembers.{key_text, scalar_data, token_data};
 
 use crate::pieces::number_in;
-use crate::spelled::gathered::{Gathered, Key, Scalar, key_front};
+use crate::spelled::gathered::{GatheredMembers, Key, Scalar, key_front};
 use json::{Reader, Scratch, Token};
 use step_core::Move;
 
@@ -50,7 +50,7 @@ pub(crate) fn token_move(text: &str, scratch: &mut Scratch) -> Option<Move>
     let Some(Token::BeginObject) = reader.next() else {
         return None;
     };
-    let mut found = Gathered::new();
+    let mut found = GatheredMembers::new();
     'members: while let Some(key) = reader.next_key().ok()? {
         let value = scalar_of(reader.next()?)?;
         if !found.take(key_named(key.as_bytes())?, value) {

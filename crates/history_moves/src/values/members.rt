@@ -7,7 +7,7 @@ ghost use Rattle.serde_json.specs.View.{view};
 ghost use Rattle.history_moves.specs.Members.{IsOrderedData, count_in, text_at, whole_at};
 ghost use Rattle.history_moves.specs.Members.{now_at, signed_at, small_signed, millis_at, nanos_at};
 ghost use Rattle.history_moves.specs.Members.{thread_number, thread_at, object_at, chosen_at};
-ghost use Rattle.history_moves.specs.Gathered.{short_signed};
+ghost use Rattle.history_moves.specs.GatheredMembers.{short_signed};
 
 use lock_word::{ObjectId, ThreadId};
 use serde_json::Value;

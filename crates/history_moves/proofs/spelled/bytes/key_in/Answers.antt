@@ -1,7 +1,7 @@
 use Rattle.std.proofs.Common.{List, ℕ, ◌∷◌, ◌++◌, ◌∙◌, sym, ap}
 use Rattle.json.specs.Token.{string}
 use Rattle.json.specs.Lex.{Lexeme, lex, between, token}
-use Rattle.history_moves.specs.Gathered.{key_text}
+use Rattle.history_moves.specs.GatheredMembers.{key_text}
 use Rattle.history_moves.proofs.Lexing.{key_lexed, colon_lexed}
 use Rattle.history_moves.proofs.spelled.bytes.key_in.Goals as goal
 

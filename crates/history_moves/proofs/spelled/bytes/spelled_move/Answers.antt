@@ -1,7 +1,7 @@
 use Rattle.std.proofs.Common.{◌≡◌, ◌∷◌, suc, length, IsTrue, sym, ap, ◌∙◌, arith, rules}
 use Rattle.json.specs.Token.{begin_object}
 use Rattle.json.specs.Lex.{lex, between, token, punctuate, fresh}
-use Rattle.history_moves.specs.Gathered.{key_text}
+use Rattle.history_moves.specs.GatheredMembers.{key_text}
 use Rattle.history_moves.proofs.Lexing.{begin_lexed, comma_lexed, object_tokens, begun, one_more, last_one}
 use Rattle.history_moves.proofs.TokenLaws.{object_read, object_move}
 use Rattle.history_moves.proofs.spelled.bytes.spelled_move.Goals as goal

@@ -6,7 +6,7 @@ use Rattle.json.specs.Reads.{token_of}
 use Rattle.json.proofs.Grammar.{read_key-shorter}
 use Rattle.serde_json.specs.Data.{Members, no_members}
 use Rattle.serde_json.specs.Read.{of_members, converted}
-use Rattle.history_moves.specs.Gathered.{members_in, IsCounted, Takes, key_text, scalar_data}
+use Rattle.history_moves.specs.GatheredMembers.{members_in, IsCounted, Takes, key_text, scalar_data}
 use Rattle.history_moves.proofs.GatheredLaws.{nothing_in, nothing_counted}
 use Rattle.history_moves.proofs.TokenLaws.{one_member, no_member_more, object_read, object_move}
 use Rattle.history_moves.proofs.spelled.tokens.token_move.Goals as goal

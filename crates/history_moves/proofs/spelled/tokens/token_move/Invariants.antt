@@ -2,7 +2,7 @@ use Rattle.std.proofs.Common.{◌≡◌, ℕ, ◌≤◌, length}
 use Rattle.json.specs.Json.{members, value}
 use Rattle.serde_json.specs.Data.{no_members}
 use Rattle.serde_json.specs.Read.{of_members, converted}
-use Rattle.history_moves.specs.Gathered.{members_in, IsCounted}
+use Rattle.history_moves.specs.GatheredMembers.{members_in, IsCounted}
 use Rattle.history_moves.proofs.spelled.tokens.token_move.Given as goal
 
 -- The rest of the tokens, put to the members that were gathered, gives what all tokens give.
