@@ -7,7 +7,7 @@ use Rattle.lock_word.specs.declared.Split.{Split}
 use Rattle.script_text.specs.declared.lines.Line.{Line}
 use Rattle.script_text.specs.declared.lines.Line.TheVariants.{World, Object, Step}
 use Rattle.script_text.specs.Lines.{Continues, may_follow, is_object, is_object_named}
-use Rattle.script_text.specs.Noted.{object_names, with_object}
+use Rattle.script_text.specs.LinesSoFar.{object_names, with_object}
 use Rattle.script_text.proofs.NotedLaws.{any_declared, as_many, names_more}
 use Rattle.step_core.specs.declared.steps.Request.{Request}
 use Rattle.history.specs.NameLists.{NameLists}

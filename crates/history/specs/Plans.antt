@@ -2,7 +2,7 @@
 use Rattle.std.specs.Prelude.{◌≡◌, ℕ, List}
 use Rattle.script_text.specs.declared.lines.Line.{Line}
 use Rattle.script_text.specs.Lines.{IsScript, script_text}
-use Rattle.script_text.specs.Noted.{object_names}
+use Rattle.script_text.specs.LinesSoFar.{object_names}
 use Rattle.history.specs.Numbering.{IsWorldWith, low_bytes, names_of, requests_of}
 use Rattle.history.specs.declared.plans.Plan.{Plan}
 

@@ -109,7 +109,7 @@ requests_text names w [] = []
 requests_text names w (t ∷ ts) = request_text names w t ++ requests_text names (world_then w t) ts
 
 -- A step or a relayout leads from the one world to the other, and its line was written behind what was there.
-pub record Reported (names : NameLists) (w : WorldState) (asked : Request) (v : WorldState)
+pub record ReportsOne (names : NameLists) (w : WorldState) (asked : Request) (v : WorldState)
     (old new : List ℕ) : Type 0 where
   pub does : PlaysOne w asked v
   pub text : new ≡ old ++ request_text names w (asked, does.room)

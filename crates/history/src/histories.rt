@@ -15,7 +15,7 @@ ghost use Rattle.text_streams.specs.declared.faults.FileFault.TheVariants.{
 ghost use Rattle.step_core.specs.declared.steps.Fault.TheVariants.{Memory as OutOfMemory};
 ghost use Rattle.history.specs.Plans.{IsPlanOf};
 ghost use Rattle.history.specs.declared.plans.Plan.{Plan as PlanData};
-ghost use Rattle.history.specs.Histories.{IsHistoryOf, Tells, Told, first_world, moves_text};
+ghost use Rattle.history.specs.Histories.{IsHistoryOf, Tells, TellsOne, first_world, moves_text};
 ghost use Rattle.history.specs.Histories.{objects_text};
 ghost use Rattle.script_text.specs.Scripts.{IsReasonFor};
 ghost use Rattle.step_core.specs.Machine.{opening};
@@ -135,7 +135,7 @@ fn tell_steps(world: &mut World, steps: &[Request], history: &mut Vec<u8>) -> Re
 
 /// Does a step, and writes its moves; or a relayout, which has none.
 fn tell(world: &mut World, request: Request, history: &mut Vec<u8>) -> Result<(), Memory>
-    ensures { OnOk result (Told world.old request world.new
+    ensures { OnOk result (TellsOne world.old request world.new
         history.old.items history.new.items) }
 {
     match request {

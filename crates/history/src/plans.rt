@@ -4,7 +4,7 @@ ghost use Rattle.std.specs.Prelude.{◌≡◌, ◌<◌, ◌≤◌, ◌++◌, ◌
 ghost use Rattle.std.specs.Prelude.{IfOk};
 ghost use Rattle.lock_word.specs.Layout.{greatest_index};
 ghost use Rattle.script_text.specs.Lines.{IsScript};
-ghost use Rattle.script_text.specs.Noted.{object_names, with_object};
+ghost use Rattle.script_text.specs.LinesSoFar.{object_names, with_object};
 ghost use Rattle.history.specs.Calls.{call_in, names_with};
 ghost use Rattle.script_text.specs.Names.{is_named};
 ghost use Rattle.history.specs.Numbering.{FollowsWorld, IsWorldWith, MayTake, low_bytes};

@@ -7,7 +7,7 @@ ghost use Rattle.std.specs.Io.KnownBytes.{Keeps, Appends};
 ghost use Rattle.script_text.specs.Lines.{IsFirstBad};
 ghost use Rattle.script_text.specs.Positions.{HasCome};
 ghost use Rattle.script_text.specs.Scripts.{IsReasonFor, IsScriptText};
-ghost use Rattle.history.specs.SoFar.{IsPlanSoFar};
+ghost use Rattle.history.specs.PlanSoFar.{IsPlanSoFar};
 ghost use Rattle.history.specs.Plans.{IsPlanOf};
 ghost use Rattle.history.specs.Reports.{IsReportOf};
 ghost use Rattle.history.specs.declared.plans.Plan.{Plan as PlanData};

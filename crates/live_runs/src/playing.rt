@@ -2,7 +2,7 @@
 
 ghost use Rattle.std.specs.Prelude.{◌≡◌, All, IfOk, IfErr, length, map, string_bytes, vec_items};
 ghost use Rattle.header_words.specs.Passes.{new_passes};
-ghost use Rattle.live_scripts.specs.Planned.{IsPlanOf};
+ghost use Rattle.live_scripts.specs.LivePlans.{IsPlanOf};
 ghost use Rattle.live_scripts.specs.Plans.{calls_of, lows_of, monitors_in, objects_of};
 ghost use Rattle.live_scripts.specs.Rules.{IsLiveScript, attached};
 ghost use Rattle.live_turns.specs.Ends.{IsEnd};

@@ -6,7 +6,7 @@ ghost use Rattle.live_scripts.specs.Rules.{IsLiveScript, attached};
 ghost use Rattle.live_scripts.specs.Plans.{call_in, calls_in, calls_of, lows_in, lows_of};
 ghost use Rattle.live_scripts.specs.Plans.{monitors_in, object_of, objects_in, objects_of};
 ghost use Rattle.live_scripts.specs.Plans.{thread_of};
-ghost use Rattle.live_scripts.specs.Planned.{IsPlanOf};
+ghost use Rattle.live_scripts.specs.LivePlans.{IsPlanOf};
 
 use crate::LiveScript;
 use crate::rules::note;

@@ -5,7 +5,7 @@ use Rattle.std.proofs.lemmas.Bool.{and_parts}
 use Rattle.script_text.specs.declared.lines.Line.{Line}
 use Rattle.script_text.specs.declared.lines.Line.TheVariants.{World, Object, Step}
 use Rattle.script_text.specs.Lines.{IsScript, is_object, may_follow, script_text}
-use Rattle.script_text.specs.Noted.{with_object}
+use Rattle.script_text.specs.LinesSoFar.{with_object}
 use Rattle.script_text.specs.Positions.{HasCome, Position}
 use Rattle.script_text.specs.Scripts.{IsScriptText}
 

@@ -6,7 +6,7 @@ use Rattle.script_text.specs.declared.lines.Line.{Line}
 use Rattle.script_text.specs.declared.lines.Line.TheVariants.{Step}
 use Rattle.script_text.specs.declared.lines.StepLine.{StepLine}
 use Rattle.script_text.specs.Lines.{is_object, next_from, line_at, line_text, may_follow, parts_of, script_text, IsScript}
-use Rattle.script_text.specs.Noted.{IsNoted, may_follow_by, with_object}
+use Rattle.script_text.specs.LinesSoFar.{IsNoted, may_follow_by, with_object}
 use Rattle.script_text.specs.Positions.{HasCome, Position}
 use Rattle.script_text.specs.Quick.{BeginsWithLine}
 use Rattle.script_text.specs.Scripts.{IsReasonFor}

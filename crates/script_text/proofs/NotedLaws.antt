@@ -6,7 +6,7 @@ use Rattle.std.proofs.lemmas.Bool.{and_parts, not-true, ne_eqb}
 use Rattle.script_text.specs.declared.lines.Line.{Line}
 use Rattle.script_text.specs.declared.lines.Line.TheVariants.{World, Object, Step}
 use Rattle.script_text.specs.Lines.{is_object, is_object_named, may_follow, line_at, next_from}
-use Rattle.script_text.specs.Noted.{object_names, IsNoted, may_follow_by, with_object}
+use Rattle.script_text.specs.LinesSoFar.{object_names, IsNoted, may_follow_by, with_object}
 
 pub any_declared : (name : List ℕ) (ls : List Line) → list_any (bytes_eq name) (object_names ls) ≡ list_any (is_object_named name) ls
 any_declared name [] = refl

@@ -2,7 +2,7 @@
 use Rattle.std.specs.Prelude.{◌≡◌, ◌≤◌, ℕ, List, [], ◌++◌, length, Bool}
 use Rattle.script_text.specs.declared.lines.Line.{Line}
 use Rattle.script_text.specs.Lines.{Continues, script_text}
-use Rattle.script_text.specs.Noted.{IsNoted}
+use Rattle.script_text.specs.LinesSoFar.{IsNoted}
 
 -- how many lines it handed out, whether objects may follow them, and the bytes behind them
 pub record Position : Type 0 where

@@ -6,7 +6,7 @@ ghost use Rattle.std.specs.Prelude.{MatchOption, OnOk, Err, None, Ok, Some, opti
 ghost use Rattle.script_text.specs.declared.lines.Line.{Line as LineData};
 ghost use Rattle.script_text.specs.Lines.{is_object, may_follow, next_from, lines_from, parts_of};
 ghost use Rattle.script_text.specs.Lines.{script_text, IsBeginning, IsFirstBad, IsScript};
-ghost use Rattle.script_text.specs.Noted.{IsNoted, may_follow_by, with_object};
+ghost use Rattle.script_text.specs.LinesSoFar.{IsNoted, may_follow_by, with_object};
 ghost use Rattle.script_text.specs.Scripts.{Gives, IsReasonFor};
 
 use crate::declared::Declared;

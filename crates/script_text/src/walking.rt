@@ -7,7 +7,7 @@ ghost use Rattle.text_streams.specs.declared.faults.FileFault.TheVariants.{BadLi
 ghost use Rattle.script_text.specs.declared.lines.Line.{Line as LineData};
 ghost use Rattle.script_text.specs.declared.lines.Line.TheVariants.{Step};
 ghost use Rattle.script_text.specs.Lines.{IsScript, may_follow, parts_of, script_text};
-ghost use Rattle.script_text.specs.Noted.{with_object};
+ghost use Rattle.script_text.specs.LinesSoFar.{with_object};
 ghost use Rattle.script_text.specs.Positions.{HasCome};
 ghost use Rattle.script_text.specs.Scripts.{IsReasonFor, IsScriptText};
 

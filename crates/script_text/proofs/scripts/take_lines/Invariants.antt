@@ -1,6 +1,6 @@
 use Rattle.std.proofs.Common.{◌≡◌, ◌++◌, length, [], map, string_bytes}
 use Rattle.script_text.specs.Lines.{Continues, script_text}
-use Rattle.script_text.specs.Noted.{IsNoted}
+use Rattle.script_text.specs.LinesSoFar.{IsNoted}
 use Rattle.script_text.proofs.scripts.take_lines.Given as goal
 
 abbrev pub invariant-lines : goal.invariant-lines

@@ -1,6 +1,6 @@
 use Rattle.std.proofs.Common.{◌≡◌, ◌<◌, ◌==◌, ◌∷◌, length, false, sym, ◌∙◌, subst}
 use Rattle.script_text.specs.Lines.{parts_of}
-use Rattle.script_text.specs.Noted.{may_follow_by}
+use Rattle.script_text.specs.LinesSoFar.{may_follow_by}
 use Rattle.script_text.specs.Positions.{HasCome, Position}
 use Rattle.script_text.proofs.Coming.{come_more, no_line_bad, refused_bad}
 use Rattle.script_text.proofs.walking.ScriptReader.next.Goals as goal

@@ -4,13 +4,13 @@ use Rattle.lock_word.specs.declared.Split.{Split}
 use Rattle.script_text.specs.declared.lines.Line.{Line}
 use Rattle.script_text.specs.declared.lines.Line.TheVariants.{World, Object, Step}
 use Rattle.script_text.specs.Lines.{IsScript, may_follow, script_text}
-use Rattle.script_text.specs.Noted.{object_names, with_object}
+use Rattle.script_text.specs.LinesSoFar.{object_names, with_object}
 use Rattle.script_text.specs.Positions.{HasCome, Position}
 use Rattle.step_core.specs.declared.steps.Request.{Request}
 use Rattle.history.specs.NameLists.{NameLists}
 use Rattle.history.specs.Numbering.{IsWorldWith, MayTake, names_then, no_names, requests_of, requests_then, with_low}
 use Rattle.history.specs.Plans.{IsPlanOf}
-use Rattle.history.specs.SoFar.{IsPlanSoFar}
+use Rattle.history.specs.PlanSoFar.{IsPlanSoFar}
 use Rattle.history.specs.declared.plans.Plan.{Plan}
 use Rattle.history.proofs.Lines.{lows_append, may_take, names_after-one, requests_after-one}
 
