@@ -6,7 +6,7 @@ use Rattle.fat_monitor.specs.declared.actions.Reply.{Reply}
 use Rattle.fat_monitor.specs.declared.actions.Reply.TheVariants as reply
 use Rattle.fat_monitor.specs.Names.{cause_name}
 use Rattle.script_text.specs.declared.lines.Line.{Line}
-use Rattle.live_scripts.specs.Rules.{attached}
+use Rattle.live_scripts.specs.Rules.{attached_threads}
 use Rattle.live_scripts.specs.Plans.{objects_of}
 use Rattle.live_turns.specs.declared.closed.Closed.{Closed}
 use Rattle.live_book.specs.declared.faults.LiveFault.{LiveFault}
@@ -58,6 +58,6 @@ each_text line (name ∷ names) (x ∷ xs) = line name x ++ each_text line names
 -- a line for each thread of a live script, one for each object, and the number of deeds
 abbrev pub live_text : List Line → List (List (Result Reply LiveFault) × Bool) → Closed → List ℕ
 live_text script workers closed =
-    each_text thread_text (attached script) workers
+    each_text thread_text (attached_threads script) workers
     ++ each_text object_text (objects_of script) (map (λ w. w.0) closed.words.items)
     ++ deeds_text (sum closed.counts.items)

@@ -3,7 +3,7 @@
 ghost use Rattle.std.specs.Prelude.{◌≡◌, ◌<◌, ◌^◌, ◌++◌, ◌∷◌, [], IfOk, OnOk, length, map};
 ghost use Rattle.std.specs.Prelude.{string_bytes, sum, vec_items};
 ghost use Rattle.live_scripts.specs.Plans.{objects_of};
-ghost use Rattle.live_scripts.specs.Rules.{attached};
+ghost use Rattle.live_scripts.specs.Rules.{attached_threads};
 ghost use Rattle.live_runs.specs.Texts.{answer_text, answers_text, deeds_text, each_text};
 ghost use Rattle.live_runs.specs.Texts.{live_text, object_text, stop_text, thread_text};
 
@@ -25,7 +25,7 @@ pub fn live_text(
     workers: &[(Vec<Result<Reply, LiveFault>>, bool)],
     closed: &Closed,
 ) -> Result<String, Memory>
-    requires threads { length workers.now ≡ length (attached script.now) }
+    requires threads { length workers.now ≡ length (attached_threads script.now) }
     requires objects { length closed.now.words.items ≡ length (objects_of script.now) }
     requires deeds { sum closed.now.counts.items < 2 ^ 64 }
     ensures { IfOk result (λ text. string_bytes text ≡ live_text script.now

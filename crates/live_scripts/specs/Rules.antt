@@ -30,9 +30,9 @@ attached_in (Object name low) = []
 attached_in (Step step) = attached_by step
 
 -- the names of the threads that are attached, in order
-abbrev pub attached : List Line → List (List ℕ)
-attached [] = []
-attached (l ∷ ls) = attached_in l ++ attached ls
+abbrev pub attached_threads : List Line → List (List ℕ)
+attached_threads [] = []
+attached_threads (l ∷ ls) = attached_in l ++ attached_threads ls
 
 abbrev pub indices_of : Line → ℕ
 indices_of (World monitors indices split) = indices
@@ -78,7 +78,7 @@ may_run_with most threads (Step step) = may_do most threads step
 
 -- whether a line may run behind these
 abbrev pub may_run : List Line → Line → Bool
-may_run earlier l = may_run_with (most_threads earlier) (attached earlier) l
+may_run earlier l = may_run_with (most_threads earlier) (attached_threads earlier) l
 
 abbrev pub Runs : List Line → List Line → Type 0
 Runs earlier [] = Unit {0}
@@ -86,7 +86,7 @@ Runs earlier (l ∷ ls) = (may_run earlier l ≡ true) × Runs (earlier ++ l ∷
 
 -- a script whose lines may run, and which has a thread
 abbrev pub IsLiveScript : List Line → Type 0
-IsLiveScript ls = IsScript ls × Runs [] ls × (0 < length (attached ls))
+IsLiveScript ls = IsScript ls × Runs [] ls × (0 < length (attached_threads ls))
 
 -- Line n is the first that breaks a rule of live scripts: right lines stand before it, and what stands there
 -- begins with no line that may follow them and run. Where nothing stands there, no thread is attached.
@@ -97,7 +97,7 @@ pub record IsFirstBadLive (bytes : List ℕ) (n : ℕ) : Type 0 where
   pub right : Continues [] before
   pub runs : Runs [] before
   pub parts : bytes ≡ script_text before ++ rest
-  pub there : 0 < length rest ⊎ attached before ≡ []
+  pub there : 0 < length rest ⊎ attached_threads before ≡ []
   pub bad : (l : Line) (after : List ℕ) → Fits l → may_follow before l ≡ true → may_run before l ≡ true
       → rest ≡ line_text l ++ (10 ∷ after) → ⊥
 

@@ -2,7 +2,7 @@
 
 ghost use Rattle.std.specs.Prelude.{◌≡◌, ◌≤◌, ◌<◌, ◌++◌, IfOk, OnOk, length, map};
 ghost use Rattle.script_text.specs.Names.{position_of};
-ghost use Rattle.live_scripts.specs.Rules.{IsLiveScript, attached};
+ghost use Rattle.live_scripts.specs.Rules.{IsLiveScript, attached_threads};
 ghost use Rattle.live_scripts.specs.Plans.{call_in, calls_in, calls_of, lows_in, lows_of};
 ghost use Rattle.live_scripts.specs.Plans.{monitors_in, object_of, objects_in, objects_of};
 ghost use Rattle.live_scripts.specs.Plans.{thread_of};
@@ -143,7 +143,7 @@ fn calls_of(
 
 /// The names of the threads that some lines attach.
 fn threads_of<'a>(alloc: Global, lines: &[Line<'a>]) -> Result<Vec<&'a str>, Memory>
-    ensures { IfOk result (λ v. map (λ t. t.now) v.items ≡ attached lines.now) }
+    ensures { IfOk result (λ v. map (λ t. t.now) v.items ≡ attached_threads lines.now) }
 {
     let mut threads = Vec::new(alloc);
     'lines: for line in lines {
