@@ -1,5 +1,5 @@
-//! Calls of the live service: thin calls, calls at a fat monitor, and two threads that hand an object
-//! to each other.
+//! Calls of the live service: thin calls, calls at a fat monitor, and two threads that hand an
+//! object to each other.
 
 mod rounds;
 mod runs;

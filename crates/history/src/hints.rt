@@ -37,8 +37,8 @@ pub(crate) struct NameHints {
     hints: Vec<NameHint>,
 }
 
-/// Fewer than eight bytes as one number: the first four, the next two and the last one, as far as they
-/// are there.
+/// Fewer than eight bytes as one number: the first four, the next two and the last one, as far as
+/// they are there.
 fn number_of_few(bytes: &[u8]) -> u64 {
     let mut number = 0;
     let mut rest = bytes;
@@ -72,8 +72,8 @@ fn mixed_with(mixed: u64, word: u64) -> u64 {
 }
 
 impl Mixed {
-    /// The length of a name and its bytes, mixed: eight bytes at a time, and where fewer are left the
-    /// last eight again, as many hashes do.
+    /// The length of a name and its bytes, mixed: eight bytes at a time, and where fewer are left
+    /// the last eight again, as many hashes do.
     pub(crate) fn of(name: &str) -> Mixed {
         let bytes = name.as_bytes();
         let mut mixed = bytes.len() as u64;
@@ -133,9 +133,9 @@ impl NameHints {
         }
     }
 
-    /// Puts the number of a name that was added to these. Where the table has few hints for as many,
-    /// a larger one takes its place, if there is memory for one; and where they are more than a
-    /// table may have, the table goes.
+    /// Puts the number of a name that was added to these. Where the table has few hints for as
+    /// many, a larger one takes its place, if there is memory for one; and where they are more than
+    /// a table may have, the table goes.
     pub(crate) fn add(&mut self, alloc: Global, names: &[String], word: &str, number: u32)
         requires { length names.now ≤ 4294967295 }
     {

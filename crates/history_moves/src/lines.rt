@@ -100,9 +100,9 @@ const TOO_LONG_FOR_TOKENS: usize = 4096;
 /// tokens.
 const TOO_LONG_FOR_BYTES: usize = 512;
 
-/// A reader of lines, which keeps from line to line what it needs for lines that are read from their
-/// tokens, those with an escape and long ones: room for a line below 4,096 bytes, from the first such
-/// line on.
+/// A reader of lines, which keeps from line to line what it needs for lines that are read from
+/// their tokens, those with an escape and long ones: room for a line below 4,096 bytes, from the
+/// first such line on.
 #[derive(Drop)]
 pub struct MoveReader {
     alloc: Global,
@@ -125,8 +125,8 @@ impl MoveReader {
         }
     }
 
-    /// The move that a line is, as the free function [`line_move`] has it; by the ways that the head of
-    /// this crate lists.
+    /// The move that a line is, as the free function [`line_move`] has it; by the ways that the
+    /// head of this crate lists.
     pub fn line_move(&mut self, line: &[u8]) -> Result<Option<Move>, Memory>
         ensures found { IfOk result (λ o. IfSome o (IsMove line.now)) }
         ensures none { IfOk result (λ o. IfNone o ((m : MoveData) → IsMove line.now m → ⊥)) }
@@ -140,8 +140,8 @@ impl MoveReader {
         value_line(self.alloc, line)
     }
 
-    /// The move that a line is, from its bytes or its tokens: a way for most lines of any spelling. A
-    /// line that its bytes do not tell is read from its tokens only where it has an escape or is
+    /// The move that a line is, from its bytes or its tokens: a way for most lines of any spelling.
+    /// A line that its bytes do not tell is read from its tokens only where it has an escape or is
     /// long, since the tokens of hardly any other tell more.
     #[inline(never)]
     fn spelled_line(&mut self, line: &[u8]) -> Option<Move>

@@ -40,8 +40,8 @@ static NAME_BYTES: [u8; 256] = *b"\
     ................................\
     ................................";
 
-/// One look at a table, since each byte of a script's names is asked here: comparisons take more than
-/// twice as many instructions.
+/// One look at a table, since each byte of a script's names is asked here: comparisons take more
+/// than twice as many instructions.
 #[inline(always)]
 fn may_stand_in_name(byte: u8) -> bool
     ensures { result ≡ is_name_byte byte }

@@ -130,8 +130,8 @@ fn seldom_call(bytes: &[u8]) -> Option<(Call<'_>, &[u8])>
     Some((Call::IsInterrupted(target), rest))
 }
 
-/// The line that some bytes are, where it is a step or an `object`. None of any other, which is left
-/// to the reader of all lines.
+/// The line that some bytes are, where it is a step or an `object`. None of any other, which is
+/// left to the reader of all lines.
 #[inline(always)]
 pub(crate) fn quick_line(bytes: &[u8]) -> Option<Line<'_>>
     ensures { IfSome result (SaysLine bytes.now) }

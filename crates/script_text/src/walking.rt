@@ -96,9 +96,9 @@ impl<'a> ScriptReader<'a> {
         Ok(Some(line))
     }
 
-    /// The next line, where it is one of the steps that a script has most of: a `go`, or the `begin`
-    /// of an enter or an exit. Nothing is taken where it is none of these, or is the first, or is
-    /// bad; [`next`](ScriptReader::next) then tells what it is.
+    /// The next line, where it is one of the steps that a script has most of: a `go`, or the
+    /// `begin` of an enter or an exit. Nothing is taken where it is none of these, or is the first,
+    /// or is bad; [`next`](ScriptReader::next) then tells what it is.
     #[inline(always)]
     pub fn next_usual(&mut self) -> Option<StepLine<'a>>
         ensures told { (bytes : List ℕ) (came : List LineData) (names : List (List ℕ))
@@ -139,9 +139,9 @@ impl<'a> ScriptReader<'a> {
         Some(step)
     }
 
-    /// Whether the lines that are left are the rest of a script, or which is the first bad one. None
-    /// of them is kept or handed out. Where objects may still follow, this looks no further than the
-    /// first of them.
+    /// Whether the lines that are left are the rest of a script, or which is the first bad one.
+    /// None of them is kept or handed out. Where objects may still follow, this looks no further
+    /// than the first of them.
     pub fn check_rest<D: Declared>(&self, alloc: Global, declared: &D) -> Result<(), FileFault>
         ensures told { (bytes : List ℕ) (came : List LineData)
             → HasCome bytes came (D.names declared.now) self.now

@@ -1,5 +1,5 @@
-//! The words of the command line, behind the program's name, and the line of a fault. What is told of
-//! words that are no order is compared by `orders/`.
+//! The words of the command line, behind the program's name, and the line of a fault. What is told
+//! of words that are no order is compared by `orders/`.
 
 use command_line::{FaultLine, Order, Task, read_words};
 use history::FileFault;

@@ -118,9 +118,9 @@ fn is_last(bytes: &[u8]) -> bool
     }
 }
 
-/// The move that a text is, where it is an object with no escape in a key, whose values are words of
-/// letters, null and numbers of 64 bits that are not negative; of a key that comes twice, the last
-/// value stays. None also of other texts, which may be moves.
+/// The move that a text is, where it is an object with no escape in a key, whose values are words
+/// of letters, null and numbers of 64 bits that are not negative; of a key that comes twice, the
+/// last value stays. None also of other texts, which may be moves.
 pub(crate) fn spelled_move(text: &str) -> Option<Move>
     ensures { IfSome result (IsMove text.now) }
 {

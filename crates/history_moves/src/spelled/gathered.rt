@@ -136,9 +136,9 @@ impl<'a> GatheredMembers<'a> {
         }
     }
 
-    /// Takes a member; of a key that came before, the last value stays. False where there are as many
-    /// as a move can have, or the value is of another kind than a move has there; the members are not
-    /// to be used then.
+    /// Takes a member; of a key that came before, the last value stays. False where there are as
+    /// many as a move can have, or the value is of another kind than a move has there; the members
+    /// are not to be used then.
     #[inline(always)]
     pub(crate) fn take(&mut self, key: Key, value: Scalar<'a>) -> bool
         ensures { IsTrue result → Takes self.old (key_text key) (scalar_data value.entry) self.new }

@@ -40,9 +40,9 @@ fn scalar_of<'a>(token: Token<'a>) -> Option<Scalar<'a>>
     }
 }
 
-/// The move that a text is, where it is an object whose values are texts, null and numbers of 64 bits
-/// that are not negative; of a key that comes twice, the last value stays. None also of other texts,
-/// which may be moves, and where the scratch finds no memory.
+/// The move that a text is, where it is an object whose values are texts, null and numbers of 64
+/// bits that are not negative; of a key that comes twice, the last value stays. None also of other
+/// texts, which may be moves, and where the scratch finds no memory.
 pub(crate) fn token_move(text: &str, scratch: &mut Scratch) -> Option<Move>
     ensures { IfSome result (IsMove text.now) }
 {

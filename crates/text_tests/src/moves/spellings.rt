@@ -315,8 +315,8 @@ fn padded(alloc: Global, line: &str, bytes: usize, first: bool) -> Result<Vec<u8
     Ok(padded)
 }
 
-/// Lines on both sides of the longest that a reader keeps room for, and of the longest that it reads
-/// straight from the bytes, and short ones between them.
+/// Lines on both sides of the longest that a reader keeps room for, and of the longest that it
+/// reads straight from the bytes, and short ones between them.
 #[test]
 fn long_lines_and_short_ones(rt: HostRuntime) -> Result<(), Fail> {
     let alloc = rt.alloc();
