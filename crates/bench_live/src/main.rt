@@ -1,146 +1,85 @@
-//! Measures the calls of the live service: thin calls against the bare atomic operations that they
-//! stand for; calls at a fat monitor against thin ones, and of two threads that contend against
-//! those of one; and two threads that hand an object to each other, awake and asleep, against two
-//! that hand on a bare word.
+//! Measures header words, and the calls of the live service.
 //!
-//! With no argument it does 1,000 rounds of the cheapest kinds of work and fewer of the others, and
-//! prints how many succeeded, and whether a timed wait was over. With a number of rounds in place
-//! of the 1,000 it prints the time of a round, in picoseconds of the best of five runs, and the
-//! processor time of a thread that waits for one second.
+//! `words`: pairs of calls on header words, and on the book behind the gate, against the bare
+//! atomic operations that they stand for. `calls`: thin calls of the live service against the bare
+//! atomic operations that they stand for; calls at a fat monitor against thin ones, and of two
+//! threads that contend against those of one; and two threads that hand an object to each other,
+//! awake and asleep, against two that hand on a bare word.
+//!
+//! The first argument is `words` or `calls`; with none, both are measured. With no second one the
+//! program does 1,000 rounds of each kind of work, of the dearer calls fewer, and prints how many
+//! succeeded; of the takes and gives of the gate, how many the book has counted; and whether a
+//! timed wait was over. With a number of rounds in place of the 1,000 it prints the time of a
+//! round, in picoseconds of the best of some runs, and the processor time of a thread that waits
+//! for one second.
 #![tactic(auto)]
 
-mod rounds;
-mod runs;
+mod bare;
+mod calls;
+mod measures;
+mod words;
 
+use calls::report_calls;
 use lock_word::Memory;
-use rounds::{Measure, Work};
-use runs::{doze, measure};
-use std::alloc::Global;
-use std::io::Print;
-use std::marker::Brand;
+use std::alloc::{AllocError, AllocGlobal};
+use std::env::Env;
 use std::num::ParseIntError;
-use std::sync::Wait;
-use std::sync::ledger::Blank;
-use std::thread::Threads;
-use std::time::{Clock, CpuClock, Duration};
 use std::{env, io};
 use thiserror::Error;
+use words::report_words;
 
 /// Why the benchmark was not run to its end.
 #[derive(Debug, Drop, Error)]
 pub enum BenchFault {
     #[error("out of memory")]
     Memory(#[from] Memory),
+    #[error("out of memory for the book or the bare words")]
+    NotAllocated(#[from] AllocError),
     #[error("there are not as many passes as threads")]
     Passes,
-    #[error("the argument is no number of rounds")]
+    #[error("the object or the book is taken, though one pass is there")]
+    Taken,
+    #[error("the first argument is neither words nor calls")]
+    Measured,
+    #[error("the second argument is no number of rounds")]
     Rounds(#[from] ParseIntError),
     #[error("the system: {0}")]
     System(#[from] io::Error),
 }
 
-const RUNS: usize = 5;
-
-// One run of this work.
-fn once<R: Threads + Wait + Clock + Sync>(
-    rt: &R,
-    alloc: Global,
-    work: Work,
-    rounds: u32,
-) -> Result<Measure, BenchFault> {
-    let places = work.places(rounds);
-    measure::<Brand, R>(rt, alloc, Blank::new(2), work, rounds, places)
+// What the program is asked to measure, and the number of rounds, if it is given one.
+struct Asked {
+    words: bool,
+    calls: bool,
+    rounds: Option<u32>,
 }
 
-// The shortest time of a round of this work, in picoseconds.
-fn best<R: Threads + Wait + Clock + Sync>(
-    rt: &R,
-    alloc: Global,
-    work: Work,
-    asked: u32,
-) -> Result<u128, BenchFault> {
-    let rounds = work.rounds(asked);
-    let mut least = u128::MAX;
-    for _ in 0..RUNS {
-        least = least.min(once(rt, alloc, work, rounds)?.time);
-    }
-    Ok(least.saturating_mul(1000) / u128::from(rounds.max(1)))
-}
-
-// One line of the report: counts where no number of rounds was given, and else times.
-fn report<R: Threads + Wait + Clock + Print + Sync>(
-    rt: &R,
-    alloc: Global,
-    name: &str,
-    works: (Work, Work),
-    asked: Option<u32>,
-) -> Result<(), BenchFault> {
-    let (work, base) = works;
-    let Some(asked) = asked else {
-        let ours = once(rt, alloc, work, work.rounds(1_000))?.done;
-        let theirs = once(rt, alloc, base, base.rounds(1_000))?.done;
-        println!(rt; "{name}: {ours}, beside {theirs}")?;
-        return Ok(());
+fn asked<R: AllocGlobal + Env>(rt: &R) -> Result<Asked, BenchFault> {
+    let mut arguments = env::args(rt)?;
+    let (words, calls) = match arguments.nth(1) {
+        None => (true, true),
+        Some(text) if text == "words" => (true, false),
+        Some(text) if text == "calls" => (false, true),
+        Some(_) => return Err(BenchFault::Measured),
     };
-    let ours = best(rt, alloc, work, asked)?;
-    let theirs = best(rt, alloc, base, asked)?;
-    let percent = ours.saturating_mul(100) / theirs.max(1);
-    println!(rt; "{name}: {ours} ps, beside {theirs} ps: {percent} percent")?;
-    Ok(())
-}
-
-// The line of a thread that waits.
-fn report_doze<R: Threads + Wait + Clock + CpuClock + Print + Sync>(
-    rt: &R,
-    alloc: Global,
-    timed: bool,
-) -> Result<(), BenchFault> {
-    let pause = Duration::from_millis(if timed { 1_000 } else { 1 });
-    let used = doze::<Brand, R>(rt, alloc, Blank::new(2), pause)?;
-    match used {
-        Some(nanos) if timed => {
-            println!(rt; "a wait of one second: {nanos} ns of processor time")?;
-        }
-        Some(_) => println!(rt; "a wait is over")?,
-        None => println!(rt; "a wait has another reply")?,
-    }
-    Ok(())
-}
-
-fn main(rt: HostRuntime) -> Result<(), BenchFault> {
-    let alloc = rt.alloc();
-    let asked = match env::args(&rt)?.nth(1) {
+    let rounds = match arguments.next() {
         Some(text) => Some(text.parse::<u32>()?),
         None => None,
     };
-    let rows = [
-        (
-            "first enter and last exit, beside the bare operations",
-            (Work::Lock, Work::BareLock),
-        ),
-        (
-            "nested enter and exit, beside the bare operations",
-            (Work::Nest, Work::BareNest),
-        ),
-        (
-            "enter and exit on a fat monitor, beside a thin pair",
-            (Work::Fat, Work::Lock),
-        ),
-        (
-            "the same by two threads, beside one",
-            (Work::Contend, Work::Fat),
-        ),
-        (
-            "a notify and a wait by each of two, beside a load and a store of a bare word by each",
-            (Work::HandOn, Work::BareHandOn),
-        ),
-        (
-            "the same, both asleep, beside awake",
-            (Work::HandOnAsleep, Work::HandOn),
-        ),
-    ];
-    for (name, works) in rows {
-        report(&rt, alloc, name, works, asked)?;
+    Ok(Asked {
+        words,
+        calls,
+        rounds,
+    })
+}
+
+fn main(rt: HostRuntime) -> Result<(), BenchFault> {
+    let asked = asked(&rt)?;
+    if asked.words {
+        report_words(&rt, rt.alloc(), asked.rounds)?;
     }
-    report_doze(&rt, alloc, asked.is_some())
+    if asked.calls {
+        report_calls(&rt, rt.alloc(), asked.rounds)?;
+    }
+    Ok(())
 }

@@ -2,7 +2,7 @@
 use Rattle.std.proofs.Common.{◌≡◌, ℕ, List, take, subst, ◌∙◌, Option, None, Some}
 use Rattle.std.specs.Prelude.{Result, Ok, Err, OnOk, OnErr, IfSome, IsErrOf}
 use Rattle.std.specs.Io.KnownBytes.{Appends}
-use Rattle.history_streams.specs.declared.faults.FileFault.{FileFault}
+use Rattle.text_streams.specs.declared.faults.FileFault.{FileFault}
 use Rattle.dump.specs.Dumps.{IsDumpOf}
 
 dump_of_left : (left : Option (List ℕ)) (read bytes text : List ℕ) → IfSome left (λ input. read ≡ input) → bytes ≡ read → IsDumpOf bytes text → IfSome left (λ input. IsDumpOf input text)

@@ -1,7 +1,7 @@
 -- The dump of a script: that of the world which its steps lead to.
 use Rattle.std.specs.Prelude.{◌≡◌, ℕ, List}
-use Rattle.history_text.specs.declared.lines.Line.{Line}
-use Rattle.history_text.specs.Lines.{IsScript, script_text}
+use Rattle.script_text.specs.declared.lines.Line.{Line}
+use Rattle.script_text.specs.Lines.{IsScript, script_text}
 use Rattle.step_core.specs.World.{WorldState}
 use Rattle.history.specs.NameLists.{NameLists}
 use Rattle.history.specs.Plays.{IsPlayOf}

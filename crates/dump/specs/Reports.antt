@@ -10,9 +10,9 @@ use Rattle.fat_monitor.specs.Names.{reply_name}
 use Rattle.fast_path.specs.declared.calls.Call.{Call}
 use Rattle.fast_path.specs.declared.calls.Call.TheVariants.{Enter, Exit, Wait, Notify, NotifyAll, Holds, Interrupt}
 use Rattle.fast_path.specs.declared.calls.Call.TheVariants.{Interrupted, IsInterrupted, End}
-use Rattle.history_text.specs.declared.lines.Call.{Call as CallLine}
-use Rattle.history_text.specs.declared.lines.Call.TheVariants as line
-use Rattle.history_text.specs.Lines.{call_words}
+use Rattle.script_text.specs.declared.lines.Call.{Call as CallLine}
+use Rattle.script_text.specs.declared.lines.Call.TheVariants as line
+use Rattle.script_text.specs.Lines.{call_words}
 use Rattle.history.specs.NameLists.{NameLists, name_at}
 use Rattle.step_core.specs.declared.machine.Doing.{Doing}
 use Rattle.step_core.specs.declared.machine.Doing.TheVariants.{Idle, Wants, Waits, Back, Has}

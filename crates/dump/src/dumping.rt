@@ -3,20 +3,20 @@
 ghost use Rattle.std.specs.Prelude.{◌≡◌, ◌<◌, ◌≤◌, ◌⊎◌, ℕ, List, length, string_bytes, take};
 ghost use Rattle.std.specs.Prelude.{IsErrOf, IfSome, OnOk, IfErr, IfOk, Err};
 ghost use Rattle.std.specs.Io.KnownBytes.{Keeps, Appends};
-ghost use Rattle.history_text.specs.Lines.{IsFirstBad};
-ghost use Rattle.history_text.specs.Scripts.{IsReasonFor};
-ghost use Rattle.history_streams.specs.declared.faults.FileFault.TheVariants.{BadLine, BadMove};
-ghost use Rattle.history_streams.specs.declared.faults.FileFault.TheVariants.{Broken};
-ghost use Rattle.history_streams.specs.declared.faults.FileFault.TheVariants.{Read as ReadFault};
-ghost use Rattle.history_streams.specs.declared.faults.FileFault.TheVariants.{Write as WriteFault};
+ghost use Rattle.script_text.specs.Lines.{IsFirstBad};
+ghost use Rattle.script_text.specs.Scripts.{IsReasonFor};
+ghost use Rattle.text_streams.specs.declared.faults.FileFault.TheVariants.{BadLine, BadMove};
+ghost use Rattle.text_streams.specs.declared.faults.FileFault.TheVariants.{Broken};
+ghost use Rattle.text_streams.specs.declared.faults.FileFault.TheVariants.{Read as ReadFault};
+ghost use Rattle.text_streams.specs.declared.faults.FileFault.TheVariants.{Write as WriteFault};
 ghost use Rattle.dump.specs.Dumps.{IsDumpOf};
 
 use crate::reports::report;
 use history::{FileFault, Sink, Source, play_text, read_all};
-use history_streams::write_out;
-use history_text::MOST_BYTES;
 use lock_word::Memory;
+use script_text::MOST_BYTES;
 use std::alloc::Global;
+use text_streams::write_out;
 
 /// Reads a script to its end, plays it, and writes a dump of the world that it leads to.
 ///

@@ -3,7 +3,7 @@
 ghost use Rattle.std.specs.Prelude.{◌≡◌, ◌++◌, ◌∷◌, [], IfOk, OnOk, codes, map, string_bytes};
 ghost use Rattle.std.specs.Prelude.{vec_items};
 ghost use Rattle.std.specs.List.{flat_map, join_with_byte};
-ghost use Rattle.history_text.specs.Lines.{call_words};
+ghost use Rattle.script_text.specs.Lines.{call_words};
 ghost use Rattle.dump.specs.Reports.{IsDump, act_text, cycle_text, cycles_text, deadline_text};
 ghost use Rattle.dump.specs.Reports.{flag_text, line_in, named_call, why_text};
 

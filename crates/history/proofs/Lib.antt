@@ -4,4 +4,4 @@ pub mod Telling
 pub mod Stepping
 pub mod Reporting
 pub mod DigitText
-pub mod SoFar
+pub mod PlanSoFar

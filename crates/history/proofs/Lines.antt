@@ -4,11 +4,11 @@ use Rattle.std.specs.List.{list_all, list_any}
 use Rattle.std.proofs.lemmas.Bool.{and_parts, not-true, ltb-true}
 use Rattle.std.proofs.lemmas.List.{take_more}
 use Rattle.lock_word.specs.declared.Split.{Split}
-use Rattle.history_text.specs.declared.lines.Line.{Line}
-use Rattle.history_text.specs.declared.lines.Line.TheVariants.{World, Object, Step}
-use Rattle.history_text.specs.Lines.{Continues, may_follow, is_object, is_object_named}
-use Rattle.history_text.specs.Noted.{object_names, with_object}
-use Rattle.history_text.proofs.NotedLaws.{any_declared, as_many, names_more}
+use Rattle.script_text.specs.declared.lines.Line.{Line}
+use Rattle.script_text.specs.declared.lines.Line.TheVariants.{World, Object, Step}
+use Rattle.script_text.specs.Lines.{Continues, may_follow, is_object, is_object_named}
+use Rattle.script_text.specs.LinesSoFar.{object_names, with_object}
+use Rattle.script_text.proofs.NotedLaws.{any_declared, as_many, names_more}
 use Rattle.step_core.specs.declared.steps.Request.{Request}
 use Rattle.history.specs.NameLists.{NameLists}
 use Rattle.history.specs.Numbering.{FollowsWorld, MayTake, low_bytes, names_after, names_of, names_then, no_names, requests_after, requests_of, requests_then, with_low}

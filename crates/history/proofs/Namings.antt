@@ -10,7 +10,7 @@ use Rattle.std.proofs.lemmas.Map.Keys.{apart_from_distinct, IsDistinct-tail}
 use Rattle.std.proofs.lemmas.Slice.Eq.{bytes_eq-Decides}
 use Rattle.std.proofs.lemmas.List.Sums.{prefix_len-le-length}
 use Rattle.std.proofs.lemmas.Option.{cond_some}
-use Rattle.history_text.specs.Names.{is_named, position_of, with_name}
+use Rattle.script_text.specs.Names.{is_named, position_of, with_name}
 
 -- the test by which a set finds a name
 abbrev pub is_text : List ℕ → String Global → Bool
@@ -61,15 +61,15 @@ differs_too a b differ = by (bytes_eq b a) refl
     by true same = absurd (false≢true (sym differ ∙ (bytes_eq-Decides a b).1 (sym ((bytes_eq-Decides b a).0 same))))
     by false same = refl
 
--- where no two names are equal, a name stands at no other place than its own
-own_place : (texts : List (String Global)) (n : ℕ) (d : String Global) → IsDistinct string_eq texts → n < length texts
+-- where no two names are equal, a name stands at no other position than its own
+own_position : (texts : List (String Global)) (n : ℕ) (d : String Global) → IsDistinct string_eq texts → n < length texts
     → (n ≡ position_or_len (is_text (string_bytes (get_or texts n d))) texts) × (list_any (is_text (string_bytes (get_or texts n d))) texts ≡ true)
-own_place [] n d apart within = absurd (omega (arith, within))
-own_place (x ∷ xs) zero d apart within =
+own_position [] n d apart within = absurd (omega (arith, within))
+own_position (x ∷ xs) zero d apart within =
     let same = (bytes_eq-Decides (string_bytes x) (string_bytes x)).1 refl in
     (rw same refl, rw same refl)
-own_place (x ∷ xs) (suc n) d apart within =
-    let rest = own_place xs n d (IsDistinct-tail string_eq x xs apart) (omega (arith, within)) in
+own_position (x ∷ xs) (suc n) d apart within =
+    let rest = own_position xs n d (IsDistinct-tail string_eq x xs apart) (omega (arith, within)) in
     let differ = differs_too (string_bytes x) (string_bytes (get_or xs n d)) (apart_from_distinct string_eq (x ∷ xs) 0 (suc n) d apart (omega arith) within) in
     (rw differ (add-one-left n ∙ ap (λ (m : ℕ). 1 + m) rest.0), rw differ rest.1)
   where
@@ -81,5 +81,5 @@ pub hint_is : (name : List ℕ) (texts : List (String Global)) (n : ℕ) (text :
     → bytes_eq (string_bytes text) name ≡ true → (n ≡ position_of (map string_bytes texts) name) × (is_named (map string_bytes texts) name ≡ true)
 hint_is name texts n text apart within there same =
     let P : List ℕ → Type 0 = λ word. (n ≡ position_or_len (is_text word) texts) × (list_any (is_text word) texts ≡ true) in
-    let found = subst P (sym (ap string_bytes there) ∙ (bytes_eq-Decides (string_bytes text) name).0 same) (own_place texts n text apart within) in
+    let found = subst P (sym (ap string_bytes there) ∙ (bytes_eq-Decides (string_bytes text) name).0 same) (own_position texts n text apart within) in
     (found.0 ∙ position_named name texts, sym (any_named name texts) ∙ found.1)

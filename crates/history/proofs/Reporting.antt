@@ -18,7 +18,7 @@ use Rattle.step_core.specs.Requests.{world_then, world_after}
 use Rattle.step_core.specs.World.{WorldState, opening_world}
 use Rattle.history.specs.NameLists.{NameLists}
 use Rattle.history.specs.Histories.{first_world}
-use Rattle.history.specs.Reports.{IsReportOf, Reported, Reports, object_lines, relayout_text, request_text, requests_text, step_text}
+use Rattle.history.specs.Reports.{IsReportOf, ReportsOne, Reports, object_lines, relayout_text, request_text, requests_text, step_text}
 use Rattle.history.specs.declared.plans.Plan.{Plan}
 use Rattle.history.proofs.Stepping.{Plays-none, Plays-one}
 use Rattle.history.proofs.Telling.{Relaid, Stepped}
@@ -34,7 +34,7 @@ requests_text-one (u ∷ ts) names w t =
     ap (λ (l : List ℕ). request_text names w u ++ l) (requests_text-one ts names (world_then w u) t)
     ∙ sym (append_assoc (request_text names w u) (requests_text names (world_then w u) ts) (request_text names (world_after (world_then w u) ts) t))
 
-Reports-one : (names : NameLists) (w v u : WorldState) (rs : List Request) (r : Request) (old mid new : List ℕ) → Reports names w rs v old mid → Reported names v r u mid new
+Reports-one : (names : NameLists) (w v u : WorldState) (rs : List Request) (r : Request) (old mid new : List ℕ) → Reports names w rs v old mid → ReportsOne names v r u mid new
     → Reports names w (rs ++ r ∷ []) u old new
 unfolding Plays-one
 Reports-one names w v u rs r old mid new p one = record {
@@ -46,7 +46,7 @@ Reports-one names w v u rs r old mid new p one = record {
 }
 
 pub Reports-next : (names : NameLists) (w v u : WorldState) (rs : List Request) (i : ℕ) (d : Request) (old mid new : List ℕ) → i < length rs → Reports names w (take i rs) v old mid
-    → Reported names v (get_or rs i d) u mid new → Reports names w (take (i + 1) rs) u old new
+    → ReportsOne names v (get_or rs i d) u mid new → Reports names w (take (i + 1) rs) u old new
 Reports-next names w v u rs i d old mid new within p one = rw (take_more rs i d within) (Reports-one names w v u (take i rs) (get_or rs i d) old mid new p one)
 
 pub Reports-all : (names : NameLists) (w v : WorldState) (rs : List Request) (i : ℕ) (old new : List ℕ) → length rs ≤ i → Reports names w (take i rs) v old new → Reports names w rs v old new
@@ -71,7 +71,7 @@ report_done plan lows w v steps began mid new same opened these none p objects =
 -- ---- one step, and one relayout
 
 step_done : (names : NameLists) (v u : WorldState) (s : Step) (old new : List ℕ) (answer : Result Did Fault) → Stepped v s answer u → Run (shown v) (moves_of answer) (shown u)
-    → new ≡ old ++ step_text names u s answer → (answer ≡ Err fault.Memory → ⊥) → Reported names v (request.Step s) u old new
+    → new ≡ old ++ step_text names u s answer → (answer ≡ Err fault.Memory → ⊥) → ReportsOne names v (request.Step s) u old new
 step_done names v u s old new answer e run text memory = record {
   does = record {
     room = e.0;
@@ -84,13 +84,13 @@ step_done names v u s old new answer e run text memory = record {
 
 pub step_reported : {T F : Type 0} (r : Result T F) (names : NameLists) (v u : WorldState) (asked : Request) (s : Step) (old new : List ℕ) (answer : Result Did Fault) → asked ≡ request.Step s
     → Stepped v s answer u → Run (shown v) (moves_of answer) (shown u) → OnOk r (new ≡ old ++ step_text names u s answer) → OnOk r (answer ≡ Err fault.Memory → ⊥)
-    → OnOk r (Reported names v asked u old new)
+    → OnOk r (ReportsOne names v asked u old new)
 step_reported (Ok x) names v u asked s old new answer is e run text memory =
-    subst (λ (q : Request). Reported names v q u old new) (sym is) (step_done names v u s old new answer e run text memory)
+    subst (λ (q : Request). ReportsOne names v q u old new) (sym is) (step_done names v u s old new answer e run text memory)
 step_reported (Err x) names v u asked s old new answer is e run text memory = tt
 
 relayout_done : (names : NameLists) (v u : WorldState) (s : Split) (old new : List ℕ) (answer : Result ℕ RelayoutFault) → Relaid v s answer u → shown u ≡ shown v
-    → new ≡ old ++ relayout_text s answer → (answer ≡ Err relayout.Memory → ⊥) → Reported names v (request.Relayout s) u old new
+    → new ≡ old ++ relayout_text s answer → (answer ≡ Err relayout.Memory → ⊥) → ReportsOne names v (request.Relayout s) u old new
 relayout_done names v u s old new answer e shows text memory = record {
   does = record {
     room = e.0;
@@ -103,7 +103,7 @@ relayout_done names v u s old new answer e shows text memory = record {
 
 pub relayout_reported : {T F : Type 0} (r : Result T F) (names : NameLists) (v u : WorldState) (asked : Request) (s : Split) (old new : List ℕ) (answer : Result ℕ RelayoutFault)
     → asked ≡ request.Relayout s → Relaid v s answer u → shown u ≡ shown v → OnOk r (new ≡ old ++ relayout_text s answer) → OnOk r (answer ≡ Err relayout.Memory → ⊥)
-    → OnOk r (Reported names v asked u old new)
+    → OnOk r (ReportsOne names v asked u old new)
 relayout_reported (Ok x) names v u asked s old new answer is e shows text memory =
-    subst (λ (q : Request). Reported names v q u old new) (sym is) (relayout_done names v u s old new answer e shows text memory)
+    subst (λ (q : Request). ReportsOne names v q u old new) (sym is) (relayout_done names v u s old new answer e shows text memory)
 relayout_reported (Err x) names v u asked s old new answer is e shows text memory = tt

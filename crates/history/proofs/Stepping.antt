@@ -10,9 +10,9 @@ use Rattle.step_core.specs.World.{WorldState, opening_world}
 use Rattle.history.specs.Histories.{HasMemory, first_world}
 use Rattle.history.specs.Plays.{PlaysOne, Plays, IsPlayOf}
 use Rattle.history.specs.Numbering.{IsWorldWith, low_bytes, names_of, requests_of}
-use Rattle.history_text.specs.Noted.{object_names}
+use Rattle.script_text.specs.LinesSoFar.{object_names}
 use Rattle.history.specs.declared.plans.Plan.{Plan}
-use Rattle.history_text.specs.declared.lines.Line.{Line}
+use Rattle.script_text.specs.declared.lines.Line.{Line}
 use Rattle.history.proofs.Telling.{Run-append, memory-one, moves_after-one, steps_in-append, world_after-one}
 
 unfoldable pub Plays-none : (w : WorldState) → Plays w [] w

@@ -17,10 +17,10 @@ use Rattle.step_core.specs.Step.{AfterStep, step_of, moves_made, moves_of}
 use Rattle.step_core.specs.Relayout.{AfterRelayout, after_relayout}
 use Rattle.step_core.specs.Requests.{world_then, moves_then, moves_after, world_after}
 use Rattle.step_core.specs.World.{WorldState, opening_world}
-use Rattle.history.specs.Histories.{move_text, moves_text, steps_in, objects_text, first_world, HasMemory, HaveMemory, Told, Tells, IsHistoryOf}
+use Rattle.history.specs.Histories.{move_text, moves_text, steps_in, objects_text, first_world, HasMemory, HaveMemory, TellsOne, Tells, IsHistoryOf}
 use Rattle.history.specs.Plans.{IsPlanOf}
 use Rattle.history.specs.declared.plans.Plan.{Plan}
-use Rattle.history_streams.specs.declared.faults.FileFault.{FileFault}
+use Rattle.text_streams.specs.declared.faults.FileFault.{FileFault}
 use Rattle.std.specs.Io.KnownBytes.{Appends}
 
 -- ---- moves
@@ -76,7 +76,7 @@ abbrev pub Stepped : WorldState → Step → Result Did Fault → WorldState →
 Stepped v s answer u = (room : Bool) × (◌≡◌ {A = AfterStep} (record { answer = answer; after = u }) (step_of room v s))
 
 pub told_step : (v u : WorldState) (s : Step) (old new : List ℕ) (answer : Result Did Fault) → Stepped v s answer u → Run (shown v) (moves_of answer) (shown u)
-    → new ≡ old ++ moves_text (moves_of answer) → (answer ≡ Err fault.Memory → ⊥) → Told v (request.Step s) u old new
+    → new ≡ old ++ moves_text (moves_of answer) → (answer ≡ Err fault.Memory → ⊥) → TellsOne v (request.Step s) u old new
 told_step v u s old new answer e run text memory = record {
   room = e.0;
   memory = λ wrong. memory (ap (λ (a : AfterStep). a.answer) e.1 ∙ wrong);
@@ -90,7 +90,7 @@ abbrev pub Relaid : WorldState → Split → Result ℕ RelayoutFault → WorldS
 Relaid v s answer u = (room : Bool) × (◌≡◌ {A = AfterRelayout} (record { answer = answer; after = u }) (after_relayout room v s))
 
 pub told_relayout : (v u : WorldState) (s : Split) (old new : List ℕ) (answer : Result ℕ RelayoutFault) → Relaid v s answer u → shown u ≡ shown v
-    → new ≡ old → (answer ≡ Err relayout.Memory → ⊥) → Told v (request.Relayout s) u old new
+    → new ≡ old → (answer ≡ Err relayout.Memory → ⊥) → TellsOne v (request.Relayout s) u old new
 told_relayout v u s old new answer e shows text memory = record {
   room = e.0;
   memory = λ wrong. memory (ap (λ (a : AfterRelayout). a.answer) e.1 ∙ wrong);
@@ -99,7 +99,7 @@ told_relayout v u s old new answer e shows text memory = record {
   text = text ∙ sym (append-nil old);
 }
 
-pub Tells-one : (w v u : WorldState) (rs : List Request) (r : Request) (old mid new : List ℕ) → Tells w rs v old mid → Told v r u mid new → Tells w (rs ++ r ∷ []) u old new
+pub Tells-one : (w v u : WorldState) (rs : List Request) (r : Request) (old mid new : List ℕ) → Tells w rs v old mid → TellsOne v r u mid new → Tells w (rs ++ r ∷ []) u old new
 Tells-one w v u rs r old mid new t one =
     let moves : moves_then (world_after w t.done) (r, one.room) ≡ moves_then v (r, one.room) = ap (λ (x : WorldState). moves_then x (r, one.room)) (sym t.leads) in
     let all : moves_after w (t.done ++ (r, one.room) ∷ []) ≡ moves_after w t.done ++ moves_then v (r, one.room) =
@@ -118,7 +118,7 @@ Tells-one w v u rs r old mid new t one =
     }
 
 pub Tells-next : (w v u : WorldState) (rs : List Request) (i : ℕ) (d : Request) (old mid new : List ℕ) → i < length rs → Tells w (take i rs) v old mid
-    → Told v (get_or rs i d) u mid new → Tells w (take (i + 1) rs) u old new
+    → TellsOne v (get_or rs i d) u mid new → Tells w (take (i + 1) rs) u old new
 Tells-next w v u rs i d old mid new within t one = rw (take_more rs i d within) (Tells-one w v u (take i rs) (get_or rs i d) old mid new t one)
 
 -- ---- the history of a script

@@ -5,9 +5,9 @@ use Rattle.std.specs.Prelude.{ℕ, List}
 use Rattle.fast_path.specs.declared.calls.Call.{Call}
 use Rattle.fast_path.specs.declared.calls.Call.TheVariants.{Enter, Exit, Wait, Notify, NotifyAll, Holds, Interrupt}
 use Rattle.fast_path.specs.declared.calls.Call.TheVariants.{Interrupted, IsInterrupted, End}
-use Rattle.history_text.specs.declared.lines.Call.{Call as CallLine}
-use Rattle.history_text.specs.declared.lines.Call.TheVariants as line
-use Rattle.history_text.specs.Names.{position_of, with_name}
+use Rattle.script_text.specs.declared.lines.Call.{Call as CallLine}
+use Rattle.script_text.specs.declared.lines.Call.TheVariants as line
+use Rattle.script_text.specs.Names.{position_of, with_name}
 use Rattle.history.specs.NameLists.{NameLists}
 
 abbrev object_in : NameLists → List ℕ → ObjectId

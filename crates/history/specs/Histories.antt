@@ -46,7 +46,7 @@ HaveMemory w (t ∷ ts) = HasMemory w t × HaveMemory (world_then w t) ts
 
 -- It leads from the one world to the other, and its moves, which are a run of the machine, were written behind what
 -- was there.
-pub record Told (w : WorldState) (asked : Request) (v : WorldState) (old new : List ℕ) : Type 0 where
+pub record TellsOne (w : WorldState) (asked : Request) (v : WorldState) (old new : List ℕ) : Type 0 where
   pub room : Bool
   pub memory : HasMemory w (asked, room)
   pub leads : v ≡ world_then w (asked, room)

@@ -5,4 +5,4 @@ pub mod Histories
 pub mod Plans
 pub mod Plays
 pub mod Reports
-pub mod SoFar
+pub mod PlanSoFar

@@ -1,16 +1,16 @@
 -- Lines that are taken one after the other.
 use Rattle.std.specs.Prelude.{◌≡◌, ◌<◌, ℕ, List, [], ◌∷◌, ◌++◌, false, length}
 use Rattle.lock_word.specs.declared.Split.{Split}
-use Rattle.history_text.specs.declared.lines.Line.{Line}
-use Rattle.history_text.specs.declared.lines.Line.TheVariants.{World, Object, Step}
-use Rattle.history_text.specs.Lines.{Continues}
-use Rattle.history_text.specs.declared.lines.StepLine.{StepLine}
-use Rattle.history_text.specs.declared.lines.StepLine.TheVariants as line
+use Rattle.script_text.specs.declared.lines.Line.{Line}
+use Rattle.script_text.specs.declared.lines.Line.TheVariants.{World, Object, Step}
+use Rattle.script_text.specs.Lines.{Continues}
+use Rattle.script_text.specs.declared.lines.StepLine.{StepLine}
+use Rattle.script_text.specs.declared.lines.StepLine.TheVariants as line
 use Rattle.step_core.specs.declared.steps.Request.{Request}
 use Rattle.step_core.specs.declared.steps.Request.TheVariants as request
 use Rattle.step_core.specs.declared.steps.Step.TheVariants as step
 use Rattle.history.specs.Calls.{call_in, names_with, thread_in, with_thread}
-use Rattle.history_text.specs.Names.{is_named, with_name}
+use Rattle.script_text.specs.Names.{is_named, with_name}
 use Rattle.history.specs.NameLists.{NameLists}
 
 -- an object has a new name, and there is room for it

@@ -1,8 +1,8 @@
 -- What a script plays.
 use Rattle.std.specs.Prelude.{◌≡◌, ℕ, List}
-use Rattle.history_text.specs.declared.lines.Line.{Line}
-use Rattle.history_text.specs.Lines.{IsScript, script_text}
-use Rattle.history_text.specs.Noted.{object_names}
+use Rattle.script_text.specs.declared.lines.Line.{Line}
+use Rattle.script_text.specs.Lines.{IsScript, script_text}
+use Rattle.script_text.specs.LinesSoFar.{object_names}
 use Rattle.history.specs.Numbering.{IsWorldWith, low_bytes, names_of, requests_of}
 use Rattle.history.specs.declared.plans.Plan.{Plan}
 

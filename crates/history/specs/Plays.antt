@@ -1,7 +1,7 @@
 -- The world that a script leads to.
 use Rattle.std.specs.Prelude.{◌≡◌, List, Bool}
-use Rattle.history_text.specs.declared.lines.Line.{Line}
-use Rattle.history_text.specs.Noted.{object_names}
+use Rattle.script_text.specs.declared.lines.Line.{Line}
+use Rattle.script_text.specs.LinesSoFar.{object_names}
 use Rattle.step_core.specs.declared.steps.Request.{Request}
 use Rattle.step_core.specs.Machine.{Run}
 use Rattle.step_core.specs.Shown.{shown}

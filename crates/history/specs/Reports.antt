@@ -13,7 +13,7 @@ use Rattle.thread_index.specs.Indices.{index_of}
 use Rattle.fat_monitor.specs.declared.actions.Answer.TheVariants.{Parked, Quiet, Reply as Replied}
 use Rattle.fat_monitor.specs.declared.actions.Reply.{Reply}
 use Rattle.fat_monitor.specs.Names.{action_name, cause_name, reply_name}
-use Rattle.history_text.specs.Lines.{split_name}
+use Rattle.script_text.specs.Lines.{split_name}
 use Rattle.step_core.specs.declared.steps.Atomic.{Atomic}
 use Rattle.step_core.specs.declared.steps.Atomic.TheVariants.{Label, Load, Won, Lost, Stored, Bound, NotBound, Acted}
 use Rattle.step_core.specs.declared.steps.Did.{Did}
@@ -109,7 +109,7 @@ requests_text names w [] = []
 requests_text names w (t ∷ ts) = request_text names w t ++ requests_text names (world_then w t) ts
 
 -- A step or a relayout leads from the one world to the other, and its line was written behind what was there.
-pub record Reported (names : NameLists) (w : WorldState) (asked : Request) (v : WorldState)
+pub record ReportsOne (names : NameLists) (w : WorldState) (asked : Request) (v : WorldState)
     (old new : List ℕ) : Type 0 where
   pub does : PlaysOne w asked v
   pub text : new ≡ old ++ request_text names w (asked, does.room)

@@ -17,28 +17,28 @@ const MOST_HINTS: usize = 65_536;
 /// 2^64 over the golden ratio, as Knuth takes it for multiplicative hashing.
 const MULTIPLIER: u64 = 0x9e37_79b9_7f4a_7c15;
 
-/// What the bytes of a name are mixed to. The upper half tells the name's place in a table of hints,
-/// and the lower half is the mark of the name there.
+/// What the bytes of a name are mixed to. The upper half tells the name's position in a table of
+/// hints, and the lower half is the mark of the name there.
 #[derive(Clone, Copy)]
 pub(crate) struct Mixed(u64);
 
 /// The number of a name, and its mark: a hint of another name mostly has another mark, so that this
 /// is seen without a look at that name.
 #[derive(Clone, Copy)]
-struct Hint {
+struct NameHint {
     number: u32,
     mark: u32,
 }
 
-/// A table that tells the number of a name by what its bytes are mixed to. Each place has the name
-/// that was put there last.
+/// A table that tells the number of a name by what its bytes are mixed to. Each position has the
+/// name that was put there last.
 #[derive(Drop)]
-pub(crate) struct Hints {
-    hints: Vec<Hint>,
+pub(crate) struct NameHints {
+    hints: Vec<NameHint>,
 }
 
-/// Fewer than eight bytes as one number: the first four, the next two and the last one, as far as they
-/// are there.
+/// Fewer than eight bytes as one number: the first four, the next two and the last one, as far as
+/// they are there.
 fn number_of_few(bytes: &[u8]) -> u64 {
     let mut number = 0;
     let mut rest = bytes;
@@ -72,8 +72,8 @@ fn mixed_with(mixed: u64, word: u64) -> u64 {
 }
 
 impl Mixed {
-    /// The length of a name and its bytes, mixed: eight bytes at a time, and where fewer are left the
-    /// last eight again, as many hashes do.
+    /// The length of a name and its bytes, mixed: eight bytes at a time, and where fewer are left
+    /// the last eight again, as many hashes do.
     pub(crate) fn of(name: &str) -> Mixed {
         let bytes = name.as_bytes();
         let mut mixed = bytes.len() as u64;
@@ -89,8 +89,8 @@ impl Mixed {
         Mixed(mixed_with(mixed, number_at_end(bytes)))
     }
 
-    /// The place in a table of so many hints.
-    fn place(self, hints: usize) -> usize {
+    /// The position in a table of so many hints.
+    fn position(self, hints: usize) -> usize {
         ((self.0 >> 32) as usize).wrapping_mul(hints) >> 32
     }
 
@@ -99,10 +99,10 @@ impl Mixed {
     }
 }
 
-impl Hints {
+impl NameHints {
     /// No hint.
-    pub(crate) fn new(alloc: Global) -> Hints {
-        Hints {
+    pub(crate) fn new(alloc: Global) -> NameHints {
+        NameHints {
             hints: Vec::new(alloc),
         }
     }
@@ -112,9 +112,9 @@ impl Hints {
         self.hints.is_empty()
     }
 
-    /// The number of the name that was put at the place of this one last, where it has its mark.
+    /// The number of the name that was put at the position of this one last, where it has its mark.
     pub(crate) fn number(&self, name: Mixed) -> Option<u32> {
-        let hint = self.hints.get(name.place(self.hints.len()))?;
+        let hint = self.hints.get(name.position(self.hints.len()))?;
         if hint.mark == name.mark() {
             Some(hint.number)
         } else {
@@ -122,20 +122,20 @@ impl Hints {
         }
     }
 
-    /// Puts the number of a name at its place, if the place is there.
+    /// Puts the number of a name at its position, if the position is there.
     pub(crate) fn put(&mut self, name: Mixed, number: u32) {
-        let place = name.place(self.hints.len());
-        if let Some(hint) = self.hints.get_mut(place) {
-            *hint = Hint {
+        let position = name.position(self.hints.len());
+        if let Some(hint) = self.hints.get_mut(position) {
+            *hint = NameHint {
                 number,
                 mark: name.mark(),
             };
         }
     }
 
-    /// Puts the number of a name that was added to these. Where the table has few hints for as many,
-    /// a larger one takes its place, if there is memory for one; and where they are more than a
-    /// table may have, the table goes.
+    /// Puts the number of a name that was added to these. Where the table has few hints for as
+    /// many, a larger one takes its place, if there is memory for one; and where they are more than
+    /// a table may have, the table goes.
     pub(crate) fn add(&mut self, alloc: Global, names: &[String], word: &str, number: u32)
         requires { length names.now ≤ 4294967295 }
     {
@@ -144,7 +144,7 @@ impl Hints {
             return;
         }
         if names.len() > self.hints.len() / 2 && self.hints.len() < MOST_HINTS {
-            let larger = Hints::with_names(alloc, names);
+            let larger = NameHints::with_names(alloc, names);
             if let Ok(larger) = larger {
                 *self = larger;
                 return;
@@ -155,16 +155,16 @@ impl Hints {
 
     /// Gives the memory of the table back.
     pub(crate) fn clear(&mut self, alloc: Global) {
-        *self = Hints::new(alloc);
+        *self = NameHints::new(alloc);
     }
 
-    /// A table with these names, with four times as many places where there may be as many.
-    fn with_names(alloc: Global, names: &[String]) -> Result<Hints, AllocError>
+    /// A table with these names, with four times as many positions where there may be as many.
+    fn with_names(alloc: Global, names: &[String]) -> Result<NameHints, AllocError>
         requires { length names.now ≤ 4294967295 }
     {
         let len = (names.len() * 4).clamp(FEWEST_HINTS, MOST_HINTS);
-        let none = Hint { number: 0, mark: 0 };
-        let mut hints = Hints {
+        let none = NameHint { number: 0, mark: 0 };
+        let mut hints = NameHints {
             hints: vec![in alloc; none; len]?,
         };
         'names: for (number, name) in names.iter().enumerate() {

@@ -3,32 +3,32 @@
 ghost use Rattle.std.specs.Prelude.{◌≡◌, ◌≤◌, ◌<◌, ◌⊎◌, ◌++◌, ◌∷◌, [], ℕ, List, Err, IfErr, IfOk};
 ghost use Rattle.std.specs.Prelude.{IfSome, IsErrOf, OnOk, length, take};
 ghost use Rattle.std.specs.Io.KnownBytes.{Keeps, Appends};
-ghost use Rattle.history_text.specs.Lines.{IsFirstBad};
-ghost use Rattle.history_streams.specs.declared.faults.FileFault.TheVariants.{BadLine, BadMove};
-ghost use Rattle.history_streams.specs.declared.faults.FileFault.TheVariants.{Broken};
-ghost use Rattle.history_streams.specs.declared.faults.FileFault.TheVariants.{Read as ReadFault};
-ghost use Rattle.history_streams.specs.declared.faults.FileFault.TheVariants.{Write as WriteFault};
+ghost use Rattle.script_text.specs.Lines.{IsFirstBad};
+ghost use Rattle.text_streams.specs.declared.faults.FileFault.TheVariants.{BadLine, BadMove};
+ghost use Rattle.text_streams.specs.declared.faults.FileFault.TheVariants.{Broken};
+ghost use Rattle.text_streams.specs.declared.faults.FileFault.TheVariants.{Read as ReadFault};
+ghost use Rattle.text_streams.specs.declared.faults.FileFault.TheVariants.{Write as WriteFault};
 ghost use Rattle.step_core.specs.Step.{moves_made, moves_of};
-ghost use Rattle.history_streams.specs.declared.faults.FileFault.TheVariants.{
+ghost use Rattle.text_streams.specs.declared.faults.FileFault.TheVariants.{
   Memory as WantOfMemory,
 };
 ghost use Rattle.step_core.specs.declared.steps.Fault.TheVariants.{Memory as OutOfMemory};
 ghost use Rattle.history.specs.Plans.{IsPlanOf};
 ghost use Rattle.history.specs.declared.plans.Plan.{Plan as PlanData};
-ghost use Rattle.history.specs.Histories.{IsHistoryOf, Tells, Told, first_world, moves_text};
+ghost use Rattle.history.specs.Histories.{IsHistoryOf, Tells, TellsOne, first_world, moves_text};
 ghost use Rattle.history.specs.Histories.{objects_text};
-ghost use Rattle.history_text.specs.Scripts.{IsReasonFor};
+ghost use Rattle.script_text.specs.Scripts.{IsReasonFor};
 ghost use Rattle.step_core.specs.Machine.{opening};
 ghost use Rattle.step_core.specs.Shown.{shown};
 
 use crate::plans::Plan;
 use crate::running::{plan_in, read_all};
 use history_moves::{first_line, push_move};
-use history_streams::{FileFault, Sink, Source, write_out};
-use history_text::MOST_BYTES;
 use lock_word::Memory;
+use script_text::MOST_BYTES;
 use std::alloc::Global;
 use step_core::{Did, Fault, Move, RelayoutFault, Request, World};
+use text_streams::{FileFault, Sink, Source, write_out};
 
 /// Reads a script to its end, plays it, and writes its history: how many objects there are, and a
 /// line for each move that its steps hand out.
@@ -135,7 +135,7 @@ fn tell_steps(world: &mut World, steps: &[Request], history: &mut Vec<u8>) -> Re
 
 /// Does a step, and writes its moves; or a relayout, which has none.
 fn tell(world: &mut World, request: Request, history: &mut Vec<u8>) -> Result<(), Memory>
-    ensures { OnOk result (Told world.old request world.new
+    ensures { OnOk result (TellsOne world.old request world.new
         history.old.items history.new.items) }
 {
     match request {

@@ -15,8 +15,8 @@ mod words;
 
 pub use histories::moves;
 pub use history_check::{one_answer, replay};
-pub use history_streams::{FileFault, ReaderSource, Sink, Source, WriterSink};
-pub use history_text::{Script, print_script, read_script};
 pub use names::Names;
 pub use playing::{play, play_text};
 pub use running::{read_all, run};
+pub use script_text::{Script, print_script, read_script};
+pub use text_streams::{FileFault, ReaderSource, Sink, Source, WriterSink};

@@ -2,13 +2,13 @@
 
 ghost use Rattle.std.specs.Prelude.{◌≡◌, ◌≤◌, ◌++◌, ◌∷◌, [], false, true, length, map};
 ghost use Rattle.std.specs.Prelude.{string_bytes, IfOk, IfSome, MatchOption, OnErr, OnOk};
-ghost use Rattle.history_text.specs.Names.{is_named, position_of, with_name};
+ghost use Rattle.script_text.specs.Names.{is_named, position_of, with_name};
 ghost use Rattle.history.specs.NameLists.{name_at};
 
-use crate::hints::{Hints, Mixed};
-use history_text::{Declared, Name};
+use crate::hints::{Mixed, NameHints};
 use indexmap::IndexSet;
 use lock_word::{Memory, ObjectId, ThreadId};
+use script_text::{Declared, Name};
 use std::alloc::Global;
 use std::marker::Model;
 
@@ -29,7 +29,7 @@ pub struct Names {
 #[derive(Drop)]
 struct NameSet {
     names: IndexSet<String>,
-    hints: Hints,
+    hints: NameHints,
 }
 
 impl Model for Names {
@@ -130,7 +130,7 @@ impl NameSet {
     {
         NameSet {
             names: IndexSet::new(alloc),
-            hints: Hints::new(alloc),
+            hints: NameHints::new(alloc),
         }
     }
 }

@@ -3,18 +3,18 @@
 ghost use Rattle.std.specs.Prelude.{◌≡◌, ◌<◌, ◌≤◌, ◌++◌, ◌∷◌, [], false, length, vec_len, OnOk};
 ghost use Rattle.std.specs.Prelude.{IfOk};
 ghost use Rattle.lock_word.specs.Layout.{greatest_index};
-ghost use Rattle.history_text.specs.Lines.{IsScript};
-ghost use Rattle.history_text.specs.Noted.{object_names, with_object};
+ghost use Rattle.script_text.specs.Lines.{IsScript};
+ghost use Rattle.script_text.specs.LinesSoFar.{object_names, with_object};
 ghost use Rattle.history.specs.Calls.{call_in, names_with};
-ghost use Rattle.history_text.specs.Names.{is_named};
+ghost use Rattle.script_text.specs.Names.{is_named};
 ghost use Rattle.history.specs.Numbering.{FollowsWorld, IsWorldWith, MayTake, low_bytes};
 ghost use Rattle.history.specs.Numbering.{names_in_step, names_of, names_then, no_names};
 ghost use Rattle.history.specs.Numbering.{request_in, requests_of, requests_then, with_low};
 
 use crate::names::Names;
 use fast_path::Call;
-use history_text::{Line, Name, StepLine};
 use lock_word::{Memory, Split};
+use script_text::{Line, Name, StepLine};
 use std::alloc::Global;
 use step_core::{Request, Step};
 
@@ -162,15 +162,15 @@ fn request_of(names: &mut Names, line: &StepLine<'_>) -> Result<Request, Memory>
 
 /// The call that a line has, by the numbers of its names.
 #[inline(always)]
-fn call_of(names: &mut Names, call: &history_text::Call<'_>) -> Result<Call, Memory>
+fn call_of(names: &mut Names, call: &script_text::Call<'_>) -> Result<Call, Memory>
     ensures call { IfOk result (λ c. c ≡ call_in names.old call.now) }
     ensures noted { OnOk result (names.new ≡ names_with names.old call.now) }
     ensures objects { names.new.objects ≡ names.old.objects }
 {
     match call {
-        history_text::Call::Enter(object) => Ok(Call::Enter(names.object(object))),
-        history_text::Call::Exit(object) => Ok(Call::Exit(names.object(object))),
-        history_text::Call::Wait {
+        script_text::Call::Enter(object) => Ok(Call::Enter(names.object(object))),
+        script_text::Call::Exit(object) => Ok(Call::Exit(names.object(object))),
+        script_text::Call::Wait {
             object,
             millis,
             nanos,
@@ -179,15 +179,15 @@ fn call_of(names: &mut Names, call: &history_text::Call<'_>) -> Result<Call, Mem
             millis: *millis,
             nanos: *nanos,
         }),
-        history_text::Call::Notify(object) => Ok(Call::Notify(names.object(object))),
-        history_text::Call::NotifyAll(object) => Ok(Call::NotifyAll(names.object(object))),
-        history_text::Call::Holds(object) => Ok(Call::Holds(names.object(object))),
-        history_text::Call::Interrupt(target) => Ok(Call::Interrupt(names.thread(target)?)),
-        history_text::Call::Interrupted => Ok(Call::Interrupted),
-        history_text::Call::IsInterrupted(target) => {
+        script_text::Call::Notify(object) => Ok(Call::Notify(names.object(object))),
+        script_text::Call::NotifyAll(object) => Ok(Call::NotifyAll(names.object(object))),
+        script_text::Call::Holds(object) => Ok(Call::Holds(names.object(object))),
+        script_text::Call::Interrupt(target) => Ok(Call::Interrupt(names.thread(target)?)),
+        script_text::Call::Interrupted => Ok(Call::Interrupted),
+        script_text::Call::IsInterrupted(target) => {
             Ok(Call::IsInterrupted(names.thread(target)?))
         }
-        history_text::Call::End => Ok(Call::End),
+        script_text::Call::End => Ok(Call::End),
     }
 }
 

@@ -1,10 +1,10 @@
 //! Playing a script, for the world that it leads to.
 
 ghost use Rattle.std.specs.Prelude.{◌≡◌, ◌<◌, List, Err, IfErr, IfOk, OnOk, Some, length};
-ghost use Rattle.history_streams.specs.declared.faults.FileFault.TheVariants.{Memory as WantOfMemory};
-ghost use Rattle.history_text.specs.declared.lines.Line.{Line as LineData};
-ghost use Rattle.history_text.specs.Lines.{IsScript, script_text};
-ghost use Rattle.history_text.specs.Scripts.{IsReasonFor};
+ghost use Rattle.text_streams.specs.declared.faults.FileFault.TheVariants.{Memory as WantOfMemory};
+ghost use Rattle.script_text.specs.declared.lines.Line.{Line as LineData};
+ghost use Rattle.script_text.specs.Lines.{IsScript, script_text};
+ghost use Rattle.script_text.specs.Scripts.{IsReasonFor};
 ghost use Rattle.step_core.specs.declared.steps.Fault.TheVariants.{Memory as OutOfMemory};
 ghost use Rattle.history.specs.Histories.{first_world};
 ghost use Rattle.history.specs.Plays.{PlaysOne, IsPlayOf, Plays};
@@ -12,11 +12,11 @@ ghost use Rattle.history.specs.Plays.{PlaysOne, IsPlayOf, Plays};
 use crate::names::Names;
 use crate::plans::{Plan, plan_of};
 use crate::running::plan_in;
-use history_streams::FileFault;
-use history_text::{MOST_BYTES, Script};
 use lock_word::Memory;
+use script_text::{MOST_BYTES, Script};
 use std::alloc::Global;
 use step_core::{Fault, RelayoutFault, Request, World};
+use text_streams::FileFault;
 
 /// Plays a script: the world behind its last step, with the names of its threads and objects.
 ///
@@ -34,7 +34,7 @@ pub fn play(alloc: Global, script: &Script<'_>) -> Result<(World, Names), FileFa
 /// Plays the script that some bytes are the text of: the world behind its last step, with the names
 /// of its threads and objects. Else a fault tells why there is none.
 ///
-/// It is [`play`] of what [`read_script`](history_text::read_script) answers, with no list of the
+/// It is [`play`] of what [`read_script`](script_text::read_script) answers, with no list of the
 /// lines.
 pub fn play_text(alloc: Global, bytes: &[u8]) -> Result<(World, Names), FileFault>
     ensures played { IfOk result (λ play. (lines : List LineData) × IsScript lines

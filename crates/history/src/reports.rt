@@ -3,7 +3,7 @@
 ghost use Rattle.std.specs.Prelude.{◌≡◌, ◌<◌, ◌++◌, ◌∷◌, [], Err, IfOk, OnOk, codes, decimal};
 ghost use Rattle.std.specs.Prelude.{length, map, string_bytes, unwrap_or, vec_items};
 ghost use Rattle.lock_word.specs.Names.{word_text};
-ghost use Rattle.history_text.specs.Lines.{split_name};
+ghost use Rattle.script_text.specs.Lines.{split_name};
 ghost use Rattle.step_core.specs.Names.{fault_name, fault_number};
 ghost use Rattle.step_core.specs.Names.{relayout_fault_name, relayout_fault_number};
 ghost use Rattle.thread_index.specs.Indices.{index_of};
@@ -12,7 +12,7 @@ ghost use Rattle.history.specs.NameLists.{name_at};
 ghost use Rattle.step_core.specs.Shown.{shown};
 ghost use Rattle.step_core.specs.declared.steps.Fault.TheVariants.{Memory as OutOfMemory};
 ghost use Rattle.step_core.specs.declared.worlds.relayout.RelayoutFault.TheVariants.{Memory as NoMemory};
-ghost use Rattle.history.specs.Reports.{AreEmpty, AreWaitSets, IsAdded, IsReportOf, Reported};
+ghost use Rattle.history.specs.Reports.{AreEmpty, AreWaitSets, IsAdded, IsReportOf, ReportsOne};
 ghost use Rattle.history.specs.Reports.{Reports, atomic_text, did_text, ending_text, exchange_text};
 ghost use Rattle.history.specs.Reports.{more_threads_text, object_lines, object_text, owner_text};
 ghost use Rattle.history.specs.Reports.{relayout_text, shown_word, standing_text, step_text};
@@ -70,7 +70,7 @@ fn put_request(
     world: &mut World,
     request: Request,
 ) -> Result<(), Memory>
-    ensures { OnOk result (Reported names.now world.old request world.new
+    ensures { OnOk result (ReportsOne names.now world.old request world.new
         (string_bytes report.old) (string_bytes report.new)) }
 {
     match request {

@@ -4,26 +4,26 @@ ghost use Rattle.std.specs.Prelude.{◌≡◌, ◌+◌, ◌<◌, ◌≤◌, ◌�
 ghost use Rattle.std.specs.Prelude.{string_bytes};
 ghost use Rattle.std.specs.Prelude.{IfSome, OnOk, OnErr, IfOk, IfErr, Err};
 ghost use Rattle.std.specs.Io.KnownBytes.{Keeps, Appends};
-ghost use Rattle.history_text.specs.Lines.{IsFirstBad};
-ghost use Rattle.history_text.specs.Places.{HasCome};
-ghost use Rattle.history_text.specs.Scripts.{IsReasonFor, IsScriptText};
-ghost use Rattle.history.specs.SoFar.{IsPlanSoFar};
+ghost use Rattle.script_text.specs.Lines.{IsFirstBad};
+ghost use Rattle.script_text.specs.Positions.{HasCome};
+ghost use Rattle.script_text.specs.Scripts.{IsReasonFor, IsScriptText};
+ghost use Rattle.history.specs.PlanSoFar.{IsPlanSoFar};
 ghost use Rattle.history.specs.Plans.{IsPlanOf};
 ghost use Rattle.history.specs.Reports.{IsReportOf};
 ghost use Rattle.history.specs.declared.plans.Plan.{Plan as PlanData};
-ghost use Rattle.history_streams.specs.declared.faults.FileFault.TheVariants.{BadLine, BadMove};
-ghost use Rattle.history_streams.specs.declared.faults.FileFault.TheVariants.{Broken};
-ghost use Rattle.history_streams.specs.declared.faults.FileFault.TheVariants.{Read as ReadFault};
-ghost use Rattle.history_streams.specs.declared.faults.FileFault.TheVariants.{Write as WriteFault};
-ghost use Rattle.history_streams.specs.declared.faults.FileFault.TheVariants.{Memory};
+ghost use Rattle.text_streams.specs.declared.faults.FileFault.TheVariants.{BadLine, BadMove};
+ghost use Rattle.text_streams.specs.declared.faults.FileFault.TheVariants.{Broken};
+ghost use Rattle.text_streams.specs.declared.faults.FileFault.TheVariants.{Read as ReadFault};
+ghost use Rattle.text_streams.specs.declared.faults.FileFault.TheVariants.{Write as WriteFault};
+ghost use Rattle.text_streams.specs.declared.faults.FileFault.TheVariants.{Memory};
 
 use crate::names::Names;
 use crate::plans::Plan;
 use crate::reports::report_of;
-use history_streams::{FileFault, Sink, Source, write_out};
-use history_text::{Line, LineReader, MOST_BYTES, read_script};
+use script_text::{Line, MOST_BYTES, ScriptReader, read_script};
 use std::alloc::Global;
 use std::simd::prelude::*;
+use text_streams::{FileFault, Sink, Source, write_out};
 
 /// How many bytes are read at once.
 const CHUNK: usize = 4096;
@@ -128,7 +128,7 @@ fn plan_as_read(alloc: Global, bytes: &[u8]) -> Result<Plan, FileFault>
     ensures too_long { MOST_BYTES < length bytes.now → result ≡ Err FileFault.Read }
     ensures fault { IfErr result (IsReasonFor bytes.now) }
 {
-    let mut lines = LineReader::new(bytes)?;
+    let mut lines = ScriptReader::new(bytes)?;
     let mut plan = first_plan(alloc, &mut lines, bytes)?;
     let mut is_checked = false;
     'lines: loop {
@@ -168,7 +168,7 @@ fn line_feeds(bytes: &[u8]) -> usize {
 }
 
 /// How many line feeds there are in no more blocks than [`MOST_BLOCKS`]: each lane counts those at its
-/// place.
+/// position.
 fn line_feeds_in(blocks: &[[u8; 16]]) -> usize {
     let mut counts = u8x16::splat(0);
     for block in blocks {
@@ -180,7 +180,7 @@ fn line_feeds_in(blocks: &[[u8; 16]]) -> usize {
 
 /// The world of the first line, without objects and steps. Room is asked for as many steps as these
 /// bytes can have, which are counted only where the first line is right.
-fn first_plan(alloc: Global, lines: &mut LineReader<'_>, bytes: &[u8]) -> Result<Plan, FileFault>
+fn first_plan(alloc: Global, lines: &mut ScriptReader<'_>, bytes: &[u8]) -> Result<Plan, FileFault>
     requires { HasCome lines.old.rest [] [] lines.old }
     ensures plan { IfOk result (λ plan. IsPlanSoFar lines.old.rest plan lines.new) }
     ensures fault { IfErr result (IsReasonFor lines.old.rest) }

@@ -1,8 +1,8 @@
 -- How a check goes on: what stands after more bytes, and which line is the first that is wrong.
 use Rattle.std.proofs.Common.{◌≡◌, ℕ, ◌+◌, ◌<◌, ◌≤◌, List, [], ◌∷◌, ◌++◌, length, true, false, Option, None, Some, is_some, Result, Ok, Err, OnOk, IfErr, MatchResult, ◌-◌, refl, sym, ap, ◌∙◌, subst, arith, inl, inr, ◌⊎◌, append_assoc, append-nil, length-append}
 use Rattle.step_core.specs.declared.machine.Move.{Move}
-use Rattle.history_streams.specs.declared.faults.FileFault.{FileFault}
-use Rattle.history_streams.specs.declared.faults.FileFault.TheVariants.{BadLine, BadMove, Broken, Read, Write, Memory}
+use Rattle.text_streams.specs.declared.faults.FileFault.{FileFault}
+use Rattle.text_streams.specs.declared.faults.FileFault.TheVariants.{BadLine, BadMove, Broken, Read, Write, Memory}
 use Rattle.step_core.specs.Machine.{State, opening, Steps, Run}
 use Rattle.history_moves.specs.Lines.{IsMove}
 use Rattle.history_check.specs.Histories.{NoFeed, IsLine, lines_text, Spell, LeadTo, IsWellFormed, LineLeads, IsRunOf, IsRightSoFar, IsBadMove, Refuses, IsFaultOf}

@@ -4,12 +4,12 @@ use Rattle.std.specs.Io.KnownBytes.{Consumes, Keeps, IsAtEnd}
 use Rattle.std.proofs.lemmas.List.{take_all}
 use Rattle.std.proofs.Math.Seq.{take-append-add}
 use Rattle.step_core.specs.declared.machine.Move.{Move}
-use Rattle.history_streams.specs.declared.faults.FileFault.{FileFault}
-use Rattle.history_streams.specs.declared.faults.FileFault.TheVariants as faults
+use Rattle.text_streams.specs.declared.faults.FileFault.{FileFault}
+use Rattle.text_streams.specs.declared.faults.FileFault.TheVariants as faults
 use Rattle.step_core.specs.Machine.{State}
 use Rattle.history_check.specs.Histories.{IsRightSoFar, IsOpen, IsRunOf, IsFaultOf}
 use Rattle.history_check.specs.Replays.{IsReadAsRun, IsFaulty, IsOpenBefore}
-use Rattle.history_streams.proofs.Pieces.{Consumes-none, Consumes-more}
+use Rattle.text_streams.proofs.Pieces.{Consumes-none, Consumes-more}
 
 -- so many bytes came, and they stand so
 pub record Reads (old new : Option (List ℕ)) (given count : ℕ) (reached : Option State) (line : List ℕ) : Type 0 where

@@ -4,8 +4,8 @@ use Rattle.std.specs.Prelude.{decimal}
 use Rattle.step_core.specs.declared.machine.Move.{Move}
 use Rattle.step_core.specs.Machine.{State, opening, Steps, Run}
 use Rattle.jls_check.specs.Judging.{IsUnlawful}
-use Rattle.history_streams.specs.declared.faults.FileFault.{FileFault}
-use Rattle.history_streams.specs.declared.faults.FileFault.TheVariants.{BadLine, BadMove, Broken, Read, Write, Memory}
+use Rattle.text_streams.specs.declared.faults.FileFault.{FileFault}
+use Rattle.text_streams.specs.declared.faults.FileFault.TheVariants.{BadLine, BadMove, Broken, Read, Write, Memory}
 use Rattle.history_moves.specs.Lines.{IsFirst, IsMove}
 
 -- ---- lines

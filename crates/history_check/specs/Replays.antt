@@ -2,7 +2,7 @@
 use Rattle.std.specs.Prelude.{◌≡◌, ◌⊎◌, ℕ, ◌<◌, ◌≤◌, List, ◌++◌, length, take, Option}
 use Rattle.std.specs.Io.KnownBytes.{Consumes, IsAtEnd}
 use Rattle.step_core.specs.declared.machine.Move.{Move}
-use Rattle.history_streams.specs.declared.faults.FileFault.{FileFault}
+use Rattle.text_streams.specs.declared.faults.FileFault.{FileFault}
 use Rattle.history_check.specs.Histories.{IsRunOf, IsFaultOf, IsOpen}
 
 -- the reader came to its end, and what it gave is a history of so many moves, which are a run

@@ -3,16 +3,16 @@
 ghost use Rattle.std.specs.Prelude.{◌≡◌, ◌<◌, ◌≤◌, ◌+◌, ◌^◌, ◌++◌, ◌∷◌, ◌⊎◌, [], ℕ, List};
 ghost use Rattle.std.specs.Prelude.{length, IfErr, OnOk, IfSome, option_map, MatchOption};
 ghost use Rattle.std.specs.Prelude.{MatchResult};
-ghost use Rattle.history_streams.specs.declared.faults.FileFault.TheVariants.{BadMove, Memory};
+ghost use Rattle.text_streams.specs.declared.faults.FileFault.TheVariants.{BadMove, Memory};
 ghost use Rattle.step_core.specs.declared.machine.Move.{Move as MoveData};
 ghost use Rattle.history_check.specs.Behind.{state_of};
 ghost use Rattle.history_check.specs.Histories.{NoFeed, LineLeads, Refuses, IsRightSoFar, IsRunOf};
 ghost use Rattle.history_check.specs.Histories.{IsFaultOf};
 
-use history_moves::{LineReader, line_first};
-use history_streams::{FileFault, line_end};
+use history_moves::{MoveReader, line_first};
 use jls_check::{Machine, MoveFault};
 use std::alloc::Global;
+use text_streams::{FileFault, line_end};
 
 /// The most bytes of a line, with its line feed.
 const LINE: usize = 4096;
@@ -26,7 +26,7 @@ pub(crate) struct Check {
     // The whole lines.
     count: u64,
     line: Vec<u8>,
-    reader: LineReader,
+    reader: MoveReader,
 }
 
 impl Check {
@@ -40,7 +40,7 @@ impl Check {
             machine: None,
             count: 0,
             line: Vec::new(alloc),
-            reader: LineReader::new(alloc),
+            reader: MoveReader::new(alloc),
         }
     }
 
@@ -179,7 +179,7 @@ impl Check {
 #[tactic(auto, unfolding(crate::specs::Behind::state_of))]
 fn judge(
     alloc: Global,
-    reader: &mut LineReader,
+    reader: &mut MoveReader,
     machine: &mut Option<Machine>,
     line: &[u8],
     number: u64,

@@ -10,5 +10,5 @@
 mod checks;
 mod replaying;
 
-pub use history_streams::{FileFault, ReaderSource, Sink, Source, WriterSink};
 pub use replaying::{MOST_BYTES, one_answer, replay};
+pub use text_streams::{FileFault, ReaderSource, Sink, Source, WriterSink};

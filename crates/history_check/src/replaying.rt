@@ -3,8 +3,8 @@
 ghost use Rattle.std.specs.Prelude.{◌≡◌, ◌⊎◌, ◌++◌, [], ℕ, List, take, option_map, OnOk, IfErr};
 ghost use Rattle.std.specs.Prelude.{MatchResult};
 ghost use Rattle.std.specs.Io.KnownBytes.{Keeps, Appends};
-ghost use Rattle.history_streams.specs.declared.faults.FileFault.TheVariants.{Write as WriteFault};
-ghost use Rattle.history_streams.specs.declared.faults.FileFault.TheVariants.{Memory};
+ghost use Rattle.text_streams.specs.declared.faults.FileFault.TheVariants.{Write as WriteFault};
+ghost use Rattle.text_streams.specs.declared.faults.FileFault.TheVariants.{Memory};
 ghost use Rattle.step_core.specs.declared.machine.Move.{Move as MoveData};
 ghost use Rattle.history_check.specs.Behind.{state_of};
 ghost use Rattle.history_check.specs.Histories.{IsRightSoFar, IsBadMove, IsBroken, IsOpen, IsRunOf};
@@ -12,8 +12,8 @@ ghost use Rattle.history_check.specs.Histories.{run_text};
 ghost use Rattle.history_check.specs.Replays.{IsReadAsRun, IsFaulty};
 
 use crate::checks::Check;
-use history_streams::{FileFault, Sink, Source, write_out};
 use std::alloc::Global;
+use text_streams::{FileFault, Sink, Source, write_out};
 
 /// The most bytes of a history.
 pub const MOST_BYTES: usize = 1_073_741_824;

@@ -9,10 +9,10 @@ use Rattle.history_moves.specs.Moves.{of_number}
 use Rattle.lock_word.specs.declared.ThreadId.{ThreadId}
 use Rattle.history_moves.specs.Members.{count, IsBelow, AreInOrder, text_at, whole_at, signed_of, signed_at, chosen_at}
 use Rattle.history_moves.specs.Words.{Row}
-use Rattle.history_moves.specs.Gathered.{maybe, members_of, rows_of, members_in, nothing, of_text, of_choice, IsCounted, Takes, Fills, lack, scalar_data, short, short_signed, thread_of, choice}
-use Rattle.history_moves.specs.declared.gathered.Gathered.{Gathered}
-use Rattle.history_moves.specs.declared.gathered.Scalar.{Scalar}
-use Rattle.history_moves.specs.declared.gathered.Scalar.TheVariants as scalar
+use Rattle.history_moves.specs.GatheredMembers.{maybe, members_of, rows_of, members_in, nothing, of_text, of_choice, IsCounted, Takes, Fills, lack, scalar_data, short, short_signed, thread_of, choice}
+use Rattle.history_moves.specs.declared.spelled.gathered.GatheredMembers.{GatheredMembers}
+use Rattle.history_moves.specs.declared.spelled.gathered.Scalar.{Scalar}
+use Rattle.history_moves.specs.declared.spelled.gathered.Scalar.TheVariants as scalar
 use Rattle.history_moves.proofs.MemberLaws.{below_all, absent, same_key}
 
 abbrev Rows : Type 0
@@ -117,10 +117,10 @@ count_rows k d (r ∷ rs) n grow = count_row (slice_cmp nat_cmp k r.name) k r.na
 
 -- ---- the rows of a move's keys
 
-sorted : (g : Gathered) → AreSorted (rows_of g)
+sorted : (g : GatheredMembers) → AreSorted (rows_of g)
 sorted g = (refl, (refl, (refl, (refl, (refl, (refl, (refl, (refl, (refl, (refl, (tt, tt)))))))))))
 
-pub in_order : (g : Gathered) → AreInOrder (members_in g)
+pub in_order : (g : GatheredMembers) → AreInOrder (members_in g)
 unfolding members_in
 in_order g = in_order_rows (rows_of g) (sorted g)
 
@@ -132,7 +132,7 @@ pub nothing_counted : IsCounted nothing
 unfolding IsCounted members_in
 nothing_counted = refl
 
-taken : (g h : Gathered) (k : List ℕ) (d : Data) (n : ℕ) → Grow k (rows_of g) n → rows_of h ≡ with_row k d (rows_of g) → h.count ≡ g.count + n → Takes g k d h
+taken : (g h : GatheredMembers) (k : List ℕ) (d : Data) (n : ℕ) → Grow k (rows_of g) n → rows_of h ≡ with_row k d (rows_of g) → h.count ≡ g.count + n → Takes g k d h
 unfolding Takes IsCounted members_in
 taken g h k d n grow rows more = (
   ap members_of rows ∙ sym (put_rows k d (rows_of g) n (sorted g) grow),
@@ -145,73 +145,73 @@ same_lack f (Some a) = refl
 
 -- ---- each key
 
-pub verb_taken : (g : Gathered) (k : List ℕ) (a : Bor (List ℕ)) (v : Option (Bor (List ℕ))) (n : ℕ) → k ≡ codes "call" → Fills g.verb a v g.count n → Takes g k (of_text a) (record { count = n; name = g.name; verb = v; reply = g.reply; cause = g.cause; thread = g.thread; object = g.object; target = g.target; now = g.now; millis = g.millis; nanos = g.nanos; chosen = g.chosen })
+pub verb_taken : (g : GatheredMembers) (k : List ℕ) (a : Bor (List ℕ)) (v : Option (Bor (List ℕ))) (n : ℕ) → k ≡ codes "call" → Fills g.verb a v g.count n → Takes g k (of_text a) (record { count = n; name = g.name; verb = v; reply = g.reply; cause = g.cause; thread = g.thread; object = g.object; target = g.target; now = g.now; millis = g.millis; nanos = g.nanos; chosen = g.chosen })
 verb_taken g k a v n is fills =
     let P : List ℕ → Option (Bor (List ℕ)) → Type 0 = λ l w. Takes g l (of_text a) (record { count = n; name = g.name; verb = w; reply = g.reply; cause = g.cause; thread = g.thread; object = g.object; target = g.target; now = g.now; millis = g.millis; nanos = g.nanos; chosen = g.chosen }) in
     let at : P (codes "call") (Some a) = taken g _ (codes "call") (of_text a) (lack g.verb) (same_lack of_text g.verb) refl fills.1 in
     subst (λ (l : List ℕ). P l v) (sym is) (subst (λ (w : Option (Bor (List ℕ))). P (codes "call") w) (sym fills.0) at)
 
-pub cause_taken : (g : Gathered) (k : List ℕ) (a : Bor (List ℕ)) (v : Option (Bor (List ℕ))) (n : ℕ) → k ≡ codes "cause" → Fills g.cause a v g.count n → Takes g k (of_text a) (record { count = n; name = g.name; verb = g.verb; reply = g.reply; cause = v; thread = g.thread; object = g.object; target = g.target; now = g.now; millis = g.millis; nanos = g.nanos; chosen = g.chosen })
+pub cause_taken : (g : GatheredMembers) (k : List ℕ) (a : Bor (List ℕ)) (v : Option (Bor (List ℕ))) (n : ℕ) → k ≡ codes "cause" → Fills g.cause a v g.count n → Takes g k (of_text a) (record { count = n; name = g.name; verb = g.verb; reply = g.reply; cause = v; thread = g.thread; object = g.object; target = g.target; now = g.now; millis = g.millis; nanos = g.nanos; chosen = g.chosen })
 cause_taken g k a v n is fills =
     let P : List ℕ → Option (Bor (List ℕ)) → Type 0 = λ l w. Takes g l (of_text a) (record { count = n; name = g.name; verb = g.verb; reply = g.reply; cause = w; thread = g.thread; object = g.object; target = g.target; now = g.now; millis = g.millis; nanos = g.nanos; chosen = g.chosen }) in
     let at : P (codes "cause") (Some a) = taken g _ (codes "cause") (of_text a) (lack g.cause) (same_lack of_text g.cause) refl fills.1 in
     subst (λ (l : List ℕ). P l v) (sym is) (subst (λ (w : Option (Bor (List ℕ))). P (codes "cause") w) (sym fills.0) at)
 
-pub chosen_taken : (g : Gathered) (k : List ℕ) (a : Option ℕ) (v : Option (Option ℕ)) (n : ℕ) → k ≡ codes "chosen" → Fills g.chosen a v g.count n → Takes g k (of_choice a) (record { count = n; name = g.name; verb = g.verb; reply = g.reply; cause = g.cause; thread = g.thread; object = g.object; target = g.target; now = g.now; millis = g.millis; nanos = g.nanos; chosen = v })
+pub chosen_taken : (g : GatheredMembers) (k : List ℕ) (a : Option ℕ) (v : Option (Option ℕ)) (n : ℕ) → k ≡ codes "chosen" → Fills g.chosen a v g.count n → Takes g k (of_choice a) (record { count = n; name = g.name; verb = g.verb; reply = g.reply; cause = g.cause; thread = g.thread; object = g.object; target = g.target; now = g.now; millis = g.millis; nanos = g.nanos; chosen = v })
 chosen_taken g k a v n is fills =
     let P : List ℕ → Option (Option ℕ) → Type 0 = λ l w. Takes g l (of_choice a) (record { count = n; name = g.name; verb = g.verb; reply = g.reply; cause = g.cause; thread = g.thread; object = g.object; target = g.target; now = g.now; millis = g.millis; nanos = g.nanos; chosen = w }) in
     let at : P (codes "chosen") (Some a) = taken g _ (codes "chosen") (of_choice a) (lack g.chosen) (same_lack of_choice g.chosen) refl fills.1 in
     subst (λ (l : List ℕ). P l v) (sym is) (subst (λ (w : Option (Option ℕ)). P (codes "chosen") w) (sym fills.0) at)
 
-pub millis_taken : (g : Gathered) (k : List ℕ) (a : ℕ) (v : Option ℕ) (n : ℕ) → k ≡ codes "millis" → Fills g.millis a v g.count n → Takes g k (of_number a) (record { count = n; name = g.name; verb = g.verb; reply = g.reply; cause = g.cause; thread = g.thread; object = g.object; target = g.target; now = g.now; millis = v; nanos = g.nanos; chosen = g.chosen })
+pub millis_taken : (g : GatheredMembers) (k : List ℕ) (a : ℕ) (v : Option ℕ) (n : ℕ) → k ≡ codes "millis" → Fills g.millis a v g.count n → Takes g k (of_number a) (record { count = n; name = g.name; verb = g.verb; reply = g.reply; cause = g.cause; thread = g.thread; object = g.object; target = g.target; now = g.now; millis = v; nanos = g.nanos; chosen = g.chosen })
 millis_taken g k a v n is fills =
     let P : List ℕ → Option ℕ → Type 0 = λ l w. Takes g l (of_number a) (record { count = n; name = g.name; verb = g.verb; reply = g.reply; cause = g.cause; thread = g.thread; object = g.object; target = g.target; now = g.now; millis = w; nanos = g.nanos; chosen = g.chosen }) in
     let at : P (codes "millis") (Some a) = taken g _ (codes "millis") (of_number a) (lack g.millis) (same_lack of_number g.millis) refl fills.1 in
     subst (λ (l : List ℕ). P l v) (sym is) (subst (λ (w : Option ℕ). P (codes "millis") w) (sym fills.0) at)
 
-pub name_taken : (g : Gathered) (k : List ℕ) (a : Bor (List ℕ)) (v : Option (Bor (List ℕ))) (n : ℕ) → k ≡ codes "move" → Fills g.name a v g.count n → Takes g k (of_text a) (record { count = n; name = v; verb = g.verb; reply = g.reply; cause = g.cause; thread = g.thread; object = g.object; target = g.target; now = g.now; millis = g.millis; nanos = g.nanos; chosen = g.chosen })
+pub name_taken : (g : GatheredMembers) (k : List ℕ) (a : Bor (List ℕ)) (v : Option (Bor (List ℕ))) (n : ℕ) → k ≡ codes "move" → Fills g.name a v g.count n → Takes g k (of_text a) (record { count = n; name = v; verb = g.verb; reply = g.reply; cause = g.cause; thread = g.thread; object = g.object; target = g.target; now = g.now; millis = g.millis; nanos = g.nanos; chosen = g.chosen })
 name_taken g k a v n is fills =
     let P : List ℕ → Option (Bor (List ℕ)) → Type 0 = λ l w. Takes g l (of_text a) (record { count = n; name = w; verb = g.verb; reply = g.reply; cause = g.cause; thread = g.thread; object = g.object; target = g.target; now = g.now; millis = g.millis; nanos = g.nanos; chosen = g.chosen }) in
     let at : P (codes "move") (Some a) = taken g _ (codes "move") (of_text a) (lack g.name) (same_lack of_text g.name) refl fills.1 in
     subst (λ (l : List ℕ). P l v) (sym is) (subst (λ (w : Option (Bor (List ℕ))). P (codes "move") w) (sym fills.0) at)
 
-pub nanos_taken : (g : Gathered) (k : List ℕ) (a : ℕ) (v : Option ℕ) (n : ℕ) → k ≡ codes "nanos" → Fills g.nanos a v g.count n → Takes g k (of_number a) (record { count = n; name = g.name; verb = g.verb; reply = g.reply; cause = g.cause; thread = g.thread; object = g.object; target = g.target; now = g.now; millis = g.millis; nanos = v; chosen = g.chosen })
+pub nanos_taken : (g : GatheredMembers) (k : List ℕ) (a : ℕ) (v : Option ℕ) (n : ℕ) → k ≡ codes "nanos" → Fills g.nanos a v g.count n → Takes g k (of_number a) (record { count = n; name = g.name; verb = g.verb; reply = g.reply; cause = g.cause; thread = g.thread; object = g.object; target = g.target; now = g.now; millis = g.millis; nanos = v; chosen = g.chosen })
 nanos_taken g k a v n is fills =
     let P : List ℕ → Option ℕ → Type 0 = λ l w. Takes g l (of_number a) (record { count = n; name = g.name; verb = g.verb; reply = g.reply; cause = g.cause; thread = g.thread; object = g.object; target = g.target; now = g.now; millis = g.millis; nanos = w; chosen = g.chosen }) in
     let at : P (codes "nanos") (Some a) = taken g _ (codes "nanos") (of_number a) (lack g.nanos) (same_lack of_number g.nanos) refl fills.1 in
     subst (λ (l : List ℕ). P l v) (sym is) (subst (λ (w : Option ℕ). P (codes "nanos") w) (sym fills.0) at)
 
-pub now_taken : (g : Gathered) (k : List ℕ) (a : ℕ) (v : Option ℕ) (n : ℕ) → k ≡ codes "now" → Fills g.now a v g.count n → Takes g k (of_number a) (record { count = n; name = g.name; verb = g.verb; reply = g.reply; cause = g.cause; thread = g.thread; object = g.object; target = g.target; now = v; millis = g.millis; nanos = g.nanos; chosen = g.chosen })
+pub now_taken : (g : GatheredMembers) (k : List ℕ) (a : ℕ) (v : Option ℕ) (n : ℕ) → k ≡ codes "now" → Fills g.now a v g.count n → Takes g k (of_number a) (record { count = n; name = g.name; verb = g.verb; reply = g.reply; cause = g.cause; thread = g.thread; object = g.object; target = g.target; now = v; millis = g.millis; nanos = g.nanos; chosen = g.chosen })
 now_taken g k a v n is fills =
     let P : List ℕ → Option ℕ → Type 0 = λ l w. Takes g l (of_number a) (record { count = n; name = g.name; verb = g.verb; reply = g.reply; cause = g.cause; thread = g.thread; object = g.object; target = g.target; now = w; millis = g.millis; nanos = g.nanos; chosen = g.chosen }) in
     let at : P (codes "now") (Some a) = taken g _ (codes "now") (of_number a) (lack g.now) (same_lack of_number g.now) refl fills.1 in
     subst (λ (l : List ℕ). P l v) (sym is) (subst (λ (w : Option ℕ). P (codes "now") w) (sym fills.0) at)
 
-pub object_taken : (g : Gathered) (k : List ℕ) (a : ℕ) (v : Option ℕ) (n : ℕ) → k ≡ codes "object" → Fills g.object a v g.count n → Takes g k (of_number a) (record { count = n; name = g.name; verb = g.verb; reply = g.reply; cause = g.cause; thread = g.thread; object = v; target = g.target; now = g.now; millis = g.millis; nanos = g.nanos; chosen = g.chosen })
+pub object_taken : (g : GatheredMembers) (k : List ℕ) (a : ℕ) (v : Option ℕ) (n : ℕ) → k ≡ codes "object" → Fills g.object a v g.count n → Takes g k (of_number a) (record { count = n; name = g.name; verb = g.verb; reply = g.reply; cause = g.cause; thread = g.thread; object = v; target = g.target; now = g.now; millis = g.millis; nanos = g.nanos; chosen = g.chosen })
 object_taken g k a v n is fills =
     let P : List ℕ → Option ℕ → Type 0 = λ l w. Takes g l (of_number a) (record { count = n; name = g.name; verb = g.verb; reply = g.reply; cause = g.cause; thread = g.thread; object = w; target = g.target; now = g.now; millis = g.millis; nanos = g.nanos; chosen = g.chosen }) in
     let at : P (codes "object") (Some a) = taken g _ (codes "object") (of_number a) (lack g.object) (same_lack of_number g.object) refl fills.1 in
     subst (λ (l : List ℕ). P l v) (sym is) (subst (λ (w : Option ℕ). P (codes "object") w) (sym fills.0) at)
 
-pub reply_taken : (g : Gathered) (k : List ℕ) (a : Bor (List ℕ)) (v : Option (Bor (List ℕ))) (n : ℕ) → k ≡ codes "reply" → Fills g.reply a v g.count n → Takes g k (of_text a) (record { count = n; name = g.name; verb = g.verb; reply = v; cause = g.cause; thread = g.thread; object = g.object; target = g.target; now = g.now; millis = g.millis; nanos = g.nanos; chosen = g.chosen })
+pub reply_taken : (g : GatheredMembers) (k : List ℕ) (a : Bor (List ℕ)) (v : Option (Bor (List ℕ))) (n : ℕ) → k ≡ codes "reply" → Fills g.reply a v g.count n → Takes g k (of_text a) (record { count = n; name = g.name; verb = g.verb; reply = v; cause = g.cause; thread = g.thread; object = g.object; target = g.target; now = g.now; millis = g.millis; nanos = g.nanos; chosen = g.chosen })
 reply_taken g k a v n is fills =
     let P : List ℕ → Option (Bor (List ℕ)) → Type 0 = λ l w. Takes g l (of_text a) (record { count = n; name = g.name; verb = g.verb; reply = w; cause = g.cause; thread = g.thread; object = g.object; target = g.target; now = g.now; millis = g.millis; nanos = g.nanos; chosen = g.chosen }) in
     let at : P (codes "reply") (Some a) = taken g _ (codes "reply") (of_text a) (lack g.reply) (same_lack of_text g.reply) refl fills.1 in
     subst (λ (l : List ℕ). P l v) (sym is) (subst (λ (w : Option (Bor (List ℕ))). P (codes "reply") w) (sym fills.0) at)
 
-pub target_taken : (g : Gathered) (k : List ℕ) (a : ℕ) (v : Option ℕ) (n : ℕ) → k ≡ codes "target" → Fills g.target a v g.count n → Takes g k (of_number a) (record { count = n; name = g.name; verb = g.verb; reply = g.reply; cause = g.cause; thread = g.thread; object = g.object; target = v; now = g.now; millis = g.millis; nanos = g.nanos; chosen = g.chosen })
+pub target_taken : (g : GatheredMembers) (k : List ℕ) (a : ℕ) (v : Option ℕ) (n : ℕ) → k ≡ codes "target" → Fills g.target a v g.count n → Takes g k (of_number a) (record { count = n; name = g.name; verb = g.verb; reply = g.reply; cause = g.cause; thread = g.thread; object = g.object; target = v; now = g.now; millis = g.millis; nanos = g.nanos; chosen = g.chosen })
 target_taken g k a v n is fills =
     let P : List ℕ → Option ℕ → Type 0 = λ l w. Takes g l (of_number a) (record { count = n; name = g.name; verb = g.verb; reply = g.reply; cause = g.cause; thread = g.thread; object = g.object; target = w; now = g.now; millis = g.millis; nanos = g.nanos; chosen = g.chosen }) in
     let at : P (codes "target") (Some a) = taken g _ (codes "target") (of_number a) (lack g.target) (same_lack of_number g.target) refl fills.1 in
     subst (λ (l : List ℕ). P l v) (sym is) (subst (λ (w : Option ℕ). P (codes "target") w) (sym fills.0) at)
 
-pub thread_taken : (g : Gathered) (k : List ℕ) (a : ℕ) (v : Option ℕ) (n : ℕ) → k ≡ codes "thread" → Fills g.thread a v g.count n → Takes g k (of_number a) (record { count = n; name = g.name; verb = g.verb; reply = g.reply; cause = g.cause; thread = v; object = g.object; target = g.target; now = g.now; millis = g.millis; nanos = g.nanos; chosen = g.chosen })
+pub thread_taken : (g : GatheredMembers) (k : List ℕ) (a : ℕ) (v : Option ℕ) (n : ℕ) → k ≡ codes "thread" → Fills g.thread a v g.count n → Takes g k (of_number a) (record { count = n; name = g.name; verb = g.verb; reply = g.reply; cause = g.cause; thread = v; object = g.object; target = g.target; now = g.now; millis = g.millis; nanos = g.nanos; chosen = g.chosen })
 thread_taken g k a v n is fills =
     let P : List ℕ → Option ℕ → Type 0 = λ l w. Takes g l (of_number a) (record { count = n; name = g.name; verb = g.verb; reply = g.reply; cause = g.cause; thread = w; object = g.object; target = g.target; now = g.now; millis = g.millis; nanos = g.nanos; chosen = g.chosen }) in
     let at : P (codes "thread") (Some a) = taken g _ (codes "thread") (of_number a) (lack g.thread) (same_lack of_number g.thread) refl fills.1 in
     subst (λ (l : List ℕ). P l v) (sym is) (subst (λ (w : Option ℕ). P (codes "thread") w) (sym fills.0) at)
 
-pub null_taken : (g : Gathered) (k : List ℕ) (s : Scalar) (v : Option (Option ℕ)) (n : ℕ) → s ≡ scalar.Null → k ≡ codes "chosen" → Fills g.chosen None v g.count n → Takes g k (scalar_data s) (record { count = n; name = g.name; verb = g.verb; reply = g.reply; cause = g.cause; thread = g.thread; object = g.object; target = g.target; now = g.now; millis = g.millis; nanos = g.nanos; chosen = v })
+pub null_taken : (g : GatheredMembers) (k : List ℕ) (s : Scalar) (v : Option (Option ℕ)) (n : ℕ) → s ≡ scalar.Null → k ≡ codes "chosen" → Fills g.chosen None v g.count n → Takes g k (scalar_data s) (record { count = n; name = g.name; verb = g.verb; reply = g.reply; cause = g.cause; thread = g.thread; object = g.object; target = g.target; now = g.now; millis = g.millis; nanos = g.nanos; chosen = v })
 null_taken g k s v n null_is is fills =
     subst (λ (t : Scalar). Takes g k (scalar_data t) (record { count = n; name = g.name; verb = g.verb; reply = g.reply; cause = g.cause; thread = g.thread; object = g.object; target = g.target; now = g.now; millis = g.millis; nanos = g.nanos; chosen = v })) (sym null_is)
     (chosen_taken g k None v n is fills)
@@ -230,43 +230,43 @@ signed_found : (o : Option ℕ) → option_and_then short_signed o ≡ option_an
 signed_found None = refl
 signed_found (Some n) = refl
 
-pub name_in : (g : Gathered) → option_map (λ (s : Bor (List ℕ)). s.now) g.name ≡ text_at (codes "move") (object (members_in g))
+pub name_in : (g : GatheredMembers) → option_map (λ (s : Bor (List ℕ)). s.now) g.name ≡ text_at (codes "move") (object (members_in g))
 unfolding members_in
 name_in g = text_found g.name ∙ ap (option_and_then as_str) (sym (found_rows (codes "move") (rows_of g) (sorted g)))
 
-pub verb_in : (g : Gathered) → option_map (λ (s : Bor (List ℕ)). s.now) g.verb ≡ text_at (codes "call") (object (members_in g))
+pub verb_in : (g : GatheredMembers) → option_map (λ (s : Bor (List ℕ)). s.now) g.verb ≡ text_at (codes "call") (object (members_in g))
 unfolding members_in
 verb_in g = text_found g.verb ∙ ap (option_and_then as_str) (sym (found_rows (codes "call") (rows_of g) (sorted g)))
 
-pub reply_in : (g : Gathered) → option_map (λ (s : Bor (List ℕ)). s.now) g.reply ≡ text_at (codes "reply") (object (members_in g))
+pub reply_in : (g : GatheredMembers) → option_map (λ (s : Bor (List ℕ)). s.now) g.reply ≡ text_at (codes "reply") (object (members_in g))
 unfolding members_in
 reply_in g = text_found g.reply ∙ ap (option_and_then as_str) (sym (found_rows (codes "reply") (rows_of g) (sorted g)))
 
-pub cause_in : (g : Gathered) → option_map (λ (s : Bor (List ℕ)). s.now) g.cause ≡ text_at (codes "cause") (object (members_in g))
+pub cause_in : (g : GatheredMembers) → option_map (λ (s : Bor (List ℕ)). s.now) g.cause ≡ text_at (codes "cause") (object (members_in g))
 unfolding members_in
 cause_in g = text_found g.cause ∙ ap (option_and_then as_str) (sym (found_rows (codes "cause") (rows_of g) (sorted g)))
 
-pub thread_in : (g : Gathered) → g.thread ≡ whole_at (codes "thread") (object (members_in g))
+pub thread_in : (g : GatheredMembers) → g.thread ≡ whole_at (codes "thread") (object (members_in g))
 unfolding members_in
 thread_in g = whole_found g.thread ∙ ap (λ (o : Option Data). option_and_then as_u64 (option_and_then as_number o)) (sym (found_rows (codes "thread") (rows_of g) (sorted g)))
 
-pub object_in : (g : Gathered) → g.object ≡ whole_at (codes "object") (object (members_in g))
+pub object_in : (g : GatheredMembers) → g.object ≡ whole_at (codes "object") (object (members_in g))
 unfolding members_in
 object_in g = whole_found g.object ∙ ap (λ (o : Option Data). option_and_then as_u64 (option_and_then as_number o)) (sym (found_rows (codes "object") (rows_of g) (sorted g)))
 
-pub target_in : (g : Gathered) → g.target ≡ whole_at (codes "target") (object (members_in g))
+pub target_in : (g : GatheredMembers) → g.target ≡ whole_at (codes "target") (object (members_in g))
 unfolding members_in
 target_in g = whole_found g.target ∙ ap (λ (o : Option Data). option_and_then as_u64 (option_and_then as_number o)) (sym (found_rows (codes "target") (rows_of g) (sorted g)))
 
-pub now_in : (g : Gathered) → g.now ≡ whole_at (codes "now") (object (members_in g))
+pub now_in : (g : GatheredMembers) → g.now ≡ whole_at (codes "now") (object (members_in g))
 unfolding members_in
 now_in g = whole_found g.now ∙ ap (λ (o : Option Data). option_and_then as_u64 (option_and_then as_number o)) (sym (found_rows (codes "now") (rows_of g) (sorted g)))
 
-pub millis_in : (g : Gathered) → option_and_then short_signed g.millis ≡ signed_at (codes "millis") (object (members_in g))
+pub millis_in : (g : GatheredMembers) → option_and_then short_signed g.millis ≡ signed_at (codes "millis") (object (members_in g))
 unfolding members_in
 millis_in g = signed_found g.millis ∙ ap (λ (o : Option Data). option_and_then signed_of (option_and_then as_number o)) (sym (found_rows (codes "millis") (rows_of g) (sorted g)))
 
-pub nanos_in : (g : Gathered) → option_and_then short_signed g.nanos ≡ signed_at (codes "nanos") (object (members_in g))
+pub nanos_in : (g : GatheredMembers) → option_and_then short_signed g.nanos ≡ signed_at (codes "nanos") (object (members_in g))
 unfolding members_in
 nanos_in g = signed_found g.nanos ∙ ap (λ (o : Option Data). option_and_then signed_of (option_and_then as_number o)) (sym (found_rows (codes "nanos") (rows_of g) (sorted g)))
 
@@ -283,6 +283,6 @@ chosen_found None = refl
 chosen_found (Some None) = refl
 chosen_found (Some (Some n)) = refl
 
-pub chosen_in : (g : Gathered) → option_and_then choice g.chosen ≡ chosen_at (object (members_in g))
+pub chosen_in : (g : GatheredMembers) → option_and_then choice g.chosen ≡ chosen_at (object (members_in g))
 unfolding members_in chosen_by
 chosen_in g = chosen_found g.chosen ∙ ap chosen_by (sym (found_rows (codes "chosen") (rows_of g) (sorted g)))

@@ -12,12 +12,12 @@ use Rattle.json.proofs.Printed.Numbers.{in_word-ended, lex-number}
 use Rattle.json.proofs.Printed.Decimals.{IsNumber-decimal}
 use Rattle.serde_json.specs.Data.{Members, no_members}
 use Rattle.serde_json.specs.Read.{of_members, converted}
-use Rattle.history_moves.specs.Gathered.{members_in, nothing, IsCounted, Takes, token_data, key_text, scalar_data, scalar_token, BeginsWith}
-use Rattle.history_moves.specs.declared.gathered.Gathered.{Gathered}
-use Rattle.history_moves.specs.declared.gathered.Key.{Key}
-use Rattle.history_moves.specs.declared.gathered.Key.TheVariants as key
-use Rattle.history_moves.specs.declared.gathered.Scalar.{Scalar}
-use Rattle.history_moves.specs.declared.gathered.Scalar.TheVariants as scalar
+use Rattle.history_moves.specs.GatheredMembers.{members_in, nothing, IsCounted, Takes, token_data, key_text, scalar_data, scalar_token, BeginsWith}
+use Rattle.history_moves.specs.declared.spelled.gathered.GatheredMembers.{GatheredMembers}
+use Rattle.history_moves.specs.declared.spelled.gathered.Key.{Key}
+use Rattle.history_moves.specs.declared.spelled.gathered.Key.TheVariants as key
+use Rattle.history_moves.specs.declared.spelled.gathered.Scalar.{Scalar}
+use Rattle.history_moves.specs.declared.spelled.gathered.Scalar.TheVariants as scalar
 use Rattle.history_moves.proofs.GatheredLaws.{nothing_in, nothing_counted}
 use Rattle.history_moves.proofs.TokenLaws.{one_member, no_member_more}
 
@@ -113,7 +113,7 @@ all_of start =
     (members (value 126) (length (punctuate fresh (lex between start))) (punctuate fresh (lex between start)))
 
 -- what stands behind the brace, what is left of it, and the members between
-pub record SoFar (start rest : List ℕ) (g : Gathered) : Type 0 where
+pub record SoFar (start rest : List ℕ) (g : GatheredMembers) : Type 0 where
   pub place : Place
   pub begins : may_begin place ≡ true
   pub fuel : ℕ
@@ -121,7 +121,7 @@ pub record SoFar (start rest : List ℕ) (g : Gathered) : Type 0 where
   pub same : all_of start ≡ converted (λ ms. of_members ms (members_in g)) (members (value 126) fuel (punctuate place (lex between rest)))
   pub counted : IsCounted g
 
-pub begun : (start : List ℕ) (g : Gathered) → g ≡ nothing → SoFar start start g
+pub begun : (start : List ℕ) (g : GatheredMembers) → g ≡ nothing → SoFar start start g
 begun start g none =
     let ts = punctuate fresh (lex between start) in
     let empty : members_in g ≡ no_members = ap members_in none ∙ nothing_in in
@@ -135,13 +135,13 @@ begun start g none =
     }
 
 -- a key and its value, which stand first in what is left
-record Turn (start : List ℕ) (r : List Token) (h : Gathered) : Type 0 where
+record Turn (start : List ℕ) (r : List Token) (h : GatheredMembers) : Type 0 where
   fuel : ℕ
   enough : length r ≤ fuel
   same : all_of start ≡ converted (λ ms. of_members ms (members_in h)) (members (value 126) fuel r)
   counted : IsCounted h
 
-turn : (start rest after : List ℕ) (g h : Gathered) (k : List ℕ) (s : Scalar) (ls : List Lexeme) (r : List Token) → SoFar start rest g
+turn : (start rest after : List ℕ) (g h : GatheredMembers) (k : List ℕ) (s : Scalar) (ls : List Lexeme) (r : List Token) → SoFar start rest g
     → lex between rest ≡ token (json.string k) ∷ colon ∷ lex between after → lex between after ≡ token (scalar_token s) ∷ ls
     → punctuate fresh (token (scalar_token s) ∷ ls) ≡ scalar_token s ∷ r
     → token_data (scalar_token s) ≡ Some (scalar_data s) → Takes g k (scalar_data s) h → Turn start r h
@@ -161,7 +161,7 @@ turn start rest after g h k s ls r so key_is value_is tokens data_is takes =
     }
 
 -- a member with a comma behind it
-pub one_more : (start rest after behind more : List ℕ) (g h : Gathered) (k : List ℕ) (s : Scalar) → SoFar start rest g
+pub one_more : (start rest after behind more : List ℕ) (g h : GatheredMembers) (k : List ℕ) (s : Scalar) → SoFar start rest g
     → lex between rest ≡ token (json.string k) ∷ colon ∷ lex between after → BeginsWith after s behind → lex between behind ≡ comma ∷ lex between more → Takes g k (scalar_data s) h
     → SoFar start more h
 one_more start rest after behind more g h k s so key_is value_is next takes =
@@ -169,7 +169,7 @@ one_more start rest after behind more g h k s so key_is value_is next takes =
     record { place = after_comma; begins = refl; fuel = t.fuel; enough = t.enough; same = t.same; counted = t.counted }
 
 -- the last one
-pub last_one : (start rest after behind : List ℕ) (g h : Gathered) (k : List ℕ) (s : Scalar) → SoFar start rest g
+pub last_one : (start rest after behind : List ℕ) (g h : GatheredMembers) (k : List ℕ) (s : Scalar) → SoFar start rest g
     → lex between rest ≡ token (json.string k) ∷ colon ∷ lex between after → BeginsWith after s behind → lex between behind ≡ token json.end_object ∷ [] → Takes g k (scalar_data s) h
     → (all_of start ≡ Some (members_in h, [])) × IsCounted h
 last_one start rest after behind g h k s so key_is value_is next takes =

@@ -13,8 +13,8 @@ use Rattle.step_core.specs.declared.machine.Move.{Move}
 use Rattle.history_moves.specs.Members.{text_at}
 use Rattle.history_moves.specs.Lines.{IsMove}
 use Rattle.history_moves.specs.Reading.{move_named, move_from}
-use Rattle.history_moves.specs.Gathered.{members_in, IsCounted, token_data}
-use Rattle.history_moves.specs.declared.gathered.Gathered.{Gathered}
+use Rattle.history_moves.specs.GatheredMembers.{members_in, IsCounted, token_data}
+use Rattle.history_moves.specs.declared.spelled.gathered.GatheredMembers.{GatheredMembers}
 use Rattle.history_moves.proofs.Found.{none_some, same_some}
 use Rattle.history_moves.proofs.GatheredLaws.{in_order}
 use Rattle.history_moves.proofs.MoveLaws.{move_takes}
@@ -69,24 +69,24 @@ whole_object (Some p) ms e =
     let parts = both (of_members p.0 no_members) p.1 ms e in
     ap (λ (r : List Token). option_and_then of_json (if_last (tree.object p.0) r)) parts.1 ∙ ap (option_map object) parts.0
 
-pub object_read : (text : List ℕ) (ts : List Token) (g : Gathered) → tokens text ≡ json.begin_object ∷ ts
+pub object_read : (text : List ℕ) (ts : List Token) (g : GatheredMembers) → tokens text ≡ json.begin_object ∷ ts
     → converted (λ ms. of_members ms no_members) (members (value 126) (length ts) ts) ≡ Some (members_in g, []) → read text ≡ Some (object (members_in g))
 object_read text ts g first rest =
     ap (λ (o : Option (tree.Json × List Token)). option_and_then of_json (option_and_then (λ p. if_last p.0 p.1) o)) (ap (value 127) first ∙ value-begin_object 127 ts (omega arith))
     ∙ whole_object (members (value 126) (length ts) ts) (members_in g) rest
 
-pub named_move : (g : Gathered) (name : List ℕ) → IsCounted g → Some name ≡ text_at (codes "move") (object (members_in g))
+pub named_move : (g : GatheredMembers) (name : List ℕ) → IsCounted g → Some name ≡ text_at (codes "move") (object (members_in g))
     → move_named g.count (object (members_in g)) name ≡ move_from (object (members_in g))
 unfolding move_from IsCounted
 named_move g name counted is =
     ap (λ (n : ℕ). move_named n (object (members_in g)) name) counted
     ∙ ap (option_and_then (move_named _ (object (members_in g)))) is
 
-pub nameless : (g : Gathered) → None ≡ text_at (codes "move") (object (members_in g)) → None ≡ move_from (object (members_in g))
+pub nameless : (g : GatheredMembers) → None ≡ text_at (codes "move") (object (members_in g)) → None ≡ move_from (object (members_in g))
 unfolding move_from
 nameless g is = ap (option_and_then (move_named _ (object (members_in g)))) is
 
-pub object_move : (text : List ℕ) (g : Gathered) (o : Option Move) → IsUtf8 text → read text ≡ Some (object (members_in g)) → o ≡ move_from (object (members_in g)) → IfSome o (IsMove text)
+pub object_move : (text : List ℕ) (g : GatheredMembers) (o : Option Move) → IsUtf8 text → read text ≡ Some (object (members_in g)) → o ≡ move_from (object (members_in g)) → IfSome o (IsMove text)
 object_move text g None valid read_is e = tt
 object_move text g (Some m) valid read_is e =
     let takes = move_takes (object (members_in g)) m (in_order g) (sym e) in

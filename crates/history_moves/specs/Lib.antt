@@ -4,4 +4,4 @@ pub mod Words
 pub mod Reading
 pub mod Lines
 pub mod Texts
-pub mod Gathered
+pub mod GatheredMembers

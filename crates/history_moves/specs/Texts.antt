@@ -4,6 +4,7 @@ use Rattle.std.specs.Fmt.{signed_decimal}
 use Rattle.serde_json.specs.Written.{compact_text}
 use Rattle.lock_word.specs.declared.ObjectId.{ObjectId}
 use Rattle.lock_word.specs.declared.ThreadId.{ThreadId}
+use Rattle.fast_path.specs.declared.calls.Call.{Call}
 use Rattle.fast_path.specs.declared.calls.Call.TheVariants as call
 use Rattle.step_core.specs.declared.machine.Move.{Move}
 use Rattle.step_core.specs.declared.machine.Move.TheVariants as move
@@ -37,11 +38,41 @@ abbrev pub IsLong : ℤ → Type 0
 IsLong (pos n) = n < 2 ^ 63
 IsLong (negsuc n) = n < 2 ^ 63
 
--- the milliseconds of a wait, and a moment, are numbers of 64 bits
+-- the milliseconds of a wait are a number of 64 bits
+abbrev pub IsQuickCall : Call → Type 0
+IsQuickCall (call.Enter o) = Unit {0}
+IsQuickCall (call.Exit o) = Unit {0}
+IsQuickCall (call.Wait o millis nanos) = IsLong millis
+IsQuickCall (call.Notify o) = Unit {0}
+IsQuickCall (call.NotifyAll o) = Unit {0}
+IsQuickCall (call.Holds o) = Unit {0}
+IsQuickCall (call.Interrupt u) = Unit {0}
+IsQuickCall call.Interrupted = Unit {0}
+IsQuickCall (call.IsInterrupted u) = Unit {0}
+IsQuickCall call.End = Unit {0}
+
+-- and so is a moment
 abbrev pub IsQuick : Move → Type 0
-IsQuick (move.Call t (call.Wait o millis nanos)) = IsLong millis
+IsQuick (move.Attach t) = Unit {0}
+IsQuick (move.Call t c) = IsQuickCall c
+IsQuick (move.Return t r) = Unit {0}
+IsQuick (move.Lock t) = Unit {0}
+IsQuick (move.Unlock t) = Unit {0}
+IsQuick (move.Illegal t) = Unit {0}
+IsQuick (move.BadArgument t) = Unit {0}
+IsQuick (move.Refuse t c) = Unit {0}
+IsQuick (move.Early t) = Unit {0}
+IsQuick (move.Wait t) = Unit {0}
+IsQuick (move.Notify t u) = Unit {0}
+IsQuick (move.NotifyAll t) = Unit {0}
+IsQuick (move.Interrupt t) = Unit {0}
+IsQuick (move.TestClear t) = Unit {0}
+IsQuick (move.Ask t) = Unit {0}
+IsQuick (move.Expire t) = Unit {0}
+IsQuick (move.Spurious t) = Unit {0}
+IsQuick (move.Relock t) = Unit {0}
+IsQuick (move.End t) = Unit {0}
 IsQuick (move.Time now) = now < 2 ^ 64
-IsQuick _ = Unit {0}
 
 -- the line is the one text of this move
 pub record Reads (line : List ℕ) (m : Move) : Type 0 where

@@ -4,22 +4,34 @@
 //! members of the object that a move is. A value is read as a move exactly where it is such an
 //! object, and a line exactly where it is the text of one; of the many texts of a move, one is
 //! written.
+//!
+//! A line may be read in four ways, which agree where they answer; only the last of them answers
+//! for each line, and tells that one is no move. [`MoveReader::line_move`] decides so, in this
+//! order:
+//!
+//! 1. A line that is just as a move is written is read by `quick`.
+//! 2. Of the others, a line of 4,096 bytes or more, and one that is no UTF-8, is read by `values`.
+//! 3. One of fewer than 512 bytes is read straight from its bytes, by `spelled/bytes.rt`.
+//! 4. One of 512 bytes or more, or with an escape that its bytes did not tell, is read from its
+//!    tokens, by `spelled/tokens.rt`.
+//! 5. What none of these has read is read by `values`: from the value that `serde_json` makes of
+//!    it.
+//!
+//! The free function [`line_move`] takes the first and the last of these ways alone. The members
+//! that a line of another spelling has are gathered in `spelled/gathered.rt`; a move is read from
+//! them, or from a value, by the functions of `values/reading.rt`. `pieces` and `words` have what
+//! the ways share, and `writing` writes moves.
 #![tactic(auto)]
 
-mod bytes;
-mod gathered;
 mod lines;
-mod members;
 mod pieces;
-mod pushing;
 mod quick;
-mod reading;
 mod spelled;
-mod tokens;
+mod values;
 mod words;
 mod writing;
 
-pub use lines::{LineReader, each_line_is_one_move, first_line, line_first, line_move, move_line};
-pub use pushing::push_move;
-pub use reading::{each_value_is_one_move, read_move};
-pub use writing::write_move;
+pub use lines::{MoveReader, each_line_is_one_move, first_line, line_first, line_move, move_line};
+pub use values::reading::{each_value_is_one_move, read_move};
+pub use writing::pushing::push_move;
+pub use writing::values::write_move;

@@ -9,10 +9,10 @@ ghost use Rattle.history_moves.specs.Moves.{data_of, first_data};
 ghost use Rattle.history_moves.specs.Lines.{IsFirst, IsMove, IsTextOf};
 
 use crate::quick::quick_move;
-use crate::reading::{read_first, read_move};
-use crate::spelled::spelled_move;
-use crate::tokens::token_move;
-use crate::writing::{write_first, write_move};
+use crate::spelled::bytes::spelled_move;
+use crate::spelled::tokens::token_move;
+use crate::values::reading::{read_first, read_move};
+use crate::writing::values::{write_first, write_move};
 use json::Scratch;
 use lock_word::Memory;
 use serde_json::Value;
@@ -54,8 +54,8 @@ fn value_of(alloc: Global, line: &[u8]) -> Result<Option<Value>, Memory>
     }
 }
 
-/// The move that a line is, where it is just as [`move_line`] writes it: a quick way for most lines
-/// of a history.
+/// The move that a line is, where it is just as [`move_line`] writes it: the quick way for most
+/// lines of a history.
 fn written_line(line: &[u8]) -> Option<Move>
     ensures { IfSome result (IsMove line.now) }
 {
@@ -64,6 +64,9 @@ fn written_line(line: &[u8]) -> Option<Move>
 
 /// The move that a line is, as serde_json reads a value: with any white space between its tokens,
 /// its keys in any order, and the last one of a key that is written twice.
+///
+/// A line that is not just as a move is written is read by its value. [`MoveReader::line_move`] has
+/// the same answers, and quicker ways for lines of other spellings.
 pub fn line_move(alloc: Global, line: &[u8]) -> Result<Option<Move>, Memory>
     ensures found { IfOk result (λ o. IfSome o (IsMove line.now)) }
     ensures none { IfOk result (λ o. IfNone o ((m : MoveData) → IsMove line.now m → ⊥)) }
@@ -71,14 +74,14 @@ pub fn line_move(alloc: Global, line: &[u8]) -> Result<Option<Move>, Memory>
     if let Some(made) = written_line(line) {
         return Ok(Some(made));
     }
-    value_move(alloc, line)
+    value_line(alloc, line)
 }
 
-/// The move that a line is, by the value that it is the text of. It is kept out of line, so that
-/// the readers of usual lines need no room for it.
+/// The move that a line is, by the value that it is the text of: the one way that answers for each
+/// line. It is kept out of line, so that the readers of usual lines need no room for it.
 #[inline(never)]
 #[tactic(auto, unfolding(crate::specs::Lines::IsMove))]
-fn value_move(alloc: Global, line: &[u8]) -> Result<Option<Move>, Memory>
+fn value_line(alloc: Global, line: &[u8]) -> Result<Option<Move>, Memory>
     ensures found { IfOk result (λ o. IfSome o (IsMove line.now)) }
     ensures none { IfOk result (λ o. IfNone o ((m : MoveData) → IsMove line.now m → ⊥)) }
 {
@@ -88,19 +91,20 @@ fn value_move(alloc: Global, line: &[u8]) -> Result<Option<Move>, Memory>
     }
 }
 
-/// A line of this many bytes or more is read by its value, so that no room is kept for it.
-const LONG: usize = 4096;
+/// A line of this many bytes or more is read by its value, so that no room is kept for its tokens.
+const TOO_LONG_FOR_TOKENS: usize = 4096;
 
-/// A line of this many bytes or more is mostly blanks, and is not read straight from its bytes: the
-/// reader of tokens passes over many blanks at once. Of the shortest moves, with blanks between all
-/// tokens, a line just below takes 6,700 instructions by its bytes, and one above 3,600 by its tokens.
-const MOSTLY_BLANK: usize = 512;
+/// A line of this many bytes or more is not read straight from its bytes: it is mostly blanks, and
+/// the reader of tokens passes over many blanks at once. Of the shortest moves, with blanks between
+/// all tokens, a line just below takes 6,700 instructions by its bytes, and one above 3,600 by its
+/// tokens.
+const TOO_LONG_FOR_BYTES: usize = 512;
 
-/// A reader of lines, which keeps from line to line what it needs for lines that are read from their
-/// tokens, those with an escape and long ones: room for a line below 4,096 bytes, from the first such
-/// line on.
+/// A reader of lines, which keeps from line to line what it needs for lines that are read from
+/// their tokens, those with an escape and long ones: room for a line below 4,096 bytes, from the
+/// first such line on.
 #[derive(Drop)]
-pub struct LineReader {
+pub struct MoveReader {
     alloc: Global,
     scratch: Option<Box<Scratch>>,
 }
@@ -112,16 +116,17 @@ fn new_scratch(alloc: Global) -> Option<Box<Scratch>> {
     Box::new(alloc, Scratch::new(alloc)).ok()
 }
 
-impl LineReader {
+impl MoveReader {
     /// A reader of lines. It asks for no memory yet.
-    pub fn new(alloc: Global) -> LineReader {
-        LineReader {
+    pub fn new(alloc: Global) -> MoveReader {
+        MoveReader {
             alloc,
             scratch: None,
         }
     }
 
-    /// The move that a line is, as [`line_move`] finds it.
+    /// The move that a line is, as the free function [`line_move`] has it; by the ways that the
+    /// head of this crate lists.
     pub fn line_move(&mut self, line: &[u8]) -> Result<Option<Move>, Memory>
         ensures found { IfOk result (λ o. IfSome o (IsMove line.now)) }
         ensures none { IfOk result (λ o. IfNone o ((m : MoveData) → IsMove line.now m → ⊥)) }
@@ -132,21 +137,21 @@ impl LineReader {
         if let Some(made) = self.spelled_line(line) {
             return Ok(Some(made));
         }
-        value_move(self.alloc, line)
+        value_line(self.alloc, line)
     }
 
-    /// The move that a line is, from its bytes or its tokens: a way for most lines of any spelling. A
-    /// line that its bytes do not tell is read from its tokens only where it has an escape or is
+    /// The move that a line is, from its bytes or its tokens: a way for most lines of any spelling.
+    /// A line that its bytes do not tell is read from its tokens only where it has an escape or is
     /// long, since the tokens of hardly any other tell more.
     #[inline(never)]
     fn spelled_line(&mut self, line: &[u8]) -> Option<Move>
         ensures { IfSome result (IsMove line.now) }
     {
-        if line.len() >= LONG {
+        if line.len() >= TOO_LONG_FOR_TOKENS {
             return None;
         }
         let text = str::from_utf8(line).ok()?;
-        if line.len() < MOSTLY_BLANK {
+        if line.len() < TOO_LONG_FOR_BYTES {
             if let Some(made) = spelled_move(text) {
                 return Some(made);
             }
@@ -154,11 +159,11 @@ impl LineReader {
                 return None;
             }
         }
-        self.tokens_move(text)
+        self.token_line(text)
     }
 
-    /// The move that a text is, from its tokens.
-    fn tokens_move(&mut self, text: &str) -> Option<Move>
+    /// The move that a text is, from its tokens. Room for these is made for the first such line.
+    fn token_line(&mut self, text: &str) -> Option<Move>
         ensures { IfSome result (IsMove text.now) }
     {
         if self.scratch.is_none() {

@@ -1,12 +1,14 @@
 //! The pieces of a line, each read from its front.
 
+pub(crate) mod comparing;
+
 ghost use Rattle.std.specs.Prelude.{◌≡◌, ◌+◌, ◌*◌, ◌++◌, ◌∷◌, ◌<◌, ◌^◌, codes, decimal, IfSome, IsTrue};
 ghost use Rattle.std.specs.Fmt.{signed_decimal};
 ghost use Rattle.history_moves.specs.Moves.{FitsInt};
 ghost use Rattle.history_moves.specs.Texts.{IsLong, thread_text};
 
-use crate::bytes::same_bytes;
-use crate::members::{short_signed, small_signed};
+use crate::pieces::comparing::same_bytes;
+use crate::values::members::{short_signed, small_signed};
 use lock_word::ThreadId;
 
 /// Where a number that has one more digit may no longer fit 64 bits.

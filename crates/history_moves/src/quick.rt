@@ -3,7 +3,7 @@
 ghost use Rattle.std.specs.Prelude.{◌≡◌, ◌++◌, codes, IfSome};
 ghost use Rattle.history_moves.specs.Texts.{Reads};
 
-use crate::bytes::same_bytes;
+use crate::pieces::comparing::same_bytes;
 use crate::pieces::{
     behind, is_end, number_in, signed_in, small_number_in, small_signed_in, thread_in, word_in,
 };

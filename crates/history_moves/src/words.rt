@@ -7,7 +7,7 @@ ghost use Rattle.fat_monitor.specs.Names.{cause_name};
 ghost use Rattle.history_moves.specs.Words.{among, object_calls, target_calls, bare_calls};
 ghost use Rattle.history_moves.specs.Words.{short_replies, causes, plain_from};
 
-use crate::bytes::same_bytes;
+use crate::pieces::comparing::same_bytes;
 use fast_path::Call;
 use fat_monitor::{Cause, Reply};
 use lock_word::{ObjectId, ThreadId};

@@ -1,6 +1,6 @@
 -- Why a live script was not run to its end.
 use Rattle.std.specs.Prelude.{◌≡◌, ℕ, List}
-use Rattle.history_streams.specs.declared.faults.FileFault.TheVariants as faults
+use Rattle.text_streams.specs.declared.faults.FileFault.TheVariants as faults
 use Rattle.live_scripts.specs.Rules.{IsLiveReasonFor}
 use Rattle.live_runs.specs.declared.faults.RunFault.{RunFault}
 use Rattle.live_runs.specs.declared.faults.RunFault.TheVariants.{File, Torn}

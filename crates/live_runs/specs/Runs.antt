@@ -4,10 +4,10 @@ use Rattle.std.specs.List.{All}
 use Rattle.std.specs.declared.alloc.Global.{Global}
 use Rattle.fat_monitor.specs.declared.actions.Reply.{Reply}
 use Rattle.fast_path.specs.declared.calls.Call.{Call}
-use Rattle.history_text.specs.declared.lines.Line.{Line}
-use Rattle.history_text.specs.Lines.{script_text}
+use Rattle.script_text.specs.declared.lines.Line.{Line}
+use Rattle.script_text.specs.Lines.{script_text}
 use Rattle.header_words.specs.Passes.{Opening, new_passes}
-use Rattle.live_scripts.specs.Rules.{IsLiveScript, attached}
+use Rattle.live_scripts.specs.Rules.{IsLiveScript, attached_threads}
 use Rattle.live_scripts.specs.Plans.{calls_of, lows_of, monitors_in, objects_of}
 use Rattle.live_turns.specs.declared.closed.Closed.{Closed}
 use Rattle.live_book.specs.declared.faults.LiveFault.{LiveFault}
@@ -16,7 +16,7 @@ use Rattle.live_turns.specs.Ways.{Holding, new_holding}
 use Rattle.live_threads.specs.declared.driving.Worked.{Worked}
 use Rattle.live_threads.specs.Driving.{Answered}
 use Rattle.live_threads.specs.Ends.{at_rest}
-use Rattle.live_text.specs.Texts.{live_text}
+use Rattle.live_runs.specs.Texts.{live_text}
 
 -- a worker: what its pass had, its calls, what they came to, whether it was stopped, and what its pass has then
 pub record Worker : Type 0 where
@@ -48,11 +48,11 @@ told_in_row w = (vec_items w.0, w.1)
 pub record IsLiveRun (ls : List Line) (text : List ℕ) : Type 0 where
   pub opening : Opening
   pub lows : opening.lows ≡ lows_of ls
-  pub count : opening.count ≡ length (attached ls)
+  pub count : opening.count ≡ length (attached_threads ls)
   pub workers : List Worker
   pub starts : map (λ (w : Worker). w.before) workers ≡ map new_holding (new_passes opening 1 opening.count)
   pub calls : map (λ (w : Worker). w.calls) workers
-      ≡ map (λ t. calls_of (objects_of ls) (attached ls) t ls) (attached ls)
+      ≡ map (λ t. calls_of (objects_of ls) (attached_threads ls) t ls) (attached_threads ls)
   pub worked : All (HasWorked opening) workers
   pub closed : Closed
   pub end : IsEnd opening (monitors_in ls) (map (λ (w : Worker). at_rest w.after) workers) closed

@@ -1,8 +1,8 @@
 //! Why a live script was not run to its end.
 
-use history_streams::FileFault;
 use lock_word::Memory;
 use std::alloc::AllocError;
+use text_streams::FileFault;
 use thiserror::Error;
 
 /// Why a live script was not run to its end.

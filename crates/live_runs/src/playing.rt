@@ -2,9 +2,9 @@
 
 ghost use Rattle.std.specs.Prelude.{◌≡◌, All, IfOk, IfErr, length, map, string_bytes, vec_items};
 ghost use Rattle.header_words.specs.Passes.{new_passes};
-ghost use Rattle.live_scripts.specs.Planned.{IsPlanOf};
+ghost use Rattle.live_scripts.specs.LivePlans.{IsPlanOf};
 ghost use Rattle.live_scripts.specs.Plans.{calls_of, lows_of, monitors_in, objects_of};
-ghost use Rattle.live_scripts.specs.Rules.{IsLiveScript, attached};
+ghost use Rattle.live_scripts.specs.Rules.{IsLiveScript, attached_threads};
 ghost use Rattle.live_turns.specs.Ends.{IsEnd};
 ghost use Rattle.live_turns.specs.Numbers.{HasEach};
 ghost use Rattle.live_turns.specs.Ways.{new_holding};
@@ -13,10 +13,9 @@ ghost use Rattle.live_runs.specs.Faults.{IsOfRun};
 ghost use Rattle.live_runs.specs.Runs.{IsLiveRun};
 
 use crate::RunFault;
+use crate::texts::live_text;
 use crate::works::{taken_apart, works_of};
-use history_streams::FileFault;
 use live_scripts::{LivePlan, LiveScript, plan_of};
-use live_text::live_text;
 use live_threads::{Gate, Live, LiveClose, LivePass, Work, drive};
 use live_turns::{Closed, Crew};
 use std::alloc::Global;
@@ -25,6 +24,7 @@ use std::sync::Wait;
 use std::sync::ledger::Blank;
 use std::thread::Threads;
 use std::time::Clock;
+use text_streams::FileFault;
 
 /// How many deeds the record of a run has room for.
 const PLACES: u32 = 65_536;
@@ -101,14 +101,14 @@ fn drive_all<L: Crew + Send + Sync, R: Threads + Wait + Clock + Sync>(
 ) -> Result<String, RunFault>
     requires script { IsLiveScript script.now }
     requires lows { live.lows ≡ lows_of script.now }
-    requires threads { live.count ≡ length (attached script.now) }
+    requires threads { live.count ≡ length (attached_threads script.now) }
     requires crew { (L.parts ≡ live.count) × (L.passes ≡ live.count)
         × (L.monitors ≡ monitors_in script.now) }
     requires passes { map (λ w. w.pass) works.items
         ≡ map new_holding (new_passes live 1 live.count) }
     requires calls { map (λ w. vec_items w.calls) works.items
-        ≡ map (λ t. calls_of (objects_of script.now) (attached script.now) t script.now)
-        (attached script.now) }
+        ≡ map (λ t. calls_of (objects_of script.now) (attached_threads script.now) t script.now)
+        (attached_threads script.now) }
     ensures run { IfOk result (λ text. IsLiveRun script.now (string_bytes text)) }
     ensures fault { IfErr result IsOfRun }
 {

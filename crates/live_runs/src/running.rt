@@ -4,10 +4,10 @@ ghost use Rattle.std.specs.Prelude.{◌≡◌, ◌<◌, ◌≤◌, ◌⊎◌, �
 ghost use Rattle.std.specs.Prelude.{IsErrOf, IfSome, OnOk, IfErr, IfOk, Err};
 ghost use Rattle.std.specs.Io.KnownBytes.{Keeps, Appends};
 ghost use Rattle.live_scripts.specs.Rules.{IsFirstBadLive};
-ghost use Rattle.history_streams.specs.declared.faults.FileFault.TheVariants.{BadLine, BadMove};
-ghost use Rattle.history_streams.specs.declared.faults.FileFault.TheVariants.{Broken};
-ghost use Rattle.history_streams.specs.declared.faults.FileFault.TheVariants.{Read as ReadFault};
-ghost use Rattle.history_streams.specs.declared.faults.FileFault.TheVariants.{Write as WriteFault};
+ghost use Rattle.text_streams.specs.declared.faults.FileFault.TheVariants.{BadLine, BadMove};
+ghost use Rattle.text_streams.specs.declared.faults.FileFault.TheVariants.{Broken};
+ghost use Rattle.text_streams.specs.declared.faults.FileFault.TheVariants.{Read as ReadFault};
+ghost use Rattle.text_streams.specs.declared.faults.FileFault.TheVariants.{Write as WriteFault};
 ghost use Rattle.live_runs.specs.declared.faults.RunFault.TheVariants.{File};
 ghost use Rattle.live_runs.specs.Faults.{IsRunReason};
 ghost use Rattle.live_runs.specs.Runs.{IsTextOfRun};
@@ -15,13 +15,13 @@ ghost use Rattle.live_runs.specs.Runs.{IsTextOfRun};
 use crate::RunFault;
 use crate::playing::run_script;
 use history::read_all;
-use history_streams::{Sink, Source, write_out};
-use history_text::MOST_BYTES;
 use live_scripts::read_live;
+use script_text::MOST_BYTES;
 use std::alloc::Global;
 use std::sync::Wait;
 use std::thread::Threads;
 use std::time::Clock;
+use text_streams::{Sink, Source, write_out};
 
 /// Reads a live script to its end, runs it, and writes what came of it.
 ///

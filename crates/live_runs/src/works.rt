@@ -14,8 +14,8 @@ use std::alloc::Global;
 /// What the calls of a worker came to, and whether it was stopped.
 pub(crate) type Told = (Vec<Result<Reply, LiveFault>>, bool);
 
-#[tactic(auto, using(live_threads::proofs::Drives::moved_on))]
 /// A work for each pass, with the calls at its position.
+#[tactic(auto, using(live_threads::proofs::Drives::moved_on))]
 pub(crate) fn works_of<L: Crew>(
     alloc: Global,
     mut passes: Vec<LivePass<L>>,
@@ -45,8 +45,8 @@ fn last_of<T>(items: &mut Vec<T>) -> Option<T>
     items.pop()
 }
 
-#[tactic(auto, using(live_turns::proofs::Rows::moved_over))]
 /// The passes of these works, and what their calls came to.
+#[tactic(auto, using(live_turns::proofs::Rows::moved_over))]
 pub(crate) fn taken_apart<L: Crew>(
     alloc: Global,
     mut worked: Vec<Worked<L>>,

@@ -2,8 +2,8 @@
 use Rattle.std.proofs.Common.{◌≡◌, ℕ, suc, ◌+◌, ◌<◌, List, [], ◌∷◌, ◌++◌, length, take, get_or, map, Bor, refl, sym, ap, ◌∙◌, append-nil, append_assoc}
 use Rattle.std.proofs.lemmas.List.{take_more}
 use Rattle.fast_path.specs.declared.calls.Call.{Call}
-use Rattle.history_text.specs.declared.lines.Line.{Line}
-use Rattle.live_scripts.specs.Rules.{attached}
+use Rattle.script_text.specs.declared.lines.Line.{Line}
+use Rattle.live_scripts.specs.Rules.{attached_threads}
 use Rattle.live_scripts.specs.Plans.{calls_in, calls_of, objects_in, objects_of, lows_in, lows_of}
 
 -- one line more of what lines give together
@@ -45,10 +45,10 @@ pub length_map : {X : Type 0} {Y : Type 0} (f : X → Y) (xs : List X) → lengt
 length_map f [] = refl
 length_map f (x ∷ xs) = ap suc (length_map f xs)
 
-pub rows_all : (objects threads : List (Bor (List ℕ))) (ls other : List Line) → map (λ t. t.now) objects ≡ objects_of ls → map (λ t. t.now) threads ≡ attached ls → ls ≡ other
-    → map (λ t. calls_of (map (λ t. t.now) objects) (map (λ t. t.now) threads) t.now ls) threads ≡ map (λ t. calls_of (objects_of other) (attached other) t other) (attached other)
+pub rows_all : (objects threads : List (Bor (List ℕ))) (ls other : List Line) → map (λ t. t.now) objects ≡ objects_of ls → map (λ t. t.now) threads ≡ attached_threads ls → ls ≡ other
+    → map (λ t. calls_of (map (λ t. t.now) objects) (map (λ t. t.now) threads) t.now ls) threads ≡ map (λ t. calls_of (objects_of other) (attached_threads other) t other) (attached_threads other)
 rows_all objects threads ls other os ts same =
     map_now (λ t. calls_of (map (λ t. t.now) objects) (map (λ t. t.now) threads) t ls) threads
     ∙ ap (λ (ns : List (List ℕ)). map (λ t. calls_of ns (map (λ t. t.now) threads) t ls) (map (λ t. t.now) threads)) os
     ∙ ap (λ (ns : List (List ℕ)). map (λ t. calls_of (objects_of ls) ns t ls) ns) ts
-    ∙ ap (λ (l : List Line). map (λ t. calls_of (objects_of l) (attached l) t l) (attached l)) same
+    ∙ ap (λ (l : List Line). map (λ t. calls_of (objects_of l) (attached_threads l) t l) (attached_threads l)) same

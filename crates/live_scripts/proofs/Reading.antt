@@ -3,10 +3,10 @@ use Rattle.std.proofs.Common.{◌≡◌, ℕ, zero, suc, ◌+◌, ◌<◌, ◌�
 use Rattle.std.specs.List.{join_with_byte}
 use Rattle.std.proofs.lemmas.Bool.{both_ways}
 use Rattle.std.proofs.lemmas.List.Splits.{join_with_byte-slice_split}
-use Rattle.history_text.specs.declared.lines.Line.{Line}
-use Rattle.history_text.specs.Lines.{Fits, Continues, IsScript, IsBeginning, line_text, may_follow, next_from, parts_of, script_text, lines_from}
-use Rattle.history_text.proofs.ScriptLaws.{lines_again, next_again, parts_of_line, script_text-append}
-use Rattle.live_scripts.specs.Rules.{IsFirstBadLive, IsLiveScript, Runs, attached, may_run}
+use Rattle.script_text.specs.declared.lines.Line.{Line}
+use Rattle.script_text.specs.Lines.{Fits, Continues, IsScript, IsBeginning, line_text, may_follow, next_from, parts_of, script_text, lines_from}
+use Rattle.script_text.proofs.ScriptLaws.{lines_again, next_again, parts_of_line, script_text-append}
+use Rattle.live_scripts.specs.Rules.{IsFirstBadLive, IsLiveScript, Runs, attached_threads, may_run}
 use Rattle.live_scripts.specs.Running.{IsRunning}
 
 -- ---- what stands at the front of equal bytes
@@ -90,7 +90,7 @@ no_line z more p e = omega (arith, ap length e, length-append (script_text (z �
 nothing_there : (bs : List ℕ) (n : ℕ) (b : IsFirstBadLive bs n) (ls : List Line) → IsLiveScript ls → b.before ≡ ls → b.rest ≡ [] → ⊥
 nothing_there bs n b ls live same none = elim b.there [
   | inl some ↦ omega (arith, some, ap length none)
-  | inr no_thread ↦ omega (arith, live.2, ap (λ (l : List Line). length (attached l)) same, ap length no_thread)
+  | inr no_thread ↦ omega (arith, live.2, ap (λ (l : List Line). length (attached_threads l)) same, ap length no_thread)
 ]
 
 pub bad_no_live : (bs : List ℕ) (n : ℕ) (ls : List Line) → IsFirstBadLive bs n → IsLiveScript ls → bs ≡ script_text ls → ⊥
@@ -116,7 +116,7 @@ take_all ls n e = ap (λ (k : ℕ). take k ls) e ∙ all ls
     all [] = refl
     all (x ∷ xs) = ap (λ (l : List Line). x ∷ l) (all xs)
 
-some_lines : (ls : List Line) → 0 < length (attached ls) → 0 < length ls
+some_lines : (ls : List Line) → 0 < length (attached_threads ls) → 0 < length ls
 some_lines [] some = some
 some_lines (l ∷ ls) some = omega arith
 
@@ -128,7 +128,7 @@ pub live_found : (bytes rest : List ℕ) (ls : List Line) (n : ℕ) (threads : L
     → IsLiveScript ls × (bytes ≡ script_text ls)
 live_found bytes rest ls n threads b r whole none some =
     let all = take_all ls n whole in
-    let has : 0 < length (attached ls) = subst (λ (l : List (List ℕ)). 0 < length l) (r.attached ∙ ap attached all) some in
+    let has : 0 < length (attached_threads ls) = subst (λ (l : List (List ℕ)). 0 < length l) (r.attached ∙ ap attached_threads all) some in
     (((some_lines ls has, b.right), subst (Runs []) all r.runs, has), b.parts ∙ ap (λ (p : List ℕ). script_text ls ++ p) (no_bytes rest none) ∙ append-nil (script_text ls))
 
 continues_front : (xs ys earlier : List Line) → Continues earlier (xs ++ ys) → Continues earlier xs
@@ -156,7 +156,7 @@ front_back (l ∷ ls) zero = refl
 front_back (l ∷ ls) (suc n) = ap (λ (xs : List Line). l ∷ xs) (front_back ls n)
 
 bad_at : (bytes rest : List ℕ) (ls before more : List Line) → IsBeginning bytes ls rest → before ++ more ≡ ls → Runs [] before → Stuck before more
-    → (0 < length more ⊎ (0 < length rest ⊎ attached before ≡ [])) → IsFirstBadLive bytes (length before + 1)
+    → (0 < length more ⊎ (0 < length rest ⊎ attached_threads before ≡ [])) → IsFirstBadLive bytes (length before + 1)
 bad_at bytes rest ls before [] b same runs stuck there =
     let all = sym (append-nil before) ∙ same in
     record {
@@ -205,7 +205,7 @@ live_bad bytes rest ls n threads b r left =
     subst (λ (k : ℕ). IsFirstBadLive bytes (k + 1)) (length_take ls n r.within)
     (bad_at bytes rest ls (take n ls) (drop n ls) b (front_back ls n) r.runs (stuck_from ls n threads r) (there left))
   where
-    there : Left ls rest n threads → 0 < length (drop n ls) ⊎ (0 < length rest ⊎ attached (take n ls) ≡ [])
+    there : Left ls rest n threads → 0 < length (drop n ls) ⊎ (0 < length rest ⊎ attached_threads (take n ls) ≡ [])
     there (inl more) = inl (length_drop ls n more)
     there (inr (inl some)) = inr (inl some)
     there (inr (inr none)) = inr (inr (sym r.attached ∙ none))

@@ -2,4 +2,4 @@ pub mod Rules
 pub mod Running
 pub mod Reading
 pub mod Plans
-pub mod Planned
+pub mod LivePlans

@@ -6,13 +6,13 @@ use Rattle.lock_word.specs.declared.ThreadId.{ThreadId}
 use Rattle.fast_path.specs.declared.calls.Call.{Call}
 use Rattle.fast_path.specs.declared.calls.Call.TheVariants.{Enter, Exit, Wait, Notify, NotifyAll, Holds, Interrupt}
 use Rattle.fast_path.specs.declared.calls.Call.TheVariants.{Interrupted, IsInterrupted, End}
-use Rattle.history_text.specs.declared.lines.Call.{Call as CallLine}
-use Rattle.history_text.specs.declared.lines.Call.TheVariants as line
-use Rattle.history_text.specs.declared.lines.StepLine.{StepLine}
-use Rattle.history_text.specs.declared.lines.StepLine.TheVariants as step
-use Rattle.history_text.specs.declared.lines.Line.{Line}
-use Rattle.history_text.specs.declared.lines.Line.TheVariants.{World, Object, Step}
-use Rattle.history_text.specs.Names.{position_of}
+use Rattle.script_text.specs.declared.lines.Call.{Call as CallLine}
+use Rattle.script_text.specs.declared.lines.Call.TheVariants as line
+use Rattle.script_text.specs.declared.lines.StepLine.{StepLine}
+use Rattle.script_text.specs.declared.lines.StepLine.TheVariants as step
+use Rattle.script_text.specs.declared.lines.Line.{Line}
+use Rattle.script_text.specs.declared.lines.Line.TheVariants.{World, Object, Step}
+use Rattle.script_text.specs.Names.{position_of}
 
 -- objects are numbered from 0, threads from 1
 abbrev pub object_of : List (List ℕ) → List ℕ → ObjectId

@@ -3,17 +3,17 @@ use Rattle.std.specs.Prelude.{◌≡◌, ◌⊎◌, ◌<◌, ◌+◌, ℕ, List,
 use Rattle.std.specs.Prelude.{nat_lt}
 use Rattle.lock_word.specs.declared.Split.{Split}
 use Rattle.lock_word.specs.declared.Split.TheVariants.{Wide, Deep}
-use Rattle.history_streams.specs.declared.faults.FileFault.{FileFault}
-use Rattle.history_text.specs.declared.lines.Line.{Line}
-use Rattle.history_text.specs.declared.lines.Line.TheVariants.{World, Object, Step}
-use Rattle.history_text.specs.declared.lines.StepLine.{StepLine}
-use Rattle.history_text.specs.declared.lines.StepLine.TheVariants.{Attach, Begin, Go, Expire, Spurious, Tick, Relayout}
-use Rattle.history_text.specs.declared.lines.Call.{Call}
-use Rattle.history_text.specs.declared.lines.Call.TheVariants.{Enter, Exit, Wait, Notify, NotifyAll, Holds, Interrupt}
-use Rattle.history_text.specs.declared.lines.Call.TheVariants.{Interrupted, IsInterrupted, End}
-use Rattle.history_text.specs.Names.{is_named}
-use Rattle.history_text.specs.Scripts.{IsReasonBy}
-use Rattle.history_text.specs.Lines.{Fits, Continues, IsScript, may_follow, line_text, script_text}
+use Rattle.text_streams.specs.declared.faults.FileFault.{FileFault}
+use Rattle.script_text.specs.declared.lines.Line.{Line}
+use Rattle.script_text.specs.declared.lines.Line.TheVariants.{World, Object, Step}
+use Rattle.script_text.specs.declared.lines.StepLine.{StepLine}
+use Rattle.script_text.specs.declared.lines.StepLine.TheVariants.{Attach, Begin, Go, Expire, Spurious, Tick, Relayout}
+use Rattle.script_text.specs.declared.lines.Call.{Call}
+use Rattle.script_text.specs.declared.lines.Call.TheVariants.{Enter, Exit, Wait, Notify, NotifyAll, Holds, Interrupt}
+use Rattle.script_text.specs.declared.lines.Call.TheVariants.{Interrupted, IsInterrupted, End}
+use Rattle.script_text.specs.Names.{is_named}
+use Rattle.script_text.specs.Scripts.{IsReasonBy}
+use Rattle.script_text.specs.Lines.{Fits, Continues, IsScript, may_follow, line_text, script_text}
 
 abbrev pub attached_by : StepLine → List (List ℕ)
 attached_by (Attach thread) = thread ∷ []
@@ -30,9 +30,9 @@ attached_in (Object name low) = []
 attached_in (Step step) = attached_by step
 
 -- the names of the threads that are attached, in order
-abbrev pub attached : List Line → List (List ℕ)
-attached [] = []
-attached (l ∷ ls) = attached_in l ++ attached ls
+abbrev pub attached_threads : List Line → List (List ℕ)
+attached_threads [] = []
+attached_threads (l ∷ ls) = attached_in l ++ attached_threads ls
 
 abbrev pub indices_of : Line → ℕ
 indices_of (World monitors indices split) = indices
@@ -78,7 +78,7 @@ may_run_with most threads (Step step) = may_do most threads step
 
 -- whether a line may run behind these
 abbrev pub may_run : List Line → Line → Bool
-may_run earlier l = may_run_with (most_threads earlier) (attached earlier) l
+may_run earlier l = may_run_with (most_threads earlier) (attached_threads earlier) l
 
 abbrev pub Runs : List Line → List Line → Type 0
 Runs earlier [] = Unit {0}
@@ -86,7 +86,7 @@ Runs earlier (l ∷ ls) = (may_run earlier l ≡ true) × Runs (earlier ++ l ∷
 
 -- a script whose lines may run, and which has a thread
 abbrev pub IsLiveScript : List Line → Type 0
-IsLiveScript ls = IsScript ls × Runs [] ls × (0 < length (attached ls))
+IsLiveScript ls = IsScript ls × Runs [] ls × (0 < length (attached_threads ls))
 
 -- Line n is the first that breaks a rule of live scripts: right lines stand before it, and what stands there
 -- begins with no line that may follow them and run. Where nothing stands there, no thread is attached.
@@ -97,7 +97,7 @@ pub record IsFirstBadLive (bytes : List ℕ) (n : ℕ) : Type 0 where
   pub right : Continues [] before
   pub runs : Runs [] before
   pub parts : bytes ≡ script_text before ++ rest
-  pub there : 0 < length rest ⊎ attached before ≡ []
+  pub there : 0 < length rest ⊎ attached_threads before ≡ []
   pub bad : (l : Line) (after : List ℕ) → Fits l → may_follow before l ≡ true → may_run before l ≡ true
       → rest ≡ line_text l ++ (10 ∷ after) → ⊥
 

@@ -9,6 +9,6 @@ mod plans;
 mod rules;
 mod scripts;
 
-pub use history_streams::FileFault;
 pub use plans::{LivePlan, plan_of};
 pub use scripts::{LiveScript, one_fault, read_live};
+pub use text_streams::FileFault;

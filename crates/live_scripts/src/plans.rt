@@ -1,18 +1,18 @@
 //! What the threads of a live script call.
 
 ghost use Rattle.std.specs.Prelude.{◌≡◌, ◌≤◌, ◌<◌, ◌++◌, IfOk, OnOk, length, map};
-ghost use Rattle.history_text.specs.Names.{position_of};
-ghost use Rattle.live_scripts.specs.Rules.{IsLiveScript, attached};
+ghost use Rattle.script_text.specs.Names.{position_of};
+ghost use Rattle.live_scripts.specs.Rules.{IsLiveScript, attached_threads};
 ghost use Rattle.live_scripts.specs.Plans.{call_in, calls_in, calls_of, lows_in, lows_of};
 ghost use Rattle.live_scripts.specs.Plans.{monitors_in, object_of, objects_in, objects_of};
 ghost use Rattle.live_scripts.specs.Plans.{thread_of};
-ghost use Rattle.live_scripts.specs.Planned.{IsPlanOf};
+ghost use Rattle.live_scripts.specs.LivePlans.{IsPlanOf};
 
 use crate::LiveScript;
 use crate::rules::note;
 use fast_path::Call;
-use history_text::{Line, Name, StepLine};
 use lock_word::{Memory, ObjectId, ThreadId};
+use script_text::{Line, Name, StepLine};
 use std::alloc::Global;
 
 /// The names of a live script, and what its threads call by the numbers of them. Objects are
@@ -60,16 +60,16 @@ fn thread_of(threads: &[&str], name: &Name<'_>) -> ThreadId
     ThreadId(position_of(threads, name.as_str()) as u32 + 1)
 }
 
-fn call_of(objects: &[&str], threads: &[&str], call: &history_text::Call<'_>) -> Call
+fn call_of(objects: &[&str], threads: &[&str], call: &script_text::Call<'_>) -> Call
     requires objects { length objects.now ≤ 65535 }
     requires threads { length threads.now ≤ 64 }
     ensures { result
         ≡ call_in (map (λ t. t.now) objects.now) (map (λ t. t.now) threads.now) call.now }
 {
     match call {
-        history_text::Call::Enter(object) => Call::Enter(object_of(objects, object)),
-        history_text::Call::Exit(object) => Call::Exit(object_of(objects, object)),
-        history_text::Call::Wait {
+        script_text::Call::Enter(object) => Call::Enter(object_of(objects, object)),
+        script_text::Call::Exit(object) => Call::Exit(object_of(objects, object)),
+        script_text::Call::Wait {
             object,
             millis,
             nanos,
@@ -78,15 +78,15 @@ fn call_of(objects: &[&str], threads: &[&str], call: &history_text::Call<'_>) ->
             millis: *millis,
             nanos: *nanos,
         },
-        history_text::Call::Notify(object) => Call::Notify(object_of(objects, object)),
-        history_text::Call::NotifyAll(object) => Call::NotifyAll(object_of(objects, object)),
-        history_text::Call::Holds(object) => Call::Holds(object_of(objects, object)),
-        history_text::Call::Interrupt(target) => Call::Interrupt(thread_of(threads, target)),
-        history_text::Call::Interrupted => Call::Interrupted,
-        history_text::Call::IsInterrupted(target) => {
+        script_text::Call::Notify(object) => Call::Notify(object_of(objects, object)),
+        script_text::Call::NotifyAll(object) => Call::NotifyAll(object_of(objects, object)),
+        script_text::Call::Holds(object) => Call::Holds(object_of(objects, object)),
+        script_text::Call::Interrupt(target) => Call::Interrupt(thread_of(threads, target)),
+        script_text::Call::Interrupted => Call::Interrupted,
+        script_text::Call::IsInterrupted(target) => {
             Call::IsInterrupted(thread_of(threads, target))
         }
-        history_text::Call::End => Call::End,
+        script_text::Call::End => Call::End,
     }
 }
 
@@ -143,7 +143,7 @@ fn calls_of(
 
 /// The names of the threads that some lines attach.
 fn threads_of<'a>(alloc: Global, lines: &[Line<'a>]) -> Result<Vec<&'a str>, Memory>
-    ensures { IfOk result (λ v. map (λ t. t.now) v.items ≡ attached lines.now) }
+    ensures { IfOk result (λ v. map (λ t. t.now) v.items ≡ attached_threads lines.now) }
 {
     let mut threads = Vec::new(alloc);
     'lines: for line in lines {

@@ -1,13 +1,13 @@
 //! Which lines of a script may run.
 
 ghost use Rattle.std.specs.Prelude.{◌≡◌, ◌==◌, ◌++◌, [], IfOk, OnOk, if◌then◌else◌, map};
-ghost use Rattle.history_text.specs.Names.{is_named};
+ghost use Rattle.script_text.specs.Names.{is_named};
 ghost use Rattle.live_scripts.specs.Rules.{attached_in, indices_of, is_live_call};
 ghost use Rattle.live_scripts.specs.Rules.{is_wide, may_do, may_run_with};
 ghost use Rattle.live_scripts.specs.Running.{IsRunning};
 
-use history_text::{Call, Line, Name, StepLine};
 use lock_word::Split;
+use script_text::{Call, Line, Name, StepLine};
 use std::alloc::AllocError;
 
 /// The most threads of a live script: a service has at most so many passes.

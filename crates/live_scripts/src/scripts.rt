@@ -1,16 +1,16 @@
 //! Reading live scripts.
 
 ghost use Rattle.std.specs.Prelude.{◌≡◌, ◌<◌, ◌≤◌, List, ℕ, length, IfErr, IfOk, MatchOption, Err};
-ghost use Rattle.history_text.specs.declared.lines.Line.{Line as LineData};
-ghost use Rattle.history_text.specs.Lines.{IsBeginning, script_text};
+ghost use Rattle.script_text.specs.declared.lines.Line.{Line as LineData};
+ghost use Rattle.script_text.specs.Lines.{IsBeginning, script_text};
 ghost use Rattle.live_scripts.specs.Rules.{IsFirstBadLive, IsLiveReasonFor, IsLiveScript};
 ghost use Rattle.live_scripts.specs.Reading.{GivesLive};
 
 use crate::rules::running_lines;
-use history_streams::FileFault;
-use history_text::{Line, MOST_BYTES, read_beginning};
+use script_text::{Line, MOST_BYTES, read_beginning};
 use std::alloc::{AllocError, Global};
 use std::marker::Model;
+use text_streams::FileFault;
 
 /// A script whose threads may run on threads of the system.
 #[derive(Drop)]
@@ -20,7 +20,7 @@ pub struct LiveScript<'a> {
 
 impl<'a> Model for LiveScript<'a> {
     ghost use Rattle.std.specs.Prelude.{List};
-    ghost use Rattle.history_text.specs.declared.lines.Line.{Line as LineData};
+    ghost use Rattle.script_text.specs.declared.lines.Line.{Line as LineData};
     ghost use Rattle.live_scripts.specs.Rules.{IsLiveScript};
 
     ghost Value = { List LineData };

@@ -34,7 +34,7 @@ fn check_of<R: Read + Drop>(alloc: Global, reader: R) -> Result<Vec<u8>, FileFau
 }
 
 /// This is what is written of a history.
-fn tells<R: Read + Drop>(
+fn assert_tells<R: Read + Drop>(
     rt: &impl Abort,
     alloc: Global,
     reader: R,

@@ -11,7 +11,8 @@ use std::alloc::Global;
 /// A script, and behind it a line that is none.
 const LINES: &[u8] = b"world 4 4\nobject a A5\nattach x\nbegin x enter a\ngo x\ngo x\ngo\n";
 
-/// Whether a reader that fails behind these bytes is the fault of a history, and nothing is written.
+/// Whether a reader that fails behind these bytes is the fault of a history, and nothing is
+/// written.
 fn fails_behind(alloc: Global, bytes: &[u8]) -> bool {
     let mut source = ReaderSource::new(PiecesReader::new(bytes, 1, Then::Fails));
     let mut sink = WriterSink::new(Vec::new(alloc));

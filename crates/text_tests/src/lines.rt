@@ -1,7 +1,7 @@
 //! Lines of a script that a reader hands out by the way of the usual ones.
 
-use history_text::LineReader;
 use indexmap::IndexSet;
+use script_text::ScriptReader;
 use std::alloc::Global;
 
 /// A script with usual steps and others.
@@ -37,7 +37,7 @@ const WAYS: [Way; 12] = [
 /// The way by which the next line comes, if there is one.
 fn way_of_next(
     alloc: Global,
-    lines: &mut LineReader<'_>,
+    lines: &mut ScriptReader<'_>,
     objects: &IndexSet<String>,
 ) -> Option<Way> {
     if lines.next_usual().is_some() {
@@ -55,7 +55,7 @@ fn way_of_next(
 /// Whether each line comes by its way, and no line behind them.
 fn come_by_their_ways(alloc: Global) -> bool {
     let objects = IndexSet::<String>::new(alloc);
-    let Ok(mut lines) = LineReader::new(SCRIPT) else {
+    let Ok(mut lines) = ScriptReader::new(SCRIPT) else {
         return false;
     };
     for way in WAYS {

@@ -2,7 +2,7 @@
 
 use super::memory::tells_moves;
 use super::pieces::{PiecesReader, Then};
-use super::words::are_told;
+use super::words::assert_told;
 use history::{FileFault, ReaderSource, WriterSink, run};
 use std::alloc::Global;
 use std::io;
@@ -99,7 +99,7 @@ fn readers_that_give_a_little(rt: HostRuntime) {
 }
 
 /// Writes a report with room for so many of its bytes, which are taken.
-fn fills(rt: &impl Abort, alloc: Global, room: usize, is_silent: bool) {
+fn assert_fills(rt: &impl Abort, alloc: Global, room: usize, is_silent: bool) {
     let mut sink = WriterSink::new(FullWriter {
         taken: Vec::new(alloc),
         room,
@@ -122,8 +122,8 @@ fn fills(rt: &impl Abort, alloc: Global, room: usize, is_silent: bool) {
 #[test]
 fn writers_that_fail(rt: HostRuntime) {
     for room in 0..=REPORT.len() {
-        fills(&rt, rt.alloc(), room, false);
-        fills(&rt, rt.alloc(), room, true);
+        assert_fills(&rt, rt.alloc(), room, false);
+        assert_fills(&rt, rt.alloc(), room, true);
     }
 }
 
@@ -143,5 +143,5 @@ const FAULTS: [(FileFault, &str); 6] = [
 
 #[test]
 fn texts_of_faults(rt: HostRuntime) -> Result<(), Fail> {
-    are_told(&rt, rt.alloc(), &FAULTS)
+    assert_told(&rt, rt.alloc(), &FAULTS)
 }

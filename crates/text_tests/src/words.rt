@@ -1,5 +1,5 @@
-//! The words of the command line, behind the program's name, and the line of a fault. What is told of
-//! words that are no order is compared by `orders/`.
+//! The words of the command line, behind the program's name, and the line of a fault. What is told
+//! of words that are no order is compared by `orders/`.
 
 use command_line::{FaultLine, Order, Task, read_words};
 use history::FileFault;
@@ -47,7 +47,7 @@ fn is_order(alloc: Global, line: &str, order: Order) -> Result<bool, AllocError>
 }
 
 /// Each line of words is read as the order beside it.
-fn are_orders(
+fn assert_orders(
     rt: &impl Abort,
     alloc: Global,
     rows: &[(&str, Task, Option<&str>)],
@@ -60,11 +60,11 @@ fn are_orders(
 
 #[test]
 fn orders(rt: HostRuntime) -> Result<(), Fail> {
-    are_orders(&rt, rt.alloc(), &ORDERS)
+    assert_orders(&rt, rt.alloc(), &ORDERS)
 }
 
 /// Each fault is told by the text beside it.
-pub(crate) fn are_told<F: Display>(
+pub(crate) fn assert_told<F: Display>(
     rt: &impl Abort,
     alloc: Global,
     rows: &[(F, &str)],
@@ -90,5 +90,5 @@ const FAULT_LINES: [(FaultLine, &str); 3] = [
 
 #[test]
 fn lines_of_faults(rt: HostRuntime) -> Result<(), Fail> {
-    are_told(&rt, rt.alloc(), &FAULT_LINES)
+    assert_told(&rt, rt.alloc(), &FAULT_LINES)
 }

@@ -1,6 +1,6 @@
 //! Histories, and what is said of them.
 
-use super::{ENTERS, LOCKS_TWICE, check_of, fault_of, tells};
+use super::{ENTERS, LOCKS_TWICE, assert_tells, check_of, fault_of};
 use history_check::FileFault;
 use std::alloc::{AllocError, Global};
 use std::process::Abort;
@@ -10,13 +10,13 @@ const NO_MOVES: &[u8] = b"{\"objects\":0}\n";
 
 #[test]
 fn a_run(rt: HostRuntime) -> Result<(), Fail> {
-    tells(&rt, rt.alloc(), ENTERS, b"run of 4 moves\n")?;
-    tells(&rt, rt.alloc(), NO_MOVES, b"run of 0 moves\n")?;
+    assert_tells(&rt, rt.alloc(), ENTERS, b"run of 4 moves\n")?;
+    assert_tells(&rt, rt.alloc(), NO_MOVES, b"run of 0 moves\n")?;
     Ok(())
 }
 
 /// What is told of each history is the fault beside it.
-fn have_faults(rt: &impl Abort, alloc: Global, rows: &[(&str, FileFault)]) {
+fn assert_faults(rt: &impl Abort, alloc: Global, rows: &[(&str, FileFault)]) {
     for &(history, fault) in rows {
         assert!(rt;
             fault_of(alloc, history.as_bytes()) == Some(fault),
@@ -38,7 +38,7 @@ const FIRST_FAULTS: [(&str, FileFault); 4] = [
 #[test]
 fn the_first_fault_in_the_order_of_lines(rt: HostRuntime) {
     assert!(rt; fault_of(rt.alloc(), LOCKS_TWICE) == Some(FileFault::Broken(5)));
-    have_faults(&rt, rt.alloc(), &FIRST_FAULTS);
+    assert_faults(&rt, rt.alloc(), &FIRST_FAULTS);
 }
 
 /// The second line has an unknown name, or a member too many, or is a first line once more, or
@@ -58,7 +58,7 @@ const BAD_SECOND_LINES: [(&str, FileFault); 4] = [
 
 #[test]
 fn a_bad_second_line(rt: HostRuntime) {
-    have_faults(&rt, rt.alloc(), &BAD_SECOND_LINES);
+    assert_faults(&rt, rt.alloc(), &BAD_SECOND_LINES);
 }
 
 /// A history of one move, whose line has so many bytes with its spaces and its line feed.
@@ -107,5 +107,5 @@ const UNLAWFUL_OR_BADLY_FORMED: [(&str, FileFault); 3] = [
 
 #[test]
 fn unlawful_and_badly_formed(rt: HostRuntime) {
-    have_faults(&rt, rt.alloc(), &UNLAWFUL_OR_BADLY_FORMED);
+    assert_faults(&rt, rt.alloc(), &UNLAWFUL_OR_BADLY_FORMED);
 }

@@ -1,6 +1,6 @@
 //! Readers that give a little at a time, and readers that fail.
 
-use super::{ENTERS, LOCKS_TWICE, fault_of, tells};
+use super::{ENTERS, LOCKS_TWICE, assert_tells, fault_of};
 use crate::pieces::{PiecesReader, Then};
 use history_check::FileFault;
 use std::alloc::Global;
@@ -8,12 +8,12 @@ use std::process::Abort;
 use std::test::Fail;
 
 /// A history of which so many bytes are read at a time is checked as one that is read whole.
-fn is_read_by(rt: &impl Abort, alloc: Global, at_once: usize) -> Result<(), FileFault> {
+fn assert_read_by(rt: &impl Abort, alloc: Global, at_once: usize) -> Result<(), FileFault> {
     let locks_twice = PiecesReader::new(LOCKS_TWICE, at_once, Then::Ends);
     let fault = fault_of(alloc, locks_twice);
     assert!(rt; fault == Some(FileFault::Broken(5)), "{at_once} at once");
     let enters = PiecesReader::new(ENTERS, at_once, Then::Ends);
-    tells(rt, alloc, enters, b"run of 4 moves\n")
+    assert_tells(rt, alloc, enters, b"run of 4 moves\n")
 }
 
 const AT_ONCE: [usize; 4] = [1, 2, 3, 4095];
@@ -21,7 +21,7 @@ const AT_ONCE: [usize; 4] = [1, 2, 3, 4095];
 #[test]
 fn readers_that_give_a_little(rt: HostRuntime) -> Result<(), Fail> {
     for &at_once in &AT_ONCE {
-        is_read_by(&rt, rt.alloc(), at_once)?;
+        assert_read_by(&rt, rt.alloc(), at_once)?;
     }
     Ok(())
 }
@@ -68,7 +68,7 @@ const ENTERS_SPELLED: &[u8] = br#" { "objects" : 1 }
 fn readers_that_give_a_little_of_other_spellings(rt: HostRuntime) -> Result<(), Fail> {
     for at_once in 1..=220 {
         let reader = PiecesReader::new(ENTERS_SPELLED, at_once, Then::Ends);
-        tells(&rt, rt.alloc(), reader, b"run of 4 moves\n")?;
+        assert_tells(&rt, rt.alloc(), reader, b"run of 4 moves\n")?;
     }
     Ok(())
 }

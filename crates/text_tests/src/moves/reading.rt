@@ -29,7 +29,7 @@ fn first_lines(rt: HostRuntime) {
 }
 
 /// Each line is read as the move beside it; None: it is no move.
-fn are_read(rt: &impl Abort, alloc: Global, rows: &[(&str, Option<Move>)]) {
+fn assert_read(rt: &impl Abort, alloc: Global, rows: &[(&str, Option<Move>)]) {
     for &(line, made) in rows {
         assert!(rt; line_move(alloc, line.as_bytes()) == Ok(made), "{line}");
     }
@@ -62,7 +62,7 @@ const SPELLINGS: [(&str, Option<Move>); 4] = [
 
 #[test]
 fn other_spellings(rt: HostRuntime) {
-    are_read(&rt, rt.alloc(), &SPELLINGS);
+    assert_read(&rt, rt.alloc(), &SPELLINGS);
 }
 
 const NO_NUMBERS: [(&str, Option<Move>); 6] = [
@@ -76,7 +76,7 @@ const NO_NUMBERS: [(&str, Option<Move>); 6] = [
 
 #[test]
 fn numbers_that_are_none(rt: HostRuntime) {
-    are_read(&rt, rt.alloc(), &NO_NUMBERS);
+    assert_read(&rt, rt.alloc(), &NO_NUMBERS);
 }
 
 const NO_KEYS_OR_WORDS: [(&str, Option<Move>); 6] = [
@@ -93,7 +93,7 @@ const NO_KEYS_OR_WORDS: [(&str, Option<Move>); 6] = [
 
 #[test]
 fn keys_and_words_that_are_none(rt: HostRuntime) {
-    are_read(&rt, rt.alloc(), &NO_KEYS_OR_WORDS);
+    assert_read(&rt, rt.alloc(), &NO_KEYS_OR_WORDS);
     // A byte that is no text.
     assert!(rt; line_move(rt.alloc(), b"\xff") == Ok(None));
 }
@@ -144,7 +144,7 @@ const TIMES: [(&str, Option<Move>); 8] = [
 
 #[test]
 fn times_of_a_wait(rt: HostRuntime) {
-    are_read(&rt, rt.alloc(), &TIMES);
+    assert_read(&rt, rt.alloc(), &TIMES);
 }
 
 const LAST_MOMENT: Option<Move> = Some(Move::Time {
@@ -166,5 +166,5 @@ const MOMENTS: [(&str, Option<Move>); 6] = [
 
 #[test]
 fn moments(rt: HostRuntime) {
-    are_read(&rt, rt.alloc(), &MOMENTS);
+    assert_read(&rt, rt.alloc(), &MOMENTS);
 }

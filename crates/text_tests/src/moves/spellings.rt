@@ -3,7 +3,7 @@
 
 ghost use Rattle.std.specs.Prelude.{◌≤◌, length};
 
-use history_moves::{LineReader, line_move};
+use history_moves::{MoveReader, line_move};
 use std::alloc::{AllocError, Global};
 use std::process::Abort;
 use std::test::Fail;
@@ -116,22 +116,23 @@ const OPEN: [(&str, &str); 10] = [
     ),
 ];
 
-fn agrees(rt: &impl Abort, alloc: Global, reader: &mut LineReader, line: &[u8]) {
+/// The reader finds the move that `line_move` finds.
+fn assert_agrees(rt: &impl Abort, alloc: Global, reader: &mut MoveReader, line: &[u8]) {
     let read = reader.line_move(line);
     assert!(rt; read == line_move(alloc, line));
 }
 
 /// The same, and for the line with an escape in the first key that may have one here.
-fn agrees_escaped(
+fn assert_escaped_agrees(
     rt: &impl Abort,
     alloc: Global,
-    reader: &mut LineReader,
+    reader: &mut MoveReader,
     line: &str,
 ) -> Result<(), AllocError> {
-    agrees(rt, alloc, reader, line.as_bytes());
+    assert_agrees(rt, alloc, reader, line.as_bytes());
     if let Some((front, back)) = line.split_once("\"move\"") {
         let escaped = format!(in alloc; "{front}\"\\u006dove\"{back}")?;
-        agrees(rt, alloc, reader, escaped.as_bytes());
+        assert_agrees(rt, alloc, reader, escaped.as_bytes());
     }
     Ok(())
 }
@@ -145,7 +146,7 @@ fn push_each(line: &mut String, members: &[&str], between: &str) -> Result<(), A
     Ok(())
 }
 
-/// Members from a place on, and then those before it.
+/// Members from a position on, and then those before it.
 fn push_turned(
     line: &mut String,
     members: &[&str],
@@ -166,10 +167,10 @@ fn push_turned(
 }
 
 /// The lines of a kind of move, with one member more, in each order that turns it.
-fn turned_agree(
+fn assert_turned_agree(
     rt: &impl Abort,
     alloc: Global,
-    reader: &mut LineReader,
+    reader: &mut MoveReader,
     kind: &str,
     more: &str,
 ) -> Result<(), AllocError> {
@@ -184,7 +185,7 @@ fn turned_agree(
         for first in 0..members.len() {
             let mut line = String::new(alloc);
             push_turned(&mut line, &members, first, blanks)?;
-            agrees_escaped(rt, alloc, reader, &line)?;
+            assert_escaped_agrees(rt, alloc, reader, &line)?;
         }
     }
     Ok(())
@@ -193,10 +194,10 @@ fn turned_agree(
 #[test]
 fn orders_blanks_and_members_more(rt: HostRuntime) -> Result<(), Fail> {
     let alloc = rt.alloc();
-    let mut reader = LineReader::new(alloc);
+    let mut reader = MoveReader::new(alloc);
     for &kind in &KINDS {
         for &more in &MORE {
-            turned_agree(&rt, alloc, &mut reader, kind, more)?;
+            assert_turned_agree(&rt, alloc, &mut reader, kind, more)?;
         }
     }
     Ok(())
@@ -205,11 +206,11 @@ fn orders_blanks_and_members_more(rt: HostRuntime) -> Result<(), Fail> {
 #[test]
 fn values_of_any_kind(rt: HostRuntime) -> Result<(), Fail> {
     let alloc = rt.alloc();
-    let mut reader = LineReader::new(alloc);
+    let mut reader = MoveReader::new(alloc);
     for &(begin, end) in &OPEN {
         for &value in &VALUES {
             let line = format!(in alloc; "{begin}{value}{end}")?;
-            agrees_escaped(&rt, alloc, &mut reader, &line)?;
+            assert_escaped_agrees(&rt, alloc, &mut reader, &line)?;
         }
     }
     Ok(())
@@ -229,28 +230,28 @@ const PLAIN: [&str; 3] = [
 const OTHERS: &[u8] = b"\xff\"\\ 1,:}{.e-\x00\r\t\n\x0b\x0c\x7fa";
 
 /// A line with a byte more anywhere, or another byte there, or cut there.
-fn cut_and_filled(
+fn assert_cut_and_filled_agree(
     rt: &impl Abort,
     alloc: Global,
-    reader: &mut LineReader,
+    reader: &mut MoveReader,
     whole: &str,
 ) -> Result<(), AllocError> {
     let bytes = whole.as_bytes();
     for count in 0..=bytes.len() {
         let (front, back) = bytes.split_at(count);
-        agrees(rt, alloc, reader, front);
+        assert_agrees(rt, alloc, reader, front);
         for byte in OTHERS {
             let mut line = Vec::new(alloc);
             line.extend_from_slice(front)?;
             line.push(*byte)?;
             line.extend_from_slice(back)?;
-            agrees(rt, alloc, reader, &line);
+            assert_agrees(rt, alloc, reader, &line);
             if let Some((_, rest)) = back.split_first() {
                 let mut line = Vec::new(alloc);
                 line.extend_from_slice(front)?;
                 line.push(*byte)?;
                 line.extend_from_slice(rest)?;
-                agrees(rt, alloc, reader, &line);
+                assert_agrees(rt, alloc, reader, &line);
             }
         }
     }
@@ -276,9 +277,9 @@ const ODD: [&str; 12] = [
 #[test]
 fn odd_lines(rt: HostRuntime) {
     let alloc = rt.alloc();
-    let mut reader = LineReader::new(alloc);
+    let mut reader = MoveReader::new(alloc);
     for line in &ODD {
-        agrees(&rt, alloc, &mut reader, line.as_bytes());
+        assert_agrees(&rt, alloc, &mut reader, line.as_bytes());
         assert!(rt; matches!(reader.line_move(line.as_bytes()), Ok(None)));
     }
 }
@@ -286,10 +287,10 @@ fn odd_lines(rt: HostRuntime) {
 #[test]
 fn cut_lines_and_other_bytes(rt: HostRuntime) -> Result<(), Fail> {
     let alloc = rt.alloc();
-    let mut reader = LineReader::new(alloc);
-    cut_and_filled(&rt, alloc, &mut reader, NOTIFY)?;
+    let mut reader = MoveReader::new(alloc);
+    assert_cut_and_filled_agree(&rt, alloc, &mut reader, NOTIFY)?;
     for &whole in &PLAIN {
-        cut_and_filled(&rt, alloc, &mut reader, whole)?;
+        assert_cut_and_filled_agree(&rt, alloc, &mut reader, whole)?;
         assert!(rt; matches!(reader.line_move(whole.as_bytes()), Ok(Some(_))));
     }
     Ok(())
@@ -314,17 +315,17 @@ fn padded(alloc: Global, line: &str, bytes: usize, first: bool) -> Result<Vec<u8
     Ok(padded)
 }
 
-/// Lines on both sides of the longest that a reader keeps room for, and of the longest that it reads
-/// straight from the bytes, and short ones between them.
+/// Lines on both sides of the longest that a reader keeps room for, and of the longest that it
+/// reads straight from the bytes, and short ones between them.
 #[test]
 fn long_lines_and_short_ones(rt: HostRuntime) -> Result<(), Fail> {
     let alloc = rt.alloc();
-    let mut reader = LineReader::new(alloc);
+    let mut reader = MoveReader::new(alloc);
     for &bytes in &[49usize, 4094, 4095, 4096, 60, 4097, 9000, 49, 511, 512, 513] {
         for line in [NOTIFY, PLAIN[0]] {
             for first in [false, true] {
                 let line = padded(alloc, line, bytes, first)?;
-                agrees(&rt, alloc, &mut reader, &line);
+                assert_agrees(&rt, alloc, &mut reader, &line);
                 assert!(rt; matches!(reader.line_move(&line), Ok(Some(_))));
             }
         }

@@ -11,7 +11,7 @@ const THREAD: ThreadId = ThreadId(0);
 const OBJECT: ObjectId = ObjectId(0);
 
 /// Each move is written as the line beside it, and added to a history as that.
-fn are_written(rt: &impl Abort, alloc: Global, rows: &[(Move, &str)]) -> Result<(), Fail> {
+fn assert_written(rt: &impl Abort, alloc: Global, rows: &[(Move, &str)]) -> Result<(), Fail> {
     for &(made, line) in rows {
         assert!(rt; move_line(alloc, &made)?.as_str() == line, "{line}");
         let mut text = Vec::new(alloc);
@@ -49,7 +49,7 @@ const FIRST_ENTER: [(Move, &str); 4] = [
 #[test]
 fn a_first_enter(rt: HostRuntime) -> Result<(), Fail> {
     assert!(rt; first_line(rt.alloc(), 1)?.as_str() == r#"{"objects":1}"#);
-    are_written(&rt, rt.alloc(), &FIRST_ENTER)
+    assert_written(&rt, rt.alloc(), &FIRST_ENTER)
 }
 
 const CALLS: [(Move, &str); 3] = [
@@ -82,7 +82,7 @@ const CALLS: [(Move, &str); 3] = [
 
 #[test]
 fn calls_and_their_members(rt: HostRuntime) -> Result<(), Fail> {
-    are_written(&rt, rt.alloc(), &CALLS)
+    assert_written(&rt, rt.alloc(), &CALLS)
 }
 
 const CHOICES_CAUSES_AND_MOMENTS: [(Move, &str); 4] = [
@@ -114,5 +114,5 @@ const CHOICES_CAUSES_AND_MOMENTS: [(Move, &str); 4] = [
 
 #[test]
 fn choices_causes_and_moments(rt: HostRuntime) -> Result<(), Fail> {
-    are_written(&rt, rt.alloc(), &CHOICES_CAUSES_AND_MOMENTS)
+    assert_written(&rt, rt.alloc(), &CHOICES_CAUSES_AND_MOMENTS)
 }

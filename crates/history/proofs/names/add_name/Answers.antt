@@ -1,5 +1,5 @@
 use Rattle.std.proofs.Common.{◌∙◌, ap, map, string_bytes}
-use Rattle.history_text.specs.Names.{position_of}
+use Rattle.script_text.specs.Names.{position_of}
 use Rattle.history.proofs.Namings.{names_kept, position_named}
 use Rattle.history.proofs.names.add_name.Goals as goal
 

@@ -1,5 +1,5 @@
 use Rattle.std.proofs.Common.{◌≡◌, take}
-use Rattle.history_text.specs.Noted.{object_names}
+use Rattle.script_text.specs.LinesSoFar.{object_names}
 use Rattle.history.specs.Numbering.{low_bytes, names_of, requests_of}
 use Rattle.history.proofs.plans.take_lines.Given as goal
 

@@ -1,8 +1,8 @@
 use Rattle.std.proofs.Common.{List, [], ℕ, ap, subst, sym}
 use Rattle.std.proofs.lemmas.Result.{err_from_is_err_and}
-use Rattle.history_text.specs.Places.{HasCome}
+use Rattle.script_text.specs.Positions.{HasCome}
 use Rattle.history.specs.NameLists.{NameLists}
-use Rattle.history.proofs.SoFar.{first_so_far, no_first, other_first, world_first}
+use Rattle.history.proofs.PlanSoFar.{first_so_far, no_first, other_first, world_first}
 use Rattle.history.proofs.running.first_plan.Goals as goal
 
 pub returns-in_err-line-clause-fault : goal.returns-in_err-line-clause-fault

@@ -1,7 +1,7 @@
 use Rattle.std.proofs.Common.{refl, subst, sym}
-use Rattle.history_text.specs.declared.lines.Line.TheVariants.{Step}
-use Rattle.history_text.specs.Places.{HasCome}
-use Rattle.history.proofs.SoFar.{at_line, may_take_next, more_so_far}
+use Rattle.script_text.specs.declared.lines.Line.TheVariants.{Step}
+use Rattle.script_text.specs.Positions.{HasCome}
+use Rattle.history.proofs.PlanSoFar.{at_line, may_take_next, more_so_far}
 use Rattle.history.proofs.running.plan_as_read.Goals as goal
 
 pub take_line-requires : goal.take_line-requires

@@ -1,5 +1,5 @@
 use Rattle.std.proofs.Common.{length}
-use Rattle.history.specs.SoFar.{IsPlanSoFar}
+use Rattle.history.specs.PlanSoFar.{IsPlanSoFar}
 use Rattle.history.proofs.running.plan_as_read.Given as goal
 
 abbrev pub invariant-lines : goal.invariant-lines

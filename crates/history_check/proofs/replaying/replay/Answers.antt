@@ -1,6 +1,6 @@
 use Rattle.std.proofs.Common.{inr}
 use Rattle.std.proofs.lemmas.Result.{err_from_is_err_and}
-use Rattle.history_streams.proofs.Pieces.{Keeps-itself}
+use Rattle.text_streams.proofs.Pieces.{Keeps-itself}
 use Rattle.history_check.proofs.replaying.replay.Goals as goal
 
 pub returns-in_err-count-clause-unwritten : goal.returns-in_err-count-clause-unwritten

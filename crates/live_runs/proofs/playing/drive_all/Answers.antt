@@ -7,9 +7,9 @@ use Rattle.live_turns.specs.Ways.{Holding, new_holding}
 use Rattle.live_turns.proofs.Rows.{length-new_passes}
 use Rattle.live_threads.specs.Ends.{at_rest}
 use Rattle.live_threads.proofs.Ends.{each_is_back}
-use Rattle.live_scripts.specs.Rules.{attached}
+use Rattle.live_scripts.specs.Rules.{attached_threads}
 use Rattle.live_scripts.specs.Plans.{calls_of, monitors_in, objects_of}
-use Rattle.live_text.specs.Texts.{live_text}
+use Rattle.live_runs.specs.Texts.{live_text}
 use Rattle.live_runs.specs.Runs.{told_in, told_in_row}
 use Rattle.live_runs.proofs.Plans.{as_many_lows, rows_are, rows_live}
 use Rattle.live_runs.proofs.Workers.{as_many, can_drive, passes_belong, workers_after, workers_before, workers_calls, workers_of, workers_told, workers_worked}
@@ -18,7 +18,7 @@ use Rattle.live_runs.proofs.playing.drive_all.Goals as goal
 pub drive-requires-clause-can : goal.drive-requires-clause-can
 drive-requires-clause-can g c κs within =
     let ls = c.args.script.now in
-    can_drive c.args.live c.args.live.count c.args.works.items (map (λ t. calls_of (objects_of ls) (attached ls) t ls) (attached ls)) c.requires.passes c.requires.calls (rows_live ls c.requires.script)
+    can_drive c.args.live c.args.live.count c.args.works.items (map (λ t. calls_of (objects_of ls) (attached_threads ls) t ls) (attached_threads ls)) c.requires.passes c.requires.calls (rows_live ls c.requires.script)
 
 pub end_of-requires-clause-belong : goal.end_of-requires-clause-belong
 end_of-requires-clause-belong g c =

@@ -4,7 +4,7 @@ use Rattle.std.proofs.lemmas.List.{length-map}
 use Rattle.header_words.specs.Passes.{new_passes}
 use Rattle.live_turns.specs.Ways.{new_holding}
 use Rattle.live_turns.proofs.Rows.{length-new_passes}
-use Rattle.live_scripts.specs.Rules.{attached}
+use Rattle.live_scripts.specs.Rules.{attached_threads}
 use Rattle.live_scripts.specs.Plans.{calls_of, objects_of}
 use Rattle.live_runs.proofs.Plans.{few_lows, few_named, rows_are, threads_are}
 use Rattle.live_runs.proofs.Workers.{calls_are}
@@ -18,7 +18,7 @@ open-requires-clause-few g c = omega (arith, few_named c.args.script.now c.args.
 
 pub works_of-requires : goal.works_of-requires
 works_of-requires g c =
-    rows_are (λ v. v.items) (λ t. calls_of (objects_of c.args.script.now) (attached c.args.script.now) t c.args.script.now) c.args.plan.calls.items (attached c.args.script.now) c.requires.plan.calls
+    rows_are (λ v. v.items) (λ t. calls_of (objects_of c.args.script.now) (attached_threads c.args.script.now) t c.args.script.now) c.args.plan.calls.items (attached_threads c.args.script.now) c.requires.plan.calls
     ∙ (sym (threads_are c.args.script.now c.args.plan.threads.items c.requires.plan.threads) ∙ (c.requires.threads
     ∙ sym (ap length c.in_ok-live.ensures.passes ∙ (length-map (new_passes c.in_ok-live.live 1 c.args.passes) new_holding ∙ length-new_passes c.in_ok-live.live 1 c.args.passes))))
 

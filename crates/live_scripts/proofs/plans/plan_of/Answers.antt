@@ -1,5 +1,5 @@
 use Rattle.std.proofs.Common.{◌∙◌, ap, map, length, List, ℕ, Bor, arith}
-use Rattle.live_scripts.specs.Rules.{attached}
+use Rattle.live_scripts.specs.Rules.{attached_threads}
 use Rattle.live_scripts.specs.Plans.{lows_of, monitors_in, objects_of}
 use Rattle.live_scripts.proofs.Few.{few_objects, few_threads}
 use Rattle.live_scripts.proofs.Positions.{length_map, rows_all}
@@ -24,7 +24,7 @@ returns-clause-plan c =
     let threads = ap (map (λ t. t.now)) c.deref-2.ensures.value ∙ c.in_ok-threads.ensures in
     record {
       monitors = c.monitors_in.ensures ∙ ap monitors_in is;
-      threads = c.in_ok-threads.ensures ∙ ap attached is;
+      threads = c.in_ok-threads.ensures ∙ ap attached_threads is;
       objects = c.in_ok-objects.ensures ∙ ap objects_of is;
       lows = c.in_ok-lows.ensures ∙ ap lows_of is;
       calls = c.in_ok-calls.ensures ∙ rows_all c.deref.result.now c.deref-2.result.now c.lines-lines.result.now c.args.script.now objects threads is;

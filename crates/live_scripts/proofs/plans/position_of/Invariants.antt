@@ -1,5 +1,5 @@
 use Rattle.std.proofs.Common.{◌≡◌, ◌+◌, drop, map}
-use Rattle.history_text.specs.Names.{position_of}
+use Rattle.script_text.specs.Names.{position_of}
 use Rattle.live_scripts.proofs.plans.position_of.Given as goal
 
 abbrev pub invariant-names : goal.invariant-names

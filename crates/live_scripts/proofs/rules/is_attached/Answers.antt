@@ -1,5 +1,5 @@
 use Rattle.std.proofs.Common.{◌∙◌, ap, map}
-use Rattle.history_text.specs.Names.{is_named}
+use Rattle.script_text.specs.Names.{is_named}
 use Rattle.live_scripts.proofs.Names.{any_text}
 use Rattle.live_scripts.proofs.rules.is_attached.Goals as goal
 

@@ -1,6 +1,0 @@
-use Rattle.std.proofs.Common.{◌≡◌}
-use Rattle.header_words.specs.Events.{depth}
-use Rattle.bench_words.proofs.lanes.nest.Given as goal
-
-abbrev pub invariant-loop : goal.invariant-loop
-invariant-loop l = record { belongs : l.pass.opening ≡ l.headers; one : depth l.object.0 l.pass.mine ≡ 1 }

@@ -1,5 +1,0 @@
-use Rattle.history_moves.proofs.GatheredLaws.{cause_in}
-use Rattle.history_moves.proofs.gathered.GatheredFields.cause.Goals as goal
-
-pub returns : goal.returns
-returns c = cause_in c.args.self.now

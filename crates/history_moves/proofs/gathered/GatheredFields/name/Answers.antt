@@ -1,5 +1,0 @@
-use Rattle.history_moves.proofs.GatheredLaws.{name_in}
-use Rattle.history_moves.proofs.gathered.GatheredFields.name.Goals as goal
-
-pub returns : goal.returns
-returns c = name_in c.args.self.now

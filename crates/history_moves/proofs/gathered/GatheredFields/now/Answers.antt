@@ -1,5 +1,0 @@
-use Rattle.history_moves.proofs.GatheredLaws.{now_in}
-use Rattle.history_moves.proofs.gathered.GatheredFields.now.Goals as goal
-
-pub returns : goal.returns
-returns c = now_in c.args.self.now

@@ -1,5 +1,0 @@
-use Rattle.history_moves.proofs.GatheredLaws.{object_in}
-use Rattle.history_moves.proofs.gathered.GatheredFields.object.Goals as goal
-
-pub returns : goal.returns
-returns c = object_in c.args.self.now

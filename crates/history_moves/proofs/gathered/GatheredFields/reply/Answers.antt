@@ -1,5 +1,0 @@
-use Rattle.history_moves.proofs.GatheredLaws.{reply_in}
-use Rattle.history_moves.proofs.gathered.GatheredFields.reply.Goals as goal
-
-pub returns : goal.returns
-returns c = reply_in c.args.self.now

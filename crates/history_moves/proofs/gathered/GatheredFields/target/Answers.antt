@@ -1,5 +1,0 @@
-use Rattle.history_moves.proofs.GatheredLaws.{target_in}
-use Rattle.history_moves.proofs.gathered.GatheredFields.target.Goals as goal
-
-pub returns : goal.returns
-returns c = target_in c.args.self.now

@@ -1,5 +1,0 @@
-use Rattle.history_moves.proofs.GatheredLaws.{thread_in}
-use Rattle.history_moves.proofs.gathered.GatheredFields.thread.Goals as goal
-
-pub returns : goal.returns
-returns c = thread_in c.args.self.now

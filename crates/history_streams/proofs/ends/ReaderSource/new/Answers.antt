@@ -1,5 +1,0 @@
-use Rattle.std.proofs.Common.{rules}
-use Rattle.history_streams.proofs.ends.ReaderSource.new.Goals as goal
-
-pub returns : goal.returns
-returns g c = search rules

@@ -1,5 +1,0 @@
-use Rattle.history_streams.proofs.FirstFeed.{first_is_position}
-use Rattle.history_streams.proofs.feeds.line_end.Goals as goal
-
-pub returns : goal.returns
-returns c = first_is_position _ _ c.memchr.ensures
