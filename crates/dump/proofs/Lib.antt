@@ -3,5 +3,5 @@ pub mod Marks
 pub mod Passes
 pub mod Parts
 pub mod Positions
-pub mod Seats
+pub mod Berths
 pub mod Written

@@ -75,7 +75,7 @@ thread_line names t index None = []
 thread_line names t index (Some x) = thread_text names (thread_name names t) (unwrap_or index 0) x
 
 abbrev pub line_in : WorldState → NameLists → ThreadId → List ℕ
-line_in w names t = thread_line names t (index_of w.seats t) ((shown w).thread t)
+line_in w names t = thread_line names t (index_of w.berths t) ((shown w).thread t)
 
 -- the names of a cycle's threads, each behind a space
 abbrev pub cycle_text : NameLists → List ThreadId → List ℕ

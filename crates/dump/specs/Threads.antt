@@ -20,10 +20,10 @@ pub record AreLiveThreads (s : State) (threads : List ThreadId) : Type 0 where
   pub live : (t : ThreadId) → IsIn t threads → IsLive s t
   pub all : (t : ThreadId) → IsLive s t → IsIn t threads
 
--- exactly the numbers of the threads that have one of the first seats
-pub record HaveSeats (seats : List (Option ThreadId)) (most : ℕ) (numbers : List ℕ) : Type 0 where
-  pub seated : (n : ℕ) → IsIn n numbers → (k : ℕ) × (holder_at seats k ≡ Some (record { 0 = n }))
-  pub all : (k n : ℕ) → k < most → holder_at seats k ≡ Some (record { 0 = n }) → IsIn n numbers
+-- exactly the numbers of the threads that have one of the first berths
+pub record HaveBerths (berths : List (Option ThreadId)) (most : ℕ) (numbers : List ℕ) : Type 0 where
+  pub berthed : (n : ℕ) → IsIn n numbers → (k : ℕ) × (holder_at berths k ≡ Some (record { 0 = n }))
+  pub all : (k n : ℕ) → k < most → holder_at berths k ≡ Some (record { 0 = n }) → IsIn n numbers
 
 -- the numbers, and that of a thread behind them if there is one
 abbrev pub with_holder : List ℕ → Option ThreadId → List ℕ

@@ -5,7 +5,7 @@ ghost use Rattle.std.specs.List.{Contains};
 ghost use Rattle.std.specs.List.Sorted.{IsStrictlyIncreasing};
 ghost use Rattle.step_core.specs.Cycles.{next, object_wanted};
 ghost use Rattle.step_core.specs.Shown.{shown};
-ghost use Rattle.dump.specs.Threads.{AreLiveThreads, Ascend, HaveSeats, IsPosition, IsRowOf};
+ghost use Rattle.dump.specs.Threads.{AreLiveThreads, Ascend, HaveBerths, IsPosition, IsRowOf};
 ghost use Rattle.dump.specs.Threads.{threads_numbered, with_holder};
 
 use lock_word::{ObjectId, ThreadId};
@@ -16,25 +16,25 @@ use step_core::{Call, Doing, World};
 pub fn live_threads(alloc: Global, world: &World) -> Result<Vec<ThreadId>, AllocError>
     ensures { IfOk result (λ threads. AreLiveThreads (shown world.now) threads.items) }
 {
-    let mut numbers = seated_numbers(alloc, world)?;
+    let mut numbers = berthed_numbers(alloc, world)?;
     put_in_order(&mut numbers);
     let threads = with_numbers(alloc, &numbers)?;
     Ok(threads)
 }
 
 /// The numbers of the threads of a world, by index.
-fn seated_numbers(alloc: Global, world: &World) -> Result<Vec<u32>, AllocError>
+fn berthed_numbers(alloc: Global, world: &World) -> Result<Vec<u32>, AllocError>
     ensures { IfOk result (λ numbers.
-        HaveSeats world.now.seats (length world.now.seats) numbers.items) }
+        HaveBerths world.now.berths (length world.now.berths) numbers.items) }
 {
     let mut numbers = Vec::new(alloc);
-    'seats: for seat in 0..world.indices() {
-        add_holder(&mut numbers, world.thread_at(seat + 1))?;
+    'berths: for berth in 0..world.indices() {
+        add_holder(&mut numbers, world.thread_at(berth + 1))?;
     }
     Ok(numbers)
 }
 
-/// Adds the number of the thread that has a seat, if one has it.
+/// Adds the number of the thread that has a berth, if one has it.
 fn add_holder(numbers: &mut Vec<u32>, holder: Option<ThreadId>) -> Result<(), AllocError>
     ensures { OnOk result (numbers.new.items ≡ with_holder numbers.old.items holder) }
 {

@@ -77,7 +77,7 @@ ending_text None a = parked_text a
 abbrev pub did_text : NameLists → WorldState → Step → Did → List ℕ
 did_text names w (Attach t) d =
     codes "attach " ++ name_at names.threads t.0 ++ codes " index "
-    ++ decimal (unwrap_or (index_of w.seats t) 0) ++ 10 ∷ []
+    ++ decimal (unwrap_or (index_of w.berths t) 0) ++ 10 ∷ []
 did_text names w (Begin t c) d = codes "begin " ++ name_at names.threads t.0 ++ 10 ∷ []
 did_text names w (Go t) d =
     codes "go " ++ name_at names.threads t.0 ++ 32 ∷ atomic_text names d.atomic

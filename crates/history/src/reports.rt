@@ -193,7 +193,7 @@ fn put_attach(
 ) -> Result<(), AllocError>
     ensures { OnOk result (string_bytes report.new ≡ string_bytes report.old
         ++ codes "attach " ++ name_at names.now.threads thread.0 ++ codes " index "
-        ++ decimal (unwrap_or (index_of world.now.seats thread) 0) ++ 10 ∷ []) }
+        ++ decimal (unwrap_or (index_of world.now.berths thread) 0) ++ 10 ∷ []) }
 {
     let name = names.name_of_thread(thread);
     let index = world.index(thread).unwrap_or(0);

@@ -15,8 +15,8 @@ use Rattle.fat_monitor.specs.declared.actions.Cause.{Cause}
 use Rattle.fat_monitor.specs.declared.actions.Reply.TheVariants as reply
 use Rattle.fast_path.specs.declared.calls.MonitorCall.{MonitorCall}
 use Rattle.fast_path.specs.declared.calls.InterruptCall.{InterruptCall}
-use Rattle.header_words.specs.declared.event.Deed.{Deed as WordDeed}
-use Rattle.header_words.specs.declared.event.Deed.TheVariants as word
+use Rattle.header_words.specs.declared.event.EventKind.{EventKind}
+use Rattle.header_words.specs.declared.event.EventKind.TheVariants as word
 use Rattle.header_words.specs.Events.{event}
 use Rattle.header_words.specs.Passes.{Opening, PassValue, MakesEvent}
 use Rattle.step_core.specs.declared.places.Place.TheVariants.{InCall, AtPost}
@@ -33,7 +33,7 @@ use Rattle.live_book.specs.declared.faults.LiveFault.TheVariants as fault
 use Rattle.live_book.specs.Log.{thread_numbered}
 use Rattle.live_turns.specs.Asked.{own_action, IsAwake}
 use Rattle.live_turns.specs.Points.{GivenUpOn, GivenUpAbout, names_stranger}
-use Rattle.live_turns.specs.Ways.{by, Holding, stored_deed, event_of, events_of, deed_of, deeds_of, Went, Halted, MayHalt, TakesGate, GivesGate, parked}
+use Rattle.live_turns.specs.Ways.{by, Holding, stored_kind, event_of, events_of, deed_of, deeds_of, Went, Halted, MayHalt, TakesGate, GivesGate, parked}
 
 Leads-append : (me : ℕ) (s t u : Point) (es fs : List Atomic) → Leads Wide me s es t → Leads Wide me t fs u → Leads Wide me s (es ++ fs) u
 Leads-append me s t u [] fs h k = subst (λ (x : Point). Leads Wide me x fs u) (sym h) k
@@ -64,7 +64,7 @@ went_then s t u p q r h k =
     }
 
 -- one step on a word
-pub went_event : (s : Point) (a : Atomic) (o : ℕ) (d : WordDeed) (n : ℕ) (p q : Holding) → Follows Wide p.words.index s a → event_of p.words.index a ≡ event p.words.index o d ∷ [] → deed_of p.words.index s a ≡ []
+pub went_event : (s : Point) (a : Atomic) (o : ℕ) (d : EventKind) (n : ℕ) (p q : Holding) → Follows Wide p.words.index s a → event_of p.words.index a ≡ event p.words.index o d ∷ [] → deed_of p.words.index s a ≡ []
     → MakesEvent o d n p.words q.words → q.own ≡ p.own → Went s (point_after Wide p.words.index s a) p q
 went_event s a o d n p q follows is none made own = record {
   opening = made.opening;
@@ -185,7 +185,7 @@ publish_way c won m n p q few one most made own =
     let shown : lock_of Wide (with_lock Wide old.0 (Fat m)) ≡ Fat m = lock_of-word_of Wide (Fat m) (old.0 % 256) few byte in
     went_event (At (InCall (Bound c won m))) (atomic.Stored c.object old (record { 0 = with_lock Wide old.0 (Fat m) })) c.object.0 (word.Publish m) n p q
     (refl, (0, was), refl)
-    (ap (λ x. event p.words.index c.object.0 (stored_deed (lock_of Wide old.0) x) ∷ []) shown)
+    (ap (λ x. event p.words.index c.object.0 (stored_kind (lock_of Wide old.0) x) ∷ []) shown)
     refl made own
 
 pub bound_way : (c : MonitorCall) (n m : ℕ) (p q : Holding) → q.words ≡ p.words

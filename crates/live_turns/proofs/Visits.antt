@@ -13,7 +13,7 @@ use Rattle.fast_path.specs.declared.calls.Operation.TheVariants as op
 use Rattle.fast_path.specs.declared.Next.{Next}
 use Rattle.fast_path.specs.declared.Next.TheVariants as next
 use Rattle.fast_path.specs.Table.{next_of, when_free, when_own, when_anothers}
-use Rattle.header_words.specs.declared.event.Deed.{Deed as WordDeed}
+use Rattle.header_words.specs.declared.event.EventKind.{EventKind}
 use Rattle.header_words.specs.declared.event.Event.{Event}
 use Rattle.header_words.specs.Events.{event}
 use Rattle.header_words.specs.Passes.{PassValue, MakesEvent}
@@ -26,7 +26,7 @@ use Rattle.live_turns.specs.Points.{Visited, Loaded, RefusesThere, RestsAtPost, 
 use Rattle.live_turns.specs.Ways.{Holding, TakesGate, GivesGate, VisitsBook, parked}
 
 -- an event on a word is no visit
-pub event_visit : (o : ℕ) (d : WordDeed) (n : ℕ) (p q : PassValue) → MakesEvent o d n p q → (length p.mine < length q.mine) × VisitsBook 0 p q
+pub event_visit : (o : ℕ) (d : EventKind) (n : ℕ) (p q : PassValue) → MakesEvent o d n p q → (length p.mine < length q.mine) × VisitsBook 0 p q
 event_visit o d n p q made =
     let step : q.steps ≡ suc p.steps = made.step in
     let len : length q.mine ≡ length p.mine + 1 = ap (λ (xs : List Event). length xs) made.mine ∙ length-append p.mine (event p.index o d ∷ []) in

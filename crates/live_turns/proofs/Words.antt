@@ -18,8 +18,8 @@ use Rattle.fast_path.specs.declared.Next.{Next}
 use Rattle.fast_path.specs.declared.Next.TheVariants as next
 use Rattle.fast_path.specs.Table.{next_of, when_free, when_own, when_anothers}
 use Rattle.fast_path.proofs.Tables.{store_own, bind_own, own_of_bind}
-use Rattle.header_words.specs.declared.event.Deed.{Deed as WordDeed}
-use Rattle.header_words.specs.declared.event.Deed.TheVariants as word
+use Rattle.header_words.specs.declared.event.EventKind.{EventKind}
+use Rattle.header_words.specs.declared.event.EventKind.TheVariants as word
 use Rattle.header_words.specs.Events.{event}
 use Rattle.header_words.specs.Passes.{PassValue, MakesEvent, depth_at}
 use Rattle.step_core.specs.declared.places.Place.TheVariants.{InCall}
@@ -28,7 +28,7 @@ use Rattle.step_core.specs.declared.paths.Point.TheVariants.{At, Said}
 use Rattle.step_core.specs.declared.steps.Atomic.TheVariants as atomic
 use Rattle.step_core.specs.Go.{entering, stored_reply}
 use Rattle.step_core.specs.Path.{point_next, point_taken}
-use Rattle.live_turns.specs.Ways.{Holding, stored_deed, Went}
+use Rattle.live_turns.specs.Ways.{Holding, stored_kind, Went}
 use Rattle.live_turns.proofs.Going.{went_event}
 
 -- a load of a word with this lock
@@ -57,8 +57,8 @@ lose_way o false n p q made own =
     (refl, (λ e. let f : lock_of Wide 2147483648 ≡ Fat 0 = refl in let never = sym f ∙ e in cc)) refl refl made own
 
 -- a store over the pass's own thin word
-store_way : (c : MonitorCall) (l : Lock) (n k : ℕ) (d : WordDeed) (p q : Holding) → Fits Wide (Thin p.words.index n) → Fits Wide l
-    → next_of Wide c.operation (Thin p.words.index n) p.words.index ≡ next.Store l → stored_deed (Thin p.words.index n) l ≡ d
+store_way : (c : MonitorCall) (l : Lock) (n k : ℕ) (d : EventKind) (p q : Holding) → Fits Wide (Thin p.words.index n) → Fits Wide l
+    → next_of Wide c.operation (Thin p.words.index n) p.words.index ≡ next.Store l → stored_kind (Thin p.words.index n) l ≡ d
     → MakesEvent c.object.0 d k p.words q.words → q.own ≡ p.own → Went (At (InCall (Storing c l))) (Said (stored_reply c.operation)) p q
 store_way c l n k d p q old new calls is made own =
     let x : Word = record { 0 = word_of Wide (Thin p.words.index n) 0 } in
@@ -67,8 +67,8 @@ store_way c l n k d p q old new calls is made own =
     let shown : lock_of Wide (with_lock Wide x.0 l) ≡ l = lock_of-word_of Wide l (x.0 % 256) new byte in
     went_event (At (InCall (Storing c l))) (atomic.Stored c.object x (record { 0 = with_lock Wide x.0 l })) c.object.0 d k p q
     (refl, (n, was, calls), refl)
-    (ap (λ y. event p.words.index c.object.0 (stored_deed (lock_of Wide x.0) y) ∷ []) shown
-    ∙ (ap (λ y. event p.words.index c.object.0 (stored_deed y l) ∷ []) was ∙ ap (λ y. event p.words.index c.object.0 y ∷ []) is))
+    (ap (λ y. event p.words.index c.object.0 (stored_kind (lock_of Wide x.0) y) ∷ []) shown
+    ∙ (ap (λ y. event p.words.index c.object.0 (stored_kind y l) ∷ []) was ∙ ap (λ y. event p.words.index c.object.0 y ∷ []) is))
     refl made own
 
 -- What a store leaves is by the operation: one lock more, or one less.
@@ -145,10 +145,10 @@ nest_way c old l k p q is fits e made own =
     let f = nest_fact old l p.words.index (subst (λ (x : Operation). next_of Wide x old p.words.index ≡ next.Store l) is e) in
     let wide : Fits Wide (Thin p.words.index f.0) = subst (λ (x : Lock). Fits Wide x) f.1 fits in
     let new : Fits Wide (Thin p.words.index (f.0 + 1)) = (wide.0, wide.1, (let lt : f.0 < 255 = f.2 in omega arith)) in
-    let deed : stored_deed (Thin p.words.index f.0) (Thin p.words.index (f.0 + 1)) ≡ word.Nest = grind arith in
+    let deed : stored_kind (Thin p.words.index f.0) (Thin p.words.index (f.0 + 1)) ≡ word.Nest = grind arith in
     subst (λ (x : Operation). Went (At (InCall (Storing c l))) (Said (stored_reply x)) p q) is
     (store_way c l f.0 k word.Nest p q wide (subst (λ (x : Lock). Fits Wide x) (sym f.3) new) (subst (λ (x : Lock). next_of Wide c.operation x p.words.index ≡ next.Store l) f.1 e)
-    (subst (λ (x : Lock). stored_deed (Thin p.words.index f.0) x ≡ word.Nest) (sym f.3) deed) made own)
+    (subst (λ (x : Lock). stored_kind (Thin p.words.index f.0) x ≡ word.Nest) (sym f.3) deed) made own)
 
 pub release_way : (c : MonitorCall) (old l : Lock) (k : ℕ) (p q : Holding) → c.operation ≡ op.Exit → l ≡ Free → Fits Wide old → next_of Wide c.operation old p.words.index ≡ next.Store l
     → MakesEvent c.object.0 word.Release k p.words q.words → q.own ≡ p.own → Went (At (InCall (Storing c l))) (Said reply.Exited) p q
@@ -156,7 +156,7 @@ release_way c old l k p q is new fits e made own =
     let f = release_fact old p.words.index (subst (λ (x : Operation). next_of Wide x old p.words.index ≡ next.Store Free) is (subst (λ (x : Lock). next_of Wide c.operation old p.words.index ≡ next.Store x) new e)) in
     subst (λ (x : Operation). Went (At (InCall (Storing c l))) (Said (stored_reply x)) p q) is
     (store_way c l 0 k word.Release p q (subst (λ (x : Lock). Fits Wide x) f fits) (subst (λ (x : Lock). Fits Wide x) (sym new) tt)
-    (subst (λ (x : Lock). next_of Wide c.operation x p.words.index ≡ next.Store l) f e) (subst (λ (x : Lock). stored_deed (Thin p.words.index 0) x ≡ word.Release) (sym new) refl) made own)
+    (subst (λ (x : Lock). next_of Wide c.operation x p.words.index ≡ next.Store l) f e) (subst (λ (x : Lock). stored_kind (Thin p.words.index 0) x ≡ word.Release) (sym new) refl) made own)
 
 pub unnest_way : (c : MonitorCall) (old l : Lock) (i d k : ℕ) (p q : Holding) → c.operation ≡ op.Exit → l ≡ Thin i d → Fits Wide old → next_of Wide c.operation old p.words.index ≡ next.Store l
     → MakesEvent c.object.0 word.Unnest k p.words q.words → q.own ≡ p.own → Went (At (InCall (Storing c l))) (Said reply.Exited) p q
@@ -165,11 +165,11 @@ unnest_way c old l i d k p q is new fits e made own =
     let wide : Fits Wide (Thin p.words.index (f.0 + 1)) = subst (λ (x : Lock). Fits Wide x) f.1 fits in
     let less : Fits Wide (Thin p.words.index f.0) = (wide.0, wide.1, (let le : f.0 + 1 ≤ 255 = wide.2 in omega arith)) in
     let same : l ≡ Thin p.words.index f.0 = new ∙ f.2 in
-    let deed : stored_deed (Thin p.words.index (f.0 + 1)) (Thin p.words.index f.0) ≡ word.Unnest = grind arith in
+    let deed : stored_kind (Thin p.words.index (f.0 + 1)) (Thin p.words.index f.0) ≡ word.Unnest = grind arith in
     subst (λ (x : Operation). Went (At (InCall (Storing c l))) (Said (stored_reply x)) p q) is
     (store_way c l (f.0 + 1) k word.Unnest p q wide (subst (λ (x : Lock). Fits Wide x) (sym same) less)
     (subst (λ (x : Lock). next_of Wide c.operation x p.words.index ≡ next.Store l) f.1 e)
-    (subst (λ (x : Lock). stored_deed (Thin p.words.index (f.0 + 1)) x ≡ word.Unnest) (sym same) deed) made own)
+    (subst (λ (x : Lock). stored_kind (Thin p.words.index (f.0 + 1)) x ≡ word.Unnest) (sym same) deed) made own)
 
 -- the depth of a pass, and the lock of the word that it loaded
 pub load_shows : (o w : ℕ) (l : Lock) (n : ℕ) (p q : PassValue) → l ≡ lock_of Wide w → MakesEvent o (word.Load w) n p q

@@ -7,8 +7,8 @@ use Rattle.lock_word.specs.declared.Split.TheVariants.{Wide}
 use Rattle.lock_word.specs.Layout.{count_of}
 use Rattle.header_words.specs.WideWords.{lock_of}
 use Rattle.header_words.specs.declared.event.Event.{Event}
-use Rattle.header_words.specs.declared.event.Deed.{Deed as WordDeed}
-use Rattle.header_words.specs.declared.event.Deed.TheVariants as word
+use Rattle.header_words.specs.declared.event.EventKind.{EventKind}
+use Rattle.header_words.specs.declared.event.EventKind.TheVariants as word
 use Rattle.header_words.specs.Events.{event}
 use Rattle.header_words.specs.Passes.{Opening, PassValue, HasTaken, has_given}
 use Rattle.step_core.specs.declared.places.Place.{Place}
@@ -50,17 +50,17 @@ abbrev pub new_state : PassValue → PassState
 new_state p = record { holding = new_holding p; point = At Idle }
 
 -- which store turns the one lock into the other
-abbrev pub stored_deed : Lock → Lock → WordDeed
-stored_deed old Free = word.Release
-stored_deed old (Fat m) = word.Publish m
-stored_deed old (Thin i c) = if count_of old + 1 == c then word.Nest else word.Unnest
+abbrev pub stored_kind : Lock → Lock → EventKind
+stored_kind old Free = word.Release
+stored_kind old (Fat m) = word.Publish m
+stored_kind old (Thin i c) = if count_of old + 1 == c then word.Nest else word.Unnest
 
 -- the events on the words of an atomic step by the pass with the index me
 abbrev pub event_of : ℕ → Atomic → List Event
 event_of me (atomic.Load o x) = event me o.0 (word.Load x.0) ∷ []
 event_of me (atomic.Won o x y) = event me o.0 word.Win ∷ []
 event_of me (atomic.Lost o x) = event me o.0 word.Lose ∷ []
-event_of me (atomic.Stored o x y) = event me o.0 (stored_deed (lock_of x.0) (lock_of y.0)) ∷ []
+event_of me (atomic.Stored o x y) = event me o.0 (stored_kind (lock_of x.0) (lock_of y.0)) ∷ []
 event_of me atomic.Label = []
 event_of me (atomic.Bound o m) = []
 event_of me (atomic.NotBound o c) = []

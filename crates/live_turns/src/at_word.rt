@@ -4,7 +4,7 @@
 ghost use Rattle.std.specs.Prelude.{◌≡◌, ◌<◌, ◌≤◌, ◌+◌, ◌↔◌, ℕ, IfOk, IfErr, OnOk, OnErr, Bool, length, true, false, None};
 ghost use Rattle.lock_word.specs.declared.Lock.TheVariants.{Thin, Fat};
 ghost use Rattle.lock_word.specs.declared.Split.TheVariants.{Wide};
-ghost use Rattle.lock_word.specs.Layout.{Fits, count_of};
+ghost use Rattle.lock_word.specs.Layout.{Fits};
 ghost use Rattle.fast_path.specs.Table.{next_of};
 ghost use Rattle.fast_path.specs.declared.calls.MonitorCall.{MonitorCall};
 ghost use Rattle.fast_path.specs.declared.Next.TheVariants as next;
@@ -24,16 +24,6 @@ use fast_path::{InterruptCall, MonitorCall, Next, Operation};
 use fat_monitor::Reply;
 use lock_word::{Lock, ObjectId, Split, lock_of};
 use step_core::{Place, Point, Stage};
-
-/// The count of a thin lock; 0 for another.
-pub(crate) fn count_of(lock: Lock) -> u16
-    ensures { result ≡ count_of lock }
-{
-    match lock {
-        Lock::Thin { count, .. } => count,
-        _ => 0,
-    }
-}
 
 impl<L: Crew> Turns<L> {
     // Loads the word of an object.
@@ -139,7 +129,7 @@ impl<L: Crew> Turns<L> {
             }
             Next::Cas(_) => Ok(self.acquire(hand, call.object, contended)),
             Next::Store(new) => Ok(Turned::said(self.store(hand, call, lock, new))),
-            Next::Bind => self.turn_from_bind(hand, call, count_of(lock)),
+            Next::Bind => self.turn_from_bind(hand, call, lock.count()),
             Next::Fat(monitor) => self.turn_from_action_apart(hand, call, monitor),
         }
     }

@@ -12,7 +12,6 @@ ghost use Rattle.live_book.specs.declared.faults.LiveFault.{LiveFault};
 ghost use Rattle.live_turns.specs.Points.{RestsStarted, started, names_stranger};
 ghost use Rattle.live_turns.specs.Ways.{Belongs, Went, VisitsBook};
 
-use crate::at_word::count_of;
 use crate::desks::Crew;
 use crate::hands::Hand;
 use crate::{LiveFault, TurnPass, Turns};
@@ -116,7 +115,7 @@ impl<L: Crew> Turns<L> {
                 Ok(None)
             }
             Next::Bind => {
-                stay_binding(&mut pass.point, &call, count_of(lock));
+                stay_binding(&mut pass.point, &call, lock.count());
                 Ok(None)
             }
             Next::Fat(monitor) => {

@@ -82,7 +82,7 @@ read f (Some w) x = f w x
 
 abbrev pub plain_sizes : WorldState → PlainSizes
 plain_sizes w =
-    record { moment = (shown w).moment; objects = (shown w).objects; indices = length w.seats }
+    record { moment = (shown w).moment; objects = (shown w).objects; indices = length w.berths }
 
 abbrev pub sizes_shown : WorldState → PlainSizes → Reading PlainSizes
 sizes_shown w x = found (plain_sizes w)
@@ -118,7 +118,7 @@ thread_as (Some i) None x = unread status.NoThread x
 thread_as None t x = unread status.NoThread x
 
 abbrev pub thread_shown : WorldState → ℕ → PlainThread → Reading PlainThread
-thread_shown w n x = thread_as (index_of w.seats (thread n)) ((shown w).thread (thread n)) x
+thread_shown w n x = thread_as (index_of w.berths (thread n)) ((shown w).thread (thread n)) x
 
 abbrev pub waiting_shown : WorldState → ℕ → ℕ → ℕ → Reading ℕ
 waiting_shown w o t x =
@@ -130,4 +130,4 @@ holder_as (Some t) x = found t.0
 holder_as None x = unread status.NoThread x
 
 abbrev pub holder_shown : WorldState → ℕ → ℕ → Reading ℕ
-holder_shown w i x = holder_as (holder_of w.seats i) x
+holder_shown w i x = holder_as (holder_of w.berths i) x

@@ -1,6 +1,6 @@
 use Rattle.std.proofs.Common.{ap, ◌∙◌}
 use Rattle.dump.specs.Threads.{threads_numbered}
-use Rattle.dump.proofs.Seats.{live_all}
+use Rattle.dump.proofs.Berths.{live_all}
 use Rattle.dump.proofs.waits.live_threads.Goals as goal
 
 pub returns : goal.returns

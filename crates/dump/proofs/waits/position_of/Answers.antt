@@ -1,7 +1,7 @@
 use Rattle.std.proofs.Common.{◌≡◌, Some, None, Option, sym, subst}
 use Rattle.lock_word.specs.declared.ThreadId.{ThreadId}
 use Rattle.dump.specs.Threads.{IsPosition}
-use Rattle.dump.proofs.Seats.{nowhere}
+use Rattle.dump.proofs.Berths.{nowhere}
 use Rattle.dump.proofs.waits.position_of.Goals as goal
 
 pub returns-in-Err : goal.returns-in-Err

@@ -37,7 +37,7 @@ returns-else-exchange-clause-went g c =
 
 pub invariant_of-pass-in-Bind : goal.invariant_of-pass-in-Bind
 invariant_of-pass-in-Bind g c =
-    let holds : depth_at c.load-lock.new.hand.words c.args.call.object.0 ≡ c.count_of.result + 1 = rw c.count_of.ensures (bind_depth c.args.call.operation c.load-lock.result c.load-lock.new.hand.words.index (depth_at c.load-lock.new.hand.words c.args.call.object.0)
+    let holds : depth_at c.load-lock.new.hand.words c.args.call.object.0 ≡ c.count.result + 1 = rw c.count.ensures (bind_depth c.args.call.operation c.load-lock.result c.load-lock.new.hand.words.index (depth_at c.load-lock.new.hand.words c.args.call.object.0)
     (rw (← c.index.ensures) (sym c.next.ensures ∙ c.in-Bind.is)) c.load-lock.ensures.thin) in
     subst (λ (s : Point). Knows s c.load-lock.new.hand) (sym c.stay_binding.ensures) (search rules, holds, search rules)
 
@@ -59,7 +59,7 @@ returns-in-Spin-clause-went g c =
 pub returns-in-Bind-clause-went : goal.returns-in-Bind-clause-went
 returns-in-Bind-clause-went g c =
     rw (← c.pass.view_is) (subst (λ (s : Point). Went (At (InCall (Begun c.args.call false))) s c.pass.inside.hand c.load-lock.new.hand) (sym c.stay_binding.ensures)
-    (rw c.count_of.ensures (first_way c.args.call false c.load-lock.result next.Bind c.index.result c.pass.inside.hand c.load-lock.new.hand (c.load-lock.ensures.went c.args.call false refl) c.index.ensures c.load-lock.ensures.index (sym c.in-Bind.is ∙ c.next.ensures))))
+    (rw c.count.ensures (first_way c.args.call false c.load-lock.result next.Bind c.index.result c.pass.inside.hand c.load-lock.new.hand (c.load-lock.ensures.went c.args.call false refl) c.index.ensures c.load-lock.ensures.index (sym c.in-Bind.is ∙ c.next.ensures))))
 
 pub returns-in-Fat-clause-went : goal.returns-in-Fat-clause-went
 returns-in-Fat-clause-went g c =

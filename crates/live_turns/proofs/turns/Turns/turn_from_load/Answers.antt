@@ -18,7 +18,7 @@ acquire-requires-clause-free g c =
 
 pub turn_from_bind-requires-clause-holds : goal.turn_from_bind-requires-clause-holds
 turn_from_bind-requires-clause-holds g c =
-    rw c.count_of.ensures (bind_depth c.args.call.operation c.load-lock.result c.load-lock.new.hand.words.index (depth_at c.load-lock.new.hand.words c.args.call.object.0)
+    rw c.count.ensures (bind_depth c.args.call.operation c.load-lock.result c.load-lock.new.hand.words.index (depth_at c.load-lock.new.hand.words c.args.call.object.0)
     (rw (← c.index.ensures) (sym c.next.ensures ∙ c.in-Bind.is)) c.load-lock.ensures.thin)
 
 pub returns-in-Reply : goal.returns-in-Reply
@@ -59,7 +59,7 @@ pub returns-in-Bind : goal.returns-in-Bind
 returns-in-Bind g c =
     turn_behind_load c.args.self.now c.args.call c.args.contended (Binding c.args.call (count_of c.load-lock.result)) c.turn_from_bind.result c.args.hand.now c.load-lock.new.hand c.turn_from_bind.new.hand
     (first_way c.args.call c.args.contended c.load-lock.result (next.Bind) c.index.result c.args.hand.now c.load-lock.new.hand (c.load-lock.ensures.went c.args.call c.args.contended refl) c.index.ensures c.load-lock.ensures.index (sym c.in-Bind.is ∙ c.next.ensures))
-    c.load-lock.ensures.visit refl (rw c.count_of.ensures at c.turn_from_bind.ensures)
+    c.load-lock.ensures.visit refl (rw c.count.ensures at c.turn_from_bind.ensures)
 
 pub returns-in-Fat : goal.returns-in-Fat
 returns-in-Fat g c =

@@ -1,4 +1,4 @@
--- The threads of a world's seats.
+-- The threads of a world's berths.
 use Rattle.std.specs.Prelude.{◌≡◌, ◌⊎◌, ℕ, ◌<◌, ◌≤◌, Bool, true, false, List, [], ◌∷◌, ◌++◌, Option, Some, None, length, slice_index_or, Err}
 use Rattle.std.specs.List.{Contains, position_from}
 use Rattle.std.specs.List.Sorted.{IsStrictlyIncreasing, IsStrictlySortedBy, IsBinarySearchResult, IsSortedBy}
@@ -13,50 +13,50 @@ use Rattle.std.proofs.lemmas.List.{get_or_default}
 use Rattle.std.proofs.lemmas.List.Sorted.{searchable_from_sorted}
 use Rattle.std.proofs.lemmas.Map.Keys.{sorted_from_strictly_increasing, sorted_head, sorted_tail}
 use Rattle.lock_word.specs.declared.ThreadId.{ThreadId}
-use Rattle.thread_index.specs.Indices.{seat_of, holder_at, holder_of, is_held_by}
+use Rattle.thread_index.specs.Indices.{berth_of, holder_at, holder_of, is_held_by}
 use Rattle.step_core.specs.Machine.{Thread}
 use Rattle.step_core.specs.World.{WorldState}
 use Rattle.step_core.specs.Shown.{shown, thread_of}
 use Rattle.dump.specs.Rows.{IsIn}
-use Rattle.dump.specs.Threads.{IsLive, Ascend, AreLiveThreads, HaveSeats, threads_numbered, with_holder, thread_at_position}
+use Rattle.dump.specs.Threads.{IsLive, Ascend, AreLiveThreads, HaveBerths, threads_numbered, with_holder, thread_at_position}
 use Rattle.dump.proofs.Walks.{all_in, all_from, contains_in, in_push, in_end, in_front}
 use Rattle.dump.proofs.Positions.{in_contains, in_map, from_map, position_in, rises, three_ways}
 
--- ---- the seats, one after the other
+-- ---- the berths, one after the other
 
-pub seats_none : (seats : List (Option ThreadId)) → HaveSeats seats 0 []
-seats_none seats = record { seated = λ n i. absurd i; all = λ k n below h. absurd (omega (arith, below)) }
+pub berths_none : (berths : List (Option ThreadId)) → HaveBerths berths 0 []
+berths_none berths = record { berthed = λ n i. absurd i; all = λ k n below h. absurd (omega (arith, below)) }
 
-pub seats_more : (seats : List (Option ThreadId)) (k : ℕ) (numbers : List ℕ) (holder : Option ThreadId) → HaveSeats seats k numbers → holder ≡ holder_of seats (k + 1)
-    → HaveSeats seats (k + 1) (with_holder numbers holder)
-seats_more seats k numbers holder h e = by_holder holder (e ∙ ap (holder_of seats) (add-one k))
+pub berths_more : (berths : List (Option ThreadId)) (k : ℕ) (numbers : List ℕ) (holder : Option ThreadId) → HaveBerths berths k numbers → holder ≡ holder_of berths (k + 1)
+    → HaveBerths berths (k + 1) (with_holder numbers holder)
+berths_more berths k numbers holder h e = by_holder holder (e ∙ ap (holder_of berths) (add-one k))
   where
     earlier : (j : ℕ) → j < k + 1 → (j ≡ k → ⊥) → j < k
     earlier j below other = omega (arith, below, other)
 
-    by_holder : (o : Option ThreadId) → o ≡ holder_at seats k → HaveSeats seats (k + 1) (with_holder numbers o)
-    by_holder None none = record { seated = h.seated; all = λ j n below there. by_seat j n below there (cases_eq j k) }
+    by_holder : (o : Option ThreadId) → o ≡ holder_at berths k → HaveBerths berths (k + 1) (with_holder numbers o)
+    by_holder None none = record { berthed = h.berthed; all = λ j n below there. by_berth j n below there (cases_eq j k) }
       where
-        by_seat : (j n : ℕ) → j < k + 1 → holder_at seats j ≡ Some (record { 0 = n }) → (j ≡ k) ⊎ (j ≡ k → ⊥) → IsIn n numbers
-        by_seat j n below there (inl same) =
-            let never : ◌≡◌ {A = Option ThreadId} None (Some (record { 0 = n })) = none ∙ ap (holder_at seats) (sym same) ∙ there in absurd (cc)
-        by_seat j n below there (inr other) = h.all j n (earlier j below other) there
-    by_holder (Some t) one = record { seated = λ n i. by_number n (in_push n t.0 numbers i); all = λ j n below there. by_seat j n below there (cases_eq j k) }
+        by_berth : (j n : ℕ) → j < k + 1 → holder_at berths j ≡ Some (record { 0 = n }) → (j ≡ k) ⊎ (j ≡ k → ⊥) → IsIn n numbers
+        by_berth j n below there (inl same) =
+            let never : ◌≡◌ {A = Option ThreadId} None (Some (record { 0 = n })) = none ∙ ap (holder_at berths) (sym same) ∙ there in absurd (cc)
+        by_berth j n below there (inr other) = h.all j n (earlier j below other) there
+    by_holder (Some t) one = record { berthed = λ n i. by_number n (in_push n t.0 numbers i); all = λ j n below there. by_berth j n below there (cases_eq j k) }
       where
-        by_number : (n : ℕ) → IsIn n numbers ⊎ (n ≡ t.0) → (j : ℕ) × (holder_at seats j ≡ Some (record { 0 = n }))
-        by_number n (inl i) = h.seated n i
+        by_number : (n : ℕ) → IsIn n numbers ⊎ (n ≡ t.0) → (j : ℕ) × (holder_at berths j ≡ Some (record { 0 = n }))
+        by_number n (inl i) = h.berthed n i
         by_number n (inr same) = (k, sym one ∙ ap (λ (m : ℕ). Some (record { 0 = m })) (sym same))
 
-        by_seat : (j n : ℕ) → j < k + 1 → holder_at seats j ≡ Some (record { 0 = n }) → (j ≡ k) ⊎ (j ≡ k → ⊥) → IsIn n (numbers ++ t.0 ∷ [])
-        by_seat j n below there (inl same) =
-            let thread : ◌≡◌ {A = Option ThreadId} (Some (record { 0 = n })) (Some t) = sym there ∙ ap (holder_at seats) same ∙ sym one in
+        by_berth : (j n : ℕ) → j < k + 1 → holder_at berths j ≡ Some (record { 0 = n }) → (j ≡ k) ⊎ (j ≡ k → ⊥) → IsIn n (numbers ++ t.0 ∷ [])
+        by_berth j n below there (inl same) =
+            let thread : ◌≡◌ {A = Option ThreadId} (Some (record { 0 = n })) (Some t) = sym there ∙ ap (holder_at berths) same ∙ sym one in
             let number : n ≡ t.0 = ap (λ (u : ThreadId). u.0) (same_Some (record { 0 = n }) t thread) in
             subst (λ (m : ℕ). IsIn m (numbers ++ t.0 ∷ [])) (sym number) (in_end t.0 numbers)
-        by_seat j n below there (inr other) = in_front n t.0 numbers (h.all j n (earlier j below other) there)
+        by_berth j n below there (inr other) = in_front n t.0 numbers (h.all j n (earlier j below other) there)
 
--- ---- who has a seat is live
+-- ---- who has a berth is live
 
-held : (seats : List (Option ThreadId)) (k from : ℕ) (t : ThreadId) → slice_index_or seats k None ≡ Some t → (j : ℕ) × (position_from (λ u. is_held_by u t) from seats ≡ Some j)
+held : (berths : List (Option ThreadId)) (k from : ℕ) (t : ThreadId) → slice_index_or berths k None ≡ Some t → (j : ℕ) × (position_from (λ u. is_held_by u t) from berths ≡ Some j)
 held [] k from t e = absurd (cc)
 held (x ∷ xs) zero from t e =
     let here : is_held_by x t ≡ true = ap (λ (o : Option ThreadId). is_held_by o t) e ∙ eq-eqb t.0 t.0 refl in
@@ -76,10 +76,10 @@ holds_it (Some u) t h = by_number (cases_eq u.0 t.0)
     by_number (inl same) = ap (λ (n : ℕ). Some (record { 0 = n })) same
     by_number (inr other) = let never : false ≡ true = sym (ne_eqb u.0 t.0 other) ∙ h in absurd (cc)
 
-seated : (seats : List (Option ThreadId)) (from j : ℕ) (t : ThreadId) → position_from (λ u. is_held_by u t) from seats ≡ Some j
-    → (k : ℕ) × (k < length seats) × (slice_index_or seats k None ≡ Some t)
-seated [] from j t e = absurd (cc)
-seated (x ∷ xs) from j t e = by_test (is_held_by x t) refl (λ rest. seated xs (from + 1) j t rest)
+berthed : (berths : List (Option ThreadId)) (from j : ℕ) (t : ThreadId) → position_from (λ u. is_held_by u t) from berths ≡ Some j
+    → (k : ℕ) × (k < length berths) × (slice_index_or berths k None ≡ Some t)
+berthed [] from j t e = absurd (cc)
+berthed (x ∷ xs) from j t e = by_test (is_held_by x t) refl (λ rest. berthed xs (from + 1) j t rest)
   where
     by_test : (b : Bool) → is_held_by x t ≡ b
         → (position_from (λ u. is_held_by u t) (from + 1) xs ≡ Some j → (k : ℕ) × (k < length xs) × (slice_index_or xs k None ≡ Some t))
@@ -89,19 +89,19 @@ seated (x ∷ xs) from j t e = by_test (is_held_by x t) refl (λ rest. seated xs
         let rest : position_from (λ u. is_held_by u t) (from + 1) xs ≡ Some j = sym (ap (λ (b : Bool). cond b (Some from) (position_from (λ u. is_held_by u t) (from + 1) xs)) h) ∙ e in
         let more = later rest in (suc more.0, omega (arith, more.1), more.2)
 
-live_seat : (w : WorldState) (k : ℕ) (t : ThreadId) → holder_at w.seats k ≡ Some t → IsLive (shown w) t
-live_seat w k t e = let h = held w.seats k 0 t e in by_seat (seat_of w.seats t) h.0 h.1
+live_berth : (w : WorldState) (k : ℕ) (t : ThreadId) → holder_at w.berths k ≡ Some t → IsLive (shown w) t
+live_berth w k t e = let h = held w.berths k 0 t e in by_berth (berth_of w.berths t) h.0 h.1
   where
-    by_seat : (o : Option ℕ) (j : ℕ) → o ≡ Some j → (x : Thread) × (thread_of w t o ≡ Some x)
-    by_seat None j h = absurd (cc)
-    by_seat (Some i) j h = (_, refl)
+    by_berth : (o : Option ℕ) (j : ℕ) → o ≡ Some j → (x : Thread) × (thread_of w t o ≡ Some x)
+    by_berth None j h = absurd (cc)
+    by_berth (Some i) j h = (_, refl)
 
-seat_live : (w : WorldState) (t : ThreadId) → IsLive (shown w) t → (k : ℕ) × (k < length w.seats) × (holder_at w.seats k ≡ Some t)
-seat_live w t live = by_seat (seat_of w.seats t) refl live
+berth_live : (w : WorldState) (t : ThreadId) → IsLive (shown w) t → (k : ℕ) × (k < length w.berths) × (holder_at w.berths k ≡ Some t)
+berth_live w t live = by_berth (berth_of w.berths t) refl live
   where
-    by_seat : (o : Option ℕ) → seat_of w.seats t ≡ o → (x : Thread) × (thread_of w t o ≡ Some x) → (k : ℕ) × (k < length w.seats) × (holder_at w.seats k ≡ Some t)
-    by_seat None there (x, h) = absurd (cc)
-    by_seat (Some j) there h = seated w.seats 0 j t there
+    by_berth : (o : Option ℕ) → berth_of w.berths t ≡ o → (x : Thread) × (thread_of w t o ≡ Some x) → (k : ℕ) × (k < length w.berths) × (holder_at w.berths k ≡ Some t)
+    by_berth None there (x, h) = absurd (cc)
+    by_berth (Some j) there h = berthed w.berths 0 j t there
 
 -- ---- in order
 
@@ -120,20 +120,20 @@ ascend (n ∷ ns) s = (all_from (threads_numbered ns) (λ t i. above t (from_map
     above : (t : ThreadId) → (m : ℕ) × IsIn m ns × (t ≡ record { 0 = m }) → n < t.0
     above t (m, i, e) = subst (λ (u : ThreadId). n < u.0) (sym e) (less n m (all_in _ m ns (sorted_head nat_cmp n ns s) i))
 
-pub live_all : (w : WorldState) (before after : List ℕ) (threads : List ThreadId) → HaveSeats w.seats (length w.seats) before → IsStrictlyIncreasing after
+pub live_all : (w : WorldState) (before after : List ℕ) (threads : List ThreadId) → HaveBerths w.berths (length w.berths) before → IsStrictlyIncreasing after
     → ((n : ℕ) → Contains before n → Contains after n) → ((n : ℕ) → Contains after n → Contains before n) → threads ≡ threads_numbered after → AreLiveThreads (shown w) threads
 live_all w before after threads h rising keeps adds_none e = subst (AreLiveThreads (shown w)) (sym e) (record {
   rising = ascend after (sorted_from_strictly_increasing after rising);
   live = λ t i. is_live t (from_map (λ m. record { 0 = m }) t after i);
-  all = λ t live. is_there t (seat_live w t live);
+  all = λ t live. is_there t (berth_live w t live);
 })
   where
     is_live : (t : ThreadId) → (m : ℕ) × IsIn m after × (t ≡ record { 0 = m }) → IsLive (shown w) t
     is_live t (m, i, same) =
-        let there = h.seated m (in_contains before m (adds_none m (contains_in m after i))) in
-        subst (IsLive (shown w)) (sym same) (live_seat w there.0 (record { 0 = m }) there.1)
+        let there = h.berthed m (in_contains before m (adds_none m (contains_in m after i))) in
+        subst (IsLive (shown w)) (sym same) (live_berth w there.0 (record { 0 = m }) there.1)
 
-    is_there : (t : ThreadId) → (k : ℕ) × (k < length w.seats) × (holder_at w.seats k ≡ Some t) → IsIn t (threads_numbered after)
+    is_there : (t : ThreadId) → (k : ℕ) × (k < length w.berths) × (holder_at w.berths k ≡ Some t) → IsIn t (threads_numbered after)
     is_there t (k, below, there) =
         in_map (λ (m : ℕ). record { 0 = m }) t.0 after (in_contains after t.0 (keeps t.0 (contains_in t.0 before (h.all k t.0 below there))))
 
