@@ -13,7 +13,7 @@ mod pass;
 mod rule;
 
 pub use close::CloseFault;
-pub use event::{EventKind, Event, events_keep_low_bytes};
+pub use event::{Event, EventKind, events_keep_low_bytes};
 pub use headers::Headers;
 pub use kept::Kept;
 pub use open::OpenFault;

@@ -155,37 +155,37 @@ push_elsewhere (z ∷ zs) x (suc j) other = push_elsewhere zs x j (λ e. other (
 -- ---- what slots and positions show
 
 abbrev pub position_in : List (ℕ × ℕ) → ℕ → Option ℕ
-position_in places q = lookup (is_at (nat_cmp q)) positions
+position_in positions q = lookup (is_at (nat_cmp q)) positions
 
-pub get_records : (slots : List Slot) (positions : List (ℕ × ℕ)) (q : ℕ) → map.get (records_in slots positions) q ≡ value_at (slice_get slots) (position_in places) q
+pub get_records : (slots : List Slot) (positions : List (ℕ × ℕ)) (q : ℕ) → map.get (records_in slots positions) q ≡ value_at (slice_get slots) (position_in positions) q
 get_records slots positions q =
     get_shown (list_map (λ e. (e.0, record_in (slice_get slots e.1))) positions) q
     ∙ lookup-map_values (λ k. record_in (slice_get slots k)) (is_at (nat_cmp q)) positions
 
 -- the record of a number that has a position, and of one that has none
-pub record_found : (slots : List Slot) (positions : List (ℕ × ℕ)) (t k : ℕ) (s : Slot) → position_in places t ≡ Some k → slice_get slots k ≡ Some s → map.get (records_in slots positions) t ≡ Some s.kept
+pub record_found : (slots : List Slot) (positions : List (ℕ × ℕ)) (t k : ℕ) (s : Slot) → position_in positions t ≡ Some k → slice_get slots k ≡ Some s → map.get (records_in slots positions) t ≡ Some s.kept
 record_found slots positions t k s found there = rw (get_records slots positions t, found, there) refl
 
-pub no_record : (slots : List Slot) (positions : List (ℕ × ℕ)) (t : ℕ) → position_in places t ≡ None → map.get (records_in slots positions) t ≡ None
+pub no_record : (slots : List Slot) (positions : List (ℕ × ℕ)) (t : ℕ) → position_in positions t ≡ None → map.get (records_in slots positions) t ≡ None
 no_record slots positions t none = rw (get_records slots positions t, none) refl
 
 -- a number without a record has no position
-pub no_position : (slots : List Slot) (positions : List (ℕ × ℕ)) (t : ℕ) → map.get (records_in slots positions) t ≡ None → position_in places t ≡ None
-no_position slots positions t none = by (position_in places t) (sym (get_records slots positions t) ∙ none)
+pub no_position : (slots : List Slot) (positions : List (ℕ × ℕ)) (t : ℕ) → map.get (records_in slots positions) t ≡ None → position_in positions t ≡ None
+no_position slots positions t none = by (position_in positions t) (sym (get_records slots positions t) ∙ none)
   where
     by : (o : Option ℕ) → option_map (λ k. record_in (slice_get slots k)) o ≡ None → o ≡ None
     by None e = refl
     by (Some k) e = absurd (cc)
 
 -- a position has a slot
-pub slot_there : (slots : List Slot) (positions : List (ℕ × ℕ)) (t k : ℕ) → LeadToSlots slots positions → position_in places t ≡ Some k → slice_get slots k ≡ None → ⊥
+pub slot_there : (slots : List Slot) (positions : List (ℕ × ℕ)) (t k : ℕ) → LeadToSlots slots positions → position_in positions t ≡ Some k → slice_get slots k ≡ None → ⊥
 slot_there slots positions t k leads found none = let never : None ≡ Some (leads t k found).0 = sym none ∙ (leads t k found).1 in absurd (cc)
 
-pub position_within : (slots : List Slot) (positions : List (ℕ × ℕ)) (t k : ℕ) → LeadToSlots slots positions → position_in places t ≡ Some k → k < length slots
+pub position_within : (slots : List Slot) (positions : List (ℕ × ℕ)) (t k : ℕ) → LeadToSlots slots positions → position_in positions t ≡ Some k → k < length slots
 position_within slots positions t k leads found = slice_get_within slots k (leads t k found).0 (leads t k found).1
 
 -- the slot that was read there
-pub slot_read : (slots : List Slot) (positions : List (ℕ × ℕ)) (t k : ℕ) (s : Slot) → LeadToSlots slots positions → position_in places t ≡ Some k → s ≡ slice_index_or slots k s → slice_get slots k ≡ Some s
+pub slot_read : (slots : List Slot) (positions : List (ℕ × ℕ)) (t k : ℕ) (s : Slot) → LeadToSlots slots positions → position_in positions t ≡ Some k → s ≡ slice_index_or slots k s → slice_get slots k ≡ Some s
 slot_read slots positions t k s leads found is = slice_get_read slots (length slots) k s refl (position_within slots positions t k leads found) is
 
 -- without a live thread there is no record
@@ -212,37 +212,37 @@ len_records slots positions ordered =
 module _ (slots : List Slot) (positions : List (ℕ × ℕ)) (t k : ℕ) (old new : Slot)
     (leads : LeadToSlots slots positions)
     (haves : HavePositions slots positions)
-    (found : position_in places t ≡ Some k)
+    (found : position_in positions t ≡ Some k)
     (there : slice_get slots k ≡ Some old)
     (same : new.number ≡ old.number) where
   of_t : new.number ≡ t
-  of_t = same ∙ number_at (slice_get slots) (position_in places) t k old leads found there
+  of_t = same ∙ number_at (slice_get slots) (position_in positions) t k old leads found there
 
-  alone_there : (q : ℕ) → position_in places q ≡ Some k → q ≡ new.number
-  alone_there q e = one_position (slice_get slots) (position_in places) t q k leads found e ∙ sym of_t
+  alone_there : (q : ℕ) → position_in positions q ≡ Some k → q ≡ new.number
+  alone_there q e = one_position (slice_get slots) (position_in positions) t q k leads found e ∙ sym of_t
 
-  led_there : position_in places new.number ≡ Some k
-  led_there = ap (position_in places) of_t ∙ found
+  led_there : position_in positions new.number ≡ Some k
+  led_there = ap (position_in positions) of_t ∙ found
 
-  mine_there : (j : ℕ) → position_in places new.number ≡ Some j → j ≡ k
+  mine_there : (j : ℕ) → position_in positions new.number ≡ Some j → j ≡ k
   mine_there j e = same_Some j k (sym e ∙ led_there)
 
   pub leads-written : LeadToSlots (slice_set slots k new) positions
   leads-written =
-      leads-put (slice_get slots) (slice_get (slice_set slots k new)) (position_in places) (position_in places) k new leads haves alone_there mine_there
+      leads-put (slice_get slots) (slice_get (slice_set slots k new)) (position_in positions) (position_in positions) k new leads haves alone_there mine_there
       (set_here slots k new old there) (set_elsewhere slots k new) led_there (λ q other. refl)
 
   pub haves-written : HavePositions (slice_set slots k new) positions
   haves-written =
-      haves-put (slice_get slots) (slice_get (slice_set slots k new)) (position_in places) (position_in places) k new leads haves alone_there mine_there
+      haves-put (slice_get slots) (slice_get (slice_set slots k new)) (position_in positions) (position_in positions) k new leads haves alone_there mine_there
       (set_here slots k new old there) (set_elsewhere slots k new) led_there (λ q other. refl)
 
   at_written : (q : ℕ) → map.get (records_in (slice_set slots k new) positions) q ≡ map.get (map.insert (records_in slots positions) t new.kept) q
   at_written q =
       get_records (slice_set slots k new) positions q
-      ∙ value-put (slice_get slots) (slice_get (slice_set slots k new)) (position_in places) (position_in places) k new leads haves alone_there mine_there
+      ∙ value-put (slice_get slots) (slice_get (slice_set slots k new)) (position_in positions) (position_in positions) k new leads haves alone_there mine_there
       (set_here slots k new old there) (set_elsewhere slots k new) led_there (λ p other. refl) q
-      ∙ ap (λ n. cond (q == n) (Some new.kept) (value_at (slice_get slots) (position_in places) q)) of_t
+      ∙ ap (λ n. cond (q == n) (Some new.kept) (value_at (slice_get slots) (position_in positions) q)) of_t
       ∙ ap (λ o. cond (q == t) (Some new.kept) o) (sym (get_records slots positions q))
       ∙ sym (get-insert_by (records_in slots positions) t new.kept q)
 
@@ -254,34 +254,34 @@ module _ (slots : List Slot) (positions : List (ℕ × ℕ)) (t k : ℕ) (old ne
 module _ (slots : List Slot) (positions positions' : List (ℕ × ℕ)) (new : Slot)
     (leads : LeadToSlots slots positions)
     (haves : HavePositions slots positions)
-    (none : position_in places new.number ≡ None)
-    (updates : (q : ℕ) → position_in places' q ≡ cond (is_at (nat_cmp new.number) q) (Some (length slots)) (position_in places q)) where
-  alone_new : (q : ℕ) → position_in places q ≡ Some (length slots) → q ≡ new.number
+    (none : position_in positions new.number ≡ None)
+    (updates : (q : ℕ) → position_in positions' q ≡ cond (is_at (nat_cmp new.number) q) (Some (length slots)) (position_in positions q)) where
+  alone_new : (q : ℕ) → position_in positions q ≡ Some (length slots) → q ≡ new.number
   alone_new q e = absurd (slot_there slots positions q (length slots) leads e (slice_get_past slots (length slots) (omega arith)))
 
-  mine_new : (j : ℕ) → position_in places new.number ≡ Some j → j ≡ length slots
+  mine_new : (j : ℕ) → position_in positions new.number ≡ Some j → j ≡ length slots
   mine_new j e = absurd (let never : None ≡ Some j = sym none ∙ e in cc)
 
-  led_new : position_in places' new.number ≡ Some (length slots)
-  led_new = updates new.number ∙ ap (λ b. cond b (Some (length slots)) (position_in places new.number)) (at_key new.number new.number ∙ eq-eqb new.number new.number refl)
+  led_new : position_in positions' new.number ≡ Some (length slots)
+  led_new = updates new.number ∙ ap (λ b. cond b (Some (length slots)) (position_in positions new.number)) (at_key new.number new.number ∙ eq-eqb new.number new.number refl)
 
-  rest_new : (q : ℕ) → (q ≡ new.number → ⊥) → position_in places' q ≡ position_in places q
-  rest_new q other = updates q ∙ ap (λ b. cond b (Some (length slots)) (position_in places q)) (at_key new.number q ∙ ne_eqb q new.number other)
+  rest_new : (q : ℕ) → (q ≡ new.number → ⊥) → position_in positions' q ≡ position_in positions q
+  rest_new q other = updates q ∙ ap (λ b. cond b (Some (length slots)) (position_in positions q)) (at_key new.number q ∙ ne_eqb q new.number other)
 
   pub leads-added : LeadToSlots (slots ++ new ∷ []) positions'
   leads-added =
-      leads-put (slice_get slots) (slice_get (slots ++ new ∷ [])) (position_in places) (position_in places') (length slots) new leads haves alone_new mine_new
+      leads-put (slice_get slots) (slice_get (slots ++ new ∷ [])) (position_in positions) (position_in positions') (length slots) new leads haves alone_new mine_new
       (push_here slots new) (push_elsewhere slots new) led_new rest_new
 
   pub haves-added : HavePositions (slots ++ new ∷ []) positions'
   haves-added =
-      haves-put (slice_get slots) (slice_get (slots ++ new ∷ [])) (position_in places) (position_in places') (length slots) new leads haves alone_new mine_new
+      haves-put (slice_get slots) (slice_get (slots ++ new ∷ [])) (position_in positions) (position_in positions') (length slots) new leads haves alone_new mine_new
       (push_here slots new) (push_elsewhere slots new) led_new rest_new
 
   at_added : (q : ℕ) → map.get (records_in (slots ++ new ∷ []) positions') q ≡ map.get (map.insert (records_in slots positions) new.number new.kept) q
   at_added q =
       get_records (slots ++ new ∷ []) positions' q
-      ∙ value-put (slice_get slots) (slice_get (slots ++ new ∷ [])) (position_in places) (position_in places') (length slots) new leads haves alone_new mine_new
+      ∙ value-put (slice_get slots) (slice_get (slots ++ new ∷ [])) (position_in positions) (position_in positions') (length slots) new leads haves alone_new mine_new
       (push_here slots new) (push_elsewhere slots new) led_new rest_new q
       ∙ ap (λ o. cond (q == new.number) (Some new.kept) o) (sym (get_records slots positions q))
       ∙ sym (get-insert_by (records_in slots positions) new.number new.kept q)
@@ -300,14 +300,14 @@ module _ (slots : List Slot) (positions : List (ℕ × ℕ)) (o : ObjectId) wher
   pub haves-notified : HavePositions slots positions → HavePositions (list_map (notified_slot o) slots) positions
   haves-notified haves k s e = by (slice_get slots k) refl (sym (slice_get-map (notified_slot o) slots k) ∙ e)
     where
-      by : (x : Option Slot) → slice_get slots k ≡ x → option_map (notified_slot o) x ≡ Some s → position_in places s.number ≡ Some k
+      by : (x : Option Slot) → slice_get slots k ≡ x → option_map (notified_slot o) x ≡ Some s → position_in positions s.number ≡ Some k
       by None is e = absurd (cc)
-      by (Some x) is e = ap (λ (y : Slot). position_in places y.number) (sym (same_Some (notified_slot o x) s e)) ∙ haves k x is
+      by (Some x) is e = ap (λ (y : Slot). position_in positions y.number) (sym (same_Some (notified_slot o x) s e)) ∙ haves k x is
 
-  value-notified : LeadToSlots slots positions → (q : ℕ) → value_at (slice_get (list_map (notified_slot o) slots)) (position_in places) q ≡ option_map (notified_record o) (value_at (slice_get slots) (position_in places) q)
-  value-notified leads q = by (position_in places q) refl
+  value-notified : LeadToSlots slots positions → (q : ℕ) → value_at (slice_get (list_map (notified_slot o) slots)) (position_in positions) q ≡ option_map (notified_record o) (value_at (slice_get slots) (position_in positions) q)
+  value-notified leads q = by (position_in positions q) refl
     where
-      by : (x : Option ℕ) → position_in places q ≡ x
+      by : (x : Option ℕ) → position_in positions q ≡ x
           → option_map (λ k. record_in (slice_get (list_map (notified_slot o) slots) k)) x ≡ option_map (notified_record o) (option_map (λ k. record_in (slice_get slots k)) x)
       by None is = refl
       by (Some k) is = rw (slice_get-map (notified_slot o) slots k, (leads q k is).1) refl

@@ -64,35 +64,35 @@ beyond_last j n past apart = by (cases_lt j n)
 abbrev pub StandsWithout : ℕ → List Slot → List (ℕ × ℕ) → List Slot → List (ℕ × ℕ) → Type 0
 StandsWithout t slots positions slots' positions' =
     LeadToSlots slots' positions' × HavePositions slots' positions'
-    × ((q : ℕ) → value_at (slice_get slots') (position_in places') q ≡ cond (q == t) None (value_at (slice_get slots) (position_in places) q))
+    × ((q : ℕ) → value_at (slice_get slots') (position_in positions') q ≡ cond (q == t) None (value_at (slice_get slots) (position_in positions) q))
 
 module _ (slots : List Slot) (positions positions' : List (ℕ × ℕ)) (t k : ℕ) (d : Slot)
     (leads : LeadToSlots slots positions)
     (haves : HavePositions slots positions)
-    (found : position_in places t ≡ Some k)
-    (drops : (q : ℕ) → position_in places' q ≡ cond (is_at (nat_cmp t) q) None (position_in places q)) where
+    (found : position_in positions t ≡ Some k)
+    (drops : (q : ℕ) → position_in positions' q ≡ cond (is_at (nat_cmp t) q) None (position_in positions q)) where
   here : k < length slots
   here = position_within slots positions t k leads found
 
-  dropped : position_in places' t ≡ None
-  dropped = drops t ∙ ap (λ b. cond b None (position_in places t)) (at_key t t ∙ eq-eqb t t refl)
+  dropped : position_in positions' t ≡ None
+  dropped = drops t ∙ ap (λ b. cond b None (position_in positions t)) (at_key t t ∙ eq-eqb t t refl)
 
-  kept_positions : (q : ℕ) → (q ≡ t → ⊥) → position_in places' q ≡ position_in places q
-  kept_positions q other = drops q ∙ ap (λ b. cond b None (position_in places q)) (at_key t q ∙ ne_eqb q t other)
+  kept_positions : (q : ℕ) → (q ≡ t → ⊥) → position_in positions' q ≡ position_in positions q
+  kept_positions q other = drops q ∙ ap (λ b. cond b None (position_in positions q)) (at_key t q ∙ ne_eqb q t other)
 
   -- the last slot's number, where it is not the one that goes
   abbrev number : ℕ
   number = (slice_index_or slots (length slots - 1) d).number
 
-  position_of_last : position_in places number ≡ Some (length slots - 1)
+  position_of_last : position_in positions number ≡ Some (length slots - 1)
   position_of_last = haves (length slots - 1) (slice_index_or slots (length slots - 1) d) (last_there slots k d here)
 
   other_number : k < length slots - 1 → number ≡ t → ⊥
   other_number below same =
-      let at : k ≡ length slots - 1 = same_Some k (length slots - 1) (sym found ∙ ap (position_in places) (sym same) ∙ position_of_last) in
+      let at : k ≡ length slots - 1 = same_Some k (length slots - 1) (sym found ∙ ap (position_in positions) (sym same) ∙ position_of_last) in
       absurd (omega arith)
 
-  pub still_led : k < length slots - 1 → position_in places' (slice_index_or slots (length slots - 1) d).number ≡ Some (length slots - 1)
+  pub still_led : k < length slots - 1 → position_in positions' (slice_index_or slots (length slots - 1) d).number ≡ Some (length slots - 1)
   still_led below = kept_positions number (other_number below) ∙ position_of_last
 
   -- the last slot goes itself
@@ -101,9 +101,9 @@ module _ (slots : List Slot) (positions positions' : List (ℕ × ℕ)) (t k : �
       let a = slice_get slots in
       let a' = slice_get (swap_remove slots k d) in
       let gone : slice_get (swap_remove slots k d) k ≡ None = swapped_past slots k d here k past in (
-        leads-drop a a' (position_in places) (position_in places') t k leads haves found gone others dropped kept_positions,
-        haves-drop a a' (position_in places) (position_in places') t k leads haves found gone others dropped kept_positions,
-        value-drop a a' (position_in places) (position_in places') t k leads haves found gone others dropped kept_positions,
+        leads-drop a a' (position_in positions) (position_in positions') t k leads haves found gone others dropped kept_positions,
+        haves-drop a a' (position_in positions) (position_in positions') t k leads haves found gone others dropped kept_positions,
+        value-drop a a' (position_in positions) (position_in positions') t k leads haves found gone others dropped kept_positions,
       )
     where
       others : (j : ℕ) → (j ≡ k → ⊥) → slice_get (swap_remove slots k d) j ≡ slice_get slots j
@@ -123,7 +123,7 @@ module _ (slots : List Slot) (positions positions' : List (ℕ × ℕ)) (t k : �
   a2 j = cond (j == length slots - 1) None (a1 j)
 
   abbrev p2 : ℕ → Option ℕ
-  p2 q = cond (q == number) None (position_in places' q)
+  p2 q = cond (q == number) None (position_in positions' q)
 
   gone1 : a1 k ≡ None
   gone1 = rw (eq-eqb k k refl) refl
@@ -140,29 +140,29 @@ module _ (slots : List Slot) (positions positions' : List (ℕ × ℕ)) (t k : �
   led2 : p2 number ≡ None
   led2 = rw (eq-eqb number number refl) refl
 
-  rest2 : (q : ℕ) → (q ≡ number → ⊥) → p2 q ≡ position_in places' q
+  rest2 : (q : ℕ) → (q ≡ number → ⊥) → p2 q ≡ position_in positions' q
   rest2 q other = rw (ne_eqb q number other) refl
 
-  leads1 : Leads a1 (position_in places')
-  leads1 = leads-drop (slice_get slots) a1 (position_in places) (position_in places') t k leads haves found gone1 others1 dropped kept_positions
+  leads1 : Leads a1 (position_in positions')
+  leads1 = leads-drop (slice_get slots) a1 (position_in positions) (position_in positions') t k leads haves found gone1 others1 dropped kept_positions
 
-  haves1 : Haves a1 (position_in places')
-  haves1 = haves-drop (slice_get slots) a1 (position_in places) (position_in places') t k leads haves found gone1 others1 dropped kept_positions
+  haves1 : Haves a1 (position_in positions')
+  haves1 = haves-drop (slice_get slots) a1 (position_in positions) (position_in positions') t k leads haves found gone1 others1 dropped kept_positions
 
-  value1 : (q : ℕ) → value_at a1 (position_in places') q ≡ cond (q == t) None (value_at (slice_get slots) (position_in places) q)
-  value1 = value-drop (slice_get slots) a1 (position_in places) (position_in places') t k leads haves found gone1 others1 dropped kept_positions
+  value1 : (q : ℕ) → value_at a1 (position_in positions') q ≡ cond (q == t) None (value_at (slice_get slots) (position_in positions) q)
+  value1 = value-drop (slice_get slots) a1 (position_in positions) (position_in positions') t k leads haves found gone1 others1 dropped kept_positions
 
   leads2 : k < length slots - 1 → Leads a2 p2
-  leads2 below = leads-drop a1 a2 (position_in places') p2 number (length slots - 1) leads1 haves1 (still_led below) gone2 others2 led2 rest2
+  leads2 below = leads-drop a1 a2 (position_in positions') p2 number (length slots - 1) leads1 haves1 (still_led below) gone2 others2 led2 rest2
 
   haves2 : k < length slots - 1 → Haves a2 p2
-  haves2 below = haves-drop a1 a2 (position_in places') p2 number (length slots - 1) leads1 haves1 (still_led below) gone2 others2 led2 rest2
+  haves2 below = haves-drop a1 a2 (position_in positions') p2 number (length slots - 1) leads1 haves1 (still_led below) gone2 others2 led2 rest2
 
-  value2 : k < length slots - 1 → (q : ℕ) → value_at a2 p2 q ≡ cond (q == number) None (value_at a1 (position_in places') q)
-  value2 below = value-drop a1 a2 (position_in places') p2 number (length slots - 1) leads1 haves1 (still_led below) gone2 others2 led2 rest2
+  value2 : k < length slots - 1 → (q : ℕ) → value_at a2 p2 q ≡ cond (q == number) None (value_at a1 (position_in positions') q)
+  value2 below = value-drop a1 a2 (position_in positions') p2 number (length slots - 1) leads1 haves1 (still_led below) gone2 others2 led2 rest2
 
   -- the last slot takes the free position, and its number's position follows
-  module _ (positions'' : List (ℕ × ℕ)) (below : k < length slots - 1) (led : (q : ℕ) → position_in places'' q ≡ cond (is_at (nat_cmp number) q) (Some k) (position_in places' q)) where
+  module _ (positions'' : List (ℕ × ℕ)) (below : k < length slots - 1) (led : (q : ℕ) → position_in positions'' q ≡ cond (is_at (nat_cmp number) q) (Some k) (position_in positions' q)) where
     apart_last : k ≡ length slots - 1 → ⊥
     apart_last e = omega (arith, e, below)
 
@@ -190,14 +190,14 @@ module _ (slots : List Slot) (positions positions' : List (ℕ × ℕ)) (t k : �
             ∙ sym (others2 j (λ e. omega (arith, e, less)) ∙ others1 j other)
         by (inr past) = by_last past (cases_eq j (length slots - 1))
 
-    led_free : position_in places'' number ≡ Some k
-    led_free = led number ∙ ap (λ b. cond b (Some k) (position_in places' number)) (at_key number number ∙ eq-eqb number number refl)
+    led_free : position_in positions'' number ≡ Some k
+    led_free = led number ∙ ap (λ b. cond b (Some k) (position_in positions' number)) (at_key number number ∙ eq-eqb number number refl)
 
-    rest_free : (q : ℕ) → (q ≡ number → ⊥) → position_in places'' q ≡ p2 q
-    rest_free q other = led q ∙ ap (λ b. cond b (Some k) (position_in places' q)) (at_key number q ∙ ne_eqb q number other) ∙ sym (rest2 q other)
+    rest_free : (q : ℕ) → (q ≡ number → ⊥) → position_in positions'' q ≡ p2 q
+    rest_free q other = led q ∙ ap (λ b. cond b (Some k) (position_in positions' q)) (at_key number q ∙ ne_eqb q number other) ∙ sym (rest2 q other)
 
     last_value : (q : ℕ) → (q ≡ number) ⊎ (q ≡ number → ⊥)
-        → cond (q == number) (Some (slice_index_or slots (length slots - 1) d).kept) (cond (q == number) None (value_at a1 (position_in places') q)) ≡ cond (q == t) None (value_at (slice_get slots) (position_in places) q)
+        → cond (q == number) (Some (slice_index_or slots (length slots - 1) d).kept) (cond (q == number) None (value_at a1 (position_in positions') q)) ≡ cond (q == t) None (value_at (slice_get slots) (position_in positions) q)
     last_value q (inl same) =
         let apart : q ≡ t → ⊥ = λ e. other_number below (sym same ∙ e) in
         rw (eq-eqb q number same, ne_eqb q t apart, same, position_of_last, last_there slots k d here) refl
@@ -208,17 +208,17 @@ module _ (slots : List Slot) (positions positions' : List (ℕ × ℕ)) (t k : �
         let a' = slice_get (swap_remove slots k d) in
         let new : Slot = slice_index_or slots (length slots - 1) d in
         let put = swapped_here slots k d here below in (
-          leads-put a2 a' p2 (position_in places'') k new (leads2 below) (haves2 below) alone_free mine_free put others_free led_free rest_free,
-          haves-put a2 a' p2 (position_in places'') k new (leads2 below) (haves2 below) alone_free mine_free put others_free led_free rest_free,
-          λ q. value-put a2 a' p2 (position_in places'') k new (leads2 below) (haves2 below) alone_free mine_free put others_free led_free rest_free q
+          leads-put a2 a' p2 (position_in positions'') k new (leads2 below) (haves2 below) alone_free mine_free put others_free led_free rest_free,
+          haves-put a2 a' p2 (position_in positions'') k new (leads2 below) (haves2 below) alone_free mine_free put others_free led_free rest_free,
+          λ q. value-put a2 a' p2 (position_in positions'') k new (leads2 below) (haves2 below) alone_free mine_free put others_free led_free rest_free q
               ∙ ap (λ o. cond (q == number) (Some new.kept) o) (value2 below q) ∙ last_value q (cases_eq q number),
         )
 
 module _ (slots : List Slot) (positions : List (ℕ × ℕ)) (m m' : BTreeMap ℕ ℕ) (t k : ℕ) (d : Slot)
     (leads : LeadToSlots slots positions)
     (haves : HavePositions slots positions)
-    (found : position_in places t ≡ Some k)
-    (drops : (q : ℕ) → position_in m.entries q ≡ cond (is_at (nat_cmp t) q) None (position_in places q)) where
+    (found : position_in positions t ≡ Some k)
+    (drops : (q : ℕ) → position_in m.entries q ≡ cond (is_at (nat_cmp t) q) None (position_in positions q)) where
   pub taken_out : MatchOption (slice_get (swap_remove slots k d) k) (m'.entries ≡ m.entries) (λ s. Updates nat_cmp m m' s.number (Some k))
       → StandsWithout t slots positions (swap_remove slots k d) m'.entries
   taken_out follows = by (cases_lt k (length slots - 1))
@@ -251,7 +251,7 @@ records-without t slots positions slots' positions' stands = same_map nat_cmp_to
     get_records slots' positions' q ∙ stands.2 q ∙ ap (λ o. cond (q == t) None o) (sym (get_records slots positions q)) ∙ sym (get-remove_by (records_in slots positions) t q))
 
 -- nothing goes where there is no position
-pub records-absent : (slots : List Slot) (positions : List (ℕ × ℕ)) (t : ℕ) → position_in places t ≡ None → records_in slots positions ≡ map.remove (records_in slots positions) t
+pub records-absent : (slots : List Slot) (positions : List (ℕ × ℕ)) (t : ℕ) → position_in positions t ≡ None → records_in slots positions ≡ map.remove (records_in slots positions) t
 records-absent slots positions t none = same_map nat_cmp_total nat_cmp-IsAntisymmetric _ _ (λ q. by q (cases_eq q t) ∙ sym (get-remove_by (records_in slots positions) t q))
   where
     by : (q : ℕ) → (q ≡ t) ⊎ (q ≡ t → ⊥) → map.get (records_in slots positions) q ≡ cond (q == t) None (map.get (records_in slots positions) q)
