@@ -40,7 +40,7 @@ pub enum BenchFault {
     #[error("the object or the book is taken, though one pass is there")]
     Taken,
     #[error("the first argument is neither words nor calls")]
-    Measured,
+    Part,
     #[error("the second argument is no number of rounds")]
     Rounds(#[from] ParseIntError),
     #[error("the system: {0}")]
@@ -48,6 +48,7 @@ pub enum BenchFault {
 }
 
 // What the program is asked to measure, and the number of rounds, if it is given one.
+#[derive(Clone, Copy)]
 struct Asked {
     words: bool,
     calls: bool,
@@ -56,12 +57,18 @@ struct Asked {
 
 fn asked<R: AllocGlobal + Env>(rt: &R) -> Result<Asked, BenchFault> {
     let mut arguments = env::args(rt)?;
-    let (words, calls) = match arguments.nth(1) {
-        None => (true, true),
-        Some(text) if text == "words" => (true, false),
-        Some(text) if text == "calls" => (false, true),
-        Some(_) => return Err(BenchFault::Measured),
+    let Some(part) = arguments.nth(1) else {
+        return Ok(Asked {
+            words: true,
+            calls: true,
+            rounds: None,
+        });
     };
+    let words = part.as_str() == "words";
+    let calls = part.as_str() == "calls";
+    if !words && !calls {
+        return Err(BenchFault::Part);
+    }
     let rounds = match arguments.next() {
         Some(text) => Some(text.parse::<u32>()?),
         None => None,

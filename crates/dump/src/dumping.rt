@@ -13,7 +13,6 @@ ghost use Rattle.dump.specs.Dumps.{IsDumpOf};
 
 use crate::reports::report;
 use history::{FileFault, Sink, Source, play_text, read_all};
-use lock_word::Memory;
 use script_text::MOST_BYTES;
 use std::alloc::Global;
 use text_streams::write_out;
@@ -62,8 +61,6 @@ fn dump_in(alloc: Global, bytes: &[u8]) -> Result<String, FileFault>
     ensures fault { IfErr result (IsReasonFor bytes.now) }
 {
     let (world, names) = play_text(alloc, bytes)?;
-    match report(alloc, &world, &names) {
-        Ok(text) => Ok(text),
-        Err(Memory) => Err(FileFault::Memory),
-    }
+    let text = report(alloc, &world, &names)?;
+    Ok(text)
 }

@@ -52,9 +52,6 @@ Reports-next names w v u rs i d old mid new within p one = rw (take_more rs i d 
 pub Reports-all : (names : NameLists) (w v : WorldState) (rs : List Request) (i : ℕ) (old new : List ℕ) → length rs ≤ i → Reports names w (take i rs) v old new → Reports names w rs v old new
 Reports-all names w v rs i old new all p = subst (λ (l : List Request). Reports names w l v old new) (take_all i rs all) p
 
-pub opened_first : (plan : Plan) (lows : List ℕ) (w : WorldState) → lows ≡ plan.lows.items → w ≡ opening_world lows plan.monitors plan.indices plan.split → w ≡ first_world plan
-opened_first plan lows w same opened = opened ∙ ap (λ (l : List ℕ). opening_world l plan.monitors plan.indices plan.split) same
-
 pub report_done : (plan : Plan) (lows : List ℕ) (w v : WorldState) (steps : List Request) (began mid new : List ℕ) → lows ≡ plan.lows.items
     → w ≡ opening_world lows plan.monitors plan.indices plan.split → steps ≡ plan.steps.items → began ≡ [] → Reports plan.names w steps v began mid
     → new ≡ mid ++ object_lines plan.names v (shown v).objects → IsReportOf plan new

@@ -9,17 +9,11 @@ ghost use Rattle.text_streams.specs.declared.faults.FileFault.TheVariants.{Broke
 ghost use Rattle.text_streams.specs.declared.faults.FileFault.TheVariants.{Read as ReadFault};
 ghost use Rattle.text_streams.specs.declared.faults.FileFault.TheVariants.{Write as WriteFault};
 ghost use Rattle.step_core.specs.Step.{moves_made, moves_of};
-ghost use Rattle.text_streams.specs.declared.faults.FileFault.TheVariants.{
-  Memory as WantOfMemory,
-};
 ghost use Rattle.step_core.specs.declared.steps.Fault.TheVariants.{Memory as OutOfMemory};
 ghost use Rattle.history.specs.Plans.{IsPlanOf};
 ghost use Rattle.history.specs.declared.plans.Plan.{Plan as PlanData};
-ghost use Rattle.history.specs.Histories.{IsHistoryOf, Tells, TellsOne, first_world, moves_text};
-ghost use Rattle.history.specs.Histories.{objects_text};
+ghost use Rattle.history.specs.Histories.{IsHistoryOf, Tells, TellsOne, moves_text, objects_text};
 ghost use Rattle.script_text.specs.Scripts.{IsReasonFor};
-ghost use Rattle.step_core.specs.Machine.{opening};
-ghost use Rattle.step_core.specs.Shown.{shown};
 
 use crate::plans::Plan;
 use crate::running::{plan_in, read_all};
@@ -76,17 +70,8 @@ fn history_of(alloc: Global, plan: &Plan) -> Result<Vec<u8>, Memory>
     ensures { IfOk result (λ history. IsHistoryOf plan.now history.items) }
 {
     let mut world = World::new(alloc, &plan.lows, plan.monitors, plan.indices, plan.split)?;
-    history_from(alloc, plan, &mut world)
-}
-
-/// Plays a script from its first world on, and writes its history.
-fn history_from(alloc: Global, plan: &Plan, world: &mut World) -> Result<Vec<u8>, Memory>
-    requires first { world.old ≡ first_world plan.now }
-    requires shows { shown world.old ≡ opening (length plan.now.lows.items) }
-    ensures { IfOk result (λ history. IsHistoryOf plan.now history.items) }
-{
     let mut history = opening_text(alloc, plan.lows.len() as u16)?;
-    tell_steps(world, &plan.steps, &mut history)?;
+    tell_steps(&mut world, &plan.steps, &mut history)?;
     Ok(history)
 }
 
@@ -99,15 +84,7 @@ fn history_in(alloc: Global, bytes: Vec<u8>) -> Result<Vec<u8>, FileFault>
 {
     let plan = plan_in(alloc, &bytes)?;
     drop(bytes);
-    history_or_fault(alloc, &plan)
-}
-
-/// The history of a plan, or the fault that it has for want of memory.
-fn history_or_fault(alloc: Global, plan: &Plan) -> Result<Vec<u8>, FileFault>
-    ensures history { IfOk result (λ history. IsHistoryOf plan.now history.items) }
-    ensures memory { IfErr result (λ fault. fault ≡ WantOfMemory) }
-{
-    let history = history_of(alloc, plan)?;
+    let history = history_of(alloc, &plan)?;
     Ok(history)
 }
 

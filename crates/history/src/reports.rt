@@ -7,7 +7,6 @@ ghost use Rattle.script_text.specs.Lines.{split_name};
 ghost use Rattle.step_core.specs.Names.{fault_name, fault_number};
 ghost use Rattle.step_core.specs.Names.{relayout_fault_name, relayout_fault_number};
 ghost use Rattle.thread_index.specs.Indices.{index_of};
-ghost use Rattle.history.specs.Histories.{first_world};
 ghost use Rattle.history.specs.NameLists.{name_at};
 ghost use Rattle.step_core.specs.Shown.{shown};
 ghost use Rattle.step_core.specs.declared.steps.Fault.TheVariants.{Memory as OutOfMemory};
@@ -33,17 +32,9 @@ pub fn report_of(alloc: Global, plan: &Plan) -> Result<String, Memory>
     ensures { IfOk result (λ report. IsReportOf plan.now (string_bytes report)) }
 {
     let mut world = World::new(alloc, &plan.lows, plan.monitors, plan.indices, plan.split)?;
-    report_from(alloc, plan, &mut world)
-}
-
-/// Plays a script from its first world on, and writes its report.
-fn report_from(alloc: Global, plan: &Plan, world: &mut World) -> Result<String, Memory>
-    requires { world.old ≡ first_world plan.now }
-    ensures { IfOk result (λ report. IsReportOf plan.now (string_bytes report)) }
-{
     let mut report = String::new(alloc);
-    put_steps(&mut report, &plan.names, world, &plan.steps)?;
-    put_objects(alloc, &mut report, &plan.names, world)?;
+    put_steps(&mut report, &plan.names, &mut world, &plan.steps)?;
+    put_objects(alloc, &mut report, &plan.names, &world)?;
     Ok(report)
 }
 

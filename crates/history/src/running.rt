@@ -32,7 +32,8 @@ const CHUNK: usize = 4096;
 /// that a script with a bad line costs little more than it takes to find that line.
 const FEW_THREADS: u32 = 4096;
 
-/// How many bytes the shortest line of a step has, with its line feed: a `go` and a name of a letter.
+/// How many bytes the shortest line of a step has, with its line feed: a `go` and a name of a
+/// letter.
 const SHORTEST_STEP: usize = 5;
 
 /// How many blocks of bytes a lane of eight bits can count.
@@ -84,15 +85,7 @@ fn report_in(alloc: Global, bytes: Vec<u8>) -> Result<String, FileFault>
 {
     let plan = plan_in(alloc, &bytes)?;
     drop(bytes);
-    report_or_fault(alloc, &plan)
-}
-
-/// The report of a plan, or the fault that it has for want of memory.
-fn report_or_fault(alloc: Global, plan: &Plan) -> Result<String, FileFault>
-    ensures report { IfOk result (λ report. IsReportOf plan.now (string_bytes report)) }
-    ensures memory { IfErr result (λ fault. fault ≡ Memory) }
-{
-    let report = report_of(alloc, plan)?;
+    let report = report_of(alloc, &plan)?;
     Ok(report)
 }
 
@@ -167,8 +160,8 @@ fn line_feeds(bytes: &[u8]) -> usize {
     count
 }
 
-/// How many line feeds there are in no more blocks than [`MOST_BLOCKS`]: each lane counts those at its
-/// position.
+/// How many line feeds there are in no more blocks than [`MOST_BLOCKS`]: each lane counts those at
+/// its position.
 fn line_feeds_in(blocks: &[[u8; 16]]) -> usize {
     let mut counts = u8x16::splat(0);
     for block in blocks {
