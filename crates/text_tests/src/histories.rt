@@ -6,27 +6,77 @@ mod names;
 use super::pieces::{PiecesReader, Then};
 use dump::dump_script;
 use history::{FileFault, ReaderSource, WriterSink, moves, read_script, run};
+use live_runs::{RunFault, run_live};
 use std::alloc::Global;
+use std::sync::Wait;
+use std::thread::Threads;
+use std::time::Clock;
 
 /// A script, and behind it a line that is none.
 const LINES: &[u8] = b"world 4 4\nobject a A5\nattach x\nbegin x enter a\ngo x\ngo x\ngo\n";
 
-/// Whether a reader that fails behind these bytes is the fault of a history, and nothing is
-/// written.
-fn fails_behind(alloc: Global, bytes: &[u8]) -> bool {
-    let mut source = ReaderSource::new(PiecesReader::new(bytes, 1, Then::Fails));
+/// Whether a reader that does this behind these bytes is a failed read of a history, a report and a
+/// dump, and nothing is written.
+fn is_failed_read(alloc: Global, bytes: &[u8], then: Then) -> bool {
+    let fault = Err(FileFault::Read);
     let mut sink = WriterSink::new(Vec::new(alloc));
-    let outcome = moves(alloc, &mut source, &mut sink);
-    outcome == Err(FileFault::Read) && sink.into_inner().is_empty()
+    let mut source = ReaderSource::new(PiecesReader::new(bytes, 1, then));
+    let history = moves(alloc, &mut source, &mut sink);
+    let mut source = ReaderSource::new(PiecesReader::new(bytes, 1, then));
+    let report = run(alloc, &mut source, &mut sink);
+    let mut source = ReaderSource::new(PiecesReader::new(bytes, 1, then));
+    let dump = dump_script(alloc, &mut source, &mut sink);
+    history == fault && report == fault && dump == fault && sink.into_inner().is_empty()
 }
 
 /// Wherever the reader fails, that is the fault, also behind a bad line, and nothing is written.
 #[test]
-fn a_history_whose_reader_fails(rt: HostRuntime) {
+fn a_script_whose_reader_fails(rt: HostRuntime) {
     for count in 0..=LINES.len() {
         let (bytes, _) = LINES.split_at(count);
-        assert!(rt; fails_behind(rt.alloc(), bytes), "{count} bytes");
+        assert!(rt;
+            is_failed_read(rt.alloc(), bytes, Then::Fails),
+            "{count} bytes"
+        );
     }
+}
+
+/// A text that is too long is a failed read, also where its first line is bad.
+#[test]
+fn a_script_that_is_too_long(rt: HostRuntime) {
+    assert!(rt; is_failed_read(rt.alloc(), b"go\n", Then::GoesOn));
+    assert!(rt; is_failed_read(rt.alloc(), LINES, Then::GoesOn));
+}
+
+/// Whether a reader that does this behind these bytes is a failed read of a live run, and nothing
+/// is written.
+fn is_failed_live_read<R: Threads + Wait + Clock + Sync>(
+    rt: &R,
+    alloc: Global,
+    bytes: &[u8],
+    then: Then,
+) -> bool {
+    let mut source = ReaderSource::new(PiecesReader::new(bytes, 1, then));
+    let mut sink = WriterSink::new(Vec::new(alloc));
+    let is_read = match run_live(rt, alloc, &mut source, &mut sink) {
+        Err(RunFault::File(fault)) => fault == FileFault::Read,
+        _ => false,
+    };
+    is_read && sink.into_inner().is_empty()
+}
+
+/// Wherever the reader of a live script fails, that is the fault, also behind a bad line, and nothing
+/// is written; and so where the text is too long.
+#[test]
+fn a_live_script_whose_reader_fails(rt: HostRuntime) {
+    for count in 0..=LINES.len() {
+        let (bytes, _) = LINES.split_at(count);
+        assert!(rt;
+            is_failed_live_read(&rt, rt.alloc(), bytes, Then::Fails),
+            "{count} bytes"
+        );
+    }
+    assert!(rt; is_failed_live_read(&rt, rt.alloc(), b"go\n", Then::GoesOn));
 }
 
 /// Texts that are no script, each with a bad line of another kind or in another place, and some
