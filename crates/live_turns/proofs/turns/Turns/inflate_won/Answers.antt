@@ -1,4 +1,4 @@
-use Rattle.std.specs.Prelude.{◌≡◌, length, true}
+use Rattle.std.specs.Prelude.{length, true}
 use Rattle.std.proofs.Common.{refl, ap}
 use Rattle.fat_monitor.specs.Binding.{Binding as Receipt}
 use Rattle.fat_monitor.specs.declared.actions.Cause.TheVariants as cause
