@@ -14,8 +14,8 @@ use Rattle.live_book.specs.declared.faults.LiveFault.{LiveFault}
 use Rattle.live_book.specs.declared.faults.LiveFault.TheVariants as fault
 use Rattle.live_turns.specs.declared.standings.Turned.{Turned}
 use Rattle.live_turns.specs.Asked.{IsDeskFault}
-use Rattle.live_turns.specs.Ways.{Holding, Went, Halted, MayHalt, NeedsBook, TakesGate, GivesGate, parked}
-use Rattle.live_turns.proofs.Going.{went_then, halted_here, halted_held, halted_then}
+use Rattle.live_turns.specs.Ways.{Holding, Went, Halted, MayHalt, NeedsBook, parked}
+use Rattle.live_turns.proofs.Going.{went_then, halted_here, halted_then}
 
 pub covers_bound : (xs ys : List ObjectId) (x : ObjectId) (seen : List Event) → ys ≡ xs ++ x ∷ [] → Covers xs seen → Covers ys seen
 covers_bound xs ys x seen e h = covers_grown xs ys (x ∷ []) seen e h

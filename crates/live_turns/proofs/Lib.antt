@@ -1,4 +1,5 @@
 pub mod Asking
+pub mod AtDesk
 pub mod Going
 pub mod Gates
 pub mod Visits

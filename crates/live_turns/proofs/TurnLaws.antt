@@ -11,7 +11,7 @@ use Rattle.step_core.specs.declared.paths.Point.{Point}
 use Rattle.step_core.specs.declared.paths.Point.TheVariants.{At, Expired, Said}
 use Rattle.live_book.specs.declared.faults.LiveFault.{LiveFault}
 use Rattle.live_turns.specs.declared.standings.Turned.{Turned}
-use Rattle.live_turns.specs.Points.{IsTurnFrom, Knows, Loaded, RefusesThere, RestsAtPost, TurnedFrom, TurnedStage, Visited, is_at_book, rests_at_book}
+use Rattle.live_turns.specs.Points.{IsTurnFrom, Knows, Loaded, RestsAtPost, TurnedFrom, TurnedStage, Visited, is_at_book, rests_at_book}
 use Rattle.live_turns.specs.Ways.{Belongs, TakesGate, GivesGate, Halted, Holding, VisitsBook, Went, parked}
 use Rattle.live_turns.proofs.Going.{went_same, went_held, halted_held}
 use Rattle.live_turns.proofs.Gates.{ok_after, err_after}

@@ -1,6 +1,6 @@
 -- How often a pass is at the book, step by step.
-use Rattle.std.specs.Prelude.{◌≡◌, ◌<◌, ℕ, ◌+◌, ◌-◌, ◌==◌, Bool, true, false, nat_lt, List, [], ◌∷◌, length, None, Result, Ok, Err, IfOk, OnErr}
-use Rattle.std.proofs.Common.{refl, suc, arith, ap, sym, ◌∙◌, subst, length-append}
+use Rattle.std.specs.Prelude.{◌≡◌, ◌<◌, ℕ, ◌+◌, ◌-◌, ◌==◌, Bool, true, false, nat_lt, List, [], ◌∷◌, length, Result, Ok, Err, IfOk, OnErr}
+use Rattle.std.proofs.Common.{suc, arith, ap, sym, ◌∙◌, subst, length-append}
 use Rattle.std.proofs.lemmas.Bool.{cond_both}
 use Rattle.lock_word.specs.declared.Lock.{Lock}
 use Rattle.lock_word.specs.declared.Lock.TheVariants.{Free, Thin, Fat}
@@ -22,8 +22,8 @@ use Rattle.step_core.specs.declared.paths.Point.{Point}
 use Rattle.step_core.specs.declared.paths.Point.TheVariants.{At, Expired, Said}
 use Rattle.live_book.specs.declared.faults.LiveFault.{LiveFault}
 use Rattle.live_turns.specs.declared.standings.Turned.{Turned}
-use Rattle.live_turns.specs.Points.{Visited, Loaded, RefusesThere, RestsAtPost, is_at_book}
-use Rattle.live_turns.specs.Ways.{Holding, TakesGate, GivesGate, VisitsBook, parked}
+use Rattle.live_turns.specs.Points.{Visited, Loaded, RefusesThere}
+use Rattle.live_turns.specs.Ways.{Holding, TakesGate, GivesGate, VisitsBook}
 
 -- an event on a word is no visit
 pub event_visit : (o : ℕ) (d : EventKind) (n : ℕ) (p q : PassValue) → MakesEvent o d n p q → (length p.mine < length q.mine) × VisitsBook 0 p q

@@ -1,14 +1,27 @@
 -- What a desk answers.
-use Rattle.std.specs.Prelude.{◌≡◌, Bool, false}
+use Rattle.std.specs.Prelude.{◌≡◌, ℕ, Bool, false, List, [], ◌∷◌, ◌++◌, length, Result, Ok, Err, IfOk, IfErr, OnOk, OnErr}
+use Rattle.lock_word.specs.declared.ObjectId.{ObjectId}
+use Rattle.lock_word.specs.declared.ThreadId.{ThreadId}
+use Rattle.fat_monitor.specs.Acting.{outcome_of}
+use Rattle.fat_monitor.specs.Binding.{Binding}
+use Rattle.fat_monitor.specs.declared.actions.Done.{Done}
 use Rattle.fat_monitor.specs.declared.actions.Action.{Action}
 use Rattle.fat_monitor.specs.declared.actions.Action.TheVariants as action
 use Rattle.fat_monitor.specs.declared.actions.Answer.{Answer}
 use Rattle.fat_monitor.specs.declared.actions.Answer.TheVariants as answer
 use Rattle.fat_monitor.specs.declared.actions.Cause.TheVariants as cause
+use Rattle.step_core.specs.declared.paths.Point.{Point}
+use Rattle.step_core.specs.Path.{point_told}
+use Rattle.live_book.specs.Book.{BookState, bindings}
+use Rattle.live_book.specs.declared.deeds.Deed.TheVariants as deed
+use Rattle.live_book.specs.declared.deeds.Logged.{Logged}
 use Rattle.live_turns.specs.declared.desks.Refusal.{Refusal}
 use Rattle.live_turns.specs.declared.desks.Refusal.TheVariants as refusal
 use Rattle.live_book.specs.declared.faults.LiveFault.{LiveFault}
 use Rattle.live_book.specs.declared.faults.LiveFault.TheVariants as fault
+use Rattle.live_turns.specs.declared.standings.Turned.{Turned}
+use Rattle.live_turns.specs.Points.{RestsAtPost}
+use Rattle.live_turns.specs.Ways.{Holding, Went, by}
 
 -- the faults for which a desk does nothing
 abbrev pub IsDeskFault : LiveFault → Type 0
@@ -39,3 +52,37 @@ abbrev pub IsAwake : Bool → Answer → Type 0
 IsAwake expired (answer.Reply r) = Unit {0}
 IsAwake expired answer.Quiet = expired ≡ false
 IsAwake expired answer.Parked = ⊥
+
+-- A fat action was made at the book, and noted as a deed of this thread's own; or nothing was done.
+pub record IsActionNoted (t : ThreadId) (a : Action) (r : Result Done LiveFault) (b b' : BookState) (own own' : List Logged) : Type 0 where
+  pub noted : IfOk r (λ d. own' ≡ own ++ by t (deed.Acted a d.answer) ∷ [])
+  pub told : IfOk r (λ d. (outcome_of b.fats t a).answer ≡ Ok d)
+  pub bound : bindings b' ≡ bindings b
+  pub none : OnErr r (own' ≡ own)
+  pub fault : IfErr r IsDeskFault
+
+-- An object that this thread holds so often got the next monitor, which was noted as a deed of its own; or nothing was
+-- done.
+pub record IsBindNoted (t : ThreadId) (o : ObjectId) (holds : ℕ) (r : Result Binding Refusal) (b b' : BookState) (own own' : List Logged) : Type 0 where
+  pub receipt : IfOk r (λ x. x ≡ record { object = o; owner = t; holds = holds; monitor = length (bindings b) })
+  pub noted : OnOk r (own' ≡ own ++ by t (deed.Bound o holds (length (bindings b))) ∷ [])
+  pub bound : OnOk r (bindings b' ≡ bindings b ++ o ∷ [])
+  pub same : OnErr r (bindings b' ≡ bindings b)
+  pub none : OnErr r (own' ≡ own)
+  pub fault : IfErr r MayRefuse
+
+-- what a turn tells of the action of its call
+abbrev pub Tells : Result Done LiveFault → Result Turned LiveFault → Type 0
+Tells (Ok d) (Ok t) = (t.point ≡ point_told d.answer) × (t.gate_taken ≡ false)
+Tells (Ok d) (Err f) = ⊥
+Tells (Err f) (Ok t) = ⊥
+Tells (Err f) (Err g) = g ≡ f
+
+-- A call that stands at this point acted at the desk, by a pass that has the gate; or nothing was done.
+pub record IsAtDesk (s : Point) (r : Result Turned LiveFault) (b b' : BookState) (p q : Holding) : Type 0 where
+  pub words : q.words ≡ p.words
+  pub bound : bindings b' ≡ bindings b
+  pub went : IfOk r (λ t. Went s t.point p q)
+  pub rests : IfOk r (λ t. (t.gate_taken ≡ false) × RestsAtPost t.point)
+  pub none : OnErr r (q.own ≡ p.own)
+  pub fault : IfErr r IsDeskFault

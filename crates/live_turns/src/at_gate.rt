@@ -15,10 +15,11 @@ ghost use Rattle.live_book.specs.Book.{bindings};
 ghost use Rattle.live_turns.specs.Points.{IsTurnFrom, RestsAtPost};
 ghost use Rattle.live_turns.specs.Ways.{Belongs, Went, Halted, VisitsBook, parked};
 
-use crate::desks::{Crew, Desk, Refusal, bind};
+use crate::at_word::entering;
+use crate::desks::{Crew, Desk, Refusal};
 use crate::hands::Hand;
 use crate::{LiveFault, Turned, Turns};
-use fast_path::{InterruptCall, MonitorCall, Operation};
+use fast_path::{InterruptCall, MonitorCall};
 use fat_monitor::{Receipt, Reply};
 use lock_word::ObjectId;
 use step_core::Stage;
@@ -161,8 +162,7 @@ impl<L: Crew> Turns<L> {
         ensures halted { IfErr result (λ f.
             Halted f (At (InCall (Binding call count))) hand.old hand.new) }
     {
-        let me = hand.thread();
-        match bind(desk, &mut hand.own, me, call.object, count + 1) {
+        match hand.bind(desk, call.object, count + 1) {
             Ok(receipt) => {
                 let monitor = receipt.monitor();
                 self.publish(hand, desk, call, receipt);
@@ -185,13 +185,8 @@ impl<L: Crew> Turns<L> {
         ensures went { Went (At (InCall (Won object))) (Said reply.Entered) hand.old hand.new }
         ensures visit { VisitsBook 0 hand.old.words hand.new.words }
     {
-        let me = hand.thread();
-        if let Ok(receipt) = bind(desk, &mut hand.own, me, object, 1) {
-            let call = MonitorCall {
-                object,
-                operation: Operation::Enter,
-            };
-            self.publish(hand, desk, call, receipt);
+        if let Ok(receipt) = hand.bind(desk, object, 1) {
+            self.publish(hand, desk, entering(object), receipt);
         }
     }
 

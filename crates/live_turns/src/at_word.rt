@@ -13,6 +13,7 @@ ghost use Rattle.header_words.specs.Passes.{PassValue, depth_at};
 ghost use Rattle.step_core.specs.declared.places.Place.TheVariants.{Idle, InCall};
 ghost use Rattle.step_core.specs.declared.places.Stage.TheVariants.{Begun, Taking, Storing, Direct};
 ghost use Rattle.step_core.specs.declared.paths.Point.TheVariants.{At, Said};
+ghost use Rattle.step_core.specs.Go.{entering};
 ghost use Rattle.step_core.specs.Path.{point_next};
 ghost use Rattle.live_turns.specs.Points.{IsTurnFrom, Knows, Loaded};
 ghost use Rattle.live_turns.specs.Ways.{Belongs, Went, Halted, VisitsBook};
@@ -24,6 +25,17 @@ use fast_path::{InterruptCall, MonitorCall, Next, Operation};
 use fat_monitor::Reply;
 use lock_word::{Lock, ObjectId, Split, lock_of};
 use step_core::{Place, Point, Stage};
+
+/// The call that enters an object.
+#[inline(always)]
+pub(crate) fn entering(object: ObjectId) -> MonitorCall
+    ensures { result ≡ entering object }
+{
+    MonitorCall {
+        object,
+        operation: Operation::Enter,
+    }
+}
 
 impl<L: Crew> Turns<L> {
     // Loads the word of an object.
@@ -95,10 +107,7 @@ impl<L: Crew> Turns<L> {
         ensures loaded { Loaded result.gate_taken result.point hand.old.words hand.new.words }
     {
         if !self.headers.acquire(&mut hand.words, object) {
-            let call = MonitorCall {
-                object,
-                operation: Operation::Enter,
-            };
+            let call = entering(object);
             let contended = true;
             return Turned::at(Stage::Begun { call, contended }, false);
         }

@@ -3,26 +3,21 @@
 
 ghost use Rattle.std.specs.Prelude.{◌≡◌, ◌<◌, ◌≤◌, ◌+◌, IfOk, IfErr, OnErr, OnOk, MatchOption, ℕ, length, [], ◌∷◌, ◌++◌, vec_len, vec_capacity, Some, false, Ok};
 ghost use Rattle.fat_monitor.specs.FatState.{post_of};
-ghost use Rattle.fat_monitor.specs.Acting.{outcome_of, MayAct, NamesBound};
+ghost use Rattle.fat_monitor.specs.Acting.{MayAct, NamesBound};
 ghost use Rattle.fat_monitor.specs.declared.actions.Post.TheVariants.{Out};
-ghost use Rattle.header_words.specs.Bindings.{Binds};
-ghost use Rattle.step_core.specs.Path.{IsTold};
-ghost use Rattle.step_core.specs.Go.{action_on, action_about};
-ghost use Rattle.live_turns.specs.Asked.{IsDeskFault, IsTickFault, MayRefuse, own_action, IsAwake};
+ghost use Rattle.live_turns.specs.Asked.{IsActionNoted, IsBindNoted, IsTickFault, own_action, IsAwake};
 ghost use Rattle.live_book.specs.declared.faults.LiveFault.{LiveFault};
 ghost use Rattle.live_book.specs.Log.{IsThreadOf, IsForBook};
 ghost use Rattle.live_book.specs.Book.{bindings};
 ghost use Rattle.live_turns.specs.Ways.{by};
-ghost use Rattle.live_book.specs.declared.deeds.Deed.TheVariants.{Bound, Acted, Ticked};
+ghost use Rattle.live_book.specs.declared.deeds.Deed.TheVariants.{Acted, Ticked};
 
 use crate::{Book, BookFault, Deed, LiveFault, Logged};
-use fast_path::{InterruptCall, MonitorCall, Operation};
 use fat_monitor::{Action, Cause, Done, Post, Receipt};
 use header_words::Kept;
 use lock_word::{ObjectId, ThreadId};
 use std::marker::Brand;
 use std::sync::ledger::{Book as Tally, Ledger, Share};
-use step_core::{action_about, action_on};
 
 /// Which service a ledger is of: how many monitors and passes it has, and places of its record.
 pub trait Crew: Ledger {
@@ -87,10 +82,15 @@ pub(crate) enum Refusal {
 }
 
 impl<L: Crew> Desk<L> {
-    // Whether the pass of the thread is where the book has it, in a call that has parked or not, and
-    // its own list has room as long as the record has.
+    /// Whether the pass of the thread is where the book has it, in a call that has parked or not,
+    /// and its own list has room as long as the record has.
     #[inline(always)]
-    fn check(&self, own: &Own<L>, thread: ThreadId, parked: bool) -> Result<(), LiveFault>
+    pub(crate) fn check(
+        &self,
+        own: &Own<L>,
+        thread: ThreadId,
+        parked: bool,
+    ) -> Result<(), LiveFault>
         ensures thread { OnOk result (IsThreadOf self.now.book.passes thread) }
         ensures out { OnOk result (parked ≡ false → post_of self.now.book.fats thread ≡ Some Out) }
         ensures room { OnOk result (length self.now.book.log < self.now.book.places
@@ -100,36 +100,23 @@ impl<L: Crew> Desk<L> {
         let full = own.list.len() >= self.book.places() as usize;
         self.book.check(thread, parked, full)
     }
-}
 
-impl<L: Crew> Desk<L> {
-    /// Binds a monitor to an object that the thread holds this often, as a deed of its own.
-    pub(crate) fn bind(
+    /// Binds a monitor to an object that the thread holds this often, and notes the deed.
+    pub(crate) fn note_bind(
         &mut self,
         own: &mut Own<L>,
         thread: ThreadId,
         object: ObjectId,
         holds: u16,
     ) -> Result<Receipt, Refusal>
+        requires thread { IsThreadOf self.old.book.passes thread }
+        requires room { length self.old.book.log < self.old.book.places
+            → vec_len own.old.list < vec_capacity own.old.list }
         requires low { 1 ≤ holds }
         requires high { holds ≤ 256 }
-        ensures receipt { IfOk result (λ r. r ≡ record {
-          object = object;
-          owner = thread;
-          holds = holds;
-          monitor = length (bindings self.old.book);
-        }) }
-        ensures own { OnOk result (own.new.list.items ≡ own.old.list.items
-            ++ by thread (Bound object holds (length (bindings self.old.book))) ∷ []) }
-        ensures bindings { OnOk result (bindings self.new.book ≡ bindings self.old.book
-            ++ object ∷ []) }
-        ensures same { OnErr result (bindings self.new.book ≡ bindings self.old.book) }
-        ensures none { OnErr result (own.new.list.items ≡ own.old.list.items) }
-        ensures fault { IfErr result MayRefuse }
+        ensures { IsBindNoted thread object holds result self.old.book self.new.book
+            own.old.list.items own.new.list.items }
     {
-        if let Err(fault) = self.check(own, thread, false) {
-            return Err(Refusal::Fault(fault));
-        }
         let Desk { book, total, .. } = self;
         match book.bind(thread, object, holds) {
             Ok(receipt) => {
@@ -147,11 +134,11 @@ impl<L: Crew> Desk<L> {
         }
     }
 
-    // One fat action, as a deed of the thread's own. It stands in place where it is called, so that
-    // of an action that the caller knows nothing is left of the others, and its answer comes by no
-    // copy.
+    /// Makes one fat action, and notes the deed. It stands in place where it is called, so that of
+    /// an action that the caller knows nothing is left of the others, and its answer comes by no
+    /// copy.
     #[inline(always)]
-    fn make(
+    pub(crate) fn note_action(
         &mut self,
         own: &mut Own<L>,
         thread: ThreadId,
@@ -161,15 +148,10 @@ impl<L: Crew> Desk<L> {
         requires action { IsForBook action }
         requires ready { MayAct self.old.book.fats thread action }
         requires named { NamesBound self.old.book.fats action }
-        requires room { length self.old.book.log < self.old.book.places →
-            vec_len own.old.list < vec_capacity own.old.list }
-        ensures own { IfOk result (λ d. own.new.list.items ≡ own.old.list.items
-            ++ by thread (Acted action d.answer) ∷ []) }
-        ensures told { IfOk result (λ d.
-            (outcome_of self.old.book.fats thread action).answer ≡ Ok d) }
-        ensures bindings { bindings self.new.book ≡ bindings self.old.book }
-        ensures none { OnErr result (own.new.list.items ≡ own.old.list.items) }
-        ensures fault { IfErr result IsDeskFault }
+        requires room { length self.old.book.log < self.old.book.places
+            → vec_len own.old.list < vec_capacity own.old.list }
+        ensures { IsActionNoted thread action result self.old.book self.new.book
+            own.old.list.items own.new.list.items }
     {
         let Desk { book, total, .. } = self;
         match book.act(thread, action) {
@@ -184,10 +166,10 @@ impl<L: Crew> Desk<L> {
         }
     }
 
-    // The same, as a function of its own, for an action that is not known beforehand or is seldom
-    // made.
+    /// The same, as a function of its own, for an action that is not known beforehand or is seldom
+    /// made.
     #[inline(never)]
-    fn make_apart(
+    pub(crate) fn note_action_apart(
         &mut self,
         own: &mut Own<L>,
         thread: ThreadId,
@@ -197,77 +179,27 @@ impl<L: Crew> Desk<L> {
         requires action { IsForBook action }
         requires ready { MayAct self.old.book.fats thread action }
         requires named { NamesBound self.old.book.fats action }
-        requires room { length self.old.book.log < self.old.book.places →
-            vec_len own.old.list < vec_capacity own.old.list }
-        ensures own { IfOk result (λ d. own.new.list.items ≡ own.old.list.items
-            ++ by thread (Acted action d.answer) ∷ []) }
-        ensures told { IfOk result (λ d.
-            (outcome_of self.old.book.fats thread action).answer ≡ Ok d) }
-        ensures bindings { bindings self.new.book ≡ bindings self.old.book }
-        ensures none { OnErr result (own.new.list.items ≡ own.old.list.items) }
-        ensures fault { IfErr result IsDeskFault }
+        requires room { length self.old.book.log < self.old.book.places
+            → vec_len own.old.list < vec_capacity own.old.list }
+        ensures { IsActionNoted thread action result self.old.book self.new.book
+            own.old.list.items own.new.list.items }
     {
-        self.make(own, thread, action)
-    }
-
-    /// The fat action of a call on an object, by a thread that is in no action. It stands in place,
-    /// as [`make`](Desk::make) does.
-    #[tactic(auto, using(crate::proofs::Asking::asking))]
-    #[inline(always)]
-    pub(crate) fn act_on(
-        &mut self,
-        own: &mut Own<L>,
-        thread: ThreadId,
-        call: MonitorCall,
-        monitor: u32,
-    ) -> Result<Done, LiveFault>
-        requires binds { Binds (bindings self.old.book) monitor call.object.0 }
-        ensures own { IfOk result (λ d. own.new.list.items ≡ own.old.list.items
-            ++ by thread (Acted (action_on call.operation monitor) d.answer) ∷ []) }
-        ensures told { IfOk result (λ d. IsTold d.answer) }
-        ensures bindings { bindings self.new.book ≡ bindings self.old.book }
-        ensures none { OnErr result (own.new.list.items ≡ own.old.list.items) }
-        ensures fault { IfErr result IsDeskFault }
-    {
-        self.check(own, thread, false)?;
-        // An enter and an exit name their action, so that each is made in place; it is that of
-        // `action_on`.
-        match call.operation {
-            Operation::Enter => self.make(own, thread, Action::Enter { monitor }),
-            Operation::Exit => self.make(own, thread, Action::Exit { monitor }),
-            operation => self.make_apart(own, thread, action_on(operation, monitor)),
-        }
-    }
-
-    /// The fat action of a call about interrupts, by a thread that is in no action.
-    #[tactic(auto, using(crate::proofs::Asking::asking))]
-    pub(crate) fn act_about(
-        &mut self,
-        own: &mut Own<L>,
-        thread: ThreadId,
-        call: InterruptCall,
-    ) -> Result<Done, LiveFault>
-        ensures own { IfOk result (λ d. own.new.list.items ≡ own.old.list.items
-            ++ by thread (Acted (action_about call) d.answer) ∷ []) }
-        ensures told { IfOk result (λ d. IsTold d.answer) }
-        ensures bindings { bindings self.new.book ≡ bindings self.old.book }
-        ensures none { OnErr result (own.new.list.items ≡ own.old.list.items) }
-        ensures fault { IfErr result IsDeskFault }
-    {
-        self.check(own, thread, false)?;
-        self.make_apart(own, thread, action_about(call))
+        self.note_action(own, thread, action)
     }
 
     /// What a parked thread may do itself: it collects its reply where it was granted one, or its
     /// wait expires where its time is over and `expired` does not say that this was done; None
-    /// where it stays parked.
+    /// where it stays parked. The deed is noted.
     #[tactic(auto, using(crate::proofs::Asking::waking))]
-    pub(crate) fn awake(
+    pub(crate) fn note_own_action(
         &mut self,
         own: &mut Own<L>,
         thread: ThreadId,
         expired: bool,
     ) -> Result<Option<Done>, LiveFault>
+        requires thread { IsThreadOf self.old.book.passes thread }
+        requires room { length self.old.book.log < self.old.book.places
+            → vec_len own.old.list < vec_capacity own.old.list }
         ensures own { IfOk result (λ o. MatchOption o (own.new.list.items ≡ own.old.list.items)
             (λ d. (own.new.list.items ≡ own.old.list.items
             ++ by thread (Acted (own_action d.answer) d.answer) ∷ [])
@@ -276,12 +208,11 @@ impl<L: Crew> Desk<L> {
         ensures none { OnErr result (own.new.list.items ≡ own.old.list.items) }
         ensures fault { IfErr result (λ f. f ≡ LiveFault.Torn) }
     {
-        self.check(own, thread, true)?;
         let now = u128::from(self.book.now());
         match self.book.post(thread) {
             Some(Post::Granted(_)) => {
                 // Its place of the record is kept, so that only a pass that is torn is refused.
-                let Ok(done) = self.make(own, thread, Action::Collect) else {
+                let Ok(done) = self.note_action(own, thread, Action::Collect) else {
                     return Err(LiveFault::Torn);
                 };
                 Ok(Some(done))
@@ -293,7 +224,7 @@ impl<L: Crew> Desk<L> {
                 },
             ) if !expired && deadline <= now => {
                 // Its place of the record is kept, so that only a pass that is torn is refused.
-                let Ok(done) = self.make_apart(own, thread, Action::Expire) else {
+                let Ok(done) = self.note_action_apart(own, thread, Action::Expire) else {
                     return Err(LiveFault::Torn);
                 };
                 Ok(Some(done))
@@ -302,20 +233,22 @@ impl<L: Crew> Desk<L> {
         }
     }
 
-    /// Tells the moment, in nanoseconds, as a deed of the thread's own.
-    pub(crate) fn tick(
+    /// Tells the moment, in nanoseconds, and notes the deed.
+    pub(crate) fn note_tick(
         &mut self,
         own: &mut Own<L>,
         thread: ThreadId,
         now: u64,
     ) -> Result<(), LiveFault>
+        requires thread { IsThreadOf self.old.book.passes thread }
+        requires room { length self.old.book.log < self.old.book.places
+            → vec_len own.old.list < vec_capacity own.old.list }
         ensures own { OnOk result (own.new.list.items ≡ own.old.list.items
             ++ by thread (Ticked now) ∷ []) }
         ensures bindings { bindings self.new.book ≡ bindings self.old.book }
         ensures none { OnErr result (own.new.list.items ≡ own.old.list.items) }
         ensures fault { IfErr result IsTickFault }
     {
-        self.check(own, thread, false)?;
         let Desk { book, total, .. } = self;
         match book.tick(thread, now) {
             Ok(()) => {
@@ -339,31 +272,4 @@ fn note<L: Crew>(total: &mut Tally<L>, own: &mut Own<L>, entry: Logged)
     let Own { list, share } = own;
     total.add(share, 1);
     list.push_reserved(entry);
-}
-
-/// Binds a monitor at the desk in the box, as [`Desk::bind`] does.
-pub(crate) fn bind<L: Crew>(
-    desk: &mut Box<Desk<L>>,
-    own: &mut Own<L>,
-    thread: ThreadId,
-    object: ObjectId,
-    holds: u16,
-) -> Result<Receipt, Refusal>
-    requires low { 1 ≤ holds }
-    requires high { holds ≤ 256 }
-    ensures receipt { IfOk result (λ r. r ≡ record {
-      object = object;
-      owner = thread;
-      holds = holds;
-      monitor = length (bindings desk.old.value.book);
-    }) }
-    ensures own { OnOk result (own.new.list.items ≡ own.old.list.items
-        ++ by thread (Bound object holds (length (bindings desk.old.value.book))) ∷ []) }
-    ensures bindings { OnOk result (bindings desk.new.value.book
-        ≡ bindings desk.old.value.book ++ object ∷ []) }
-    ensures same { OnErr result (bindings desk.new.value.book ≡ bindings desk.old.value.book) }
-    ensures none { OnErr result (own.new.list.items ≡ own.old.list.items) }
-    ensures fault { IfErr result MayRefuse }
-{
-    desk.bind(own, thread, object, holds)
 }

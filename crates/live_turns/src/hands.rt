@@ -5,22 +5,22 @@ ghost use Rattle.header_words.specs.Bindings.{Binds};
 ghost use Rattle.step_core.specs.declared.places.Place.TheVariants.{InCall};
 ghost use Rattle.step_core.specs.declared.places.Stage.TheVariants.{Acting, Inflated, Direct};
 ghost use Rattle.step_core.specs.declared.paths.Point.TheVariants.{At};
-ghost use Rattle.step_core.specs.Path.{point_told, point_waited};
+ghost use Rattle.step_core.specs.Path.{point_waited};
 ghost use Rattle.live_book.specs.Log.{thread_numbered};
 ghost use Rattle.live_book.specs.Book.{bindings};
-ghost use Rattle.live_turns.specs.Asked.{IsDeskFault, IsTickFault};
+ghost use Rattle.live_turns.specs.Asked.{IsAtDesk, IsBindNoted, IsTickFault, Tells};
 ghost use Rattle.live_book.specs.declared.faults.LiveFault.{LiveFault};
 ghost use Rattle.live_turns.specs.Points.{RestsAtPost};
 ghost use Rattle.live_turns.specs.Ways.{Went, parked, ticked_by};
 
-use crate::desks::{Crew, Desk, Own};
+use crate::desks::{Crew, Desk, Own, Refusal};
 use crate::{LiveFault, Turned};
-use fast_path::{InterruptCall, MonitorCall};
-use fat_monitor::{Answer, Done};
+use fast_path::{InterruptCall, MonitorCall, Operation};
+use fat_monitor::{Action, Answer, Done, Receipt};
 use header_words::Pass;
-use lock_word::ThreadId;
+use lock_word::{ObjectId, ThreadId};
 use std::marker::Model;
-use step_core::{Place, Point};
+use step_core::{Place, Point, action_about, action_on};
 
 /// What a pass has in hand: its pass of the words, and its own deeds.
 #[derive(Drop)]
@@ -39,18 +39,22 @@ impl<L: Crew> Model for Hand<L> {
 
 // What the answer to the action of a call came to.
 #[inline(always)]
-fn told(done: Done) -> Turned
-    ensures point { result.point ≡ point_told done.answer }
-    ensures gate { result.gate_taken ≡ false }
+fn told(made: Result<Done, LiveFault>) -> Result<Turned, LiveFault>
+    ensures { Tells made result }
 {
-    let point = match done.answer {
-        Answer::Reply(reply) => Point::Said(reply),
-        Answer::Parked | Answer::Quiet => Point::At(Place::AtPost),
-    };
-    Turned {
-        point,
-        gate_taken: false,
-        granted: done.granted,
+    match made {
+        Ok(done) => {
+            let point = match done.answer {
+                Answer::Reply(reply) => Point::Said(reply),
+                Answer::Parked | Answer::Quiet => Point::At(Place::AtPost),
+            };
+            Ok(Turned {
+                point,
+                gate_taken: false,
+                granted: done.granted,
+            })
+        }
+        Err(fault) => Err(fault),
     }
 }
 
@@ -87,9 +91,11 @@ impl<L: Crew> Hand<L> {
         self.words.index()
     }
 
-    /// The fat action of a call on an object. It stands in place, so that its answer comes by no
-    /// copy.
+    /// The fat action of a call on an object, by a pass that is where the book has it. It stands in
+    /// place, so that its answer comes by no copy: an enter and an exit name their action, which is
+    /// that of `action_on`.
     #[inline(always)]
+    #[tactic(auto, using(crate::proofs::Asking::asking))]
     pub(crate) fn act_on(
         &mut self,
         desk: &mut Box<Desk<L>>,
@@ -97,38 +103,62 @@ impl<L: Crew> Hand<L> {
         monitor: u32,
     ) -> Result<Turned, LiveFault>
         requires binds { Binds (bindings desk.old.value.book) monitor call.object.0 }
-        ensures words { self.new.words ≡ self.old.words }
-        ensures bindings { bindings desk.new.value.book ≡ bindings desk.old.value.book }
-        ensures acting { IfOk result (λ t.
-            Went (At (InCall (Acting call monitor))) t.point self.old self.new) }
-        ensures inflated { IfOk result (λ t.
-            Went (At (InCall (Inflated call monitor))) t.point self.old self.new) }
-        ensures rests { IfOk result (λ t. (t.gate_taken ≡ false) × RestsAtPost t.point) }
-        ensures none { OnErr result (self.new.own ≡ self.old.own) }
-        ensures fault { IfErr result IsDeskFault }
+        ensures acting { IsAtDesk (At (InCall (Acting call monitor))) result
+            desk.old.value.book desk.new.value.book self.old self.new }
+        ensures inflated { IsAtDesk (At (InCall (Inflated call monitor))) result
+            desk.old.value.book desk.new.value.book self.old self.new }
     {
         let me = self.thread();
-        let done = desk.act_on(&mut self.own, me, call, monitor)?;
-        Ok(told(done))
+        desk.check(&self.own, me, false)?;
+        match call.operation {
+            Operation::Enter => told(desk.note_action(
+                &mut self.own,
+                me,
+                Action::Enter { monitor },
+            )),
+            Operation::Exit => told(desk.note_action(&mut self.own, me, Action::Exit { monitor })),
+            operation => {
+                let action = action_on(operation, monitor);
+                told(desk.note_action_apart(&mut self.own, me, action))
+            }
+        }
     }
 
-    /// The fat action of a call about interrupts.
+    /// The fat action of a call about interrupts, by a pass that is where the book has it.
+    #[tactic(auto, using(crate::proofs::Asking::asking))]
     pub(crate) fn act_about(
         &mut self,
         desk: &mut Box<Desk<L>>,
         call: InterruptCall,
     ) -> Result<Turned, LiveFault>
-        ensures words { self.new.words ≡ self.old.words }
-        ensures bindings { bindings desk.new.value.book ≡ bindings desk.old.value.book }
-        ensures went { IfOk result (λ t.
-            Went (At (InCall (Direct call))) t.point self.old self.new) }
-        ensures rests { IfOk result (λ t. (t.gate_taken ≡ false) × RestsAtPost t.point) }
-        ensures none { OnErr result (self.new.own ≡ self.old.own) }
-        ensures fault { IfErr result IsDeskFault }
+        ensures { IsAtDesk (At (InCall (Direct call))) result
+            desk.old.value.book desk.new.value.book self.old self.new }
     {
         let me = self.thread();
-        let done = desk.act_about(&mut self.own, me, call)?;
-        Ok(told(done))
+        desk.check(&self.own, me, false)?;
+        told(desk.note_action_apart(&mut self.own, me, action_about(call)))
+    }
+
+    /// The bind of an object that the pass holds this often, by a pass that is where the book has it.
+    pub(crate) fn bind(
+        &mut self,
+        desk: &mut Box<Desk<L>>,
+        object: ObjectId,
+        holds: u16,
+    ) -> Result<Receipt, Refusal>
+        requires low { 1 ≤ holds }
+        requires high { holds ≤ 256 }
+        ensures words { self.new.words ≡ self.old.words }
+        ensures low { 1 ≤ self.new.words.index }
+        ensures high { self.new.words.index ≤ 32767 }
+        ensures noted { IsBindNoted (thread_numbered self.old.words.index) object holds result
+            desk.old.value.book desk.new.value.book self.old.own self.new.own }
+    {
+        let me = self.thread();
+        if let Err(fault) = desk.check(&self.own, me, false) {
+            return Err(Refusal::Fault(fault));
+        }
+        desk.note_bind(&mut self.own, me, object, holds)
     }
 
     /// What a parked thread does itself, if there is something to do.
@@ -145,7 +175,8 @@ impl<L: Crew> Hand<L> {
         ensures fault { IfErr result (λ f. f ≡ LiveFault.Torn) }
     {
         let me = self.thread();
-        let Some(done) = desk.awake(&mut self.own, me, expired)? else {
+        desk.check(&self.own, me, true)?;
+        let Some(done) = desk.note_own_action(&mut self.own, me, expired)? else {
             return Ok(Turned::parked(expired, false));
         };
         Ok(woken(done))
@@ -161,6 +192,7 @@ impl<L: Crew> Hand<L> {
         ensures fault { IfErr result IsTickFault }
     {
         let me = self.thread();
-        desk.tick(&mut self.own, me, now)
+        desk.check(&self.own, me, false)?;
+        desk.note_tick(&mut self.own, me, now)
     }
 }

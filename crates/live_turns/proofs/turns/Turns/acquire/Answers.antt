@@ -1,7 +1,8 @@
 use Rattle.std.specs.Prelude.{true, false}
-use Rattle.std.proofs.Common.{refl, ap, sym, subst}
+use Rattle.std.proofs.Common.{refl, ap, sym, subst, ◌∙◌}
+use Rattle.fast_path.specs.declared.calls.MonitorCall.{MonitorCall}
 use Rattle.step_core.specs.declared.places.Place.TheVariants.{InCall}
-use Rattle.step_core.specs.declared.places.Stage.TheVariants.{Taking, Won}
+use Rattle.step_core.specs.declared.places.Stage.TheVariants.{Begun, Taking, Won}
 use Rattle.step_core.specs.declared.paths.Point.{Point}
 use Rattle.step_core.specs.declared.paths.Point.TheVariants.{At}
 use Rattle.live_turns.specs.declared.standings.Turned.{Turned}
@@ -16,7 +17,7 @@ pub returns-then-not-acquire-clause-went : goal.returns-then-not-acquire-clause-
 returns-then-not-acquire-clause-went g c =
     let p : Holding = record { words = c.hand.inside.words; own = c.hand.inside.own.list.items } in
     let q : Holding = record { words = c.acquire.new.pass; own = c.hand.inside.own.list.items } in
-    rw (← c.hand.view_is) (subst (λ (u : Point). Went (At (InCall (Taking c.args.object c.args.contended))) u p q) (sym (ap (λ (x : Turned). x.point) c.at.ensures))
+    rw (← c.hand.view_is) (subst (λ (u : Point). Went (At (InCall (Taking c.args.object c.args.contended))) u p q) (sym (ap (λ (x : Turned). x.point) c.at.ensures ∙ ap (λ (d : MonitorCall). At (InCall (Begun d true))) c.entering-call.ensures))
     (lose_way c.args.object c.args.contended c.if-not-acquire.ensures.lost.0 p q c.if-not-acquire.ensures.lost.1 refl))
 
 pub returns-then-contended-clause-went : goal.returns-then-contended-clause-went

@@ -18,7 +18,7 @@ act_on-told-requires g c = record {
 pub give-requires-clause-covers : goal.give-requires-clause-covers
 give-requires-clause-covers g c =
     covers_kept (bindings c.in-Some.desk.value.book) (bindings c.act_on-told.new.desk.value.book) c.take.new.hand.words c.act_on-told.new.self.words
-    c.act_on-told.ensures.bindings c.act_on-told.ensures.words c.in-Some.ensures.2
+    c.act_on-told.ensures.acting.bound c.act_on-told.ensures.acting.words c.in-Some.ensures.2
 
 pub returns-in_default : goal.returns-in_default
 returns-in_default g c =
@@ -27,6 +27,6 @@ returns-in_default g c =
 pub returns : goal.returns
 returns g c =
     held_turn c.args.self.now (At (InCall (Acting c.args.call c.args.monitor))) c.act_on-told.result c.args.hand.now c.take.new.hand c.act_on-told.new.self c.give.new.hand c.requires.belongs
-    c.in-Some.ensures.0 (same_visit c.take.new.hand.words c.act_on-told.new.self.words c.act_on-told.ensures.words) c.give.ensures.gave c.give.ensures.belongs refl c.act_on-told.ensures.acting
-    (gave_up c.act_on-told.result (Acting c.args.call c.args.monitor) c.take.new.hand c.act_on-told.new.self tt c.act_on-told.ensures.words c.act_on-told.ensures.none c.act_on-told.ensures.fault)
-    c.act_on-told.ensures.rests
+    c.in-Some.ensures.0 (same_visit c.take.new.hand.words c.act_on-told.new.self.words c.act_on-told.ensures.acting.words) c.give.ensures.gave c.give.ensures.belongs refl c.act_on-told.ensures.acting.went
+    (gave_up c.act_on-told.result (Acting c.args.call c.args.monitor) c.take.new.hand c.act_on-told.new.self tt c.act_on-told.ensures.acting.words c.act_on-told.ensures.acting.none c.act_on-told.ensures.acting.fault)
+    c.act_on-told.ensures.acting.rests

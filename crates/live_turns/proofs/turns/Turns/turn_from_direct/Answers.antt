@@ -11,7 +11,7 @@ use Rattle.live_turns.proofs.turns.Turns.turn_from_direct.Goals as goal
 pub give-requires-clause-covers : goal.give-requires-clause-covers
 give-requires-clause-covers g c =
     covers_kept (bindings c.in-Some.desk.value.book) (bindings c.act_about-told.new.desk.value.book) c.take.new.hand.words c.act_about-told.new.self.words
-    c.act_about-told.ensures.bindings c.act_about-told.ensures.words c.in-Some.ensures.2
+    c.act_about-told.ensures.bound c.act_about-told.ensures.words c.in-Some.ensures.2
 
 pub returns-in_default : goal.returns-in_default
 returns-in_default g c = turned_away c.args.self.now (At (InCall (Direct c.args.call))) c.at.result c.args.hand.now c.take.new.hand c.requires.belongs c.at.ensures refl tt c.in_default.ensures

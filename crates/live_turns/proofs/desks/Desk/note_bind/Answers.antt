@@ -1,9 +1,6 @@
 use Rattle.std.proofs.Common.{arith}
 use Rattle.std.proofs.lemmas.Grind.{common_steps}
-use Rattle.live_turns.proofs.desks.Desk.make.Goals as goal
+use Rattle.live_turns.proofs.desks.Desk.note_bind.Goals as goal
 
 pub invariant_of-self : goal.invariant_of-self
 invariant_of-self g c = grind (arith, common_steps)
-
-pub returns-in-Ok-clause-told : goal.returns-in-Ok-clause-told
-returns-in-Ok-clause-told g c = grind (arith, common_steps)

@@ -1,6 +1,6 @@
-use Rattle.std.proofs.lemmas.Grind.{common_steps}
 use Rattle.std.proofs.Common.{arith}
-use Rattle.live_turns.proofs.desks.Desk.tick.Goals as goal
+use Rattle.std.proofs.lemmas.Grind.{common_steps}
+use Rattle.live_turns.proofs.desks.Desk.note_action.Goals as goal
 
 pub invariant_of-self : goal.invariant_of-self
 invariant_of-self g c = grind (arith, common_steps)
