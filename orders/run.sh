@@ -1,5 +1,5 @@
 #!/usr/bin/env bash
-# Runs `thinmon`, as `rt ci` has just left it by each of its two compilers, and compares what the gate
+# Runs `thinmon`, as `rt ci` has just left it by each of its two compilers, and compares what `rt ci`
 # does not: what it writes on standard error, and how it ends on more than one order.
 #
 # A folder here is an order: `args` has the words behind the program's name, one a line, `stdin` what it

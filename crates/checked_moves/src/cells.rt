@@ -1,14 +1,14 @@
 //! The table of cells, `cells.txt`, which its head describes: moves that both checkers judge, each
-//! after some deeds and with the verdict that is wanted.
+//! after some setups and with the verdict that is wanted.
 
-mod deeds;
+mod setups;
 mod lines;
 mod words;
 
 use crate::both::Both;
 use crate::trouble::{LineFault, ReadFault, Trouble};
-use deeds::Deed;
-use lines::{Cell, Line, read_deeds, read_line};
+use setups::Setup;
+use lines::{Cell, Line, read_setups, read_line};
 use std::alloc::Global;
 use std::fs;
 use std::io::Print;
@@ -24,7 +24,7 @@ const T: ThreadId = ThreadId(1);
 /// Another thread.
 const U: ThreadId = ThreadId(2);
 
-/// A thread that is not live until a deed makes it so.
+/// A thread that is not live until a setup makes it so.
 const V: ThreadId = ThreadId(3);
 
 /// A thread that is never live.
@@ -148,28 +148,28 @@ fn judge(alloc: Global, both: &mut Both, line: usize, cell: Cell<'_>) -> Result<
     Ok(())
 }
 
-/// Does the deeds of a cell, which are lawful.
+/// Does the setups of a cell, which are lawful.
 fn follow(both: &mut Both, line: usize, before: &str) -> Result<(), Trouble> {
     for text in before.split(';') {
-        let Some((times, deed)) = read_deeds(text) else {
-            return Err(unread(line, ReadFault::Deed));
+        let Some((times, setup)) = read_setups(text) else {
+            return Err(unread(line, ReadFault::Setup));
         };
-        repeat(both, line, times, deed)?;
+        repeat(both, line, times, setup)?;
     }
     Ok(())
 }
 
-/// Does a deed so often.
-fn repeat(both: &mut Both, line: usize, times: u32, deed: Deed) -> Result<(), Trouble> {
+/// Does a setup so often.
+fn repeat(both: &mut Both, line: usize, times: u32, setup: Setup) -> Result<(), Trouble> {
     for _ in 0..times {
-        enact(both, line, deed)?;
+        enact(both, line, setup)?;
     }
     Ok(())
 }
 
-/// Makes the moves of a deed.
-fn enact(both: &mut Both, line: usize, deed: Deed) -> Result<(), Trouble> {
-    for made in deed.moves() {
+/// Makes the moves of a setup.
+fn enact(both: &mut Both, line: usize, setup: Setup) -> Result<(), Trouble> {
+    for made in setup.moves() {
         if let Some(made) = made {
             way(both, line, made)?;
         }

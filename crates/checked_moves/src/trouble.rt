@@ -79,7 +79,7 @@ pub enum ReadFault {
     Bracket,
     Heading,
     Reason,
-    Deed,
+    Setup,
     Judged,
 }
 
@@ -92,7 +92,7 @@ impl ReadFault {
             ReadFault::Bracket => "a heading ends with ']'",
             ReadFault::Heading => "a cell has a heading above it",
             ReadFault::Reason => "a cell has a reason, and ':' behind it",
-            ReadFault::Deed => "a deed cannot be read",
+            ReadFault::Setup => "a setup cannot be read",
             ReadFault::Judged => "its last part is no single move",
         }
     }

@@ -1,7 +1,7 @@
 use std::process::Abort;
 use thread_hints::Hints;
 
-/// Notes place 100 for thread 7 and place 200 for thread 71. Whether these are the places of both
+/// Notes position 100 for thread 7 and position 200 for thread 71. Whether these are those of both
 /// then.
 fn has(hints: &mut Hints, of_7: u32, of_71: u32) -> bool {
     hints.note(7, 100);
@@ -10,7 +10,7 @@ fn has(hints: &mut Hints, of_7: u32, of_71: u32) -> bool {
 }
 
 #[test]
-fn a_hint_is_the_last_place_of_a_number_that_ends_alike(rt: HostRuntime) {
+fn a_hint_is_the_last_position_of_a_number_that_ends_alike(rt: HostRuntime) {
     let mut hints = Hints::new(rt.alloc());
     assert!(rt; hints.position(7) == 0);
     assert!(rt; has(&mut hints, 200, 200));

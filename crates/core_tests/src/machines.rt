@@ -308,9 +308,9 @@ impl Crowd {
     }
 }
 
-/// Threads come and go while a table of places for their numbers grows and gives memory back: with
-/// numbers one after the other, with numbers whose low bits are all alike, and with numbers far
-/// apart.
+/// Threads come and go while a table of positions for their numbers grows and gives memory back:
+/// with numbers one after the other, with numbers whose low bits are all alike, and with numbers
+/// far apart.
 #[test]
 fn crowds_come_and_go(rt: HostRuntime) {
     const STEPS: [u32; 6] = [1, 7, 65_536, 1_048_576, 2_147_483_647, 2_654_435_769];

@@ -10,7 +10,7 @@ use Rattle.step_core.specs.Cycles.{next, owner_but, wanted_by, LeadsThrough, Are
 use Rattle.dump.specs.Rows.{leads_to, IsRow, IsIn, AreCyclesOfRow}
 use Rattle.dump.specs.Threads.{IsLive, Ascend, AreLiveThreads, thread_at_position, IsPosition, IsRowOf}
 use Rattle.dump.proofs.Walks.{all_in, all_from, contains_in}
-use Rattle.dump.proofs.Passes.{leads_within}
+use Rattle.dump.proofs.RowWalks.{leads_within}
 
 -- ---- lists
 

@@ -1,4 +1,4 @@
--- What each kind_of of step tells the seat that takes it.
+-- What each kind of step tells the seat that takes it.
 use Rattle.std.specs.Prelude.{◌≡◌, ◌≢◌, ◌↔◌, ℕ, suc, ◌+◌, ◌-◌, ◌/◌, ◌<◌, Bool, true, false, Option, Some, List, [], ◌∷◌}
 use Rattle.std.specs.Prelude.{◌++◌, slice_index}
 use mathlib.Core.List.{IsPrefix}

@@ -60,7 +60,7 @@ impl<S> Play<S, View> for Exchange {
 }
 
 /// Of which kind the event of a store is.
-pub trait Kind {
+pub trait StoreKind {
     ghost use Rattle.std.specs.Prelude.{ℕ};
     ghost use Rattle.header_words.specs.declared.event.EventKind.{EventKind};
 
@@ -72,7 +72,7 @@ pub struct Stored<D> {
     marker: PhantomData<D>,
 }
 
-impl<S, D: Kind> Play<S, View> for Stored<D> {
+impl<S, D: StoreKind> Play<S, View> for Stored<D> {
     ghost use Rattle.header_words.specs.Steps.{Stores};
 
     ghost then = { Stores D.kind };
@@ -81,7 +81,7 @@ impl<S, D: Kind> Play<S, View> for Stored<D> {
 /// The store of a release.
 pub struct Releases;
 
-impl Kind for Releases {
+impl StoreKind for Releases {
     ghost use Rattle.header_words.specs.declared.event.EventKind.TheVariants.{Release};
 
     ghost kind = { λ _. Release };
@@ -90,7 +90,7 @@ impl Kind for Releases {
 /// The store of one more lock.
 pub struct Nests;
 
-impl Kind for Nests {
+impl StoreKind for Nests {
     ghost use Rattle.header_words.specs.declared.event.EventKind.TheVariants.{Nest};
 
     ghost kind = { λ _. Nest };
@@ -99,7 +99,7 @@ impl Kind for Nests {
 /// The store of one lock less.
 pub struct Unnests;
 
-impl Kind for Unnests {
+impl StoreKind for Unnests {
     ghost use Rattle.header_words.specs.declared.event.EventKind.TheVariants.{Unnest};
 
     ghost kind = { λ _. Unnest };
@@ -108,7 +108,7 @@ impl Kind for Unnests {
 /// The store of a fat word.
 pub struct Publishes;
 
-impl Kind for Publishes {
+impl StoreKind for Publishes {
     ghost use Rattle.header_words.specs.Steps.{publish_of};
 
     ghost kind = { publish_of };

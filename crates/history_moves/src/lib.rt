@@ -5,9 +5,9 @@
 //! object, and a line exactly where it is the text of one; of the many texts of a move, one is
 //! written.
 //!
-//! A line may be read in four ways, which agree where they answer; only the last of them answers
-//! for each line, and tells that one is no move. [`MoveReader::line_move`] decides so, in this
-//! order:
+//! There are four readers of a line, which agree where they answer; only `values` answers for each
+//! line, and tells that one is no move. [`MoveReader::line_move`] decides in this order which of
+//! them reads a line:
 //!
 //! 1. A line that is just as a move is written is read by `quick`.
 //! 2. Of the others, a line of 4,096 bytes or more, and one that is no UTF-8, is read by `values`.
@@ -17,10 +17,10 @@
 //! 5. What none of these has read is read by `values`: from the value that `serde_json` makes of
 //!    it.
 //!
-//! The free function [`line_move`] takes the first and the last of these ways alone. The members
+//! The free function [`line_move`] has only `quick` and `values`. The members
 //! that a line of another spelling has are gathered in `spelled/gathered.rt`; a move is read from
 //! them, or from a value, by the functions of `values/reading.rt`. `pieces` and `words` have what
-//! the ways share, and `writing` writes moves.
+//! the readers share, and `writing` writes moves.
 #![tactic(auto)]
 
 mod lines;

@@ -76,8 +76,8 @@ fn hint_at(slots: &[Slot], hints: &[u32], at: usize, number: u32) -> Option<usiz
     }
 }
 
-/// A position that a hint names, where the slot there is that of the number. Hints may be old, missing
-/// or another number's; nothing is proved of them.
+/// A position that a hint names, where the slot there is that of the number. Hints may be old,
+/// missing or another number's; nothing is proved of them.
 fn hinted(slots: &[Slot], hints: &[u32], number: u32) -> Option<usize>
     ensures { IfSome result (λ position. LeadsTo slots.now number position) }
 {
@@ -149,9 +149,9 @@ fn change_hint(hints: &mut [u32], at: usize, from: usize, to: u32) {
     }
 }
 
-/// Keeps at least 4 hints for each slot. Where there are fewer, there are 8 for each from now on, in
-/// new memory and noted anew: the slots that came since the last time have paid for that. Without
-/// memory for it the hints stay as they are.
+/// Keeps at least 4 hints for each slot. Where there are fewer, there are 8 for each from now on,
+/// in new memory and noted anew: the slots that came since the last time have paid for that.
+/// Without memory for it the hints stay as they are.
 pub(crate) fn grow_hints(hints: &mut Vec<u32>, slots: &[Slot]) {
     if hints.len() / 4 >= slots.len() {
         return;
@@ -192,9 +192,9 @@ pub(crate) fn give_back(slots: &mut Vec<Slot>, hints: &mut Vec<u32>)
     }
 }
 
-/// Leaves room for as many slots again, and for no more hints than there are. Where the system refuses
-/// to make it smaller, the memory stays, and the slots keep theirs too, so that it is tried again.
-/// Where there are no slots, all of it is freed, which asks for nothing.
+/// Leaves room for as many slots again, and for no more hints than there are. Where the system
+/// refuses to make it smaller, the memory stays, and the slots keep theirs too, so that it is tried
+/// again. Where there are no slots, all of it is freed, which asks for nothing.
 #[inline(never)]
 fn shrink(slots: &mut Vec<Slot>, hints: &mut Vec<u32>)
     ensures { slots.new.items ≡ slots.old.items }

@@ -156,9 +156,10 @@ impl Threads {
 
     /// A live thread that does nothing begins a call, or one whose call has this reply returns; its
     /// flag stays. Answers whether there is such a thread. This looks for the thread once, where
-    /// [`get`](Threads::get) and [`set`](Threads::set) would do so twice. Here, where a thread becomes
-    /// live and at each moment, the memory of those that have ended is given back: an end itself asks
-    /// the system for nothing. It stands in place, so that an edge is never written to memory.
+    /// [`get`](Threads::get) and [`set`](Threads::set) would do so twice. Here, where a thread
+    /// becomes live and at each moment, the memory of those that have ended is given back: an end
+    /// itself asks the system for nothing. It stands in place, so that an edge is never written to
+    /// memory.
     #[inline(always)]
     pub(crate) fn cross(&mut self, thread: ThreadId, edge: CallEdge) -> bool
         ensures answer { result ≡ is_some (edge_of self.old thread edge) }

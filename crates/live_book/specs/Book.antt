@@ -20,7 +20,7 @@ use Rattle.live_book.specs.declared.faults.BookFault.TheVariants as fault
 use Rattle.live_book.specs.Log.{IsThreadOf, Replays, nothing_bound}
 use Rattle.live_book.specs.Places.{kept_of, need}
 
--- the fat state, the log, how many passes there are, and how many places the record has
+-- the fat state, the record, how many passes there are, and how many places the record has
 pub record BookState : Type 0 where
   pub fats : FatState
   pub log : List Logged

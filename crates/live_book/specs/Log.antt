@@ -49,7 +49,7 @@ after_deed f t (Bound o n m) = bound_with f o t n
 after_deed f t (Acted a r) = (outcome_of f t a).after
 after_deed f t (Ticked now) = with_moment f now
 
--- the log, each deed legal where it stands and of one of the threads, leads from one state to another
+-- the record, each deed legal where it stands and of one of the threads, leads from one state to another
 abbrev pub Replays : ℕ → FatState → List Logged → FatState → Type 0
 Replays passes f [] g = f ≡ g
 Replays passes f (e ∷ es) g =

@@ -39,7 +39,7 @@ pub struct Work<L: Crew> {
 pub struct Worked<L: Crew> {
     pub pass: LivePass<L>,
     pub answers: Vec<Result<Reply, LiveFault>>,
-    /// Whether the gate stopped the worker, or no thread could be started for it.
+    /// Whether the driver's gate stopped the work, or no thread could be started for it.
     pub stopped: bool,
 }
 
@@ -274,9 +274,9 @@ fn drive_jobs<L: Crew + Send + Sync, G: Gate + Sync, R: Threads + Wait + Clock +
     )
 }
 
-/// Drives each work by a thread of its own, which asks the gate before each of its calls, and comes
-/// back once all are done, with the works' passes and answers in the order of the works. Where no
-/// thread can be started for a work, it makes no call and is stopped.
+/// Drives each work by a thread of its own, which asks the driver's gate before each of its calls,
+/// and comes back once all are done, with the works' passes and answers in the order of the works.
+/// Where no thread can be started for a work, it makes no call and is stopped.
 pub fn drive<L: Crew + Send + Sync, G: Gate + Sync, R: Threads + Wait + Clock + Sync>(
     rt: &R,
     alloc: Global,

@@ -26,7 +26,7 @@ count_of p = length p.holding.own
 abbrev pub HasOwn : List Logged → PassState → Type 0
 HasOwn log p = own_of p.holding.words.index log ≡ p.holding.own
 
--- The words are the replay of one history whose events are those of the passes, with a monitor for each fat word; the
+-- The words are the replay of one trace whose events are those of the passes, with a monitor for each fat word; the
 -- record replays from nothing bound, has just each pass's deeds under its number, and as many as all passes together.
 pub record IsEnd (z : Opening) (limit : ℕ) (ps : List PassState) (c : Closed) : Type 0 where
   pub fats : FatState

@@ -1,5 +1,5 @@
-//! What a turn does at the book, while its pass has the gate. Each turn takes the gate, does one thing
-//! there, and gives the gate back; where another pass has the gate, the call stays where it stands.
+//! What a turn does at the book, while its pass has the gate. Each takes the gate once,
+//! and gives it back; where another pass has the gate, the call stays where it stands.
 
 ghost use Rattle.std.specs.Prelude.{◌≡◌, ◌<◌, ◌≤◌, ◌+◌, IfOk, IfErr, Bool, List, length, true, false, Ok};
 ghost use Rattle.lock_word.specs.declared.ObjectId.{ObjectId};
@@ -25,9 +25,8 @@ use lock_word::ObjectId;
 use step_core::Stage;
 
 impl<L: Crew> Turns<L> {
-    /// A call that loaded a fat word: the action on its monitor. It stands in place where it is
-    /// called, down to the book's enter and exit, so that no answer goes from one function to
-    /// another by a copy.
+    /// A call that loaded a fat word: the action on its monitor. It is inlined, down to the book's
+    /// enter and exit, so that no answer goes from one function to another by a copy.
     #[inline(always)]
     pub(crate) fn turn_from_action(
         &self,

@@ -1,5 +1,5 @@
-//! The calls, turn by turn: the first turn of a call of either kind, and one more turn of the call that
-//! a pass is in. A tick tells the moment.
+//! The calls, turn by turn: the first turn of a call of either kind, and one more turn of the call
+//! that a pass is in. A tick tells the moment.
 
 ghost use Rattle.std.specs.Prelude.{◌≡◌, ◌≢◌, ◌<◌, IfOk, IfErr, MatchBool, OnErr, OnOk, length, ◌++◌, false, None};
 ghost use Rattle.step_core.specs.declared.places.Place.TheVariants.{Idle, InCall};

@@ -1,4 +1,5 @@
-//! What a pass has in hand: its pass of the words, and its own deeds. With these it acts at the desk.
+//! What a pass does at the desk: each action once it was checked that the pass is where the book
+//! has it.
 
 ghost use Rattle.std.specs.Prelude.{◌≡◌, ◌≤◌, IfOk, IfErr, OnErr, OnOk, ◌++◌, true, false};
 ghost use Rattle.header_words.specs.Bindings.{Binds};
@@ -139,7 +140,8 @@ impl<L: Crew> Hand<L> {
         told(desk.note_action_apart(&mut self.own, me, action_about(call)))
     }
 
-    /// The bind of an object that the pass holds this often, by a pass that is where the book has it.
+    /// The bind of an object that the pass holds this often, by a pass that is where the book has
+    /// it.
     pub(crate) fn bind(
         &mut self,
         desk: &mut Box<Desk<L>>,

@@ -1,6 +1,6 @@
 //! The live service, turn by turn: the calls that several threads make at once on header words that
-//! they share, and behind the gate of these words the book of `live_book`, with the fat monitors and
-//! the record of all that was done to them.
+//! they share, and behind the gate of these words the book of `live_book`, with the fat monitors
+//! and the record of all that was done to them.
 //!
 //! Each thread has a [`TurnPass`], and drives its calls on the shared [`Turns`] by turns, each of
 //! which does at once all that can be done at once. Nothing here needs a handle: no turn waits,

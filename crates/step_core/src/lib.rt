@@ -15,7 +15,7 @@
 //!
 //! /// Begins a call, and lets the thread go. None: it is parked, or another thread owns the
 //! /// object.
-//! fn turn(world: &mut World, thread: ThreadId, call: Call) -> Result<Option<Reply>, Fault> {
+//! fn make_call(world: &mut World, thread: ThreadId, call: Call) -> Result<Option<Reply>, Fault> {
 //!     world.step(Step::Begin { thread, call })?;
 //!     // A call replies, parks or meets another thread within four Go steps; an End may take more.
 //!     for _ in 0..4 {

@@ -65,8 +65,8 @@ fn is_failed_live_read<R: Threads + Wait + Clock + Sync>(
     is_read && sink.into_inner().is_empty()
 }
 
-/// Wherever the reader of a live script fails, that is the fault, also behind a bad line, and nothing
-/// is written; and so where the text is too long.
+/// Wherever the reader of a live script fails, that is the fault, also behind a bad line, and
+/// nothing is written; and so where the text is too long.
 #[test]
 fn a_live_script_whose_reader_fails(rt: HostRuntime) {
     for count in 0..=LINES.len() {

@@ -101,8 +101,9 @@ impl Hints {
         count < MOST && count / 2 < records
     }
 
-    /// Makes as many hints as so many records should have, with position 0 for each number, and says
-    /// whether it did: not where there are as many or more, or where the system refuses the memory.
+    /// Makes as many hints as so many records should have, with position 0 for each number, and
+    /// says whether it did: not where there are as many or more, or where the system refuses the
+    /// memory.
     pub fn widen_for(&mut self, records: usize) -> bool
         ensures wider { OnTrue result (self.new ≡ replicate (width_for records) 0) }
         ensures more { OnTrue result (length self.old < width_for records) }

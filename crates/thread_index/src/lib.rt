@@ -197,8 +197,8 @@ impl Indices {
         }
     }
 
-    /// The berth of a thread by the table. It is a function of its own, so that a look by a hint has
-    /// nothing of it.
+    /// The berth of a thread by the table. It is a function of its own, so that a look by a hint
+    /// has nothing of it.
     #[inline(never)]
     fn listed_berth_of(&self, id: ThreadId) -> Option<usize>
         ensures berth { result ≡ berth_of self.now id }
@@ -224,8 +224,8 @@ impl Indices {
         }
     }
 
-    /// Notes the berth of a thread as a hint. Where there are few hints for the berths there are more
-    /// from then on, if there is memory for them.
+    /// Notes the berth of a thread as a hint. Where there are few hints for the berths there are
+    /// more from then on, if there is memory for them.
     fn note(&mut self, berth: usize, id: ThreadId)
         requires { berth < 32767 }
         ensures { self.new ≡ self.old }

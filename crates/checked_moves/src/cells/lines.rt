@@ -1,6 +1,6 @@
-//! The lines of the table of cells, and the deeds in them.
+//! The lines of the table of cells, and the setups in them.
 
-use super::deeds::Deed;
+use super::setups::Setup;
 use super::words::{read_call, read_move, read_object, read_thread, read_wait, thread_named};
 use crate::trouble::ReadFault;
 use std::str::SplitWhitespace;
@@ -22,7 +22,7 @@ pub struct Cell<'a> {
     /// It goes on where the cell above it ended.
     pub goes_on: bool,
     pub lawful: bool,
-    /// The deeds before it, if there are any; they are not read yet.
+    /// The setups before it, if there are any; they are not read yet.
     pub before: Option<&'a str>,
     pub judged: Move,
 }
@@ -60,8 +60,8 @@ fn read_cell(goes_on: bool, lawful: bool, text: &str) -> Result<Line<'_>, ReadFa
         return Err(ReadFault::Reason);
     }
     let mut parts = moves.rsplitn(2, ';');
-    let judged = parts.next().and_then(read_deed);
-    let Some(Deed::Makes(judged)) = judged else {
+    let judged = parts.next().and_then(read_setup);
+    let Some(Setup::Makes(judged)) = judged else {
         return Err(ReadFault::Judged);
     };
     let before = parts.next();
@@ -73,38 +73,38 @@ fn read_cell(goes_on: bool, lawful: bool, text: &str) -> Result<Line<'_>, ReadFa
     }))
 }
 
-/// Reads a deed, and how often it is done.
-pub fn read_deeds(text: &str) -> Option<(u32, Deed)> {
+/// Reads a setup, and how often it is done.
+pub fn read_setups(text: &str) -> Option<(u32, Setup)> {
     match text.split_once(" times ") {
-        Some((times, deed)) => Some((times.trim().parse::<u32>().ok()?, read_deed(deed)?)),
-        None => Some((1, read_deed(text)?)),
+        Some((times, setup)) => Some((times.trim().parse::<u32>().ok()?, read_setup(setup)?)),
+        None => Some((1, read_setup(text)?)),
     }
 }
 
-/// Reads a deed that is done once.
-fn read_deed(text: &str) -> Option<Deed> {
+/// Reads a setup that is done once.
+fn read_setup(text: &str) -> Option<Setup> {
     let mut words = text.split_whitespace();
     let first = words.next()?;
-    let deed = match thread_named(first) {
+    let setup = match thread_named(first) {
         Some(thread) => read_act(thread, &mut words)?,
-        None => Deed::Makes(read_move(first, &mut words)?),
+        None => Setup::Makes(read_move(first, &mut words)?),
     };
     match words.next() {
         Some(_) => None,
-        None => Some(deed),
+        None => Some(setup),
     }
 }
 
 /// Reads what a thread does.
-fn read_act(thread: ThreadId, words: &mut SplitWhitespace<'_>) -> Option<Deed> {
+fn read_act(thread: ThreadId, words: &mut SplitWhitespace<'_>) -> Option<Setup> {
     match words.next()? {
-        "enters" => Some(Deed::Enters(thread, read_object(words)?)),
-        "exits" => Some(Deed::Exits(thread, read_object(words)?)),
-        "interrupts" => Some(Deed::Interrupts(thread, read_thread(words)?)),
-        "waits" => Some(Deed::Waits(thread, read_wait(words)?)),
+        "enters" => Some(Setup::Enters(thread, read_object(words)?)),
+        "exits" => Some(Setup::Exits(thread, read_object(words)?)),
+        "interrupts" => Some(Setup::Interrupts(thread, read_thread(words)?)),
+        "waits" => Some(Setup::Waits(thread, read_wait(words)?)),
         "calls" => {
             let call = read_call(words)?;
-            Some(Deed::Makes(Move::Call { thread, call }))
+            Some(Setup::Makes(Move::Call { thread, call }))
         }
         _ => None,
     }

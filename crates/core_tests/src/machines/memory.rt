@@ -1,5 +1,6 @@
-//! Want of memory: an attach that was refused succeeds when tried again, and no other move is judged
-//! otherwise. Run with each allocation refused in turn, this meets every refusal that there is.
+//! Want of memory: an attach that was refused succeeds when tried again, and no other move is
+//! judged otherwise. Run with each allocation refused in turn, this meets every refusal that there
+//! is.
 
 use super::*;
 use std::test::Fail;

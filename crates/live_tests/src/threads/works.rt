@@ -62,8 +62,8 @@ fn came_to<L: Crew>(rt: &impl Abort, worked: Worked<L>, outcome: Outcome<'_>) ->
     worked.pass
 }
 
-/// Drives two works of these calls, on one object, looks at the outcome of each, closes the service,
-/// and tells the word of the object after the close, and how many deeds both did.
+/// Drives two works of these calls, on one object, looks at the outcome of each, closes the
+/// service, and tells the word of the object after the close, and how many deeds both did.
 fn two_are_driven<L: Crew + Send + Sync, G: Gate + Sync, R: Threads + Wait + Clock + Sync + Abort>(
     rt: &R,
     alloc: Global,

@@ -147,7 +147,7 @@ fn push_each(line: &mut String, members: &[&str], between: &str) -> Result<(), A
 }
 
 /// Members from a position on, and then those before it.
-fn push_turned(
+fn push_rotated(
     line: &mut String,
     members: &[&str],
     first: usize,
@@ -166,8 +166,8 @@ fn push_turned(
     line.push_str(end)
 }
 
-/// The lines of a kind of move, with one member more, in each order that turns it.
-fn assert_turned_agree(
+/// The lines of a kind of move, with one member more, in each rotation.
+fn assert_rotations_agree(
     rt: &impl Abort,
     alloc: Global,
     reader: &mut MoveReader,
@@ -184,7 +184,7 @@ fn assert_turned_agree(
     for &blanks in &BLANKS {
         for first in 0..members.len() {
             let mut line = String::new(alloc);
-            push_turned(&mut line, &members, first, blanks)?;
+            push_rotated(&mut line, &members, first, blanks)?;
             assert_escaped_agrees(rt, alloc, reader, &line)?;
         }
     }
@@ -197,7 +197,7 @@ fn orders_blanks_and_members_more(rt: HostRuntime) -> Result<(), Fail> {
     let mut reader = MoveReader::new(alloc);
     for &kind in &KINDS {
         for &more in &MORE {
-            assert_turned_agree(&rt, alloc, &mut reader, kind, more)?;
+            assert_rotations_agree(&rt, alloc, &mut reader, kind, more)?;
         }
     }
     Ok(())

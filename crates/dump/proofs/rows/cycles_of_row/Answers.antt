@@ -1,7 +1,7 @@
 use Rattle.std.proofs.Common.{◌≡◌, ◌++◌, ◌≤◌, List, Bool, length, take, drop, map, vec_items, arith, subst}
 use Rattle.dump.specs.Rows.{IsWalk, leads_to}
 use Rattle.dump.proofs.Parts.{whole_again}
-use Rattle.dump.proofs.Passes.{listed_none, listed_next, listed_all}
+use Rattle.dump.proofs.RowWalks.{listed_none, listed_next, listed_all}
 use Rattle.dump.proofs.rows.cycles_of_row.Goals as goal
 
 pub starts-init : goal.starts-init

@@ -1,5 +1,5 @@
 use Rattle.std.specs.Prelude.{map, vec_items}
-use Rattle.dump.proofs.Passes.{AreListed}
+use Rattle.dump.proofs.RowWalks.{AreListed}
 use Rattle.dump.proofs.rows.cycles_of_row.Given as goal
 
 abbrev pub invariant-starts : goal.invariant-starts

@@ -1,7 +1,7 @@
 use Rattle.std.proofs.Common.{◌≡◌, ◌++◌, List, Bool, length, take, drop, arith, subst}
 use Rattle.dump.specs.Rows.{AreCleared, IsWalk, leads_to}
 use Rattle.dump.proofs.Parts.{whole_again}
-use Rattle.dump.proofs.Passes.{judged_more, ring_within}
+use Rattle.dump.proofs.RowWalks.{judged_more, ring_within}
 use Rattle.dump.proofs.rows.off_cycles.Goals as goal
 
 pub clear-requires : goal.clear-requires

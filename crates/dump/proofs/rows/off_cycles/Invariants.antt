@@ -1,4 +1,4 @@
-use Rattle.dump.proofs.Passes.{AreJudged}
+use Rattle.dump.proofs.RowWalks.{AreJudged}
 use Rattle.dump.proofs.rows.off_cycles.Given as goal
 
 abbrev pub invariant-starts : goal.invariant-starts

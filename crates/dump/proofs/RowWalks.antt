@@ -1,4 +1,4 @@
--- The two passes over a row: which of its numbers are on no cycle, and which cycles there are.
+-- The two walks over a row: which of its numbers are on no cycle, and which cycles there are.
 use Rattle.std.specs.Prelude.{◌≡◌, ◌⊎◌, ℕ, ◌<◌, ◌≤◌, Bool, true, false, List, [], ◌∷◌, ◌++◌, Option, Some, None, length, slice_index_or}
 use Rattle.std.specs.List.{Contains}
 use Rattle.std.proofs.Common.{refl, inl, inr, sym, ap, subst, ◌∙◌, arith, zero, suc, ◌+◌, replicate}
@@ -74,7 +74,7 @@ sees_more f before after i path to w all v within = by_number (cases_eq v i)
     by_number (inl same) = subst (λ (n : ℕ). is_seen after n ≡ true) (sym same) (sees_start f before after i path to w)
     by_number (inr other) = w.0.grown v (all v (omega (arith, within, other)))
 
--- ---- the first pass
+-- ---- the first walk
 
 -- what the ring of a path is
 record RingOf (f : ℕ → Option ℕ) (path ring : List ℕ) : Type 0 where
@@ -121,7 +121,7 @@ ring_of row before after i path ring (Some v) w entered (inr (front, rest, e, wh
     by_part x on (inl j) = absurd (beside_ring (leads_to row) front rest (Some i) v (subst AreDistinct whole w.0.distinct) goes x j on)
     by_part x on (inr j) = j
 
--- the first pass so far: of the numbers that were seen, just those on no cycle are off
+-- the first walk so far: of the numbers that were seen, just those on no cycle are off
 pub record AreJudged (row : List (Option ℕ)) (seen marks : List Bool) (i : ℕ) : Type 0 where
   pub seen_long : length seen ≡ length row
   pub marks_long : length marks ≡ length row
@@ -187,9 +187,9 @@ ring_within row is before after i path ring (Some u) within w (inr (front, rest,
     path_within row is (Some i) (Some u) path (λ y same. subst (λ (n : ℕ). n < length row) (same_Some i y same) within) w.0.goes v
     (subst (IsIn v) (sym whole) (in_right v front (u ∷ rest) (subst (IsIn v) e j)))
 
--- ---- the second pass
+-- ---- the second walk
 
--- the second pass so far: the cycles of what was seen
+-- the second walk so far: the cycles of what was seen
 pub record AreListed (row : List (Option ℕ)) (seen : List Bool) (lists : List (List ℕ)) (i : ℕ) : Type 0 where
   pub long : length seen ≡ length row
   pub before : (v : ℕ) → v < i → is_seen seen v ≡ true

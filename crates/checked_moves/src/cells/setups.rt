@@ -4,7 +4,7 @@ use step_core::{Call, Move, ObjectId, Reply, ThreadId};
 
 /// What is done before a move is judged: some lawful moves.
 #[derive(Clone, Copy)]
-pub enum Deed {
+pub enum Setup {
     /// The thread enters the object, and returns.
     Enters(ThreadId, ObjectId),
     /// It exits the object, and returns.
@@ -17,34 +17,34 @@ pub enum Deed {
     Makes(Move),
 }
 
-impl Deed {
-    /// The moves of a deed, in order.
+impl Setup {
+    /// The moves of a setup, in order.
     pub fn moves(self) -> [Option<Move>; 3] {
         match self {
-            Deed::Enters(thread, object) => whole_call(
+            Setup::Enters(thread, object) => whole_call(
                 thread,
                 Call::Enter(object),
                 Move::Lock { thread },
                 Reply::Entered,
             ),
-            Deed::Exits(thread, object) => whole_call(
+            Setup::Exits(thread, object) => whole_call(
                 thread,
                 Call::Exit(object),
                 Move::Unlock { thread },
                 Reply::Exited,
             ),
-            Deed::Interrupts(thread, target) => whole_call(
+            Setup::Interrupts(thread, target) => whole_call(
                 thread,
                 Call::Interrupt(target),
                 Move::Interrupt { thread },
                 Reply::Done,
             ),
-            Deed::Waits(thread, call) => [
+            Setup::Waits(thread, call) => [
                 Some(Move::Call { thread, call }),
                 Some(Move::Wait { thread }),
                 None,
             ],
-            Deed::Makes(made) => [Some(made), None, None],
+            Setup::Makes(made) => [Some(made), None, None],
         }
     }
 }
