@@ -8,7 +8,6 @@ ghost use Rattle.text_streams.specs.declared.faults.FileFault.TheVariants.{BadLi
 ghost use Rattle.text_streams.specs.declared.faults.FileFault.TheVariants.{Broken};
 ghost use Rattle.text_streams.specs.declared.faults.FileFault.TheVariants.{Read as ReadFault};
 ghost use Rattle.text_streams.specs.declared.faults.FileFault.TheVariants.{Write as WriteFault};
-ghost use Rattle.text_streams.specs.declared.faults.FileFault.TheVariants.{Memory};
 ghost use Rattle.step_core.specs.Step.{moves_made, moves_of};
 ghost use Rattle.step_core.specs.declared.steps.Fault.TheVariants.{Memory as OutOfMemory};
 ghost use Rattle.history.specs.Plans.{IsPlanOf};
@@ -58,7 +57,7 @@ pub fn moves<S: Source, W: Sink>(
     ensures unwritten { IfErr result (λ fault.
         (fault ≡ WriteFault) ⊎ Keeps (W.holds sink.old) (W.holds sink.new)) }
     // But for a failed read and want of memory, a fault comes only once the text was read whole.
-    ensures read_first { IfErr result (λ fault. (fault ≡ ReadFault) ⊎ (fault ≡ Memory)
+    ensures read_first { IfErr result (λ fault. (fault ≡ ReadFault) ⊎ (fault ≡ FileFault.Memory)
         ⊎ ((S.has_failed source.new → S.has_failed source.old)
         × IfSome (S.left source.old) (λ input. length input ≤ MOST_BYTES))) }
     // No fault is one of a history.

@@ -68,7 +68,7 @@ pub fn run<S: Source, W: Sink>(alloc: Global, source: &mut S, sink: &mut W) -> R
     ensures unwritten { IfErr result (λ fault.
         (fault ≡ WriteFault) ⊎ Keeps (W.holds sink.old) (W.holds sink.new)) }
     // But for a failed read and want of memory, a fault comes only once the text was read whole.
-    ensures read_first { IfErr result (λ fault. (fault ≡ ReadFault) ⊎ (fault ≡ Memory)
+    ensures read_first { IfErr result (λ fault. (fault ≡ ReadFault) ⊎ (fault ≡ FileFault.Memory)
         ⊎ ((S.has_failed source.new → S.has_failed source.old)
         × IfSome (S.left source.old) (λ input. length input ≤ MOST_BYTES))) }
     // No fault is one of a history.
