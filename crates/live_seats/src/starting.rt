@@ -79,8 +79,9 @@ fn started<L: Crew>(seat: &mut Seat<L>, call: MonitorCall) -> Started
 impl<L: Crew> Seat<L> {
     /// Starts a call on an object, of a seat that is taken apart, by its steps on the word of the
     /// object: a load, and an exchange or a store where the word calls for one. Where they are the
-    /// whole call this is what [`serve`](Seat::serve) does with [`BeginOn`](crate::SeatOrder::BeginOn),
-    /// but what is told of it is small. Where the call goes on, [`Turn`](crate::SeatOrder::Turn) does.
+    /// whole call this is what [`serve`](Seat::serve) does with
+    /// [`BeginOn`](crate::SeatOrder::BeginOn), but what is told of it is small. Where the call goes
+    /// on, [`Turn`](crate::SeatOrder::Turn) does.
     #[inline(always)]
     pub fn start(seat: Parts<Seat<L>, Global>, call: MonitorCall) -> Begun<L>
         requires { IsSome seat.value.member }

@@ -1,5 +1,5 @@
-//! The calls, turn by turn: the first turn of a call of either kind, and one more turn of the call that
-//! a pass is in. A tick tells the moment.
+//! The calls, turn by turn: the first turn of a call of either kind, and one more turn of the call
+//! that a pass is in. A tick tells the moment.
 
 ghost use Rattle.std.specs.Prelude.{◌≡◌, ◌≢◌, ◌<◌, IfOk, IfErr, MatchBool, OnErr, OnOk, length, ◌++◌, false, None};
 ghost use Rattle.step_core.specs.declared.places.Place.TheVariants.{Idle, InCall};
@@ -203,6 +203,7 @@ impl<L: Crew> Turns<L> {
         self.tell(&mut pass.hand, now)
     }
 
+    // The same, by what the pass has in hand.
     fn tell(&self, hand: &mut Hand<L>, now: u64) -> Result<bool, LiveFault>
         requires belongs { Belongs self.now false hand.old }
         ensures belongs { Belongs self.now false hand.new }

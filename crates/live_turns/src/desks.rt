@@ -1,5 +1,5 @@
-//! The desk behind the gate: the book of fat monitors, with the tally of its deeds; and the deeds that a
-//! pass keeps of its own.
+//! The desk behind the gate: the book of fat monitors, with the tally of its deeds; and the deeds
+//! that a pass keeps of its own.
 
 ghost use Rattle.std.specs.Prelude.{◌≡◌, ◌<◌, ◌≤◌, ◌+◌, IfOk, IfErr, OnErr, OnOk, MatchOption, ℕ, length, [], ◌∷◌, ◌++◌, vec_len, vec_capacity, Some, false, Ok};
 ghost use Rattle.fat_monitor.specs.FatState.{post_of};
@@ -46,8 +46,8 @@ pub(crate) struct Own<L: Crew> {
     pub(crate) ghost room: { L.places ≤ vec_capacity list },
 }
 
-/// What lies behind the gate: the book of fat monitors, and the tally of its deeds, which the ledger
-/// keeps.
+/// What lies behind the gate: the book of fat monitors, and the tally of its deeds, which the
+/// ledger keeps.
 #[derive(Drop)]
 pub(crate) struct Desk<L: Crew> {
     pub(crate) book: Book,

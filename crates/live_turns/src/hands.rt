@@ -1,4 +1,5 @@
-//! What a pass has in hand: its pass of the words, and its own deeds. With these it acts at the desk.
+//! What a pass has in hand: its pass of the words, and its own deeds. With these it acts at the
+//! desk.
 
 ghost use Rattle.std.specs.Prelude.{◌≡◌, ◌≤◌, IfOk, IfErr, OnErr, OnOk, ◌++◌, true, false};
 ghost use Rattle.header_words.specs.Bindings.{Binds};
@@ -42,20 +43,16 @@ impl<L: Crew> Model for Hand<L> {
 fn told(made: Result<Done, LiveFault>) -> Result<Turned, LiveFault>
     ensures { Tells made result }
 {
-    match made {
-        Ok(done) => {
-            let point = match done.answer {
-                Answer::Reply(reply) => Point::Said(reply),
-                Answer::Parked | Answer::Quiet => Point::At(Place::AtPost),
-            };
-            Ok(Turned {
-                point,
-                gate_taken: false,
-                granted: done.granted,
-            })
-        }
-        Err(fault) => Err(fault),
-    }
+    let done = made?;
+    let point = match done.answer {
+        Answer::Reply(reply) => Point::Said(reply),
+        Answer::Parked | Answer::Quiet => Point::At(Place::AtPost),
+    };
+    Ok(Turned {
+        point,
+        gate_taken: false,
+        granted: done.granted,
+    })
 }
 
 // What the answer to an action of a parked thread's own came to.
@@ -139,7 +136,8 @@ impl<L: Crew> Hand<L> {
         told(desk.note_action_apart(&mut self.own, me, action_about(call)))
     }
 
-    /// The bind of an object that the pass holds this often, by a pass that is where the book has it.
+    /// The bind of an object that the pass holds this often, by a pass that is where the book has
+    /// it.
     pub(crate) fn bind(
         &mut self,
         desk: &mut Box<Desk<L>>,
