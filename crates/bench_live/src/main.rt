@@ -55,7 +55,7 @@ struct Asked {
     rounds: Option<u32>,
 }
 
-fn asked<R: AllocGlobal + Env>(rt: &R) -> Result<Asked, BenchFault> {
+fn read_arguments<R: AllocGlobal + Env>(rt: &R) -> Result<Asked, BenchFault> {
     let mut arguments = env::args(rt)?;
     let Some(part) = arguments.nth(1) else {
         return Ok(Asked {
@@ -81,7 +81,7 @@ fn asked<R: AllocGlobal + Env>(rt: &R) -> Result<Asked, BenchFault> {
 }
 
 fn main(rt: HostRuntime) -> Result<(), BenchFault> {
-    let asked = asked(&rt)?;
+    let asked = read_arguments(&rt)?;
     if asked.words {
         report_words(&rt, rt.alloc(), asked.rounds)?;
     }

@@ -6,6 +6,8 @@ ghost use Rattle.live_turns.specs.Ends.{own_of};
 use crate::{Deed, Logged};
 use fat_monitor::{Action, Answer, Reply};
 
+// Whether two places of a record say the same. The prover does not find that a derived equality of
+// so many cases is equality, so the cases are written out.
 fn same(left: &Logged, right: &Logged) -> bool
     ensures same { result ≡ true → left.now ≡ right.now }
     ensures other { result ≡ false → left.now ≡ right.now → ⊥ }
@@ -13,6 +15,7 @@ fn same(left: &Logged, right: &Logged) -> bool
     left.thread.0 == right.thread.0 && same_deed(left.deed, right.deed)
 }
 
+// Whether these are one deed.
 fn same_deed(left: Deed, right: Deed) -> bool
     ensures same { result ≡ true → left ≡ right }
     ensures other { result ≡ false → left ≡ right → ⊥ }
@@ -42,6 +45,7 @@ fn same_deed(left: Deed, right: Deed) -> bool
     }
 }
 
+// Whether these are one action.
 fn same_action(left: Action, right: Action) -> bool
     ensures same { result ≡ true → left ≡ right }
     ensures other { result ≡ false → left ≡ right → ⊥ }
@@ -49,6 +53,7 @@ fn same_action(left: Action, right: Action) -> bool
     left == right
 }
 
+// Whether these are one answer.
 fn same_answer(left: Answer, right: Answer) -> bool
     ensures same { result ≡ true → left ≡ right }
     ensures other { result ≡ false → left ≡ right → ⊥ }
@@ -60,6 +65,7 @@ fn same_answer(left: Answer, right: Answer) -> bool
     }
 }
 
+// Whether these are one reply.
 fn same_reply(left: Reply, right: Reply) -> bool
     ensures same { result ≡ true → left ≡ right }
     ensures other { result ≡ false → left ≡ right → ⊥ }

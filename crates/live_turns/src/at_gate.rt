@@ -1,5 +1,5 @@
-//! What a turn does at the book, while its pass has the gate. Each takes the gate once,
-//! and gives it back; where another pass has the gate, the call stays where it stands.
+//! What a turn does at the book, while its pass has the gate. Each takes the gate once, and gives it
+//! back; where another pass has the gate, the call stays where it stands.
 
 ghost use Rattle.std.specs.Prelude.{◌≡◌, ◌<◌, ◌≤◌, ◌+◌, IfOk, IfErr, Bool, List, length, true, false, Ok};
 ghost use Rattle.lock_word.specs.declared.ObjectId.{ObjectId};

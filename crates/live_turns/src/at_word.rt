@@ -127,7 +127,8 @@ impl<L: Crew> Turns<L> {
     ) -> Result<Turned, LiveFault>
         requires belongs { Belongs self.now false hand.old }
         requires object { call.object.0 < length self.now.lows }
-        ensures { IsTurnFrom self.now (At (InCall (Begun call contended))) result hand.old hand.new }
+        ensures { IsTurnFrom self.now (At (InCall (Begun call contended))) result
+            hand.old hand.new }
     {
         let lock = self.load(hand, call.object);
         match call.operation.next(Split::Wide, lock, hand.index()) {

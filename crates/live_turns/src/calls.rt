@@ -203,6 +203,7 @@ impl<L: Crew> Turns<L> {
         self.tell(&mut pass.hand, now)
     }
 
+    // The same, by what the pass has in hand.
     fn tell(&self, hand: &mut Hand<L>, now: u64) -> Result<bool, LiveFault>
         requires belongs { Belongs self.now false hand.old }
         ensures belongs { Belongs self.now false hand.new }

@@ -43,20 +43,16 @@ impl<L: Crew> Model for Hand<L> {
 fn told(made: Result<Done, LiveFault>) -> Result<Turned, LiveFault>
     ensures { Tells made result }
 {
-    match made {
-        Ok(done) => {
-            let point = match done.answer {
-                Answer::Reply(reply) => Point::Said(reply),
-                Answer::Parked | Answer::Quiet => Point::At(Place::AtPost),
-            };
-            Ok(Turned {
-                point,
-                gate_taken: false,
-                granted: done.granted,
-            })
-        }
-        Err(fault) => Err(fault),
-    }
+    let done = made?;
+    let point = match done.answer {
+        Answer::Reply(reply) => Point::Said(reply),
+        Answer::Parked | Answer::Quiet => Point::At(Place::AtPost),
+    };
+    Ok(Turned {
+        point,
+        gate_taken: false,
+        granted: done.granted,
+    })
 }
 
 // What the answer to an action of a parked thread's own came to.

@@ -6,6 +6,16 @@
 //! which does at once all that can be done at once. Nothing here needs a handle: no turn waits,
 //! asks for memory, or knows of threads of the system. Memory is asked for by the opening and the
 //! close.
+//!
+//! A turn is at the word of its object (`at_word`) or at the book (`at_gate`). An action on a fat
+//! monitor goes through four functions, each of which adds one thing:
+//!
+//! | Function | Adds |
+//! |---|---|
+//! | `Turns::turn_from_action` | takes the gate, and gives it back |
+//! | `Hand::act_on` | checks that the pass is where the book has it; tells what the turn came to |
+//! | `Desk::note_action` | notes the deed in the pass's own list, and in the tally |
+//! | `Book::act` of `live_book` | makes the action on the monitors, and logs it in the record |
 #![tactic(auto)]
 
 mod agreeing;

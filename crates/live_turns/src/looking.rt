@@ -34,6 +34,7 @@ impl<L: Crew> Turns<L> {
         self.lend(&mut pass.hand, f)
     }
 
+    // The same, by what the pass has in hand.
     fn lend<F: FnOnce(&Book) -> bool>(&self, hand: &mut Hand<L>, f: F) -> Result<bool, F>
         requires belongs { Belongs self.now false hand.old }
         requires callable { F.IsAlwaysCallable f }

@@ -22,6 +22,7 @@ pub fn has_each<P: Numbered>(passes: &[P], count: u16) -> bool
     passes.len() == usize::from(count) && has_numbers(passes, count)
 }
 
+// Whether each number from 1 to `count` is among these.
 fn has_numbers<P: Numbered>(passes: &[P], count: u16) -> bool
     ensures found { result ≡ true → HasNumbers count (map P.numbered passes.now) }
     ensures missing { result ≡ false → HasNumbers count (map P.numbered passes.now) → ⊥ }
@@ -34,6 +35,7 @@ fn has_numbers<P: Numbered>(passes: &[P], count: u16) -> bool
     true
 }
 
+// Whether one of these has this number.
 fn has_number<P: Numbered>(passes: &[P], number: u16) -> bool
     ensures { IsTrue result ↔ Contains (map P.numbered passes.now) number }
 {
