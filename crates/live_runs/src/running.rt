@@ -55,7 +55,8 @@ pub fn run_live<S: Source, W: Sink, R: Threads + Wait + Clock + Sync>(
     ensures unwritten { IfErr result (λ fault.
         (fault ≡ File WriteFault) ⊎ Keeps (W.holds sink.old) (W.holds sink.new)) }
     // But for a failed read and want of memory, a fault comes only once the text was read whole.
-    ensures read_first { IfErr result (λ fault. (fault ≡ File ReadFault) ⊎ (fault ≡ File FileFault.Memory)
+    ensures read_first { IfErr result (λ fault. (fault ≡ File ReadFault)
+        ⊎ (fault ≡ File FileFault.Memory)
         ⊎ ((S.has_failed source.new → S.has_failed source.old)
         × IfSome (S.left source.old) (λ input. length input ≤ MOST_BYTES))) }
     // No fault is one of a history.
