@@ -1,14 +1,14 @@
 //! The table of cells, `cells.txt`, which its head describes: moves that both checkers judge, each
 //! after some setups and with the verdict that is wanted.
 
-mod setups;
 mod lines;
+mod setups;
 mod words;
 
 use crate::both::Both;
 use crate::trouble::{LineFault, ReadFault, Trouble};
+use lines::{Cell, Line, read_line, read_setups};
 use setups::Setup;
-use lines::{Cell, Line, read_setups, read_line};
 use std::alloc::Global;
 use std::fs;
 use std::io::Print;

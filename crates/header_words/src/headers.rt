@@ -5,8 +5,8 @@ ghost use Rattle.std.specs.Bool.{OnTrue, OnFalse};
 use crate::kept::Kept;
 use crate::pass::{Parts, Pass};
 use crate::rule::{
-    Exchange, Firsts, Joined, StoreKind, Law, Layout, Look, Nests, Publishes, Releases, Stored, Sync,
-    Unnests, View,
+    Exchange, Firsts, Joined, Law, Layout, Look, Nests, Publishes, Releases, StoreKind, Stored,
+    Sync, Unnests, View,
 };
 use atomic_table::Table;
 use fat_monitor::Receipt;
@@ -92,7 +92,13 @@ impl<B: Kept> Headers<B> {
 
     // An owner's plain store: nobody else changes the word while the pass holds the object thinly.
     // The row of depths is written first, so that the store is the last step of the call.
-    fn note_then_store<D: StoreKind>(&self, pass: &mut Pass<B>, object: ObjectId, lock: Lock, left: u16)
+    fn note_then_store<D: StoreKind>(
+        &self,
+        pass: &mut Pass<B>,
+        object: ObjectId,
+        lock: Lock,
+        left: u16,
+    )
         requires belongs { pass.old.opening ≡ self.now }
         requires object { object.0 < length self.now.lows }
         requires fits { Fits lock }
