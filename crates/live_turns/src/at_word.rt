@@ -1,7 +1,7 @@
 //! What a turn does at the word of an object: the load that it begins with, and the exchange or the
 //! store that the word calls for.
 
-ghost use Rattle.std.specs.Prelude.{◌≡◌, ◌<◌, ◌≤◌, ◌+◌, ◌↔◌, ℕ, IfOk, IfErr, OnOk, OnErr, Bool, length, true, false, None};
+ghost use Rattle.std.specs.Prelude.{◌≡◌, ◌<◌, ◌+◌, ◌↔◌, ℕ, Bool, length, true, false};
 ghost use Rattle.lock_word.specs.declared.Lock.TheVariants.{Thin, Fat};
 ghost use Rattle.lock_word.specs.declared.Split.TheVariants.{Wide};
 ghost use Rattle.lock_word.specs.Layout.{Fits};
@@ -10,13 +10,13 @@ ghost use Rattle.fast_path.specs.declared.calls.MonitorCall.{MonitorCall};
 ghost use Rattle.fast_path.specs.declared.Next.TheVariants as next;
 ghost use Rattle.header_words.specs.Bindings.{HasPublish};
 ghost use Rattle.header_words.specs.Passes.{PassValue, depth_at};
-ghost use Rattle.step_core.specs.declared.places.Place.TheVariants.{Idle, InCall};
-ghost use Rattle.step_core.specs.declared.places.Stage.TheVariants.{Begun, Taking, Storing, Direct};
+ghost use Rattle.step_core.specs.declared.places.Place.TheVariants.{InCall};
+ghost use Rattle.step_core.specs.declared.places.Stage.TheVariants.{Begun, Taking, Storing};
 ghost use Rattle.step_core.specs.declared.paths.Point.TheVariants.{At, Said};
 ghost use Rattle.step_core.specs.Go.{entering};
 ghost use Rattle.step_core.specs.Path.{point_next};
 ghost use Rattle.live_turns.specs.Points.{IsTurnFrom, Knows, Loaded};
-ghost use Rattle.live_turns.specs.Ways.{Belongs, Went, Halted, VisitsBook};
+ghost use Rattle.live_turns.specs.Ways.{Belongs, Went, VisitsBook};
 
 use crate::desks::Crew;
 use crate::hands::Hand;

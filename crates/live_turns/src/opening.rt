@@ -1,6 +1,6 @@
 //! The start of the turns of a service.
 
-ghost use Rattle.std.specs.Prelude.{◌≡◌, ◌≤◌, ◌+◌, IfOk, OnOk, length, map, [], vec_len, vec_capacity};
+ghost use Rattle.std.specs.Prelude.{◌≡◌, ◌≤◌, IfOk, OnOk, length, map, [], vec_len, vec_capacity};
 ghost use Rattle.header_words.specs.Passes.{new_passes};
 ghost use Rattle.live_turns.specs.Ways.{new_state};
 

@@ -1,6 +1,6 @@
 //! What one turn of a call came to, and where the call stands then.
 
-ghost use Rattle.std.specs.Prelude.{◌≡◌, true, false, None};
+ghost use Rattle.std.specs.Prelude.{◌≡◌, false, None};
 ghost use Rattle.live_turns.specs.Points.{standing_of};
 ghost use Rattle.live_turns.specs.Ways.{parked};
 
