@@ -1,96 +1,17 @@
 /* Plays a scenario over the core: two threads enter, contend, wait, notify; one holds 257 times.
  * With the argument `time` it prints what a step costs, too. */
 #define _POSIX_C_SOURCE 200809L
-#include "nadkhoy.h"
+#include "host_memory.h"
+#include "world.h"
 
-#include <stdio.h>
-#include <stdlib.h>
-#include <string.h>
 #include <time.h>
 
-#define WANT(got, wanted) want(__LINE__, (long)(got), (long)(wanted))
-
-static nadkhoy_slot slot = NADKHOY_EMPTY;
-static nadkhoy_did did;
-
-static void want(int line, long got, long wanted) {
-    if (got != wanted) {
-        fprintf(stderr, "line %d: %ld, wanted %ld\n", line, got, wanted);
-        exit(1);
-    }
-}
-
-static uint32_t step(uint32_t kind, uint32_t thread) {
-    nadkhoy_step_in in;
-    memset(&in, 0, sizeof in);
-    in.kind = kind;
-    in.thread = thread;
-    return nadkhoy_step(&slot, &in, &did);
-}
-
-static uint32_t begin(uint32_t thread, uint32_t kind, uint32_t target) {
-    nadkhoy_step_in in;
-    memset(&in, 0, sizeof in);
-    in.kind = NADKHOY_STEP_BEGIN;
-    in.thread = thread;
-    in.call.kind = kind;
-    in.call.target = target;
-    return nadkhoy_step(&slot, &in, &did);
-}
-
-/* Lets a thread go until its call replies or it parks: the reply, or 0. */
-static uint32_t turn(uint32_t thread) {
-    for (int i = 0; i < 8; i++) {
-        if (step(NADKHOY_STEP_GO, thread) != NADKHOY_DONE) return 0;
-        if (did.reply != 0) return did.reply;
-        if (did.atomic.answer == NADKHOY_ANSWER_PARKED) return 0;
-    }
-    return 0;
-}
-
-static uint32_t call(uint32_t thread, uint32_t kind, uint32_t target) {
-    WANT(begin(thread, kind, target), NADKHOY_DONE);
-    return turn(thread);
-}
-
-static void mistakes(void) {
+static void attach_two(void) {
     static const uint8_t lows[1] = {0xA5};
-    uint32_t number = 77;
-    nadkhoy_object_shown shown;
-    nadkhoy_thread_shown thread;
-    nadkhoy_sizes_shown sizes;
-    did.reply = 99;
-    WANT(step(NADKHOY_STEP_ATTACH, 1), NADKHOY_CLOSED);
-    WANT(did.reply, 99);
-    WANT(nadkhoy_free(&slot), NADKHOY_CLOSED);
-    WANT(nadkhoy_relayout(&slot, NADKHOY_SPLIT_DEEP, &number), NADKHOY_CLOSED);
-    WANT(nadkhoy_sizes(&slot, &sizes), NADKHOY_CLOSED);
-    WANT(nadkhoy_open(lows, 1, 1, 2, 3, &slot), NADKHOY_NO_SPLIT);
-    WANT(nadkhoy_open(lows, 1, 1, 0, NADKHOY_SPLIT_WIDE, &slot), NADKHOY_RANGE);
-    WANT(nadkhoy_open(lows, 1, 1, 2048, NADKHOY_SPLIT_DEEP, &slot), NADKHOY_RANGE);
-    WANT(nadkhoy_open(lows, 1, 1, 2, NADKHOY_SPLIT_WIDE, &slot), NADKHOY_DONE);
-    WANT(nadkhoy_open(lows, 1, 1, 2, NADKHOY_SPLIT_WIDE, &slot), NADKHOY_IN_USE);
-    WANT(step(7, 1), NADKHOY_NO_STEP);
-    WANT(begin(1, 11, 0), NADKHOY_NO_STEP);
-    WANT(begin(1, NADKHOY_CALL_ENTER, 0), NADKHOY_NOT_LIVE);
-    WANT(did.reply, 99);
-    WANT(nadkhoy_object(&slot, 1, &shown), NADKHOY_NO_OBJECT);
-    WANT(nadkhoy_thread(&slot, 1, &thread), NADKHOY_NO_THREAD);
-    WANT(nadkhoy_holder(&slot, 1, &number), NADKHOY_NO_THREAD);
-    WANT(nadkhoy_waiting(&slot, 1, 1, &number), NADKHOY_NO_OBJECT);
-    WANT(step(NADKHOY_STEP_GO, 1), NADKHOY_NOT_LIVE);
-    WANT(nadkhoy_relayout(&slot, 0, &number), NADKHOY_NO_SPLIT);
-    WANT(number, 77);
-    WANT(nadkhoy_sizes(&slot, &sizes), NADKHOY_DONE);
-    WANT(sizes.moment, 0);
-    WANT(sizes.objects, 1);
-    WANT(sizes.indices, 2);
-}
-
-static void contend(void) {
     nadkhoy_object_shown shown;
     nadkhoy_thread_shown thread;
     uint32_t answer;
+    WANT(nadkhoy_open(lows, 1, 1, 2, NADKHOY_SPLIT_WIDE, &slot), NADKHOY_DONE);
     WANT(step(NADKHOY_STEP_ATTACH, 10), NADKHOY_DONE);
     WANT(did.moves[0].kind, NADKHOY_MOVE_ATTACH);
     WANT(step(NADKHOY_STEP_ATTACH, 10), NADKHOY_KNOWN);
@@ -109,6 +30,9 @@ static void contend(void) {
     WANT(thread.is_interrupted, 0);
     WANT(thread.doing.kind, NADKHOY_DOING_IDLE);
     WANT(begin(10, NADKHOY_CALL_ENTER, 1), NADKHOY_MISSING_OBJECT);
+}
+
+static void contend(void) {
     WANT(call(10, NADKHOY_CALL_ENTER, 0), NADKHOY_REPLY_ENTERED);
     WANT(did.atomic.kind, NADKHOY_ATOMIC_WON);
     WANT(did.atomic.before, 0x000000A5);
@@ -121,6 +45,12 @@ static void contend(void) {
     WANT(call(20, NADKHOY_CALL_ENTER, 0), 0);
     WANT(did.atomic.kind, NADKHOY_ATOMIC_LOAD);
     WANT(step(NADKHOY_STEP_TICK, 0), NADKHOY_DONE);
+}
+
+static void wait_and_notify(void) {
+    nadkhoy_object_shown shown;
+    nadkhoy_thread_shown thread;
+    uint32_t answer;
     /* A wait inflates the lock and gives it up; the other thread has it then. */
     WANT(call(10, NADKHOY_CALL_WAIT, 0), 0);
     WANT(did.atomic.answer, NADKHOY_ANSWER_PARKED);
@@ -198,11 +128,13 @@ static void time_steps(void) {
 }
 
 int main(int count, char **arguments) {
-    mistakes();
+    attach_two();
     contend();
+    wait_and_notify();
     hold_often();
     if (count > 1 && strcmp(arguments[1], "time") == 0) time_steps();
     WANT(nadkhoy_free(&slot), NADKHOY_DONE);
+    WANT(blocks, 0);
     puts("as wanted");
     return 0;
 }

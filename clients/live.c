@@ -1,15 +1,15 @@
 /* Two threads of the system at one live service. They count to 2000000 under one monitor; they hand
- * 100000 items on by wait and notify; then one thread drives both seats turn by turn, through waits
- * that a tick and an interrupt end, and through each mistake that has a status. The services of the
- * two threads are closed, and their ends read. With the argument `time` it prints what a pair of
- * enter and exit costs, too. */
+ * 100000 items on by wait and notify; and one thread drives both seats turn by turn, through waits
+ * that a tick and an interrupt end, and through each mistake that has a status. Each request for
+ * memory is refused, one at a time. The services of the two threads are closed, and their ends are
+ * read. With the argument `time` it prints what a pair of enter and exit costs, too. */
 #define _POSIX_C_SOURCE 200809L
+#include "host_memory.h"
 #include "nadkhoy.h"
+#include "want.h"
 
 #include <pthread.h>
 #include <sched.h>
-#include <stdio.h>
-#include <stdlib.h>
 #include <string.h>
 #include <sys/resource.h>
 #include <time.h>
@@ -21,8 +21,6 @@ typedef std::atomic<uint32_t> shared_word;
 #include <stdatomic.h>
 typedef _Atomic uint32_t shared_word;
 #endif
-
-#define WANT(got, wanted) want(__LINE__, (long)(got), (long)(wanted))
 
 /* A record has places for one round, so each round has a service of its own. A count uses three
  * places at most: its enter, the collect where that parked, and its exit. An item uses twelve: on
@@ -38,13 +36,6 @@ enum {
 };
 
 static const uint8_t lows[1] = {0xA5};
-
-static void want(int line, long got, long wanted) {
-    if (got != wanted) {
-        fprintf(stderr, "line %d: %ld, wanted %ld\n", line, got, wanted);
-        exit(1);
-    }
-}
 
 static nadkhoy_call call_of(uint32_t kind, uint32_t target) {
     nadkhoy_call call = {0, 0, kind, target};
@@ -257,9 +248,11 @@ static void open_both(uint32_t places) {
     WANT(nadkhoy_live_share(&waiter, &other), NADKHOY_DONE);
 }
 
+/* The last of them gives all memory back, wherever their calls stand. */
 static void leave_both(void) {
     WANT(nadkhoy_live_leave(&waiter), NADKHOY_DONE);
     WANT(nadkhoy_live_leave(&other), NADKHOY_DONE);
+    WANT(blocks, 0);
 }
 
 static uint32_t begin(nadkhoy_live_slot *seat, uint32_t kind, uint32_t target) {
@@ -438,6 +431,92 @@ static void no_memory(void) {
     WANT(nadkhoy_live_open(lows, 1, 1, 64, 1048576, &waiter), NADKHOY_MEMORY);
     WANT(setrlimit(RLIMIT_AS, &before), 0);
     WANT(nadkhoy_live_leave(&waiter), NADKHOY_CLOSED);
+}
+
+/* Each request for memory of an opening is refused, one at a time: the slot stays empty, and what
+ * was granted is given back. */
+static void openings_without_memory(void) {
+    uint32_t status = NADKHOY_MEMORY;
+    for (row = 0; status == NADKHOY_MEMORY; row++) {
+        WANT(blocks, 0);
+        WANT(nadkhoy_live_leave(&waiter), NADKHOY_CLOSED);
+        refuse_after((long)row);
+        status = nadkhoy_live_open(lows, 1, 1, 3, 9, &waiter);
+        WANT(has_refused(), status == NADKHOY_MEMORY);
+    }
+    WANT(status, NADKHOY_DONE);
+    WANT(row > 1 && blocks > 0, 1);
+    WANT(nadkhoy_live_leave(&waiter), NADKHOY_DONE);
+    WANT(blocks, 0);
+}
+
+/* The same of a share: the pass stays with the seat that was to give it. */
+static void shares_without_memory(void) {
+    uint32_t status = NADKHOY_MEMORY, thread = 77;
+    WANT(nadkhoy_live_open(lows, 1, 1, 2, 9, &waiter), NADKHOY_DONE);
+    long held = blocks;
+    for (row = 0; status == NADKHOY_MEMORY; row++) {
+        WANT(blocks, held);
+        WANT(nadkhoy_live_leave(&other), NADKHOY_CLOSED);
+        refuse_after((long)row);
+        status = nadkhoy_live_share(&waiter, &other);
+        WANT(has_refused(), status == NADKHOY_MEMORY);
+    }
+    WANT(status, NADKHOY_DONE);
+    WANT(row > 1, 1);
+    WANT(nadkhoy_live_thread(&waiter, &thread), NADKHOY_DONE);
+    WANT(thread, 2);
+    WANT(nadkhoy_live_thread(&other, &thread), NADKHOY_DONE);
+    WANT(thread, 1);
+    leave_both();
+}
+
+/* A seat that was refused memory for a close makes calls, and shares a pass if one came back: how
+ * many did. */
+static int goes_on_unclosed(nadkhoy_end_slot *end) {
+    nadkhoy_end_shown sizes;
+    uint32_t status;
+    WANT(nadkhoy_end_sizes(end, &sizes), NADKHOY_CLOSED);
+    says(&waiter, NADKHOY_CALL_HOLDS, 0, NADKHOY_REPLY_NO);
+    status = nadkhoy_live_share(&waiter, &other);
+    if (status == NADKHOY_NO_PASS) return 0;
+    WANT(status, NADKHOY_DONE);
+    says(&other, NADKHOY_CALL_HOLDS, 0, NADKHOY_REPLY_NO);
+    WANT(nadkhoy_live_leave(&other), NADKHOY_DONE);
+    return 1;
+}
+
+static int shared_again;
+
+/* Makes a close with a request for memory refused, and makes it again where one was. */
+static bool close_meets_refusal(long granted) {
+    nadkhoy_end_slot end = NADKHOY_EMPTY;
+    nadkhoy_end_shown sizes;
+    open_both(9);
+    tells(&other, 7);
+    WANT(nadkhoy_live_leave(&other), NADKHOY_DONE);
+    refuse_after(granted);
+    uint32_t status = nadkhoy_live_close(&waiter, &end);
+    bool refused = has_refused();
+    if (refused) {
+        WANT(status, NADKHOY_MEMORY);
+        shared_again += goes_on_unclosed(&end);
+        status = nadkhoy_live_close(&waiter, &end);
+    }
+    WANT(status, NADKHOY_DONE);
+    WANT(nadkhoy_live_leave(&waiter), NADKHOY_CLOSED);
+    WANT(nadkhoy_end_sizes(&end, &sizes), NADKHOY_DONE);
+    WANT(sizes.deeds, 1);
+    WANT(sizes.passes, 2);
+    WANT(nadkhoy_end_free(&end), NADKHOY_DONE);
+    WANT(blocks, 0);
+    return refused;
+}
+
+static void closes_without_memory(void) {
+    row = 0;
+    while (close_meets_refusal((long)row)) row++;
+    WANT(row > 0 && shared_again > 0, 1);
 }
 
 static void slots_and_passes(void) {
@@ -661,6 +740,9 @@ int main(int count, char **arguments) {
     an_empty_slot();
     sizes_out_of_range();
     no_memory();
+    openings_without_memory();
+    shares_without_memory();
+    closes_without_memory();
     slots_and_passes();
     a_close();
     calls_that_are_refused();
@@ -672,6 +754,7 @@ int main(int count, char **arguments) {
     make_bells();
     run_threads();
     if (count > 1 && strcmp(arguments[1], "time") == 0) time_pairs();
+    WANT(blocks, 0);
     puts("as wanted");
     return 0;
 }

@@ -1,15 +1,18 @@
 #!/usr/bin/env bash
 # Builds the library for C, and builds and runs the clients over it, as C, as C++ and from Rust: the core
-# (client) and the live service (live). It needs no rights, and says what it skips where a compiler is
-# missing. `run.sh time` prints what a step of the core costs, and a pair of calls of the live service.
-# `run.sh gate`, which the merge gate calls, does the same as `run.sh` alone. `run.sh compile` compares the
-# header with the exports and compiles the clients, and no more.
+# (client), what it refuses (refused), and the live service (live). It needs no rights, and says what it
+# skips where a compiler is missing. `run.sh time` prints what a step of the core costs, and a pair of calls
+# of the live service. `run.sh gate`, which the merge gate calls, does the same as `run.sh` alone.
+# `run.sh compile` compares the header with the exports and compiles the clients, and no more.
 set -euo pipefail
 cd "$(dirname "$0")/.."
 kit=$(dirname "$(rt doc)")
 made=$(mktemp -d)
 trap 'rm -rf "$made"' EXIT
 strict=(-O2 -Wall -Wextra -Werror -pedantic -Iinclude -pthread)
+clients=(client refused live)
+# The memory of the host is that of clients/host_memory.h.
+host=(-Wl,--wrap=malloc -Wl,--wrap=realloc -Wl,--wrap=free)
 
 has() {
     command -v "$1" >/dev/null || { echo "skipped: no $1"; return 1; }
@@ -19,7 +22,7 @@ if has python3; then
     python3 clients/compare_header.py
 fi
 if [ "${1:-}" = compile ]; then
-    for client in client live; do
+    for client in "${clients[@]}"; do
         if has "${CC:-cc}"; then
             "${CC:-cc}" -std=c11 "${strict[@]}" -c clients/$client.c -o "$made/$client.o"
         fi
@@ -34,16 +37,16 @@ fi
 archive=crates/nadkhoy_c/out/libnadkhoy_c.a
 
 if has "${CC:-cc}"; then
-    for client in client live; do
+    for client in "${clients[@]}"; do
         "${CC:-cc}" -std=c11 "${strict[@]}" clients/$client.c "$archive" "$kit/c/liblibc_c.a" \
-            -o "$made/$client"
+            "${host[@]}" -o "$made/$client"
         timeout 120 "$made/$client" "$@"
     done
 fi
 if has "${CXX:-c++}"; then
-    for client in client live; do
+    for client in "${clients[@]}"; do
         "${CXX:-c++}" -std=c++11 "${strict[@]}" -x c++ clients/$client.c -x none "$archive" \
-            "$kit/c/liblibc_c.a" -o "$made/${client}_as_cpp"
+            "$kit/c/liblibc_c.a" "${host[@]}" -o "$made/${client}_as_cpp"
         timeout 120 "$made/${client}_as_cpp"
     done
 fi
