@@ -83,6 +83,17 @@ run_words() {
     done <words
 }
 
+# A word that is no text: a byte that no UTF-8 has.
+run_bytes() {
+    order "$made" /dev/null run $'\xff.script'
+    if [ "$status" = 2 ] && [ ! -s "$made/written" ] &&
+        [ "$(cat "$made/told")" = "thinmon: a word of the command line is not text" ]; then
+        judge well
+    else
+        judge wrong "a word that is no text"
+    fi
+}
+
 # A writer that has no room.
 run_full() {
     status=0
@@ -100,6 +111,7 @@ for program in ../crates/thinmon/out/thinmon ../crates/thinmon/out/thinmon.by-ra
     program=$(realpath "$program")
     run_folders
     run_words
+    run_bytes
     run_full
 done
 echo "orders: $passed as wanted, $failed not"
