@@ -2,7 +2,7 @@
 # Builds the library for C, and builds and runs the clients over it, as C, as C++ and from Rust: the core
 # (client), what it refuses (refused), and the live service (live). It needs no rights, and says what it
 # skips where a compiler is missing. `run.sh time` prints what a step of the core costs, and a pair of calls
-# of the live service. `run.sh gate`, which the merge gate calls, does the same as `run.sh` alone.
+# of the live service. `run.sh gate`, which the merge run calls, does the same as `run.sh` alone.
 # `run.sh compile` compares the header with the exports and compiles the clients, and no more.
 set -euo pipefail
 cd "$(dirname "$0")/.."
