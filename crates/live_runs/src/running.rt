@@ -8,6 +8,7 @@ ghost use Rattle.text_streams.specs.declared.faults.FileFault.TheVariants.{BadLi
 ghost use Rattle.text_streams.specs.declared.faults.FileFault.TheVariants.{Broken};
 ghost use Rattle.text_streams.specs.declared.faults.FileFault.TheVariants.{Read as ReadFault};
 ghost use Rattle.text_streams.specs.declared.faults.FileFault.TheVariants.{Write as WriteFault};
+ghost use Rattle.text_streams.specs.declared.faults.FileFault.TheVariants.{Memory as MemoryFault};
 ghost use Rattle.live_runs.specs.declared.faults.RunFault.TheVariants.{File};
 ghost use Rattle.live_runs.specs.Faults.{IsRunReason};
 ghost use Rattle.live_runs.specs.Runs.{IsTextOfRun};
@@ -55,8 +56,7 @@ pub fn run_live<S: Source, W: Sink, R: Threads + Wait + Clock + Sync>(
     ensures unwritten { IfErr result (λ fault.
         (fault ≡ File WriteFault) ⊎ Keeps (W.holds sink.old) (W.holds sink.new)) }
     // But for a failed read and want of memory, a fault comes only once the text was read whole.
-    ensures read_first { IfErr result (λ fault. (fault ≡ File ReadFault)
-        ⊎ (fault ≡ File FileFault.Memory)
+    ensures read_first { IfErr result (λ fault. (fault ≡ File ReadFault) ⊎ (fault ≡ File MemoryFault)
         ⊎ ((S.has_failed source.new → S.has_failed source.old)
         × IfSome (S.left source.old) (λ input. length input ≤ MOST_BYTES))) }
     // No fault is one of a history.
