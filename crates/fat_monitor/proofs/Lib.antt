@@ -15,3 +15,4 @@ pub mod Removals
 pub mod NodesKept
 pub mod OwnedCounts
 pub mod WaitCounts
+pub mod Copies

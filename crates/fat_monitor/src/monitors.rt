@@ -20,7 +20,7 @@ use crate::posts::Posts;
 use crate::replies::{reply_with, yes_or_no};
 use crate::{ActFault, Action, Cause, Done, Post, Receipt};
 use lock_word::{Memory, ObjectId, ThreadId};
-use std::alloc::Global;
+use std::alloc::{AllocError, Global};
 use std::error::Error;
 use std::fmt;
 use std::marker::Model;
@@ -311,5 +311,26 @@ impl Fats {
             Action::Collect => self.collect(thread),
             Action::End => Ok(self.end(thread)),
         }
+    }
+}
+
+impl Clone for Fats {
+    ghost use Rattle.std.specs.Prelude.{◌≡◌};
+
+    ghost is_clone = { λ fats copy. copy ≡ fats };
+
+    /// The same fat monitors, threads and lines, at the same moment, with room for as many binds.
+    fn clone(&self) -> Result<Fats, AllocError> {
+        let room = self.monitors.len() + self.spare as usize;
+        let mut monitors = Vec::with_capacity(*self.monitors.allocator(), room)?;
+        monitors.extend_from_slice(&self.monitors)?;
+        Ok(Fats {
+            monitors,
+            posts: self.posts.clone()?,
+            lines: self.lines.clone()?,
+            moment: self.moment,
+            limit: self.limit,
+            spare: self.spare,
+        })
     }
 }

@@ -16,7 +16,7 @@ ghost use Rattle.fat_monitor.specs.Slots.{with_parked, count_of, one_less, one_m
 use crate::{AttachFault, Post};
 use lock_word::ThreadId;
 use slab::Slab;
-use std::alloc::Global;
+use std::alloc::{AllocError, Global};
 use std::collections::HashMap;
 use std::marker::Model;
 use thread_hints::Hints;
@@ -388,5 +388,21 @@ impl Posts {
             unreachable!();
         };
         self.waiting -= one_waiting(record.post);
+    }
+}
+
+impl Clone for Posts {
+    ghost use Rattle.std.specs.Prelude.{◌≡◌};
+
+    ghost is_clone = { λ posts copy. copy ≡ posts };
+
+    /// The same records of the same threads.
+    fn clone(&self) -> Result<Posts, AllocError> {
+        Ok(Posts {
+            records: self.records.clone()?,
+            keys: self.keys.clone()?,
+            hints: self.hints.clone()?,
+            waiting: self.waiting,
+        })
     }
 }

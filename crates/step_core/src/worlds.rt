@@ -29,7 +29,7 @@ use fast_path::Call;
 use fat_monitor::{Fats, Post, Reply};
 use lock_word::{Lock, Memory, ObjectId, Split, ThreadId, Word, lock_of};
 pub use relayout::RelayoutFault;
-use std::alloc::Global;
+use std::alloc::{AllocError, Global};
 use std::marker::Model;
 use thread_index::Indices;
 
@@ -387,5 +387,22 @@ fn doing_in(stage: Stage) -> Doing
             won: false,
             ..
         } => Doing::Wants(call.call()),
+    }
+}
+
+impl Clone for World {
+    ghost use Rattle.std.specs.Prelude.{◌≡◌};
+
+    ghost is_clone = { λ world copy. copy ≡ world };
+
+    /// A world of its own that is the same; or want of memory, and then nothing was made.
+    fn clone(&self) -> Result<World, AllocError> {
+        Ok(World {
+            split: self.split,
+            words: Vec::from_slice(*self.words.allocator(), &self.words)?,
+            indices: self.indices.clone()?,
+            places: Vec::from_slice(*self.places.allocator(), &self.places)?,
+            fats: self.fats.clone()?,
+        })
     }
 }

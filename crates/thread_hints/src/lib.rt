@@ -12,7 +12,7 @@ ghost use Rattle.std.specs.Bool.{OnTrue, OnFalse};
 ghost use Rattle.std.specs.Int.Bits.{bit_and};
 ghost use Rattle.thread_hints.specs.Hints.{width_for};
 
-use std::alloc::Global;
+use std::alloc::{AllocError, Global};
 use std::marker::Model;
 
 /// How many hints there are before any memory is asked for.
@@ -120,6 +120,21 @@ impl Hints {
             }
             Err(_) => false,
         }
+    }
+}
+
+impl Clone for Hints {
+    ghost use Rattle.std.specs.Prelude.{◌≡◌};
+
+    ghost is_clone = { λ hints copy. copy ≡ hints };
+
+    /// The same hints. Memory is asked for only where there are many.
+    fn clone(&self) -> Result<Hints, AllocError> {
+        Ok(Hints {
+            alloc: self.alloc,
+            few: self.few,
+            many: Vec::from_slice(self.alloc, &self.many)?,
+        })
     }
 }
 

@@ -75,3 +75,17 @@ impl BerthBits {
         self.full.clear(berth / 64);
     }
 }
+
+impl Clone for BerthBits {
+    ghost use Rattle.std.specs.Prelude.{◌≡◌};
+
+    ghost is_clone = { λ bits copy. copy.taken.words.items ≡ bits.taken.words.items };
+
+    /// The same berths are taken.
+    fn clone(&self) -> Result<BerthBits, AllocError> {
+        Ok(BerthBits {
+            taken: self.taken.clone()?,
+            full: self.full.clone()?,
+        })
+    }
+}

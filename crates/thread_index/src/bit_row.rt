@@ -80,3 +80,16 @@ impl BitRow {
         self.words[position / 64] &= !(1 << (position % 64));
     }
 }
+
+impl Clone for BitRow {
+    ghost use Rattle.std.specs.Prelude.{◌≡◌};
+
+    ghost is_clone = { λ row copy. copy.words.items ≡ row.words.items };
+
+    /// The same bits.
+    fn clone(&self) -> Result<BitRow, AllocError> {
+        Ok(BitRow {
+            words: Vec::from_slice(*self.words.allocator(), &self.words)?,
+        })
+    }
+}

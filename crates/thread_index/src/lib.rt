@@ -264,6 +264,23 @@ impl Indices {
     }
 }
 
+impl Clone for Indices {
+    ghost use Rattle.std.specs.Prelude.{◌≡◌};
+
+    ghost is_clone = { λ indices copy. copy ≡ indices };
+
+    /// The same indices, of the same threads.
+    fn clone(&self) -> Result<Indices, AllocError> {
+        Ok(Indices {
+            holders: Vec::from_slice(*self.holders.allocator(), &self.holders)?,
+            bits: self.bits.clone()?,
+            berths: self.berths.clone()?,
+            hints: self.hints.clone()?,
+            limit: self.limit,
+        })
+    }
+}
+
 /// Notes the berth of each holder.
 fn note_all(hints: &mut Hints, holders: &[Option<ThreadId>])
     requires { length holders.now ≤ 32767 }

@@ -22,7 +22,7 @@ pub use iter::All;
 pub use links::Node;
 use links::{Links, Stop};
 use lock_word::{Memory, ThreadId};
-use std::alloc::Global;
+use std::alloc::{AllocError, Global};
 use std::marker::Model;
 use table::Table;
 
@@ -195,5 +195,19 @@ impl Lines {
         self.links.unlink(node);
         self.links.link(node, Stop::Free);
         self.table.release(&self.links, before);
+    }
+}
+
+impl Clone for Lines {
+    ghost use Rattle.std.specs.Prelude.{◌≡◌};
+
+    ghost is_clone = { λ lines copy. copy ≡ lines };
+
+    /// The same threads in the same lines, at the same nodes, with room for as many.
+    fn clone(&self) -> Result<Lines, AllocError> {
+        Ok(Lines {
+            links: self.links.clone()?,
+            table: self.table.clone()?,
+        })
     }
 }

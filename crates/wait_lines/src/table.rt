@@ -189,3 +189,17 @@ impl Table {
         }
     }
 }
+
+impl Clone for Table {
+    ghost use Rattle.std.specs.Prelude.{◌≡◌};
+
+    ghost is_clone = { λ table copy. copy ≡ table };
+
+    /// The same records in the same rows.
+    fn clone(&self) -> Result<Table, AllocError> {
+        Ok(Table {
+            rows: self.rows.clone()?,
+            buckets: self.buckets,
+        })
+    }
+}
