@@ -16,3 +16,5 @@ pub mod NodesKept
 pub mod OwnedCounts
 pub mod WaitCounts
 pub mod Copies
+pub mod Fronts
+pub mod Apart

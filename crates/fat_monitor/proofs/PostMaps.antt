@@ -341,3 +341,12 @@ len-posts records (e ∷ es) h =
     let rest = len-posts records es (IsDistinct-tail nat_eq e.0 (keys_of es) h) in
     let l : map.len (posted_in records (e ∷ es)).posts ≡ length es + 1 = rw (none, rest) at more in
     omega arith
+
+-- what is read of the records is there for the same threads, whatever is read
+pub same_threads : {X Y : Type 0} (f : Record → X) (x : X) (g : Record → Y) (y : Y) (records : Slab Record) (keys : List (ℕ × ℕ)) (q : ℕ) → is_some (map.get (values_of f x records keys) q) ≡ is_some (map.get (values_of g y records keys) q)
+same_threads f x g y records keys q =
+    rw (get-values_of f x records keys q, get-values_of g y records keys q) (by_key (lookup (nat_eq q) keys))
+  where
+    by_key : (o : Option ℕ) → is_some (option_map (λ k. value_in f x (get records k)) o) ≡ is_some (option_map (λ k. value_in g y (get records k)) o)
+    by_key None = refl
+    by_key (Some k) = refl

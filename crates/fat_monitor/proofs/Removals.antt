@@ -21,7 +21,7 @@ use Rattle.fat_monitor.proofs.SoundGrants.{after_grant-is, flags_after_grant, af
 use Rattle.fat_monitor.proofs.LineEffects.{post-with_post_same}
 
 -- a list that contains nobody is empty
-nobody_in : (ts : List ThreadId) → ((t : ThreadId) → Contains ts t → ⊥) → ts ≡ []
+pub nobody_in : (ts : List ThreadId) → ((t : ThreadId) → Contains ts t → ⊥) → ts ≡ []
 nobody_in [] absent = refl
 nobody_in (t ∷ ts) absent = absurd (absent t (Contains-cons_first t ts t refl))
 

@@ -5,3 +5,4 @@ pub mod Acting
 pub mod Slots
 pub mod Fats
 pub mod Names
+pub mod Numbers

@@ -14,6 +14,7 @@ ghost use Rattle.fat_monitor.specs.FatState.{refusal, owns_one, StandBehindOwner
 ghost use Rattle.fat_monitor.specs.Acting.{outcome_of, NamesBound, MayAct};
 
 mod acts;
+mod numbers;
 mod readers;
 
 use crate::posts::Posts;

@@ -1,7 +1,7 @@
 //! The attached threads: where each stands, and whether it is interrupted.
 
 ghost use Rattle.std.specs.Prelude.{◌≡◌, ◌<◌, ◌↔◌, OnOk, OnErr, IfSome, IsErrOf, IsSome, Some, None};
-ghost use Rattle.std.specs.Prelude.{IsTrue, cond, false, nat_eq};
+ghost use Rattle.std.specs.Prelude.{IsTrue, cond, false, is_some, nat_eq, ℕ};
 ghost use Rattle.std.specs.Map.{lookup};
 ghost use Rattle.std.specs.Option.{unwrap_or};
 ghost use Rattle.std.specs.FinMap as map;
@@ -207,6 +207,15 @@ impl Posts {
         ensures { result ≡ map.len self.now.posts }
     {
         self.keys.len()
+    }
+
+    /// Exactly the attached threads have flags.
+    pub(crate) fn all_have_flags(&self)
+        ensures { (q : ℕ) → is_some (map.get self.now.flags q)
+            ≡ is_some (map.get self.now.posts q) }
+    {
+        // This rests on what always holds of these fields.
+        let _ = &self.keys;
     }
 
     /// The post of an attached thread. It is found in place, so that a caller who asks for a part

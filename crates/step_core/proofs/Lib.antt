@@ -5,3 +5,4 @@ pub mod Relaying
 pub mod Clauses
 pub mod Lists
 pub mod CodeOfGo
+pub mod Numbers

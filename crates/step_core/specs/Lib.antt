@@ -20,3 +20,4 @@ pub mod Kept
 pub mod Cycles
 pub mod Laws
 pub mod Names
+pub mod Numbers

@@ -3,7 +3,7 @@
 //! granted.
 
 ghost use Rattle.std.specs.Prelude.{◌≡◌, ◌⊎◌, ℕ, ◌+◌, ◌<◌, List, length, Bool, true, false, Option};
-ghost use Rattle.std.specs.Prelude.{Some, None};
+ghost use Rattle.std.specs.Prelude.{Some, None, ◌++◌};
 ghost use Rattle.lock_word.specs.declared.ThreadId.{ThreadId};
 ghost use Rattle.lock_word.specs.declared.ObjectId.{ObjectId};
 ghost use Rattle.fat_monitor.specs.declared.actions.Reply.{Reply};
@@ -28,6 +28,8 @@ ghost use Rattle.step_core.specs.Lasting.{IsBack, IsNotified, HasReply, NeverRet
 ghost use Rattle.step_core.specs.Lasting.{MoveReturns};
 ghost use Rattle.step_core.specs.Kept.{Keeps};
 ghost use Rattle.step_core.specs.Laws.{OfEveryList};
+ghost use Rattle.step_core.specs.World.{WorldState};
+ghost use Rattle.step_core.specs.Numbers.{numbers_of, IsNumbered};
 
 /// The moves that the steps hand out are a run of the abstract machine, from its opening state to
 /// the state that the world shows then; and the labels of the run are exactly those of the accepted
@@ -138,4 +140,12 @@ pub fn a_waiter_throws_or_keeps_its_interrupt()
 #[tactic(auto, using(crate::proofs::Clauses::Lasting::move_lasts))]
 pub fn every_move_keeps_what_lasts()
     ensures { (s s' : State) (m : Move) → Steps s m s' → LastsBut s (MoveReturns m) s' }
+{}
+
+/// Two worlds with the same numbers are the same world, whatever numbers stand behind them: so
+/// lists of numbers may stand one behind the other, and no world's list begins another's.
+#[tactic(auto, using(crate::proofs::Numbers::worlds_apart))]
+pub fn numbers_tell_worlds_apart()
+    ensures { (v w : WorldState) (a b : List ℕ) → IsNumbered v → IsNumbered w
+        → numbers_of v ++ a ≡ numbers_of w ++ b → (v ≡ w) × (a ≡ b) }
 {}

@@ -55,6 +55,7 @@ pub use fat_monitor::{Action, Answer, Cause, Reply, Why};
 pub use laws::{
     a_waiter_throws_or_keeps_its_interrupt, every_call_is_patient, every_list_of_steps_is_a_run,
     every_list_of_steps_keeps_the_world, every_move_keeps_what_lasts, no_notification_is_lost,
+    numbers_tell_worlds_apart,
 };
 pub use lock_word::{Lock, Memory, ObjectId, Split, ThreadId, Word, decode};
 pub use machine::{Doing, Move};

@@ -21,6 +21,7 @@ ghost use Rattle.step_core.specs.Patient.{IsPatient};
 ghost use Rattle.step_core.specs.Lasting.{Lasts};
 ghost use Rattle.step_core.specs.Kept.{Keeps};
 
+mod numbers;
 mod readers;
 mod relayout;
 

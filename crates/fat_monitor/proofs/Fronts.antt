@@ -1,0 +1,25 @@
+-- Lists that begin with another.
+use Rattle.std.proofs.Common.{ℕ, List, [], ◌∷◌, ◌++◌, refl, ap}
+use Rattle.std.proofs.Math.Seq.{take-append_seam, take-length}
+use Rattle.fat_monitor.specs.Numbers.{BeginsWith}
+
+abbrev pub first : List ℕ → ℕ
+first [] = 0
+first (n ∷ ns) = n
+
+abbrev pub behind : List ℕ → List ℕ
+behind [] = []
+behind (n ∷ ns) = ns
+
+pub front_same : (xs : List ℕ) → BeginsWith xs xs
+front_same xs = take-length xs
+
+pub front_more : (xs ys : List ℕ) → BeginsWith (xs ++ ys) xs
+front_more xs ys = take-append_seam xs ys
+
+-- a front of a front is a front
+pub front_of_front : (xs ys zs : List ℕ) → BeginsWith zs (xs ++ ys) → BeginsWith zs xs
+front_of_front [] ys zs h = refl
+front_of_front (x ∷ xs) ys [] h = absurd (cc)
+front_of_front (x ∷ xs) ys (z ∷ zs) h =
+    λ i. ap first h i ∷ front_of_front xs ys zs (ap behind h) i
