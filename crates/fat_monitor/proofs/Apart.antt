@@ -83,6 +83,9 @@ reply_back (reply.Refused cause.TooDeep) = refl
 reply_back (reply.Refused cause.StillOwner) = refl
 reply_back (reply.Refused cause.NoThread) = refl
 
+pub replies_apart : (r s : Reply) → reply_number r ≡ reply_number s → r ≡ s
+replies_apart r s e = sym (reply_back r) ∙ ap reply_of e ∙ reply_back s
+
 abbrev read_deadline : List ℕ → Option ℕ × List ℕ
 read_deadline [] = (None, [])
 read_deadline (zero ∷ ns) = (None, ns)

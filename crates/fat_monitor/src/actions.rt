@@ -201,6 +201,30 @@ impl Cause {
     }
 }
 
+impl Reply {
+    ghost use Rattle.fat_monitor.specs.Numbers.{reply_number};
+
+    /// The number of the reply, 0 to 15: of a refusal that of its cause.
+    pub fn number(self) -> u8
+        ensures { result ≡ reply_number self }
+    {
+        match self {
+            Reply::Entered => 0,
+            Reply::Exited => 1,
+            Reply::WaitOver => 2,
+            Reply::Interrupted => 3,
+            Reply::Notified => 4,
+            Reply::Yes => 5,
+            Reply::No => 6,
+            Reply::Done => 7,
+            Reply::Ended => 8,
+            Reply::IllegalMonitorState => 9,
+            Reply::IllegalArgument => 10,
+            Reply::Refused(cause) => cause.number(),
+        }
+    }
+}
+
 impl fmt::Display for Cause {
     ghost use Rattle.std.specs.Prelude.{Some};
     ghost use Rattle.fat_monitor.specs.Names.{cause_name};

@@ -1,11 +1,13 @@
-//! A law of the table of actions.
+//! Laws of the table of actions and of numbers.
 
 ghost use Rattle.std.specs.Prelude.{true, ◌≡◌, ℕ, Option, Some};
 ghost use Rattle.lock_word.specs.declared.ThreadId.{ThreadId};
 ghost use Rattle.fat_monitor.specs.declared.actions.Post.TheVariants.{Waiting, Back};
+ghost use Rattle.fat_monitor.specs.declared.actions.Reply.{Reply};
 ghost use Rattle.fat_monitor.specs.declared.actions.Why.{Why};
 ghost use Rattle.fat_monitor.specs.declared.actions.Why.TheVariants.{Interrupted};
 ghost use Rattle.fat_monitor.specs.FatState.{FatState, IsSound, post_of, monitor_at, with_flag};
+ghost use Rattle.fat_monitor.specs.Numbers.{reply_number};
 ghost use Rattle.fat_monitor.specs.Acting.{after_removal, granted_by_removal, after_rejoining, after_hand_on_if_free, next_if_free};
 
 /// The law of removal: a thread that leaves its wait set joins the end of the entry line, and where
@@ -26,4 +28,10 @@ pub fn a_removed_thread_joins_the_entry_line()
         → IsSound f → post_of f u ≡ Some (Waiting m n d)
         → granted_by_removal f u (Waiting m n d)
         ≡ next_if_free (after_rejoining f u m (Back m n w)) m (monitor_at f m).owner }
+{}
+
+/// Two replies with one number are the same reply.
+#[tactic(auto, using(crate::proofs::Apart::replies_apart))]
+pub fn numbers_tell_replies_apart()
+    ensures { (r s : Reply) → reply_number r ≡ reply_number s → r ≡ s }
 {}

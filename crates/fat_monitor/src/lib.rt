@@ -15,7 +15,7 @@ mod replies;
 mod times;
 
 pub use actions::{ActFault, Action, Answer, Cause, Done, Post, Reply, Why};
-pub use laws::a_removed_thread_joins_the_entry_line;
+pub use laws::{a_removed_thread_joins_the_entry_line, numbers_tell_replies_apart};
 pub use monitors::{AttachFault, Backwards, Fats, Monitor};
 pub use receipts::Receipt;
 pub use times::are_good;

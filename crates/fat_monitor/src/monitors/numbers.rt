@@ -4,7 +4,7 @@ ghost use Rattle.std.specs.Prelude.{◌≡◌, ◌++◌, is_ok, if◌then◌else
 ghost use Rattle.fat_monitor.specs.FatState.{IsSound};
 ghost use Rattle.fat_monitor.specs.Numbers.{AreFlagged, BeginsWith, fat_numbers, line_numbers};
 ghost use Rattle.fat_monitor.specs.Numbers.{monitor_numbers, owner_number, record_numbers};
-ghost use Rattle.fat_monitor.specs.Numbers.{reply_number, thread_numbers};
+ghost use Rattle.fat_monitor.specs.Numbers.{thread_numbers};
 
 use super::{Fats, Monitor};
 use crate::{Post, Reply};
@@ -140,26 +140,6 @@ fn push_record(flag: bool, post: Post, numbers: &mut Vec<u64>) -> Result<(), All
             u64::from(holds),
             why as u64,
         ]),
-        Post::Granted(reply) => numbers.extend_from_slice(&[flag, 4, reply_number(reply)]),
-    }
-}
-
-/// The number of a reply: of a refusal that of its cause.
-fn reply_number(reply: Reply) -> u64
-    ensures { result ≡ reply_number reply }
-{
-    match reply {
-        Reply::Entered => 0,
-        Reply::Exited => 1,
-        Reply::WaitOver => 2,
-        Reply::Interrupted => 3,
-        Reply::Notified => 4,
-        Reply::Yes => 5,
-        Reply::No => 6,
-        Reply::Done => 7,
-        Reply::Ended => 8,
-        Reply::IllegalMonitorState => 9,
-        Reply::IllegalArgument => 10,
-        Reply::Refused(cause) => u64::from(cause.number()),
+        Post::Granted(reply) => numbers.extend_from_slice(&[flag, 4, u64::from(reply.number())]),
     }
 }

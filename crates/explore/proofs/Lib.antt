@@ -1,0 +1,4 @@
+pub mod Granted
+pub mod Searching
+pub mod Trying
+pub mod Finding

@@ -1,0 +1,55 @@
+-- What a search of a program finds.
+use Rattle.std.specs.Prelude.{◌≡◌, ℕ, ◌+◌, ◌<◌, List, [], ◌∷◌, ◌++◌, length, slice_index_or, Option, Some, None}
+use Rattle.explore.specs.declared.programs.Program.{Program}
+use Rattle.explore.specs.declared.programs.Choice.{Choice}
+use Rattle.explore.specs.declared.found.Node.{Node}
+use Rattle.explore.specs.States.{ProgramState, after, played}
+
+-- what was found: for each state the choices that lead there, and which of the states are outcomes
+pub record FoundStates : Type 0 where
+  pub witnesses : List (List Choice)
+  pub ends : List ℕ
+
+-- the choices that lead to the state with a number
+abbrev pub witness_at : List (List Choice) → ℕ → List Choice
+witness_at ws k = slice_index_or ws k []
+
+-- one state more: a choice behind those that lead to an earlier one
+abbrev pub grown : List (List Choice) → Node → List (List Choice)
+grown ws n = ws ++ (witness_at ws n.parent ++ n.choice ∷ []) ∷ []
+
+abbrev pub witnesses_from : List (List Choice) → List Node → List (List Choice)
+witnesses_from ws [] = ws
+witnesses_from ws (n ∷ ns) = witnesses_from (grown ws n) ns
+
+-- the choices that lead to each state: none to the first, and to each other one its own behind those of its parent
+abbrev pub witnesses : List Node → List (List Choice)
+witnesses ns = witnesses_from ([] ∷ []) ns
+
+-- the state with this number is this one
+abbrev pub IsAt : Program → List (List Choice) → ℕ → ProgramState → Type 0
+IsAt p ws k s = played p (witness_at ws k) ≡ Some s
+
+-- this state is among those that were found
+abbrev pub IsFound : Program → List (List Choice) → ProgramState → Type 0
+IsFound p ws s = (k : ℕ) × (k < length ws) × IsAt p ws k s
+
+-- no choice can be made in this state
+abbrev pub IsEnd : Program → ProgramState → Type 0
+IsEnd p s = (c : Choice) → after p s c ≡ None
+
+-- These numbers are those of the ends among the first states.
+pub record AreEnds (p : Program) (ws : List (List Choice)) (n : ℕ) (ends : List ℕ) : Type 0 where
+  pub each : (i : ℕ) → i < length ends
+      → (s : ProgramState) × IsAt p ws (slice_index_or ends i 0) s × IsEnd p s × (slice_index_or ends i 0 < n)
+  pub every : (k : ℕ) (s : ProgramState) → k < n → IsAt p ws k s → IsEnd p s
+      → (i : ℕ) × (i < length ends) × (slice_index_or ends i 0 ≡ k)
+
+-- Each state that any list of choices leads to is found, and nothing else.
+pub record FindsAll (p : Program) (f : FoundStates) : Type 0 where
+  -- each witness leads to a state
+  pub sound : (k : ℕ) → k < length f.witnesses → (s : ProgramState) × IsAt p f.witnesses k s
+  -- whatever choices lead to is found
+  pub complete : (cs : List Choice) (s : ProgramState) → played p cs ≡ Some s → IsFound p f.witnesses s
+  -- and the ends are those in which no choice can be made
+  pub ends : AreEnds p f.witnesses (length f.witnesses) f.ends

@@ -1,0 +1,5 @@
+pub mod States
+pub mod Wants
+pub mod Found
+pub mod Codes
+pub mod Searches

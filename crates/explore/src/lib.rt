@@ -1,0 +1,12 @@
+//! Every interleaving of a small program: the states that its steps lead to, each with a list of
+//! choices that leads there.
+#![tactic(auto)]
+
+mod found;
+mod programs;
+mod search;
+mod stands;
+
+pub use found::{ExploreFault, Found};
+pub use programs::{Choice, Program};
+pub use search::explore;

@@ -1,0 +1,52 @@
+//! Programs, and the choices of what is done next.
+
+ghost use Rattle.std.specs.Prelude.{◌≤◌, vec_len};
+ghost use Rattle.lock_word.specs.Layout.{greatest_index};
+
+use fast_path::Call;
+use lock_word::Split;
+
+/// A program: objects, threads with the calls that each makes, and a clock.
+///
+/// The threads have the numbers from 0 on, and are attached in their order before anything else.
+#[derive(Drop)]
+pub struct Program {
+    /// The low byte of each object's header word: 0 to 65,535 of them.
+    pub lows: Vec<u8>,
+    /// How many fat monitors there may be, 0 to 8,388,608.
+    pub monitors: u32,
+    /// How many threads may be live at once, at least as many as there are.
+    pub indices: u16,
+    pub split: Split,
+    /// The calls of the first thread in order, then those of the second, and so on.
+    pub calls: Vec<Call>,
+    /// Where in `calls` those of each thread begin.
+    pub starts: Vec<usize>,
+    /// The moments that the clock tells, one after the other, in nanoseconds.
+    pub moments: Vec<u64>,
+    /// Whether a wait may end for no reason that a program can see.
+    pub spurious: bool,
+    ghost monitors_fit: { monitors ≤ 8388608 },
+    ghost has_indices: { 1 ≤ indices },
+    ghost indices_fit: { indices ≤ greatest_index split },
+    ghost objects_fit: { vec_len lows ≤ 65535 },
+    ghost threads_fit: { vec_len starts ≤ 64 },
+    ghost threads_are_live: { vec_len starts ≤ indices },
+    ghost calls_fit: { vec_len calls ≤ 1024 },
+    ghost moments_fit: { vec_len moments ≤ 1048576 },
+}
+
+/// What is done next.
+#[derive(Clone, Copy, PartialEq, Eq, Debug)]
+pub enum Choice {
+    /// The thread begins its next call.
+    Begin { thread: u8 },
+    /// The thread does the next atomic step of its call.
+    Go { thread: u8 },
+    /// The wait of the thread ends, since its deadline has come.
+    Expire { thread: u8 },
+    /// The wait of the thread ends for no reason.
+    Wake { thread: u8 },
+    /// The clock tells its next moment.
+    Tick,
+}
