@@ -1,8 +1,8 @@
 //! The book: the fat monitors, and the record of all that was done to them.
 
-ghost use Rattle.std.specs.Prelude.{◌≡◌, ◌<◌, ◌≤◌, ◌+◌, ◌↔◌, IfOk, OnErr, OnOk, IsErrOf, IsOk, length, [], ◌∷◌, ◌++◌, IsSome, true, false};
+ghost use Rattle.std.specs.Prelude.{◌≡◌, ◌<◌, ◌≤◌, ◌+◌, ◌↔◌, IfOk, OnErr, OnOk, IsErrOf, IsOk, length, [], ◌∷◌, ◌++◌, IsSome, IfSome, true, false};
 ghost use Rattle.live_book.specs.declared.faults.LiveFault.{LiveFault};
-ghost use Rattle.fat_monitor.specs.FatState.{IsSound, object_at, post_of};
+ghost use Rattle.fat_monitor.specs.FatState.{IsProper, IsSound, object_at, post_of};
 ghost use Rattle.fat_monitor.specs.Acting.{MayAct, NamesBound};
 ghost use Rattle.live_book.specs.Log.{IsThreadOf, IsForBook, Replays, nothing_bound};
 ghost use Rattle.live_book.specs.Places.{kept_of, need};
@@ -233,6 +233,7 @@ impl Book {
     pub fn post(&self, thread: ThreadId) -> Option<Post>
         ensures post { result ≡ post_of self.now.fats thread }
         ensures some { IsSome result ↔ IsThreadOf self.now.passes thread }
+        ensures proper { IfSome result (IsProper self.now.fats) }
     {
         self.fats.post(thread)
     }

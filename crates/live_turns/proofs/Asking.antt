@@ -1,6 +1,8 @@
 -- What a desk may ask of its book, and what its answers are.
-use Rattle.std.specs.Prelude.{◌≡◌, ◌<◌, ℕ, Bool, true, false, if◌then◌else◌, Option, Some, None, IsSome, length, Result, Ok, Err, MatchResult}
-use Rattle.std.proofs.Common.{refl, arith, sym, ap, subst}
+use Rattle.std.specs.Prelude.{◌≡◌, ◌<◌, ◌≤◌, ℕ, Bool, true, false, if◌then◌else◌, nat_lt, Option, Some, None, IsSome, length, Result, Ok, Err, IsOk, MatchResult}
+use Rattle.std.proofs.Common.{refl, arith, sym, ◌∙◌, ap, subst}
+use Rattle.std.proofs.lemmas.Bool.{cond_both, ltb-true}
+use Rattle.std.specs.Option.{unwrap_or}
 use Rattle.std.proofs.lemmas.Option.{slice_get_within}
 use Rattle.std.proofs.lemmas.List.{length-map}
 use Rattle.lock_word.specs.declared.ThreadId.{ThreadId}
@@ -26,7 +28,14 @@ use Rattle.step_core.specs.Ready.{IsOwnAction}
 use Rattle.step_core.specs.Path.{IsTold}
 use Rattle.step_core.proofs.Clauses.Patient.{done, own_on, own_about}
 use Rattle.live_book.specs.Log.{IsForBook}
-use Rattle.live_turns.specs.Asked.{own_action, IsAwake}
+use Rattle.live_book.specs.Book.{BookState, act_answer, free_of, told}
+use Rattle.live_book.specs.declared.faults.BookFault.{BookFault}
+use Rattle.live_book.specs.declared.faults.BookFault.TheVariants as book
+use Rattle.live_book.specs.Places.{need}
+use Rattle.live_book.specs.declared.faults.LiveFault.{LiveFault}
+use Rattle.live_turns.specs.Asked.{own_action, live_answer, IsAwake}
+use Rattle.live_turns.specs.Ways.{MayAnswer}
+use Rattle.live_turns.proofs.Answering.{answer_in, collect_answers}
 
 pub on_for_book : (p : Operation) (m : ℕ) → IsForBook (action_on p m)
 on_for_book op.Enter m = tt
@@ -85,11 +94,6 @@ told_about f t c d e = told_by f t (action_about c) d (own_about c) e
 pub attached : (f : FatState) (t : ThreadId) (p : Post) → post_of f t ≡ Some p → IsAttached f t
 attached f t p e = subst (λ (x : Option Post). IsSome x) (sym e) refl
 
--- what an outcome answers, if it does
-abbrev answer_in : Result Done ActFault → Answer
-answer_in (Ok d) = d.answer
-answer_in (Err e) = answer.Parked
-
 -- a collect that is made has a reply
 collect_of : (f : FatState) (t : ThreadId) (p : Post) (d : Done) → (collect_outcome f t p).answer ≡ Ok d → (r : Reply) × (d.answer ≡ answer.Reply r)
 collect_of f t (Granted r) d e = (r, sym (ap answer_in e))
@@ -137,12 +141,35 @@ collect_action d h = ap own_action h.1
 pub expire_action : (d : Done) → d.answer ≡ answer.Quiet → own_action d.answer ≡ action.Expire
 expire_action d h = ap own_action h
 
-pub collect_awake : (b : Bool) (d : Done) → (r : Reply) × (d.answer ≡ answer.Reply r) → IsAwake b d.answer
-collect_awake b d h = subst (λ (x : Answer). IsAwake b x) (sym h.1) tt
+pub collect_awake : (b : Bool) (d : Done) → (r : Reply) × (d.answer ≡ answer.Reply r) → MayAnswer action.Collect d.answer → IsAwake b d.answer
+collect_awake b d h may = subst (λ (x : Answer). IsAwake b x) (sym h.1) (subst (λ (x : Answer). MayAnswer action.Collect x) h.1 may)
 
 pub expire_awake : (b : Bool) (d : Done) → b ≡ false → d.answer ≡ answer.Quiet → IsAwake b d.answer
 expire_awake b d first h = subst (λ (x : Answer). IsAwake b x) (sym h) first
 
+-- A collect of a reply that was granted is made, and so is an expire that is due: each has its place of the record.
+by_kept : (b : BookState) (t : ThreadId) (a : Action) → need b.fats t a ≡ 0 → ((d : Done) × (told (outcome_of b.fats t a).answer ≡ Ok d)) → (d : Done) × (act_answer b t a ≡ Ok d)
+by_kept b t a none made =
+    cond_both (nat_lt (free_of b) (need b.fats t a)) (Err book.RecordFull) (told (outcome_of b.fats t a).answer) (λ (x : Result Done BookFault). (d : Done) × (x ≡ Ok d))
+    (λ lt. absurd (let l : free_of b < need b.fats t a = ltb-true (free_of b) (need b.fats t a) lt in omega arith)) (λ _. made)
+
+told_is_made : (x : Result Done LiveFault) (y : Result Done BookFault) → x ≡ live_answer y → ((d : Done) × (y ≡ Ok d)) → IsOk x
+told_is_made x y is made = subst (λ (r : Result Done LiveFault). IsOk r) (sym (is ∙ ap live_answer made.1)) refl
+
+pub collect_made : (b : BookState) (t : ThreadId) (r : Reply) (x : Result Done LiveFault) → post_of b.fats t ≡ Some (Granted r) → x ≡ live_answer (act_answer b t action.Collect) → IsOk x
+collect_made b t r x at is =
+    told_is_made x (act_answer b t action.Collect) is (by_kept b t action.Collect refl
+    (subst (λ (o : Option Post). (d : Done) × (told (collect_outcome b.fats t (unwrap_or o Out)).answer ≡ Ok d)) (sym at) (_, refl)))
+
+expire_is_due : (f : FatState) (t : ThreadId) (m n y : ℕ) → y ≤ f.moment → (d : Done) × (told (expire_outcome f t (Waiting m n (Some y))).answer ≡ Ok d)
+expire_is_due f t m n y due =
+    cond_both (nat_lt f.moment y) _ _ (λ (o : Outcome). (d : Done) × (told o.answer ≡ Ok d)) (λ lt. absurd (let l : f.moment < y = ltb-true f.moment y lt in omega arith)) (λ _. (_, refl))
+
+pub expire_made : (b : BookState) (t : ThreadId) (m n y : ℕ) (x : Result Done LiveFault) → post_of b.fats t ≡ Some (Waiting m n (Some y)) → y ≤ b.fats.moment → x ≡ live_answer (act_answer b t action.Expire) → IsOk x
+expire_made b t m n y x at due is =
+    told_is_made x (act_answer b t action.Expire) is (by_kept b t action.Expire refl
+    (subst (λ (o : Option Post). (d : Done) × (told (expire_outcome b.fats t (unwrap_or o Out)).answer ≡ Ok d)) (sym at) (expire_is_due b.fats t m n y due)))
+
 pub ruleset asking = (on_for_book, on_may_act, on_names_bound, about_for_book, about_may_act, about_names_bound, told_on, told_about)
 
-pub ruleset waking = (attached, collect_replies, expire_quiet, collect_action, expire_action, collect_awake, expire_awake)
+pub ruleset waking = (attached, collect_replies, collect_answers, expire_quiet, collect_action, expire_action, collect_awake, expire_awake, collect_made, expire_made)

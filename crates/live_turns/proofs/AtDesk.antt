@@ -23,6 +23,7 @@ use Rattle.live_turns.specs.declared.standings.Turned.{Turned}
 use Rattle.live_turns.specs.Asked.{IsActionNoted, IsAtDesk, IsDeskFault, Tells}
 use Rattle.live_turns.specs.Points.{RestsAtPost}
 use Rattle.live_turns.specs.Ways.{by, Holding, Went}
+use Rattle.live_turns.proofs.Answering.{on_answers, about_answers}
 use Rattle.live_turns.proofs.Asking.{told_on, told_about}
 use Rattle.live_turns.proofs.Going.{act_way, late_act_way, direct_way}
 
@@ -59,16 +60,16 @@ pub acted_on : (c : MonitorCall) (m : ℕ) (me : ThreadId) (r : Result Done Live
     → IsActionNoted me (action_on c.operation m) r b b' p.own q.own → Tells r x → IsAtDesk (At (InCall (Acting c m))) x b b' p q
 acted_on c m me r x b b' p q is words noted tells =
     at_desk (At (InCall (Acting c m))) me (action_on c.operation m) r x b b' p q is words noted tells
-    (λ d t e told own. act_way c m d.answer t.point p q (told_on b.fats me c.operation m d e) told words own)
+    (λ d t e told own. act_way c m d.answer t.point p q (told_on b.fats me c.operation m d e) (on_answers b.fats me c.operation m d e) told words own)
 
 pub acted_late : (c : MonitorCall) (m : ℕ) (me : ThreadId) (r : Result Done LiveFault) (x : Result Turned LiveFault) (b b' : BookState) (p q : Holding) → me ≡ thread_numbered p.words.index → q.words ≡ p.words
     → IsActionNoted me (action_on c.operation m) r b b' p.own q.own → Tells r x → IsAtDesk (At (InCall (Inflated c m))) x b b' p q
 acted_late c m me r x b b' p q is words noted tells =
     at_desk (At (InCall (Inflated c m))) me (action_on c.operation m) r x b b' p q is words noted tells
-    (λ d t e told own. late_act_way c m d.answer t.point p q (told_on b.fats me c.operation m d e) told words own)
+    (λ d t e told own. late_act_way c m d.answer t.point p q (told_on b.fats me c.operation m d e) (on_answers b.fats me c.operation m d e) told words own)
 
 pub acted_about : (c : InterruptCall) (me : ThreadId) (r : Result Done LiveFault) (x : Result Turned LiveFault) (b b' : BookState) (p q : Holding) → me ≡ thread_numbered p.words.index → q.words ≡ p.words
     → IsActionNoted me (action_about c) r b b' p.own q.own → Tells r x → IsAtDesk (At (InCall (Direct c))) x b b' p q
 acted_about c me r x b b' p q is words noted tells =
     at_desk (At (InCall (Direct c))) me (action_about c) r x b b' p q is words noted tells
-    (λ d t e told own. direct_way c d.answer t.point p q (told_about b.fats me c d e) told words own)
+    (λ d t e told own. direct_way c d.answer t.point p q (told_about b.fats me c d e) (about_answers b.fats me c d e) told words own)

@@ -1,3 +1,4 @@
+pub mod Answering
 pub mod Asking
 pub mod AtDesk
 pub mod Going
@@ -8,3 +9,4 @@ pub mod Rows
 pub mod TurnLaws
 pub mod Ends
 pub mod Records
+pub mod Refusing

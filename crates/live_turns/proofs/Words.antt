@@ -37,24 +37,24 @@ pub load_way : (c : MonitorCall) (k : Bool) (o : ObjectId) (w : Word) (l : Lock)
     → Went (At (InCall (Begun c k))) (point_next c k l (next_of Wide c.operation l p.words.index)) p q
 load_way c k o w l p q same is made own =
     subst (λ (x : Lock). Went (At (InCall (Begun c k))) (point_next c k x (next_of Wide c.operation x p.words.index)) p q) (sym is)
-    (went_event (At (InCall (Begun c k))) (atomic.Load o w) o.0 (word.Load w.0) w.0 p q (sym same) refl refl made own)
+    (went_event (At (InCall (Begun c k))) (atomic.Load o w) o.0 (word.Load w.0) w.0 p q (sym same) tt refl refl made own)
 
 -- an exchange that won
 pub win_way : (o : ObjectId) (k : Bool) (n : ℕ) (p q : Holding) → MakesEvent o.0 word.Win n p.words q.words → q.own ≡ p.own
     → Went (At (InCall (Taking o k))) (point_taken o k (atomic.Won o (record { 0 = 0 }) (record { 0 = with_lock Wide 0 (Thin p.words.index 0) }))) p q
 win_way o k n p q made own =
     went_event (At (InCall (Taking o k))) (atomic.Won o (record { 0 = 0 }) (record { 0 = with_lock Wide 0 (Thin p.words.index 0) })) o.0 word.Win n p q
-    (refl, free Wide 0 (omega arith), refl) refl refl made own
+    (refl, free Wide 0 (omega arith), refl) tt refl refl made own
 
 -- an exchange that lost, to some word that is not free
 pub lose_way : (o : ObjectId) (k : Bool) (n : ℕ) (p q : Holding) → MakesEvent o.0 word.Lose n p.words q.words → q.own ≡ p.own
     → Went (At (InCall (Taking o k))) (At (InCall (Begun (entering o) true))) p q
 lose_way o true n p q made own =
     went_event (At (InCall (Taking o true))) (atomic.Lost o (record { 0 = 2147483648 })) o.0 word.Lose n p q
-    (refl, (λ e. let f : lock_of Wide 2147483648 ≡ Fat 0 = refl in let never = sym f ∙ e in cc)) refl refl made own
+    (refl, (λ e. let f : lock_of Wide 2147483648 ≡ Fat 0 = refl in let never = sym f ∙ e in cc)) tt refl refl made own
 lose_way o false n p q made own =
     went_event (At (InCall (Taking o false))) (atomic.Lost o (record { 0 = 2147483648 })) o.0 word.Lose n p q
-    (refl, (λ e. let f : lock_of Wide 2147483648 ≡ Fat 0 = refl in let never = sym f ∙ e in cc)) refl refl made own
+    (refl, (λ e. let f : lock_of Wide 2147483648 ≡ Fat 0 = refl in let never = sym f ∙ e in cc)) tt refl refl made own
 
 -- a store over the pass's own thin word
 store_way : (c : MonitorCall) (l : Lock) (n k : ℕ) (d : EventKind) (p q : Holding) → Fits Wide (Thin p.words.index n) → Fits Wide l
@@ -66,7 +66,7 @@ store_way c l n k d p q old new calls is made own =
     let byte : x.0 % 256 < 256 = omega arith in
     let shown : lock_of Wide (with_lock Wide x.0 l) ≡ l = lock_of-word_of Wide l (x.0 % 256) new byte in
     went_event (At (InCall (Storing c l))) (atomic.Stored c.object x (record { 0 = with_lock Wide x.0 l })) c.object.0 d k p q
-    (refl, (n, was, calls), refl)
+    (refl, (n, was, calls), refl) tt
     (ap (λ y. event p.words.index c.object.0 (stored_kind (lock_of Wide x.0) y) ∷ []) shown
     ∙ (ap (λ y. event p.words.index c.object.0 (stored_kind y l) ∷ []) was ∙ ap (λ y. event p.words.index c.object.0 y ∷ []) is))
     refl made own

@@ -1,5 +1,6 @@
 pub mod Asked
 pub mod Ways
+pub mod Causes
 pub mod Points
 pub mod Numbers
 pub mod Ends

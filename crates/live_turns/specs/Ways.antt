@@ -5,6 +5,14 @@ use Rattle.lock_word.specs.declared.Lock.{Lock}
 use Rattle.lock_word.specs.declared.Lock.TheVariants.{Free, Thin, Fat}
 use Rattle.lock_word.specs.declared.Split.TheVariants.{Wide}
 use Rattle.lock_word.specs.Layout.{count_of}
+use Rattle.fat_monitor.specs.declared.actions.Action.{Action}
+use Rattle.fat_monitor.specs.declared.actions.Action.TheVariants as action
+use Rattle.fat_monitor.specs.declared.actions.Answer.{Answer}
+use Rattle.fat_monitor.specs.declared.actions.Answer.TheVariants as answer
+use Rattle.fat_monitor.specs.declared.actions.Cause.{Cause}
+use Rattle.fat_monitor.specs.declared.actions.Cause.TheVariants as cause
+use Rattle.fat_monitor.specs.declared.actions.Reply.{Reply}
+use Rattle.fat_monitor.specs.declared.actions.Reply.TheVariants as reply
 use Rattle.header_words.specs.WideWords.{lock_of}
 use Rattle.header_words.specs.declared.event.Event.{Event}
 use Rattle.header_words.specs.declared.event.EventKind.{EventKind}
@@ -105,14 +113,37 @@ abbrev pub deeds_of : ℕ → Point → List Atomic → List Logged
 deeds_of me p [] = []
 deeds_of me p (a ∷ es) = deed_of me p a ++ deeds_of me (point_after Wide me p a) es
 
+-- why a fat action of a live call is refused: an enter that is too deep, and an action on a thread that there is not
+abbrev pub MayRefuseAct : Action → Cause → Type 0
+MayRefuseAct (action.Enter m) c = c ≡ cause.TooDeep
+MayRefuseAct (action.Interrupt u) c = c ≡ cause.NoThread
+MayRefuseAct (action.IsInterrupted u) c = c ≡ cause.NoThread
+MayRefuseAct a c = ⊥
+
+abbrev pub MayAnswer : Action → Answer → Type 0
+MayAnswer a (answer.Reply (reply.Refused c)) = MayRefuseAct a c
+MayAnswer a x = Unit {0}
+
+-- An atomic step that a live call makes. A bind that is not made never says that there is no memory, since a live service
+-- asks for all of it when it is opened; and a fat action is refused for what its table says.
+abbrev pub IsLiveStep : Atomic → Type 0
+IsLiveStep (atomic.NotBound o c) = c ≡ cause.NoMonitor
+IsLiveStep (atomic.Acted a x) = MayAnswer a x
+IsLiveStep a = Unit {0}
+
+abbrev pub AreLiveSteps : List Atomic → Type 0
+AreLiveSteps [] = Unit {0}
+AreLiveSteps (a ∷ es) = IsLiveStep a × AreLiveSteps es
+
 -- A call went from one point to another: what its pass added are the events and the deeds of atomic steps that lead
--- there.
+-- there, each of which a live call makes.
 pub record Went (s s' : Point) (p q : Holding) : Type 0 where
   pub opening : q.words.opening ≡ p.words.opening
   pub index : q.words.index ≡ p.words.index
   pub has_gate : q.words.has_gate ≡ p.words.has_gate
   pub steps : List Atomic
   pub leads : Leads Wide p.words.index s steps s'
+  pub live : AreLiveSteps steps
   pub mine : q.words.mine ≡ p.words.mine ++ events_of p.words.index steps
   pub own : q.own ≡ p.own ++ deeds_of p.words.index s steps
 

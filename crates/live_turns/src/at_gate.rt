@@ -12,6 +12,7 @@ ghost use Rattle.step_core.specs.declared.paths.Point.TheVariants.{At, Said};
 ghost use Rattle.step_core.specs.Path.{point_published};
 ghost use Rattle.live_book.specs.Log.{thread_numbered};
 ghost use Rattle.live_book.specs.Book.{bindings};
+ghost use Rattle.live_turns.specs.Asked.{IsFullAt};
 ghost use Rattle.live_turns.specs.Points.{IsTurnFrom, RestsAtPost};
 ghost use Rattle.live_turns.specs.Ways.{Belongs, Went, Halted, VisitsBook, parked};
 
@@ -160,6 +161,7 @@ impl<L: Crew> Turns<L> {
         ensures visit { VisitsBook 0 hand.old.words hand.new.words }
         ensures halted { IfErr result (λ f.
             Halted f (At (InCall (Binding call count))) hand.old hand.new) }
+        ensures full { IfOk result (λ t. IsFullAt desk.old.value.book t.point) }
     {
         match hand.bind(desk, call.object, count + 1) {
             Ok(receipt) => {

@@ -1,11 +1,11 @@
 //! The desk behind the gate: the book of fat monitors, with the tally of its deeds; and the deeds
 //! that a pass keeps of its own.
 
-ghost use Rattle.std.specs.Prelude.{◌≡◌, ◌<◌, ◌≤◌, ◌+◌, IfOk, IfErr, OnErr, OnOk, MatchOption, ℕ, length, [], ◌∷◌, ◌++◌, vec_len, vec_capacity, Some, false, Ok};
+ghost use Rattle.std.specs.Prelude.{◌≡◌, ◌<◌, ◌≤◌, ◌+◌, IfOk, IfErr, OnErr, OnOk, MatchOption, IsOk, ℕ, length, [], ◌∷◌, ◌++◌, vec_len, vec_capacity, Some, true, false, Ok};
 ghost use Rattle.fat_monitor.specs.FatState.{post_of};
 ghost use Rattle.fat_monitor.specs.Acting.{MayAct, NamesBound};
 ghost use Rattle.fat_monitor.specs.declared.actions.Post.TheVariants.{Out};
-ghost use Rattle.live_turns.specs.Asked.{IsActionNoted, IsBindNoted, IsTickFault, own_action, IsAwake};
+ghost use Rattle.live_turns.specs.Asked.{IsActionNoted, IsBindNoted, IsTickFault, own_action, is_torn_from, IsAwake};
 ghost use Rattle.live_book.specs.declared.faults.LiveFault.{LiveFault};
 ghost use Rattle.live_book.specs.Log.{IsThreadOf, IsForBook};
 ghost use Rattle.live_book.specs.Book.{bindings};
@@ -95,7 +95,11 @@ impl<L: Crew> Desk<L> {
         ensures out { OnOk result (parked ≡ false → post_of self.now.book.fats thread ≡ Some Out) }
         ensures room { OnOk result (length self.now.book.log < self.now.book.places
             → vec_len own.now.list < vec_capacity own.now.list) }
-        ensures torn { IfErr result (λ f. f ≡ LiveFault.Torn) }
+        ensures fault { IfErr result (λ f. f ≡ LiveFault.Torn) }
+        ensures torn { OnErr result
+            (is_torn_from self.now.book thread parked own.now.list.items ≡ true) }
+        ensures whole { OnOk result
+            (is_torn_from self.now.book thread parked own.now.list.items ≡ false) }
     {
         let full = own.list.len() >= self.book.places() as usize;
         self.book.check(thread, parked, full)
@@ -189,7 +193,8 @@ impl<L: Crew> Desk<L> {
 
     /// What a parked thread may do itself: it collects its reply where it was granted one, or its
     /// wait expires where its time is over and `expired` does not say that this was done; None
-    /// where it stays parked. The deed is noted.
+    /// where it stays parked. The deed is noted. Of a thread that the book has there, nothing is
+    /// refused: what it does has its place of the record.
     #[tactic(auto, using(crate::proofs::Asking::waking))]
     pub(crate) fn note_own_action(
         &mut self,
@@ -205,8 +210,7 @@ impl<L: Crew> Desk<L> {
             ++ by thread (Acted (own_action d.answer) d.answer) ∷ [])
             × IsAwake expired d.answer)) }
         ensures bindings { bindings self.new.book ≡ bindings self.old.book }
-        ensures none { OnErr result (own.new.list.items ≡ own.old.list.items) }
-        ensures fault { IfErr result (λ f. f ≡ LiveFault.Torn) }
+        ensures made { IsOk result }
     {
         let now = u128::from(self.book.now());
         match self.book.post(thread) {

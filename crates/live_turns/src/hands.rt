@@ -9,7 +9,7 @@ ghost use Rattle.step_core.specs.declared.paths.Point.TheVariants.{At};
 ghost use Rattle.step_core.specs.Path.{point_waited};
 ghost use Rattle.live_book.specs.Log.{thread_numbered};
 ghost use Rattle.live_book.specs.Book.{bindings};
-ghost use Rattle.live_turns.specs.Asked.{IsAtDesk, IsBindNoted, IsTickFault, Tells};
+ghost use Rattle.live_turns.specs.Asked.{IsAtDesk, IsBindNoted, IsTickFault, Tells, is_torn_from};
 ghost use Rattle.live_book.specs.declared.faults.LiveFault.{LiveFault};
 ghost use Rattle.live_turns.specs.Points.{RestsAtPost};
 ghost use Rattle.live_turns.specs.Ways.{Went, parked, ticked_by};
@@ -171,6 +171,10 @@ impl<L: Crew> Hand<L> {
         ensures rests { IfOk result (λ t. (t.gate_taken ≡ false) × RestsAtPost t.point) }
         ensures none { OnErr result (self.new.own ≡ self.old.own) }
         ensures fault { IfErr result (λ f. f ≡ LiveFault.Torn) }
+        ensures torn { OnErr result (is_torn_from desk.old.value.book
+            (thread_numbered self.old.words.index) true self.old.own ≡ true) }
+        ensures whole { OnOk result (is_torn_from desk.old.value.book
+            (thread_numbered self.old.words.index) true self.old.own ≡ false) }
     {
         let me = self.thread();
         desk.check(&self.own, me, true)?;

@@ -26,6 +26,7 @@ mod closed;
 mod desks;
 mod ending;
 mod hands;
+mod laws;
 mod looking;
 mod numbered;
 mod opening;
@@ -36,6 +37,7 @@ mod turns;
 
 pub use closed::{Closed, TurnsClose};
 pub use desks::Crew;
+pub use laws::no_live_call_is_refused_for_want_of_memory;
 pub use live_book::{Book, BookFault, Deed, LiveFault, Logged};
 pub use numbered::{Numbered, has_each};
 pub use pass::TurnPass;

@@ -3,7 +3,6 @@ use Rattle.std.proofs.Common.{refl, ap, sym, ◌∙◌, subst}
 use Rattle.fat_monitor.specs.Binding.{Binding as Receipt}
 use Rattle.step_core.specs.declared.places.Place.TheVariants.{InCall}
 use Rattle.step_core.specs.declared.places.Stage.TheVariants.{Binding, Inflated}
-use Rattle.step_core.specs.Path.{IsBindCause}
 use Rattle.step_core.specs.declared.paths.Point.{Point}
 use Rattle.step_core.specs.declared.paths.Point.TheVariants.{At}
 use Rattle.live_turns.specs.declared.standings.Turned.{Turned}
@@ -11,6 +10,7 @@ use Rattle.live_book.specs.Book.{bindings}
 use Rattle.live_turns.specs.Ways.{Went}
 use Rattle.live_turns.proofs.Going.{inflated_way, refused_way, halted_here}
 use Rattle.live_turns.proofs.Gates.{covers_kept, covers_bound, binds_bound, may_halt, gave_up_after, ok_after}
+use Rattle.live_turns.proofs.Refusing.{full_behind}
 use Rattle.live_turns.proofs.Visits.{visit_same, same_visit}
 use Rattle.live_turns.proofs.turns.Turns.inflate_and_act.Goals as goal
 
@@ -33,6 +33,10 @@ returns-in-Ok-clause-went g c =
     (inflated_way a.call a.count m c.in-Ok.receipt.monitor c.args.hand.now c.bind.new.self c.publish.new.hand number c.bind.ensures.words c.in-Ok.ensures.noted.noted (c.publish.ensures.went false))
     (rw value at c.act_on.ensures.inflated.went)
 
+pub returns-in-Ok-clause-full : goal.returns-in-Ok-clause-full
+returns-in-Ok-clause-full g c =
+    full_behind c.act_on.result c.args.desk.now.value.book c.args.call c.monitor-monitor.result c.publish.new.hand c.act_on.new.self c.act_on.ensures.inflated.went
+
 pub returns-in-Ok-clause-halted : goal.returns-in-Ok-clause-halted
 returns-in-Ok-clause-halted g c =
     let a = c.args in
@@ -54,7 +58,7 @@ pub returns-in-Err-Cause-clause-went : goal.returns-in-Err-Cause-clause-went
 returns-in-Err-Cause-clause-went g c =
     subst (λ (u : Point). Went (At (InCall (Binding c.args.call c.args.count))) u c.args.hand.now c.bind.new.self) (sym (ap (λ (x : Turned). x.point) c.said.ensures))
     (refused_way c.args.call c.args.count _ c.args.hand.now c.bind.new.self
-    (subst IsBindCause (sym (c.in-Err-Cause.cause-is ∙ (rw c.in-Err-Cause.field-0-is at c.in-Err-Cause.ensures.noted.fault))) tt) c.bind.ensures.words c.in-Err-Cause.ensures.noted.none)
+    (c.in-Err-Cause.cause-is ∙ (rw c.in-Err-Cause.field-0-is at c.in-Err-Cause.ensures.noted.fault).0) c.bind.ensures.words c.in-Err-Cause.ensures.noted.none)
 
 pub returns-in-Err-Cause-clause-visit : goal.returns-in-Err-Cause-clause-visit
 returns-in-Err-Cause-clause-visit g c = same_visit c.args.hand.now.words c.bind.new.self.words c.bind.ensures.words

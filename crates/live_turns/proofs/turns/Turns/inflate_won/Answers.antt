@@ -1,7 +1,6 @@
 use Rattle.std.specs.Prelude.{length, true}
 use Rattle.std.proofs.Common.{refl, ap}
 use Rattle.fat_monitor.specs.Binding.{Binding as Receipt}
-use Rattle.fat_monitor.specs.declared.actions.Cause.TheVariants as cause
 use Rattle.live_book.specs.Book.{bindings}
 use Rattle.live_turns.proofs.Going.{settled_way, dropped_way}
 use Rattle.live_turns.proofs.Gates.{covers_kept, covers_bound, binds_bound}
@@ -26,4 +25,4 @@ returns-in_default-clause-covers g c =
     covers_kept (bindings c.args.desk.now.value.book) (bindings c.bind.new.desk.value.book) c.args.hand.now.words c.bind.new.self.words c.in_default.ensures.noted.same c.bind.ensures.words c.requires.covers
 
 pub returns-in_default-clause-went : goal.returns-in_default-clause-went
-returns-in_default-clause-went g c = dropped_way c.args.object cause.NoMonitor c.args.hand.now c.bind.new.self tt c.bind.ensures.words c.in_default.ensures.noted.none
+returns-in_default-clause-went g c = dropped_way c.args.object c.args.hand.now c.bind.new.self c.bind.ensures.words c.in_default.ensures.noted.none
