@@ -23,7 +23,7 @@ pub served_behind : (z : Opening) (c : MonitorCall) (x : Told) (p m q : PassStat
 served_behind z c told.InCall p m q idle lt went calling h = absurd h.0
 served_behind z c told.NotCalling p m q idle lt went calling h = absurd (calling h.1)
 served_behind z c (told.Turned s g) p m q idle lt went calling h =
-    (tt, idle, (h.2.0, h.2.1, h.2.2, went_then (At (InCall (Begun c false))) m.point h.2.0.point p.holding m.holding q.holding went h.2.3, h.2.4))
+    (tt, idle, lt, (h.3.0, h.3.1, h.3.2, went_then (At (InCall (Begun c false))) m.point h.3.0.point p.holding m.holding q.holding went h.3.3, h.3.4))
 served_behind z c (told.Ticked b) p m q idle lt went calling h = absurd h.1
 served_behind z c (told.Fault f) p m q idle lt went calling h =
     (idle, (h.1.0, given_up_on z c m.point f p.holding m.holding q.holding lt went h.1.1))

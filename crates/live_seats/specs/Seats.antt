@@ -1,5 +1,5 @@
 -- What a seat has, and what an order does to it.
-use Rattle.std.specs.Prelude.{◌≡◌, ◌≢◌, ℕ, ◌++◌, List, [], ◌∷◌, map, Bool, true, false, Option, Some, None}
+use Rattle.std.specs.Prelude.{◌≡◌, ◌≢◌, ◌<◌, ℕ, length, ◌++◌, List, [], ◌∷◌, map, Bool, true, false, Option, Some, None}
 use Rattle.header_words.specs.Passes.{Opening, new_passes}
 use Rattle.step_core.specs.declared.places.Place.TheVariants.{Idle, InCall}
 use Rattle.step_core.specs.declared.places.Stage.TheVariants.{Begun, Direct}
@@ -7,7 +7,7 @@ use Rattle.step_core.specs.declared.paths.Point.{Point}
 use Rattle.step_core.specs.declared.paths.Point.TheVariants.{At}
 use Rattle.live_turns.specs.Asked.{IsTickFault}
 use Rattle.live_book.specs.Log.{thread_numbered}
-use Rattle.live_turns.specs.Points.{resting, standing_of, GivenUpOn, GivenUpAbout}
+use Rattle.live_turns.specs.Points.{resting, standing_of, names_stranger, GivenUpOn, GivenUpAbout}
 use Rattle.live_turns.specs.Ways.{PassState, Went, Halted, AddsNoEvent, ticked_by, new_state}
 use Rattle.fast_path.specs.declared.calls.MonitorCall.{MonitorCall}
 use Rattle.live_turns.specs.declared.standings.Standing.TheVariants as standing
@@ -51,6 +51,16 @@ IsTaken (Tick now) p = IsIdle p
 IsTaken Thread p = ⊥
 IsTaken Share p = ⊥
 IsTaken Leave p = ⊥
+
+-- the service has the object, or the thread, that the order names, if it names one
+abbrev pub HasNamed : Opening → SeatOrder → Type 0
+HasNamed z (BeginOn c) = c.object.0 < length z.lows
+HasNamed z (BeginAbout c) = names_stranger z c ≡ false
+HasNamed z Turn = Unit {0}
+HasNamed z (Tick now) = Unit {0}
+HasNamed z Thread = Unit {0}
+HasNamed z Share = Unit {0}
+HasNamed z Leave = Unit {0}
 
 -- what a fault leaves of the order
 abbrev pub GaveUp : Opening → SeatOrder → LiveFault → PassState → PassState → Type 0
@@ -96,12 +106,12 @@ IsBegin Share = ⊥
 IsBegin Leave = ⊥
 
 -- What came of an order of a pass: it was none for a pass that stands so; it took a turn of the call, by steps of its
--- path; it told the moment; or it gave up.
+-- path, on what the service has; it told the moment; or it gave up.
 abbrev pub Serves : Opening → SeatOrder → Told → PassState → PassState → Type 0
 Serves z o told.InCall p q = IsBegin o × (p.point ≢ At Idle) × (q ≡ p)
 Serves z o told.NotCalling p q = (o ≡ Turn) × IsIdle p × (q ≡ p)
 Serves z o (told.Turned s g) p q =
-    IsTurn o × IsTaken o p × ((t : Turned) × (s ≡ standing_of t) × (g ≡ t.granted)
+    IsTurn o × IsTaken o p × HasNamed z o × ((t : Turned) × (s ≡ standing_of t) × (g ≡ t.granted)
     × Went (begun_at o p.point) t.point p.holding q.holding × (q.point ≡ resting t.point))
 Serves z o (told.Ticked b) p q = IsIdle p × Ticks o b p q
 Serves z o (told.Fault f) p q = IsTaken o p × GaveUp z o f p q
@@ -124,10 +134,11 @@ abbrev pub LeadsOn : Opening → MonitorCall → PassState → PassState → Typ
 LeadsOn z c p m =
     (m.point ≢ At Idle) × ((x : Told) → (q : PassState) → Serves z Turn x m q → Serves z (BeginOn c) x p q)
 
--- What came of the start of a call: what serves the call as a whole, or the pass goes on with it.
+-- What came of the start of a call: what serves the call as a whole, or the pass goes on with it, on an object that the
+-- service has.
 abbrev pub Starts : Opening → MonitorCall → Started → PassState → PassState → Type 0
 Starts z c (started.Said r) p q = Serves z (BeginOn c) (told_of (started.Said r)) p q
-Starts z c started.GoesOn p q = LeadsOn z c p q
+Starts z c started.GoesOn p q = HasNamed z (BeginOn c) × LeadsOn z c p q
 Starts z c started.InCall p q = Serves z (BeginOn c) (told_of started.InCall) p q
 Starts z c (started.Fault f) p q = Serves z (BeginOn c) (told_of (started.Fault f)) p q
 

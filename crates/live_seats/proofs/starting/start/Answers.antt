@@ -10,6 +10,7 @@ returns-in-Ok-Some-clause-starts g c =
     let idle : IsIdle c.args.pass.now = search rules in (
       tt,
       idle,
+      c.in-Ok-Some.ensures.there,
       (
         record { point = Said c.in-Ok-Some.reply; gate_taken = false; granted = None },
         refl,
@@ -24,7 +25,10 @@ returns-in-Ok-None-clause-starts g c =
     let idle : IsIdle c.args.pass.now = search rules in
     let rests = rw c.in-Ok-None.field-0-is at c.in-Ok-None.ensures.rests in
     let calling = is_calling c.start_on.new.pass.point rests.0 rests.1 in (
-      calling,
-      λ x q. served_behind c.args.turns.now c.args.call x c.args.pass.now c.start_on.new.pass q idle c.in-Ok-None.ensures.there
-          (rw c.in-Ok-None.field-0-is at c.in-Ok-None.ensures.went) calling,
+      c.in-Ok-None.ensures.there,
+      (
+        calling,
+        λ x q. served_behind c.args.turns.now c.args.call x c.args.pass.now c.start_on.new.pass q idle c.in-Ok-None.ensures.there
+            (rw c.in-Ok-None.field-0-is at c.in-Ok-None.ensures.went) calling,
+      ),
     )
