@@ -1,14 +1,18 @@
 -- What the calls on a seat of a live service answer and leave.
-use Rattle.std.specs.Prelude.{◌≡◌, ◌⊎◌, ℕ, Bool, true, false, ◌||◌, nat_lt, List, length, Option, Some, None}
+use Rattle.std.specs.Prelude.{◌≡◌, ◌⊎◌, ◌≤◌, ℕ, Bool, true, false, ◌||◌, nat_lt, List, length, Option, Some, None}
 use Rattle.lock_word.specs.declared.ThreadId.{ThreadId}
 use Rattle.fast_path.specs.declared.calls.Call.{Call}
 use Rattle.fast_path.specs.declared.calls.Subject.{Subject}
 use Rattle.fast_path.specs.declared.calls.Subject.TheVariants as subject
 use Rattle.fast_path.specs.Calls.{subject_of}
+use Rattle.header_words.specs.Passes.{Opening}
 use Rattle.live_book.specs.Names.{live_fault_number}
+use Rattle.live_book.specs.declared.faults.LiveFault.{LiveFault}
+use Rattle.live_book.specs.declared.faults.LiveFault.TheVariants as fault
+use Rattle.live_turns.specs.Points.{names_stranger}
 use Rattle.live_turns.specs.declared.standings.Standing.{Standing}
 use Rattle.live_turns.specs.declared.standings.Standing.TheVariants as standing
-use Rattle.live_seats.specs.Seats.{SeatState, IsOpenedWith}
+use Rattle.live_seats.specs.Seats.{SeatState, IsIdle, IsOpenedWith}
 use Rattle.live_seats.specs.declared.orders.SeatOrder.{SeatOrder}
 use Rattle.live_seats.specs.declared.orders.SeatOrder.TheVariants as order
 use Rattle.live_seats.specs.declared.orders.Told.{Told}
@@ -120,6 +124,22 @@ abbrev pub Answers : {X : Type 0} → (Told → X → X) → Option SeatOrder �
 Answers write o None x n s' x' = (n ≡ status_number status.Closed) × (s' ≡ None) × (x' ≡ x)
 Answers write None (Some v) x n s' x' = (n ≡ status_number status.NoStep) × (s' ≡ Some v) × (x' ≡ x)
 Answers write (Some o) (Some v) x n s' x' = HasAnswered write o (Some v) x n s' x'
+
+-- the service does not have the object, or the thread, that the order of a call names, and the fault that says so
+abbrev pub Misses : Opening → SeatOrder → Type 0
+Misses z (order.BeginOn c) = length z.lows ≤ c.object.0
+Misses z (order.BeginAbout c) = names_stranger z c ≡ true
+Misses z o = ⊥
+
+abbrev pub missing_fault : SeatOrder → LiveFault
+missing_fault (order.BeginAbout c) = fault.NoThread
+missing_fault o = fault.NoObject
+
+-- A call that a seat in no call begins, on what its service does not have, is answered by that fault.
+abbrev pub AnswersMissing : Option SeatOrder → Option SeatState → ℕ → Type 0
+AnswersMissing None s n = Unit {0}
+AnswersMissing (Some o) None n = Unit {0}
+AnswersMissing (Some o) (Some v) n = IsIdle v.pass → Misses v.opening o → n ≡ live_fault_number (missing_fault o)
 
 -- the sizes are more than a service can have, or it has no pass
 abbrev pub is_out_of_range : ℕ → ℕ → ℕ → ℕ → Bool

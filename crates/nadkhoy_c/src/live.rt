@@ -7,7 +7,7 @@ ghost use Rattle.live_seats.specs.declared.ending.ServiceEnd.{ServiceEnd};
 ghost use Rattle.live_seats.specs.Seats.{SeatState, Shares};
 ghost use Rattle.live_seats.specs.declared.orders.SeatOrder.TheVariants as order;
 ghost use Rattle.nadkhoy_c.specs.Ends.{ClosesSeat, HasClosed};
-ghost use Rattle.nadkhoy_c.specs.Live.{Answers, IsNewService, Opens, SharesSeat, leave_status, order_from_numbers, turned_out, number_out};
+ghost use Rattle.nadkhoy_c.specs.Live.{Answers, AnswersMissing, IsNewService, Opens, SharesSeat, leave_status, order_from_numbers, turned_out, number_out};
 ghost use Rattle.nadkhoy_c.specs.RawSeat.{HasServed};
 
 mod beginning;
@@ -146,8 +146,9 @@ pub extern "C" fn nadkhoy_live_begin(
     call: &PlainCall,
     turned: &mut PlainTurned,
 ) -> u32
-    ensures { Answers turned_out (order_from_numbers call.now) slot.old.raw.value turned.old result
-        slot.new.raw.value turned.new }
+    ensures answers { Answers turned_out (order_from_numbers call.now) slot.old.raw.value
+        turned.old result slot.new.raw.value turned.new }
+    ensures missing { AnswersMissing (order_from_numbers call.now) slot.old.raw.value result }
 {
     let Some(seat) = slot.take(alloc) else {
         return Status::Closed.number();
