@@ -2,3 +2,4 @@ pub mod Granted
 pub mod Searching
 pub mod Trying
 pub mod Finding
+pub mod StateCodes

@@ -2,6 +2,7 @@
 //! choices that leads there.
 #![tactic(auto)]
 
+mod codes;
 mod found;
 mod programs;
 mod search;

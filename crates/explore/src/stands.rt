@@ -4,10 +4,10 @@ ghost use Rattle.std.specs.Prelude.{◌≡◌, ◌≤◌, IfOk, OnErr, OnOk, len
 ghost use Rattle.std.specs.Prelude.{if◌then◌else◌, false, replicate, ◌<◌, IfSome};
 ghost use Rattle.explore.specs.declared.programs.Choice.TheVariants as Choice;
 ghost use Rattle.explore.specs.States.{opening, after, step_at, step_for, end_of, moved, replied, chosen};
-ghost use Rattle.explore.specs.Codes.{code_of};
+ghost use Rattle.explore.specs.Codes.{code_of, IsCoded};
 ghost use Rattle.explore.specs.Wants.{wants_memory};
-ghost use Rattle.step_core.specs.Sound.{IsSound};
 
+use crate::codes::{packed, push_answers, push_positions};
 use crate::programs::{Choice, Program};
 use fat_monitor::Reply;
 use lock_word::{Memory, ThreadId};
@@ -71,9 +71,14 @@ impl Stand {
     /// The bytes that stand for the state, and for no other.
     pub(crate) fn code(&self, alloc: Global) -> Result<Vec<u8>, Memory>
         ensures code { IfOk result (λ code. code.items ≡ code_of self.now) }
-        ensures sound { OnOk result (IsSound self.now.world) }
+        ensures coded { OnOk result (IsCoded self.now) }
     {
-        Err(Memory)
+        let mut numbers = Vec::new(alloc);
+        self.world.push_numbers(&mut numbers)?;
+        numbers.extend_from_slice(&[self.told as u64, self.nexts.len() as u64])?;
+        push_positions(&self.nexts, &mut numbers)?;
+        push_answers(&self.replies, &mut numbers)?;
+        packed(alloc, &numbers)
     }
 
     /// Makes a choice. False: it cannot be made here, and nothing changes. On want of memory the

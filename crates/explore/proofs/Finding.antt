@@ -1,0 +1,244 @@
+-- What was visited, and what a search has found in the end.
+use native.Mathlib.Omega.{arith}
+use Rattle.std.proofs.Common.{◌≡◌, ◌⊎◌, inl, inr, ◌∙◌, subst, sym, ap, refl, ℕ, zero, suc, ◌+◌, ◌<◌, ◌≤◌, nat_lt, List, [], ◌∷◌, ◌++◌, length, Option, Some, None, Vec, Bool, true, false, length-append}
+use Rattle.std.specs.Global.{Global}
+use Rattle.std.specs.Option.{unwrap_or}
+use Rattle.std.specs.Prelude.{slice_get, slice_index_or, if◌then◌else◌}
+use Rattle.std.proofs.lemmas.Bool.{cases_lt, ltb-true}
+use Rattle.std.proofs.lemmas.List.{get_or_append_left, get_or-append-add}
+use Rattle.std.proofs.Math.Seq.{get_or-append_seam}
+use Rattle.explore.specs.declared.programs.Program.{Program}
+use Rattle.explore.specs.declared.programs.Choice.{Choice}
+use Rattle.explore.specs.declared.programs.Choice.TheVariants as choice
+use Rattle.explore.specs.declared.found.Node.{Node}
+use Rattle.explore.specs.States.{ProgramState, after, after_step, step_for, step_at, step_of_thread, played, played_from, opening}
+use Rattle.explore.specs.Found.{witness_at, witnesses, witnesses_from, grown, IsAt, IsFound, IsEnd, AreEnds, FindsAll}
+use Rattle.explore.specs.Searches.{IsSearch, StaysIn, IsClosed, IsVisited, AreFoundFrom, AllFoundFrom, NoneOf, choice_at, choices_for, choices_below, all_choices}
+use Rattle.explore.proofs.Searching.{stays_more}
+use Rattle.explore.proofs.Trying.{stays_still, stays_then, found_stays, at_stays}
+
+-- ---- every choice that can be made is among all that are tried
+
+-- a list has this choice at some position
+abbrev Has : List Choice → Choice → Type 0
+Has cs c = (i : ℕ) × (i < length cs) × (choice_at cs i ≡ c)
+
+has_left : (xs ys : List Choice) (c : Choice) → Has xs c → Has (xs ++ ys) c
+has_left xs ys c h =
+    let e = length-append xs ys in let lt = h.1 in
+    (h.0, omega (arith, e, lt), get_or_append_left xs ys (choice.Begin 0) h.0 lt ∙ h.2)
+
+has_right : (xs ys : List Choice) (c : Choice) → Has ys c → Has (xs ++ ys) c
+has_right xs ys c h =
+    let e = length-append xs ys in let lt = h.1 in
+    (length xs + h.0, omega (arith, e, lt), get_or-append-add xs ys h.0 (choice.Begin 0) ∙ h.2)
+
+has_below : (n k : ℕ) (c : Choice) → k < n → Has (choices_for k) c → Has (choices_below n) c
+has_below zero k c lt h = absurd (omega (arith, lt))
+has_below (suc n) k c lt h = by (cases_lt k n) (λ below. has_below n k c below h)
+  where
+    by : (k < n) ⊎ (n ≤ k) → (k < n → Has (choices_below n) c) → Has (choices_below n ++ choices_for n) c
+    by (inl below) rest = has_left (choices_below n) (choices_for n) c (rest below)
+    by (inr past) rest =
+        let here : k ≡ n = omega (arith, lt, past) in
+        has_right (choices_below n) (choices_for n) c (subst (λ (m : ℕ). Has (choices_for m) c) here h)
+
+-- a choice of a thread that the program has not means no step
+within : (p : Program) (c : Choice) (k : ℕ) (o : Option ℕ) (s r : ProgramState)
+    → after_step s c (step_of_thread p c k o) ≡ Some r → k < length p.starts.items
+within p c k None s r e = absurd (cc)
+within p c k (Some n) s r e = by (nat_lt k (length p.starts.items)) refl e
+  where
+    by : (b : Bool) → nat_lt k (length p.starts.items) ≡ b → after_step s c (if b then step_at p c n else None) ≡ Some r → k < length p.starts.items
+    by true h g = ltb-true k (length p.starts.items) h
+    by false h g = absurd (cc)
+
+pub every_choice : (p : Program) (s r : ProgramState) (c : Choice) → after p s c ≡ Some r → Has (all_choices p) c
+every_choice p s r (choice.Begin k) e =
+    has_left (choices_below (length p.starts.items)) _ _ (has_below _ k _ (within p (choice.Begin k) k (slice_get s.nexts k) s r e) (0, omega arith, refl))
+every_choice p s r (choice.Go k) e =
+    has_left (choices_below (length p.starts.items)) _ _ (has_below _ k _ (within p (choice.Go k) k (slice_get s.nexts k) s r e) (1, omega arith, refl))
+every_choice p s r (choice.Expire k) e =
+    has_left (choices_below (length p.starts.items)) _ _ (has_below _ k _ (within p (choice.Expire k) k (slice_get s.nexts k) s r e) (2, omega arith, refl))
+every_choice p s r (choice.Wake k) e =
+    has_left (choices_below (length p.starts.items)) _ _ (has_below _ k _ (within p (choice.Wake k) k (slice_get s.nexts k) s r e) (3, omega arith, refl))
+every_choice p s r choice.Tick e = has_right (choices_below (length p.starts.items)) _ _ (0, omega arith, refl)
+
+pub all_found : (p : Program) (ws : List (List Choice)) (s : ProgramState)
+    → AreFoundFrom p ws s (all_choices p) (length (all_choices p)) → AllFoundFrom p ws s
+all_found p ws s h = λ c r e.
+    let i = every_choice p s r c e in
+    h i.0 r i.1 (subst (λ (x : Choice). after p s x ≡ Some r) (sym i.2) e)
+
+pub is_end : (p : Program) (s : ProgramState) → NoneOf p s (all_choices p) (length (all_choices p)) → IsEnd p s
+is_end p s h = λ c. by c (after p s c) refl
+  where
+    by : (c : Choice) (o : Option ProgramState) → after p s c ≡ o → after p s c ≡ None
+    by c None e = e
+    by c (Some r) e =
+        let i = every_choice p s r c e in
+        subst (λ (x : Choice). after p s x ≡ None) i.2 (h i.0 i.1)
+
+-- ---- visited
+
+pub closed_next : (p : Program) (a b : List (List Choice)) (n : ℕ) (s : ProgramState)
+    → IsClosed p a n → StaysIn a b → n < length a → IsAt p a n s → AllFoundFrom p b s → IsClosed p b (n + 1)
+closed_next p a b n s closed stays lt here all = λ k r below leads c t made. pick k r below leads c t made (cases_lt k n)
+  where
+    pick : (k : ℕ) (r : ProgramState) → k < n + 1 → IsAt p b k r → (c : Choice) (t : ProgramState) → after p r c ≡ Some t
+        → (k < n) ⊎ (n ≤ k) → IsFound p b t
+    pick k r below leads c t made (inl before) =
+        let old : IsAt p a k r = rw (sym (stays.same k (omega (arith, before, lt)))) leads in
+        found_stays p a b t stays (closed k r before old c t made)
+    pick k r below leads c t made (inr past) =
+        let same : k ≡ n = omega (arith, below, past) in
+        let now : IsAt p b n s = at_stays p a b n s stays lt here in
+        let one : s ≡ r = ap (λ (o : Option ProgramState). unwrap_or o r) (sym now ∙ subst (λ (m : ℕ). IsAt p b m r) same leads) in
+        all c t (subst (λ (x : ProgramState). after p x c ≡ Some t) (sym one) made)
+
+pub closed_stays : (p : Program) (a b : List (List Choice)) (n : ℕ) → IsClosed p a n → StaysIn a b → n ≤ length a → IsClosed p b n
+closed_stays p a b n closed stays le = λ k r below leads c t made.
+    found_stays p a b t stays (closed k r below (rw (sym (stays.same k (omega (arith, below, le)))) leads) c t made)
+
+-- a state that is no end leaves the ends that there were
+pub ends_stay : (p : Program) (a b : List (List Choice)) (n : ℕ) (ends : List ℕ) (s : ProgramState)
+    → AreEnds p a n ends → StaysIn a b → n < length a → IsAt p a n s → (IsEnd p s → ⊥) → AreEnds p b (n + 1) ends
+ends_stay p a b n ends s h stays lt here not_end = record {
+  each = λ i within.
+    let e = h.each i within in
+    (e.0, at_stays p a b (slice_index_or ends i 0) e.0 stays (let x = e.3 in omega (arith, x, lt)) e.1, e.2, (let x = e.3 in omega (arith, x)));
+  every = λ k r below leads end. pick k r below leads end (cases_lt k n);
+}
+  where
+    pick : (k : ℕ) (r : ProgramState) → k < n + 1 → IsAt p b k r → IsEnd p r → (k < n) ⊎ (n ≤ k)
+        → (i : ℕ) × (i < length ends) × (slice_index_or ends i 0 ≡ k)
+    pick k r below leads end (inl before) =
+        let old : IsAt p a k r = rw (sym (stays.same k (omega (arith, before, lt)))) leads in
+        h.every k r before old end
+    pick k r below leads end (inr past) =
+        let same : k ≡ n = omega (arith, below, past) in
+        let now : IsAt p b n s = at_stays p a b n s stays lt here in
+        let one : s ≡ r = ap (λ (o : Option ProgramState). unwrap_or o r) (sym now ∙ subst (λ (m : ℕ). IsAt p b m r) same leads) in
+        absurd (not_end (subst (λ (x : ProgramState). IsEnd p x) (sym one) end))
+
+-- and one that is an end is noted
+pub ends_more : (p : Program) (a b : List (List Choice)) (n : ℕ) (ends : List ℕ) (s : ProgramState)
+    → AreEnds p a n ends → StaysIn a b → n < length a → IsAt p a n s → IsEnd p s → AreEnds p b (n + 1) (ends ++ n ∷ [])
+ends_more p a b n ends s h stays lt here is = record {
+  each = λ i within. one_of i within (cases_lt i (length ends));
+  every = λ k r below leads end. pick k r below leads end (cases_lt k n);
+}
+  where
+    one_of : (i : ℕ) → i < length (ends ++ n ∷ []) → (i < length ends) ⊎ (length ends ≤ i)
+        → (r : ProgramState) × IsAt p b (slice_index_or (ends ++ n ∷ []) i 0) r × IsEnd p r × (slice_index_or (ends ++ n ∷ []) i 0 < n + 1)
+    one_of i within (inl before) =
+        let e = h.each i before in
+        let same : slice_index_or (ends ++ n ∷ []) i 0 ≡ slice_index_or ends i 0 = get_or_append_left ends (n ∷ []) 0 i before in
+        let x = e.3 in
+        rw same (e.0, at_stays p a b (slice_index_or ends i 0) e.0 stays (omega (arith, x, lt)) e.1, e.2, omega (arith, x))
+    one_of i within (inr past) =
+        let l = length-append ends (n ∷ []) in
+        let here_i : i ≡ length ends = omega (arith, l, within, past) in
+        let same : slice_index_or (ends ++ n ∷ []) i 0 ≡ n = ap (λ (k : ℕ). slice_index_or (ends ++ n ∷ []) k 0) here_i ∙ get_or-append_seam ends n [] 0 in
+        rw same (s, at_stays p a b n s stays lt here, is, omega arith)
+    pick : (k : ℕ) (r : ProgramState) → k < n + 1 → IsAt p b k r → IsEnd p r → (k < n) ⊎ (n ≤ k)
+        → (i : ℕ) × (i < length (ends ++ n ∷ [])) × (slice_index_or (ends ++ n ∷ []) i 0 ≡ k)
+    pick k r below leads end (inl before) =
+        let old : IsAt p a k r = rw (sym (stays.same k (omega (arith, before, lt)))) leads in
+        let f = h.every k r before old end in
+        let x = f.1 in
+        let l = length-append ends (n ∷ []) in
+        (f.0, omega (arith, l, x), get_or_append_left ends (n ∷ []) 0 f.0 x ∙ f.2)
+    pick k r below leads end (inr past) =
+        let same : k ≡ n = omega (arith, below, past) in
+        let l = length-append ends (n ∷ []) in
+        (length ends, omega (arith, l), get_or-append_seam ends n [] 0 ∙ sym same)
+
+-- the first of those that wait is taken
+pub popped : (p : Program) (keys : List (Vec ℕ Global)) (ws : List (List Choice)) (queue rest : List ProgramState) (n : ℕ) (s : ProgramState)
+    → IsSearch p keys ws queue n → queue ≡ s ∷ rest → IsSearch p keys ws rest (n + 1)
+popped p keys ws queue rest n s h e = record {
+  counted = h.counted;
+  waiting = (let l = ap (λ (q : List ProgramState). length q) e in let w = h.waiting in omega (arith, l, w));
+  known = h.known;
+  queued = λ j r leads.
+    let here : IsAt p ws (n + suc j) r = h.queued (suc j) r (rw e leads) in
+    subst (λ (m : ℕ). IsAt p ws m r) (omega arith) here;
+}
+
+pub first_here : (p : Program) (keys : List (Vec ℕ Global)) (ws : List (List Choice)) (queue rest : List ProgramState) (n : ℕ) (s : ProgramState)
+    → IsSearch p keys ws queue n → queue ≡ s ∷ rest → IsAt p ws n s
+first_here p keys ws queue rest n s h e =
+    let here : IsAt p ws (n + 0) s = h.queued 0 s (rw e refl) in
+    subst (λ (m : ℕ). IsAt p ws m s) (omega arith) here
+
+first_within : (p : Program) (keys : List (Vec ℕ Global)) (ws : List (List Choice)) (queue rest : List ProgramState) (n : ℕ) (s : ProgramState)
+    → IsSearch p keys ws queue n → queue ≡ s ∷ rest → n < length ws
+first_within p keys ws queue rest n s h e =
+    let l = ap (λ (q : List ProgramState). length q) e in let w = h.waiting in omega (arith, l, w)
+
+-- one state more was visited
+pub visited_next : (p : Program) (keys keys' : List (Vec ℕ Global)) (ws ws' : List (List Choice)) (queue rest queue' : List ProgramState) (ends ends' : List ℕ) (n : ℕ) (s : ProgramState) (cs : List Choice) (end : Bool)
+    → IsVisited p keys ws queue ends n → queue ≡ s ∷ rest → cs ≡ all_choices p
+    → IsSearch p keys' ws' queue' (n + 1) → StaysIn ws ws' → AreFoundFrom p ws' s cs (length cs)
+    → (end ≡ true → NoneOf p s cs (length cs))
+    → (end ≡ false → (c : Choice) × (r : ProgramState) × (after p s c ≡ Some r))
+    → ends' ≡ (if end then ends ++ n ∷ [] else ends)
+    → IsVisited p keys' ws' queue' ends' (n + 1)
+visited_next p keys keys' ws ws' queue rest queue' ends ends' n s cs end v e all search stays found none some noted =
+    let lt = first_within p keys ws queue rest n s v.search e in
+    let here = first_here p keys ws queue rest n s v.search e in
+    record {
+      search = search;
+      closed = closed_next p ws ws' n s v.closed stays lt here
+        (all_found p ws' s (subst (λ (xs : List Choice). AreFoundFrom p ws' s xs (length xs)) all found));
+      noted = by end none some noted lt here;
+    }
+  where
+    by : (end : Bool) → (end ≡ true → NoneOf p s cs (length cs))
+        → (end ≡ false → (c : Choice) × (r : ProgramState) × (after p s c ≡ Some r))
+        → ends' ≡ (if end then ends ++ n ∷ [] else ends) → n < length ws → IsAt p ws n s → AreEnds p ws' (n + 1) ends'
+    by true none some noted lt here =
+        rw noted (ends_more p ws ws' n ends s v.noted stays lt here
+          (is_end p s (subst (λ (xs : List Choice). NoneOf p s xs (length xs)) all (none refl))))
+    by false none some noted lt here =
+        rw noted (ends_stay p ws ws' n ends s v.noted stays lt here
+          (λ is. let o = some refl in absurd (let x = is o.0 in let y = o.2 in cc)))
+
+-- ---- found in the end
+
+none_leads : (p : Program) (cs : List Choice) (s : ProgramState) → played_from p cs None ≡ Some s → ⊥
+none_leads p [] s e = absurd (cc)
+none_leads p (c ∷ cs) s e = absurd (cc)
+
+complete_from : (p : Program) (ws : List (List Choice)) (n : ℕ) → IsClosed p ws n → n ≡ length ws
+    → (cs : List Choice) (o s : ProgramState) → IsFound p ws o → played_from p cs (Some o) ≡ Some s → IsFound p ws s
+complete_from p ws n closed all [] o s f e =
+    subst (λ (x : ProgramState). IsFound p ws x) (ap (λ (x : Option ProgramState). unwrap_or x s) e) f
+complete_from p ws n closed all (c ∷ cs) o s f e =
+    by (after p o c) refl e (λ r found g. complete_from p ws n closed all cs r s found g)
+  where
+    by : (x : Option ProgramState) → after p o c ≡ x → played_from p cs x ≡ Some s
+        → ((r : ProgramState) → IsFound p ws r → played_from p cs (Some r) ≡ Some s → IsFound p ws s) → IsFound p ws s
+    by None h g rest = absurd (none_leads p cs s g)
+    by (Some r) h g rest = (let lt = f.1 in rest r (closed f.0 o (omega (arith, lt, all)) f.2 c r h) g)
+
+first_stays : (ws : List (List Choice)) (ns : List Node) → StaysIn ws (witnesses_from ws ns)
+first_stays ws [] = stays_still ws
+first_stays ws (n ∷ ns) = stays_then ws (grown ws n) (witnesses_from (grown ws n) ns) (stays_more ws _) (first_stays (grown ws n) ns)
+
+-- all is found once no state waits to be visited
+pub finds_all : (p : Program) (keys : List (Vec ℕ Global)) (ns : List Node) (ends : List ℕ) (n : ℕ)
+    → IsVisited p keys (witnesses ns) [] ends n → FindsAll p (record { witnesses = witnesses ns; ends = ends })
+finds_all p keys ns ends n v =
+    let ws : List (List Choice) = witnesses ns in
+    let w = v.search.waiting in
+    let all : n ≡ length ws = omega (arith, w) in
+    let first = first_stays ([] ∷ []) ns in
+    let x = first.more in
+    record {
+      sound = λ k lt. (let r = v.search.known k lt in (r.0, r.1.leads));
+      complete = λ cs s e. complete_from p ws n v.closed all cs (opening p) s
+        (0, omega (arith, x), ap (λ (c : List Choice). played p c) (first.same 0 (omega arith))) e;
+      ends = subst (λ (m : ℕ). AreEnds p ws m ends) all v.noted;
+    }

@@ -1,0 +1,163 @@
+-- A state more in a search.
+use native.Mathlib.Omega.{arith}
+use Rattle.std.proofs.lemmas.Bool.{cases_lt}
+use Rattle.std.proofs.lemmas.Slice.Eq.{bytes_eq-Decides}
+use Rattle.std.proofs.Common.{◌≡◌, ◌⊎◌, inl, inr, subst, ◌∙◌, ℕ, ◌+◌, ◌<◌, ◌≤◌, List, [], ◌∷◌, ◌++◌, length, Option, Some, None, Vec, refl, sym, ap, rules, length-append}
+use Rattle.std.proofs.lemmas.List.{get_or_append_left}
+use Rattle.std.specs.Option.{unwrap_or}
+use Rattle.std.specs.List.{list_any}
+use Rattle.std.specs.Prelude.{Bool, false, not, if◌then◌else◌}
+use Rattle.indexmap.specs.IndexSet.{insert_key}
+use Rattle.std.specs.Prelude.{slice_get, slice_index_or, nat_eq, true}
+use Rattle.std.specs.Global.{Global}
+use Rattle.std.specs.Cmp.Lexicographic.{pointwise}
+use Rattle.std.proofs.Math.Seq.{get_or-append_seam}
+use Rattle.std.proofs.lemmas.Option.{slice_get-get_or, slice_get_within, slice_get_past, get_or_from_slice_get}
+use Rattle.std.proofs.lemmas.Grind.{common_steps}
+use Rattle.explore.specs.declared.programs.Program.{Program}
+use Rattle.explore.specs.declared.programs.Choice.{Choice}
+use Rattle.explore.specs.declared.found.Node.{Node}
+use Rattle.explore.specs.States.{ProgramState, after, opening, played, played_from}
+use Rattle.explore.specs.Codes.{code_of, IsCoded}
+use Rattle.explore.specs.Found.{witness_at, grown, witnesses_from, witnesses, IsAt, IsFound}
+use Rattle.explore.specs.Searches.{HasKey, IsKnown, IsSearch, StaysIn, IsVisited}
+
+witnesses_from_more : (ws : List (List Choice)) (ns : List Node) (n : Node)
+    → witnesses_from ws (ns ++ n ∷ []) ≡ grown (witnesses_from ws ns) n
+witnesses_from_more ws [] n = refl
+witnesses_from_more ws (m ∷ ns) n = witnesses_from_more (grown ws m) ns n
+
+pub witnesses_more : (ns : List Node) (n : Node) → witnesses (ns ++ n ∷ []) ≡ grown (witnesses ns) n
+witnesses_more ns n = witnesses_from_more ([] ∷ []) ns n
+
+-- the witnesses that there were, and the one more
+pub witness_before : (ws : List (List Choice)) (x : List Choice) (k : ℕ) → k < length ws
+    → witness_at (ws ++ x ∷ []) k ≡ witness_at ws k
+witness_before ws x k h = get_or_append_left ws (x ∷ []) [] k h
+
+pub witness_last : (ws : List (List Choice)) (x : List Choice) → witness_at (ws ++ x ∷ []) (length ws) ≡ x
+witness_last ws x = get_or-append_seam ws x [] []
+
+get_before : {A : Type 0} (xs : List A) (x : A) (k : ℕ) (y : A) → slice_get xs k ≡ Some y → slice_get (xs ++ x ∷ []) k ≡ Some y
+get_before xs x k y h =
+    let lt = slice_get_within xs k y h in
+    let e = length-append xs (x ∷ []) in
+    rw (slice_get-get_or (xs ++ x ∷ []) k y (omega (arith, lt, e))) (ap Some (rw (get_or_append_left xs (x ∷ []) y k lt) (get_or_from_slice_get xs k y y h)))
+
+get_last : {A : Type 0} (xs : List A) (x : A) → slice_get (xs ++ x ∷ []) (length xs) ≡ Some x
+get_last xs x =
+    let e = length-append xs (x ∷ []) in
+    rw (slice_get-get_or (xs ++ x ∷ []) (length xs) x (omega (arith, e))) (ap Some (get_or-append_seam xs x [] x))
+
+pub stays_more : (ws : List (List Choice)) (x : List Choice) → StaysIn ws (ws ++ x ∷ [])
+stays_more ws x = record {
+  more = let e = length-append ws (x ∷ []) in omega (arith, e);
+  same = λ k h. witness_before ws x k h;
+}
+
+known_stays : (p : Program) (keys : List (Vec ℕ Global)) (ws : List (List Choice)) (key : Vec ℕ Global) (x : List Choice) (k : ℕ) (s : ProgramState)
+    → k < length ws → IsKnown p keys ws k s → IsKnown p (keys ++ key ∷ []) (ws ++ x ∷ []) k s
+known_stays p keys ws key x k s lt h = record {
+  leads = rw (witness_before ws x k lt) h.leads;
+  coded = h.coded;
+  keyed = (h.keyed.0, get_before keys key k h.keyed.0 h.keyed.1, h.keyed.2);
+}
+
+known_last : (p : Program) (keys : List (Vec ℕ Global)) (ws : List (List Choice)) (key : Vec ℕ Global) (x : List Choice) (s : ProgramState)
+    → length keys ≡ length ws → played p x ≡ Some s → IsCoded s → key.items ≡ code_of s
+    → IsKnown p (keys ++ key ∷ []) (ws ++ x ∷ []) (length ws) s
+known_last p keys ws key x s e leads sound coded = record {
+  leads = rw (witness_last ws x) leads;
+  coded = sound;
+  keyed = (key, subst (λ (n : ℕ). slice_get (keys ++ key ∷ []) n ≡ Some key) e (get_last keys key), coded);
+}
+
+-- a state that was not among those that were found
+pub search_more : (p : Program) (keys : List (Vec ℕ Global)) (ws : List (List Choice)) (queue : List ProgramState) (popped : ℕ) (key : Vec ℕ Global) (x : List Choice) (made : ProgramState)
+    → IsSearch p keys ws queue popped → played p x ≡ Some made → IsCoded made → key.items ≡ code_of made
+    → IsSearch p (keys ++ key ∷ []) (ws ++ x ∷ []) (queue ++ made ∷ []) popped
+search_more p keys ws queue popped key x made h leads sound coded = record {
+  counted = let a = length-append keys (key ∷ []) in let b = length-append ws (x ∷ []) in let e = h.counted in omega (arith, a, b, e);
+  waiting = let a = length-append queue (made ∷ []) in let b = length-append ws (x ∷ []) in let e = h.waiting in omega (arith, a, b, e);
+  known = λ k lt. known_at k lt (cases_lt k (length ws));
+  queued = λ j s e. queued_at j s e (cases_lt j (length queue));
+}
+  where
+    known_at : (k : ℕ) → k < length (ws ++ x ∷ []) → (k < length ws) ⊎ (length ws ≤ k)
+        → (s : ProgramState) × IsKnown p (keys ++ key ∷ []) (ws ++ x ∷ []) k s
+    known_at k lt (inl below) = let r = h.known k below in (r.0, known_stays p keys ws key x k r.0 below r.1)
+    known_at k lt (inr past) =
+        let b = length-append ws (x ∷ []) in
+        let e : length ws ≡ k = omega (arith, b, lt, past) in
+        subst (λ (n : ℕ). (s : ProgramState) × IsKnown p (keys ++ key ∷ []) (ws ++ x ∷ []) n s) e (made, known_last p keys ws key x made h.counted leads sound coded)
+    queued_at : (j : ℕ) (s : ProgramState) → slice_get (queue ++ made ∷ []) j ≡ Some s → (j < length queue) ⊎ (length queue ≤ j)
+        → IsAt p (ws ++ x ∷ []) (popped + j) s
+    queued_at j s e (inl below) =
+        let old : slice_get queue j ≡ Some s = rw (slice_get-get_or queue j s below) (rw (← get_or_append_left queue (made ∷ []) s j below) (ap Some (get_or_from_slice_get (queue ++ made ∷ []) j s s e))) in
+        let w = h.waiting in
+        rw (witness_before ws x (popped + j) (omega (arith, w, below))) (h.queued j s old)
+    queued_at j s e (inr past) =
+        let within = slice_get_within (queue ++ made ∷ []) j s e in
+        let b = length-append queue (made ∷ []) in
+        let here : length queue ≡ j = omega (arith, b, within, past) in
+        let w = h.waiting in
+        let there : length ws ≡ popped + j = omega (arith, w, here) in
+        let g : slice_get (queue ++ made ∷ []) (length queue) ≡ Some s = subst (λ (n : ℕ). slice_get (queue ++ made ∷ []) n ≡ Some s) (sym here) e in
+        let same : made ≡ s = ap (λ (o : Option ProgramState). unwrap_or o made) (sym (get_last queue made) ∙ g) in
+        subst (λ (n : ℕ). IsAt p (ws ++ x ∷ []) n s) there (rw (witness_last ws x) (leads ∙ ap Some same))
+
+pub found_last : (p : Program) (ws : List (List Choice)) (x : List Choice) (made : ProgramState)
+    → played p x ≡ Some made → IsFound p (ws ++ x ∷ []) made
+found_last p ws x made leads =
+    (length ws, (let b = length-append ws (x ∷ []) in omega (arith, b)), rw (witness_last ws x) leads)
+
+-- a state whose key is there is found
+pub found_before : (p : Program) (keys : List (Vec ℕ Global)) (ws : List (List Choice)) (queue : List ProgramState) (popped k : ℕ) (code key : Vec ℕ Global) (made : ProgramState)
+    → IsSearch p keys ws queue popped → ((s t : ProgramState) → IsCoded s → IsCoded t → code_of s ≡ code_of t → s ≡ t) → IsCoded made → code.items ≡ code_of made
+    → slice_get keys k ≡ Some key → pointwise nat_eq code.items key.items ≡ true → IsFound p ws made
+found_before p keys ws queue popped k code key made h apart sound coded there same =
+    let lt = slice_get_within keys k key there in
+    let w = h.counted in
+    let below : k < length ws = omega (arith, w, lt) in
+    let r = h.known k below in
+    let one : key ≡ r.1.keyed.0 = ap (λ (o : Option (Vec ℕ Global)). unwrap_or o key) (sym there ∙ r.1.keyed.1) in
+    let items : code.items ≡ key.items = (bytes_eq-Decides code.items key.items).0 same in
+    let codes : code_of made ≡ code_of r.0 = sym coded ∙ items ∙ ap (λ (v : Vec ℕ Global). v.items) one ∙ r.1.keyed.2 in
+    (k, below, r.1.leads ∙ ap Some (apart r.0 made r.1.coded sound (sym codes)))
+
+-- a key that was not there goes last, and one that was there changes nothing
+abbrev pub is_same : Vec ℕ Global → Vec ℕ Global → Bool
+is_same x y = pointwise nat_eq x.items y.items
+
+pub key_added : (ks ks' : List (Vec ℕ Global)) (k : Vec ℕ Global) (b : Bool)
+    → b ≡ not (list_any (is_same k) ks) → b ≡ true → ks' ≡ insert_key is_same ks k → ks' ≡ ks ++ k ∷ []
+key_added ks ks' k b e t h = by (list_any (is_same k) ks) (sym e ∙ t) h
+  where
+    by : (a : Bool) → not a ≡ true → ks' ≡ (if a then ks else ks ++ k ∷ []) → ks' ≡ ks ++ k ∷ []
+    by true n g = absurd (cc)
+    by false n g = g
+
+pub key_there : (ks ks' : List (Vec ℕ Global)) (k : Vec ℕ Global) (b : Bool)
+    → b ≡ not (list_any (is_same k) ks) → b ≡ false → ks' ≡ insert_key is_same ks k → ks' ≡ ks
+key_there ks ks' k b e t h = by (list_any (is_same k) ks) (sym e ∙ t) h
+  where
+    by : (a : Bool) → not a ≡ false → ks' ≡ (if a then ks else ks ++ k ∷ []) → ks' ≡ ks
+    by true n g = g
+    by false n g = absurd (cc)
+
+-- where a program begins
+pub first_found : (p : Program) (key : Vec ℕ Global) (s : ProgramState) → s ≡ opening p → IsCoded s → key.items ≡ code_of s
+    → IsVisited p (key ∷ []) ([] ∷ []) (s ∷ []) [] 0
+first_found p key s e sound coded = record {
+  search = search_more p [] [] [] 0 key [] s (record {
+    counted = refl;
+    waiting = refl;
+    known = λ k lt. absurd (omega (arith, lt));
+    queued = λ j r leads. absurd (cc);
+  }) (ap Some (sym e)) sound coded;
+  closed = λ k r lt leads. absurd (omega (arith, lt));
+  noted = record {
+    each = λ i lt. absurd (omega (arith, lt));
+    every = λ k r lt leads end. absurd (omega (arith, lt));
+  };
+}

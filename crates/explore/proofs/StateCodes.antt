@@ -1,0 +1,110 @@
+-- A code is of one state.
+use native.Mathlib.Omega.{arith}
+use Rattle.std.proofs.Common.{◌≡◌, ◌∙◌, sym, ap, refl, subst, ℕ, ◌+◌, ◌<◌, ◌≤◌, ◌^◌, nat_lt, zero, suc, Bool, true, false, if◌then◌else◌, List, [], ◌∷◌, ◌++◌, length, take, drop, get_or, Option, Some, None}
+use Rattle.std.proofs.Common.{append_assoc, append-nil}
+use Rattle.std.specs.Prelude.{map}
+use Rattle.std.specs.Int.{w64, to_le_bytes, from_le_bytes}
+use Rattle.std.proofs.lemmas.Nat.{from_le_bytes-to_le_bytes_8}
+use Rattle.std.proofs.lemmas.Bool.{ltb-true}
+use Rattle.fat_monitor.specs.declared.actions.Reply.{Reply}
+use Rattle.fat_monitor.specs.Numbers.{reply_number}
+use Rattle.step_core.specs.World.{WorldState}
+use Rattle.step_core.specs.Numbers.{numbers_of, IsNumbered}
+use Rattle.explore.specs.States.{ProgramState}
+use Rattle.explore.specs.Codes.{answer_number, state_numbers, packed_number, packed, code_of, AreSmall, IsCoded}
+
+abbrev first : List ℕ → ℕ
+first [] = 0
+first (n ∷ ns) = n
+
+abbrev rest : List ℕ → List ℕ
+rest [] = []
+rest (n ∷ ns) = ns
+
+pub small_all : (xs : List ℕ) → ((k : ℕ) → get_or xs k 0 < 2 ^ 64) → AreSmall xs
+small_all [] h = tt
+small_all (x ∷ xs) h = (h 0, small_all xs (λ k. h (suc k)))
+
+pub packed_more : (xs : List ℕ) (n : ℕ) → packed (xs ++ n ∷ []) ≡ packed xs ++ packed_number n
+packed_more [] n = append-nil (packed_number n)
+packed_more (x ∷ xs) n = ap (λ (ys : List ℕ). packed_number x ++ ys) (packed_more xs n) ∙ sym (append_assoc (packed_number x) (packed xs) (packed_number n))
+
+-- ---- numbers packed one behind the other
+
+bytes_apart : (x y : ℕ) (a b : List ℕ) → x < 2 ^ 64 → y < 2 ^ 64 → to_le_bytes w64 x ++ a ≡ to_le_bytes w64 y ++ b → (x ≡ y) × (a ≡ b)
+bytes_apart x y a b hx hy e =
+    let l : to_le_bytes w64 x ≡ to_le_bytes w64 y = ap (λ (ns : List ℕ). take 8 ns) e in
+    (sym (from_le_bytes-to_le_bytes_8 x hx) ∙ ap (λ (ns : List ℕ). from_le_bytes w64 ns) l ∙ from_le_bytes-to_le_bytes_8 y hy,
+     ap (λ (ns : List ℕ). drop 8 ns) e)
+
+number_apart : (x y : ℕ) (a b : List ℕ) → x < 2 ^ 64 → y < 2 ^ 64 → packed_number x ++ a ≡ packed_number y ++ b → (x ≡ y) × (a ≡ b)
+number_apart x y a b hx hy e = by (nat_lt x 255) (nat_lt y 255) refl refl e
+  where
+    by : (p q : Bool) → nat_lt x 255 ≡ p → nat_lt y 255 ≡ q
+        → (if p then x ∷ [] else 255 ∷ to_le_bytes w64 x) ++ a ≡ (if q then y ∷ [] else 255 ∷ to_le_bytes w64 y) ++ b → (x ≡ y) × (a ≡ b)
+    by true true hp hq g = (ap first g, ap rest g)
+    by true false hp hq g = absurd (let lt = ltb-true x 255 hp in let f : x ≡ 255 = ap first g in omega (arith, lt, f))
+    by false true hp hq g = absurd (let lt = ltb-true y 255 hq in let f : 255 ≡ y = ap first g in omega (arith, lt, f))
+    by false false hp hq g = bytes_apart x y a b hx hy (ap rest g)
+
+none_packed : (y : ℕ) (b : List ℕ) → [] ≡ packed_number y ++ b → ⊥
+none_packed y b e = by (nat_lt y 255) e
+  where
+    by : (q : Bool) → [] ≡ (if q then y ∷ [] else 255 ∷ to_le_bytes w64 y) ++ b → ⊥
+    by true g = absurd (let l = ap (λ (ns : List ℕ). length ns) g in omega (arith, l))
+    by false g = absurd (let l = ap (λ (ns : List ℕ). length ns) g in omega (arith, l))
+
+packed_apart : (xs ys : List ℕ) → AreSmall xs → AreSmall ys → packed xs ≡ packed ys → xs ≡ ys
+packed_apart [] [] hx hy e = refl
+packed_apart [] (y ∷ ys) hx hy e = absurd (none_packed y (packed ys) e)
+packed_apart (x ∷ xs) [] hx hy e = absurd (none_packed x (packed xs) (sym e))
+packed_apart (x ∷ xs) (y ∷ ys) hx hy e =
+    let h = number_apart x y (packed xs) (packed ys) hx.0 hy.0 e in
+    let t = packed_apart xs ys hx.1 hy.1 h.1 in
+    ap (λ (n : ℕ). n ∷ xs) h.0 ∙ ap (λ (ns : List ℕ). y ∷ ns) t
+
+-- ---- the numbers of a state
+
+append_apart : (xs ys a b : List ℕ) → length xs ≡ length ys → xs ++ a ≡ ys ++ b → (xs ≡ ys) × (a ≡ b)
+append_apart [] [] a b l e = (refl, e)
+append_apart [] (y ∷ ys) a b l e = absurd (omega (arith, l))
+append_apart (x ∷ xs) [] a b l e = absurd (omega (arith, l))
+append_apart (x ∷ xs) (y ∷ ys) a b l e =
+    let h = append_apart xs ys a b (omega (arith, l)) (ap rest e) in
+    let f : x ≡ y = ap first e in
+    (ap (λ (n : ℕ). n ∷ xs) f ∙ ap (λ (ns : List ℕ). y ∷ ns) h.0, h.1)
+
+-- two replies with one number are the same
+abbrev pub RepliesApart : Type 0
+RepliesApart = (r s : Reply) → reply_number r ≡ reply_number s → r ≡ s
+
+-- and so are two worlds, whatever stands behind
+abbrev pub WorldsApart : Type 0
+WorldsApart = (v w : WorldState) (a b : List ℕ) → IsNumbered v → IsNumbered w → numbers_of v ++ a ≡ numbers_of w ++ b → (v ≡ w) × (a ≡ b)
+
+answer_apart : RepliesApart → (x y : Option Reply) → answer_number x ≡ answer_number y → x ≡ y
+answer_apart h None None e = refl
+answer_apart h None (Some r) e = absurd (omega (arith, e))
+answer_apart h (Some r) None e = absurd (omega (arith, e))
+answer_apart h (Some r) (Some s) e = ap Some (h r s (omega (arith, e)))
+
+answers_apart : RepliesApart → (xs ys : List (Option Reply)) → map answer_number xs ≡ map answer_number ys → xs ≡ ys
+answers_apart h [] [] e = refl
+answers_apart h [] (y ∷ ys) e = absurd (let l = ap (λ (ns : List ℕ). length ns) e in omega (arith, l))
+answers_apart h (x ∷ xs) [] e = absurd (let l = ap (λ (ns : List ℕ). length ns) e in omega (arith, l))
+answers_apart h (x ∷ xs) (y ∷ ys) e =
+    ap (λ (o : Option Reply). o ∷ xs) (answer_apart h x y (ap first e)) ∙ ap (λ (os : List (Option Reply)). y ∷ os) (answers_apart h xs ys (ap rest e))
+
+-- a code is of one state
+pub states_apart : RepliesApart → WorldsApart → (s t : ProgramState) → IsCoded s → IsCoded t → code_of s ≡ code_of t → s ≡ t
+states_apart replies worlds s t hs ht e =
+    let numbers = packed_apart (state_numbers s) (state_numbers t) hs.small ht.small e in
+    let w = worlds s.world t.world _ _ hs.numbered ht.numbered numbers in
+    let told : s.told ≡ t.told = ap first w.1 in
+    let long : length s.nexts ≡ length t.nexts = ap (λ (ns : List ℕ). first (rest ns)) w.1 in
+    let lists = append_apart s.nexts t.nexts (map answer_number s.replies) (map answer_number t.replies) long (ap (λ (ns : List ℕ). rest (rest ns)) w.1) in
+    let answers = answers_apart replies s.replies t.replies lists.1 in
+    ap (λ (x : WorldState). record { world = x; nexts = s.nexts; replies = s.replies; told = s.told }) w.0
+    ∙ ap (λ (x : List ℕ). record { world = t.world; nexts = x; replies = s.replies; told = s.told }) lists.0
+    ∙ ap (λ (x : List (Option Reply)). record { world = t.world; nexts = t.nexts; replies = x; told = s.told }) answers
+    ∙ ap (λ (x : ℕ). record { world = t.world; nexts = t.nexts; replies = t.replies; told = x }) told

@@ -1,0 +1,16 @@
+use Rattle.std.proofs.Common.{◌≡◌, ◌+◌, Some, true, false}
+use Rattle.explore.specs.declared.programs.Choice.{Choice}
+use Rattle.explore.specs.States.{ProgramState, after}
+use Rattle.explore.specs.Found.{witnesses}
+use Rattle.explore.specs.Searches.{IsSearch, StaysIn, AreFoundFrom, NoneOf}
+use Rattle.explore.proofs.search.Search.expand.Given as goal
+
+abbrev pub invariant-choosing : goal.invariant-choosing
+invariant-choosing l = record {
+  search : IsSearch l.program l.self.codes.keys (witnesses l.self.nodes.items) l.self.queue.items (l.at + 1);
+  stays : StaysIn (witnesses l.fn.self.nodes.items) (witnesses l.self.nodes.items);
+  next : l.next ≡ l.stand;
+  found : AreFoundFrom l.program (witnesses l.self.nodes.items) l.stand l.choices l.choice-index;
+  none : l.is_end ≡ true → NoneOf l.program l.stand l.choices l.choice-index;
+  some : l.is_end ≡ false → (c : Choice) × (s : ProgramState) × (after l.program l.stand c ≡ Some s);
+}

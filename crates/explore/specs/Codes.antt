@@ -1,0 +1,36 @@
+-- The bytes that stand for a state.
+use Rattle.std.specs.Prelude.{ℕ, ◌+◌, ◌<◌, ◌^◌, nat_lt, if◌then◌else◌, List, [], ◌∷◌, ◌++◌, length, map, Option, Some, None}
+use Rattle.std.specs.Int.{w64, to_le_bytes}
+use Rattle.fat_monitor.specs.declared.actions.Reply.{Reply}
+use Rattle.fat_monitor.specs.Numbers.{reply_number}
+use Rattle.step_core.specs.Numbers.{numbers_of, IsNumbered}
+use Rattle.explore.specs.States.{ProgramState}
+
+-- 0 where there is no reply
+abbrev pub answer_number : Option Reply → ℕ
+answer_number None = 0
+answer_number (Some r) = reply_number r + 1
+
+-- the numbers of the world, of the clock and of the threads
+abbrev pub state_numbers : ProgramState → List ℕ
+state_numbers s = numbers_of s.world ++ (s.told ∷ length s.nexts ∷ (s.nexts ++ map answer_number s.replies))
+
+-- one byte for a small number, and nine for each other: 255, and the number with its low byte first
+abbrev pub packed_number : ℕ → List ℕ
+packed_number n = if nat_lt n 255 then n ∷ [] else 255 ∷ to_le_bytes w64 n
+
+abbrev pub packed : List ℕ → List ℕ
+packed [] = []
+packed (n ∷ ns) = packed_number n ++ packed ns
+
+abbrev pub code_of : ProgramState → List ℕ
+code_of s = packed (state_numbers s)
+
+abbrev pub AreSmall : List ℕ → Type 0
+AreSmall [] = Unit {0}
+AreSmall (n ∷ ns) = (n < 2 ^ 64) × AreSmall ns
+
+-- what a code rests on
+pub record IsCoded (s : ProgramState) : Type 0 where
+  pub numbered : IsNumbered s.world
+  pub small : AreSmall (state_numbers s)

@@ -1,0 +1,71 @@
+-- How far a search has come.
+use Rattle.std.specs.Prelude.{◌≡◌, ℕ, zero, suc, ◌+◌, ◌<◌, ◌≤◌, Bool, true, false, List, [], ◌∷◌, ◌++◌, length, slice_index_or, slice_get, Option, Some, None, Vec, Contains}
+use Rattle.std.specs.Global.{Global}
+use Rattle.explore.specs.declared.programs.Program.{Program}
+use Rattle.explore.specs.declared.programs.Choice.{Choice}
+use Rattle.explore.specs.declared.programs.Choice.TheVariants as choice
+use Rattle.explore.specs.States.{ProgramState, after, played}
+use Rattle.explore.specs.Codes.{code_of, IsCoded}
+use Rattle.explore.specs.Found.{IsAt, IsFound, AreEnds, witness_at}
+
+-- the state with number k has this key
+abbrev pub HasKey : List (Vec ℕ Global) → ℕ → ProgramState → Type 0
+HasKey keys k s = (key : Vec ℕ Global) × (slice_get keys k ≡ Some key) × (key.items ≡ code_of s)
+
+-- the state with number k is known: its witness leads to it, and its key stands at k
+pub record IsKnown (p : Program) (keys : List (Vec ℕ Global)) (ws : List (List Choice)) (k : ℕ) (s : ProgramState) : Type 0 where
+  pub leads : IsAt p ws k s
+  pub coded : IsCoded s
+  pub keyed : HasKey keys k s
+
+-- Each state that was found is known, and those that are still to be visited wait in their order: the first
+-- states were popped already.
+pub record IsSearch (p : Program) (keys : List (Vec ℕ Global)) (ws : List (List Choice)) (queue : List ProgramState) (popped : ℕ) : Type 0 where
+  pub counted : length keys ≡ length ws
+  pub waiting : popped + length queue ≡ length ws
+  pub known : (k : ℕ) → k < length ws → (s : ProgramState) × IsKnown p keys ws k s
+  pub queued : (j : ℕ) (s : ProgramState) → slice_get queue j ≡ Some s → IsAt p ws (popped + j) s
+
+-- the witnesses that there were stay
+pub record StaysIn (ws ws' : List (List Choice)) : Type 0 where
+  pub more : length ws ≤ length ws'
+  pub same : (k : ℕ) → k < length ws → witness_at ws' k ≡ witness_at ws k
+
+-- the choice with a number
+abbrev pub choice_at : List Choice → ℕ → Choice
+choice_at cs i = slice_index_or cs i (choice.Begin 0)
+
+-- what the first of these choices lead to from this state is found
+abbrev pub AreFoundFrom : Program → List (List Choice) → ProgramState → List Choice → ℕ → Type 0
+AreFoundFrom p ws s cs n =
+    (i : ℕ) (s' : ProgramState) → i < n → after p s (choice_at cs i) ≡ Some s' → IsFound p ws s'
+
+-- none of the first of these choices can be made in this state
+abbrev pub NoneOf : Program → ProgramState → List Choice → ℕ → Type 0
+NoneOf p s cs n = (i : ℕ) → i < n → after p s (choice_at cs i) ≡ None
+
+-- the same of every choice
+abbrev pub AllFoundFrom : Program → List (List Choice) → ProgramState → Type 0
+AllFoundFrom p ws s = (c : Choice) (s' : ProgramState) → after p s c ≡ Some s' → IsFound p ws s'
+
+-- what any choice leads to from the first states is found
+abbrev pub IsClosed : Program → List (List Choice) → ℕ → Type 0
+IsClosed p ws n = (k : ℕ) (s : ProgramState) → k < n → IsAt p ws k s → AllFoundFrom p ws s
+
+-- the choices of a thread, and of the threads below a number
+abbrev pub choices_for : ℕ → List Choice
+choices_for k = choice.Begin k ∷ choice.Go k ∷ choice.Expire k ∷ choice.Wake k ∷ []
+
+abbrev pub choices_below : ℕ → List Choice
+choices_below zero = []
+choices_below (suc n) = choices_below n ++ choices_for n
+
+-- all that may be chosen
+abbrev pub all_choices : Program → List Choice
+all_choices p = choices_below (length p.starts.items) ++ choice.Tick ∷ []
+
+-- The first states were visited: what they lead to is found, and those that are ends are noted.
+pub record IsVisited (p : Program) (keys : List (Vec ℕ Global)) (ws : List (List Choice)) (queue : List ProgramState) (ends : List ℕ) (n : ℕ) : Type 0 where
+  pub search : IsSearch p keys ws queue n
+  pub closed : IsClosed p ws n
+  pub noted : AreEnds p ws n ends

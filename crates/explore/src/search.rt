@@ -1,0 +1,226 @@
+//! The search: states are visited in the order in which they were found.
+
+ghost use Rattle.std.specs.Prelude.{◌≡◌, ◌+◌, ◌<◌, ◌≤◌, ◌++◌, ◌∷◌, [], length, true, false, Some, None};
+ghost use Rattle.std.specs.Prelude.{IfOk, OnOk, Contains};
+ghost use Rattle.explore.specs.declared.programs.Choice.{Choice};
+ghost use Rattle.explore.specs.States.{ProgramState, after, played, opening};
+ghost use Rattle.explore.specs.Found.{witnesses, witness_at, IsAt, IsFound, FindsAll};
+ghost use Rattle.explore.specs.Searches.{IsSearch, StaysIn, AllFoundFrom, AreFoundFrom, NoneOf, IsVisited, all_choices};
+ghost use Rattle.std.specs.Prelude.{if◌then◌else◌};
+
+use crate::codes::codes_tell_states_apart;
+use crate::found::{ExploreFault, Found, Node};
+use crate::programs::{Choice, Program};
+use crate::stands::Stand;
+use indexmap::IndexSet;
+use lock_word::Memory;
+use std::alloc::Global;
+use std::collections::VecDeque;
+use std::mem;
+
+/// A search that goes on: the states that were found, and those that are still to be visited.
+#[derive(Drop)]
+struct Search {
+    codes: IndexSet<Vec<u8>>,
+    nodes: Vec<Node>,
+    queue: VecDeque<Stand>,
+}
+
+impl Search {
+    /// Takes in the state that a choice led to, behind the state with a number. One that was found
+    /// before is let go.
+    fn add(
+        &mut self,
+        alloc: Global,
+        program: &Program,
+        made: Stand,
+        parent: u32,
+        choice: Choice,
+    ) -> Result<(), Memory>
+        requires search { IsSearch program.now self.old.codes.keys (witnesses self.old.nodes.items)
+            self.old.queue.items (parent + 1) }
+        requires leads { played program.now
+            (witness_at (witnesses self.old.nodes.items) parent ++ choice ∷ []) ≡ Some made }
+        ensures search { OnOk result (IsSearch program.now self.new.codes.keys
+            (witnesses self.new.nodes.items) self.new.queue.items (parent + 1)) }
+        ensures stays { OnOk result (StaysIn (witnesses self.old.nodes.items)
+            (witnesses self.new.nodes.items)) }
+        ensures found { OnOk result (IsFound program.now (witnesses self.new.nodes.items) made) }
+    {
+        codes_tell_states_apart();
+        let code = made.code(alloc)?;
+        let (_, is_new) = self.codes.insert_full(code)?;
+        if is_new {
+            self.nodes.push(Node { parent, choice })?;
+            self.queue.push_back(made)?;
+        }
+        Ok(())
+    }
+
+    /// Tries a choice in a state, the one with a number; answers whether it can be made. `next` is
+    /// that state, and is so again.
+    fn try_choice(
+        &mut self,
+        alloc: Global,
+        program: &Program,
+        stand: &Stand,
+        next: &mut Stand,
+        at: u32,
+        choice: Choice,
+    ) -> Result<bool, Memory>
+        requires search { IsSearch program.now self.old.codes.keys (witnesses self.old.nodes.items)
+            self.old.queue.items (at + 1) }
+        requires here { IsAt program.now (witnesses self.old.nodes.items) at stand.now }
+        requires next { next.old ≡ stand.now }
+        ensures search { OnOk result (IsSearch program.now self.new.codes.keys
+            (witnesses self.new.nodes.items) self.new.queue.items (at + 1)) }
+        ensures stays { OnOk result (StaysIn (witnesses self.old.nodes.items)
+            (witnesses self.new.nodes.items)) }
+        ensures next { OnOk result (next.new ≡ stand.now) }
+        ensures made { IfOk result (λ yes. yes ≡ true → (s : ProgramState)
+            × (after program.now stand.now choice ≡ Some s)
+            × IsFound program.now (witnesses self.new.nodes.items) s) }
+        ensures none { IfOk result (λ yes. yes ≡ false
+            → after program.now stand.now choice ≡ None) }
+    {
+        if !next.make(program, choice)? {
+            return Ok(false);
+        }
+        let made = mem::replace(next, stand.clone()?);
+        self.add(alloc, program, made, at, choice)?;
+        Ok(true)
+    }
+
+    /// Tries every choice in a state, the one with a number; answers whether none can be made.
+    fn expand(
+        &mut self,
+        alloc: Global,
+        program: &Program,
+        choices: &[Choice],
+        stand: &Stand,
+        at: u32,
+    ) -> Result<bool, Memory>
+        requires search { IsSearch program.now self.old.codes.keys (witnesses self.old.nodes.items)
+            self.old.queue.items (at + 1) }
+        requires here { IsAt program.now (witnesses self.old.nodes.items) at stand.now }
+        ensures search { OnOk result (IsSearch program.now self.new.codes.keys
+            (witnesses self.new.nodes.items) self.new.queue.items (at + 1)) }
+        ensures stays { OnOk result (StaysIn (witnesses self.old.nodes.items)
+            (witnesses self.new.nodes.items)) }
+        ensures found { OnOk result (AreFoundFrom program.now (witnesses self.new.nodes.items)
+            stand.now choices.now (length choices.now)) }
+        ensures end { IfOk result (λ end. end ≡ true
+            → NoneOf program.now stand.now choices.now (length choices.now)) }
+        ensures open { IfOk result (λ end. end ≡ false → (c : Choice) × (s : ProgramState)
+            × (after program.now stand.now c ≡ Some s)) }
+    {
+        let mut is_end = true;
+        let mut next = stand.clone()?;
+        'choosing: for choice in choices {
+            let can = self.try_choice(alloc, program, stand, &mut next, at, *choice)?;
+            is_end &= !can;
+        }
+        Ok(is_end)
+    }
+
+    /// A search that has found where the program begins, and visited nothing.
+    fn open(alloc: Global, program: &Program) -> Result<Search, Memory>
+        ensures { IfOk result (λ s. IsVisited program.now s.codes.keys
+            (witnesses s.nodes.items) s.queue.items [] 0) }
+    {
+        let first = Stand::open(alloc, program)?;
+        let mut codes = IndexSet::new(alloc);
+        let mut queue = VecDeque::new(alloc);
+        codes.insert_full(first.code(alloc)?)?;
+        queue.push_back(first)?;
+        Ok(Search {
+            codes,
+            nodes: Vec::new(alloc),
+            queue,
+        })
+    }
+
+    /// Visits the next state, the one with a number, and notes an end. False: there is none.
+    fn visit(
+        &mut self,
+        alloc: Global,
+        program: &Program,
+        choices: &[Choice],
+        ends: &mut Vec<u32>,
+        at: u32,
+    ) -> Result<bool, Memory>
+        requires visited { IsVisited program.now self.old.codes.keys
+            (witnesses self.old.nodes.items) self.old.queue.items ends.old.items at }
+        requires all { choices.now ≡ all_choices program.now }
+        ensures visited { IfOk result (λ went. IsVisited program.now self.new.codes.keys
+            (witnesses self.new.nodes.items) self.new.queue.items ends.new.items
+            (if went then at + 1 else at)) }
+        ensures last { IfOk result (λ went. went ≡ false → self.new.queue.items ≡ []) }
+    {
+        let Some(stand) = self.queue.pop_front() else {
+            return Ok(false);
+        };
+        let is_end = self.expand(alloc, program, choices, &stand, at)?;
+        note_end(ends, is_end, at)?;
+        Ok(true)
+    }
+
+    /// Whether each state that was found was visited.
+    fn is_done(&self) -> bool
+        ensures { result ≡ true → self.now.queue.items ≡ [] }
+    {
+        self.queue.is_empty()
+    }
+}
+
+/// All states of a program, at most this many. Each is found where any list of choices leads there,
+/// and none else is.
+pub fn explore(alloc: Global, program: &Program, most: u32) -> Result<Found, ExploreFault>
+    ensures all { IfOk result (FindsAll program.now) }
+{
+    let choices = choices_of(alloc, program)?;
+    let mut search = Search::open(alloc, program)?;
+    let mut ends = Vec::new(alloc);
+    'visiting: for at in 0..most {
+        if !search.visit(alloc, program, &choices, &mut ends, at)? {
+            return Ok(Found {
+                nodes: search.nodes,
+                ends,
+            });
+        }
+    }
+    if !search.is_done() {
+        return Err(ExploreFault::TooManyStates);
+    }
+    Ok(Found {
+        nodes: search.nodes,
+        ends,
+    })
+}
+
+/// Notes the number of a state that is an end.
+fn note_end(ends: &mut Vec<u32>, is_end: bool, at: u32) -> Result<(), Memory>
+    ensures { OnOk result (ends.new.items
+        ≡ (if is_end then ends.old.items ++ at ∷ [] else ends.old.items)) }
+{
+    if is_end {
+        ends.push(at)?;
+    }
+    Ok(())
+}
+
+/// All that may be chosen in a program.
+fn choices_of(alloc: Global, program: &Program) -> Result<Vec<Choice>, Memory>
+    ensures { IfOk result (λ v. v.items ≡ all_choices program.now) }
+{
+    let mut choices = Vec::new(alloc);
+    'threads: for thread in 0..program.starts.len() {
+        let thread = thread as u8;
+        choices.push(Choice::Begin { thread })?;
+        choices.push(Choice::Go { thread })?;
+        choices.push(Choice::Expire { thread })?;
+        choices.push(Choice::Wake { thread })?;
+    }
+    choices.push(Choice::Tick)?;
+    Ok(choices)
+}
