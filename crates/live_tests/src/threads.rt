@@ -1,12 +1,18 @@
-//! Calls of one thread that does not meet others, and moments.
+//! Calls of two threads that wait until they have their reply, and moments. Each scene is a table
+//! of what the threads do, which one function plays: one thread after the other (here), or both at
+//! once (`meeting`).
 
-ghost use Rattle.std.specs.Prelude.{◌≡◌, ◌≤◌, IfOk};
+ghost use Rattle.std.specs.Prelude.{◌≡◌, IfOk};
 ghost use Rattle.std.specs.List.{All};
 
 mod meeting;
 mod memory;
+mod signs;
+mod steps;
 mod works;
 
+use crate::threads::signs::Signs;
+use crate::threads::steps::{Step, are_done};
 use fast_path::Call;
 use fat_monitor::{Cause, Reply};
 use live_threads::{Live, LiveClose, LivePass};
@@ -22,60 +28,34 @@ use std::time::Clock;
 
 pub(crate) const OBJECT: ObjectId = ObjectId(0);
 
-pub(crate) const ENTER: Call = Call::Enter(OBJECT);
+pub(crate) const ENTER: Step = Step::Makes(Call::Enter(OBJECT), Reply::Entered);
 
-pub(crate) const EXIT: Call = Call::Exit(OBJECT);
-
-const ENTERED: Result<Reply, LiveFault> = Ok(Reply::Entered);
-
-const EXITED: Result<Reply, LiveFault> = Ok(Reply::Exited);
+pub(crate) const EXIT: Step = Step::Makes(Call::Exit(OBJECT), Reply::Exited);
 
 /// A wait of no limit.
-const WAIT: Call = Call::Wait {
+pub(crate) const WAIT: Call = Call::Wait {
     object: OBJECT,
     millis: 0,
     nanos: 0,
 };
 
-/// A call, and its answer.
-type Answered = (Call, Result<Reply, LiveFault>);
-
-/// Opens a service of one object with this low byte, so many monitors, one pass and so many places.
-pub(crate) fn open_one<L: Crew>(
-    alloc: Global,
-    blank: Blank,
-    low: u8,
-    monitors: u32,
-    places: u32,
-) -> Result<(Live<L>, LivePass<L>), Memory>
-    requires name { blank.name ≡ L.name }
-    requires parts { (blank.parts ≡ L.parts) × (L.parts ≡ 1) }
-    requires crew { (L.passes ≡ 1) × (L.monitors ≡ monitors) × (L.places ≡ places) }
-    requires few { monitors ≤ 8388608 }
-    ensures count { IfOk result (λ r. r.0.count ≡ 1) }
-    ensures here { IfOk result (λ r. r.1.words.opening ≡ r.0) }
-{
-    let (live, mut passes) = Live::<L>::open(alloc, blank, &[low], monitors, 1, places)?;
-    let Some(pass) = passes.pop() else {
-        unreachable!()
-    };
-    Ok((live, pass))
-}
-
-/// Opens a service of one object with low byte A5, one monitor, two passes and so many places.
+/// Opens a service of one object, two passes, and so many monitors and places.
 pub(crate) fn open_two<L: Crew>(
     alloc: Global,
     blank: Blank,
+    low: u8,
+    monitors: u16,
     places: u32,
 ) -> Result<(Live<L>, LivePass<L>, LivePass<L>), Memory>
     requires name { blank.name ≡ L.name }
     requires parts { (blank.parts ≡ L.parts) × (L.parts ≡ 2) }
-    requires crew { (L.passes ≡ 2) × (L.monitors ≡ 1) × (L.places ≡ places) }
+    requires crew { (L.passes ≡ 2) × (L.monitors ≡ monitors) × (L.places ≡ places) }
     ensures count { IfOk result (λ r. r.0.count ≡ 2) }
     ensures first { IfOk result (λ r. r.1.words.opening ≡ r.0) }
     ensures second { IfOk result (λ r. r.2.words.opening ≡ r.0) }
 {
-    let (live, mut passes) = Live::<L>::open(alloc, blank, &[0xa5], 1, 2, places)?;
+    let monitors = u32::from(monitors);
+    let (live, mut passes) = Live::<L>::open(alloc, blank, &[low], monitors, 2, places)?;
     let Some(second) = passes.pop() else {
         unreachable!()
     };
@@ -85,170 +65,12 @@ pub(crate) fn open_two<L: Crew>(
     Ok((live, first, second))
 }
 
-/// Whether a call is answered so.
-pub(crate) fn is_answered<L: Crew, R: Wait + Clock>(
-    rt: &R,
-    live: &Live<L>,
-    pass: &mut LivePass<L>,
-    call: Call,
-    answer: Result<Reply, LiveFault>,
-) -> bool
-    requires here { pass.old.words.opening ≡ live.now }
-    ensures here { pass.new.words.opening ≡ live.now }
-{
-    let told = match call {
-        Call::Enter(object) => live.enter(rt, pass, object),
-        Call::Exit(object) => live.exit(rt, pass, object),
-        Call::Wait {
-            object,
-            millis,
-            nanos,
-        } => live.wait_on(rt, pass, object, millis, nanos),
-        Call::Notify(object) => live.notify(rt, pass, object),
-        Call::NotifyAll(object) => live.notify_all(rt, pass, object),
-        Call::Holds(object) => live.holds(rt, pass, object),
-        Call::Interrupt(thread) => live.interrupt(rt, pass, thread),
-        Call::Interrupted => live.interrupted(rt, pass),
-        Call::IsInterrupted(thread) => live.is_interrupted(rt, pass, thread),
-        // The live service has no such call.
-        Call::End => return false,
-    };
-    told == answer
-}
-
-/// Whether a moment is answered so.
-fn is_told<L: Crew, R: Wait + Clock>(
-    rt: &R,
-    live: &Live<L>,
-    pass: &mut LivePass<L>,
-    now: u64,
-    answer: Result<(), LiveFault>,
-) -> bool
-    requires here { pass.old.words.opening ≡ live.now }
-    ensures here { pass.new.words.opening ≡ live.now }
-{
-    live.tick(rt, pass, now) == answer
-}
-
-/// Makes these calls, each of which has the answer beside it.
-fn are_answered<L: Crew, R: Abort + Wait + Clock>(
-    rt: &R,
-    live: &Live<L>,
-    pass: &mut LivePass<L>,
-    rows: &[Answered],
-)
-    requires here { pass.old.words.opening ≡ live.now }
-    ensures here { pass.new.words.opening ≡ live.now }
-{
-    for &(call, answer) in rows {
-        assert!(rt; is_answered(rt, live, pass, call, answer));
-    }
-}
-
-/// The word of the one object of a closed service, and how many deeds all its passes did.
+/// The word of the one object of a closed service, and how many deeds both its passes did.
 fn word_and_deeds(closed: &Closed) -> Result<(Word, u64), Fail> {
     let word = closed.words.first().ok_or("one object")?;
-    let _count = closed.counts.first().ok_or("one pass")?;
-    let mut deeds = 0u64;
-    for count in &closed.counts {
-        deeds = deeds.wrapping_add(*count);
-    }
-    Ok((*word, deeds))
-}
-
-/// Closes a service with all its passes, and tells the word of its one object and the deeds of all.
-fn close<L: Crew>(
-    alloc: Global,
-    live: Live<L>,
-    passes: Vec<LivePass<L>>,
-) -> Result<(Word, u64), Fail>
-    requires belong { All (λ p. p.words.opening ≡ live) passes.items }
-    requires crew { (L.parts ≡ live.count) × (L.passes ≡ live.count) }
-{
-    match live.close(alloc, passes) {
-        Ok(closed) => word_and_deeds(&closed),
-        Err(_) => Err(Fail::from("not closed")),
-    }
-}
-
-/// Closes a service of one pass.
-fn close_one<L: Crew>(alloc: Global, live: Live<L>, pass: LivePass<L>) -> Result<(Word, u64), Fail>
-    requires here { pass.words.opening ≡ live }
-    requires crew { (L.parts ≡ live.count) × (L.passes ≡ live.count) }
-{
-    close(alloc, live, vec![in alloc; pass]?)
-}
-
-/// Closes a service of two passes.
-pub(crate) fn close_both<L: Crew>(
-    alloc: Global,
-    live: Live<L>,
-    first: LivePass<L>,
-    second: LivePass<L>,
-) -> Result<(Word, u64), Fail>
-    requires first { first.words.opening ≡ live }
-    requires second { second.words.opening ≡ live }
-    requires crew { (L.parts ≡ live.count) × (L.passes ≡ live.count) }
-{
-    close(alloc, live, vec![in alloc; first, second]?)
-}
-
-/// Drops a service of two passes, which is not closed.
-pub(crate) fn drop_both<L: Crew>(_live: Live<L>, _first: LivePass<L>, _second: LivePass<L>) {}
-
-const ENTER_AND_WAIT: [Answered; 2] = [(ENTER, ENTERED), (WAIT, Err(LiveFault::RecordFull))];
-
-/// The calls of a record in which a wait binds its monitor and finds too few places for its action.
-fn calls_of_a_small_record<L: Crew, R: Abort + Wait + Clock>(
-    rt: &R,
-    live: &Live<L>,
-    pass: &mut LivePass<L>,
-    held: Result<Reply, LiveFault>,
-)
-    requires here { pass.old.words.opening ≡ live.now }
-    ensures here { pass.new.words.opening ≡ live.now }
-{
-    assert!(rt; pass.thread() == ThreadId(1));
-    are_answered(rt, live, pass, &ENTER_AND_WAIT);
-    assert!(rt; live.look(rt, pass, |book| book.used() == 1));
-    are_answered(
-        rt,
-        live,
-        pass,
-        &[(Call::Holds(OBJECT), held), (EXIT, EXITED)],
-    );
-}
-
-/// A record in which a wait binds its monitor and finds too few places for its action.
-fn a_small_record<L: Crew, R: Abort + Wait + Clock>(
-    rt: &R,
-    alloc: Global,
-    blank: Blank,
-    places: u32,
-    held: Result<Reply, LiveFault>,
-) -> Result<(Word, u64), Fail>
-    requires name { blank.name ≡ L.name }
-    requires parts { (blank.parts ≡ L.parts) × (L.parts ≡ 1) }
-    requires crew { (L.passes ≡ 1) × (L.monitors ≡ 1) × (L.places ≡ places) }
-{
-    let (live, mut pass) = open_one::<L>(alloc, blank, 0xa5, 1, places)?;
-    calls_of_a_small_record(rt, &live, &mut pass, held);
-    close_one(alloc, live, pass)
-}
-
-#[test]
-fn a_record_of_two_places_has_one_to_leave(rt: HostRuntime) -> Result<(), Fail> {
-    let full = Err(LiveFault::RecordFull);
-    let closed = a_small_record::<Brand, _>(&rt, rt.alloc(), Blank::new(1), 2, full)?;
-    assert!(&rt; closed == (Word(0x8000_00a5), 2));
-    Ok(())
-}
-
-#[test]
-fn a_record_of_three_places_has_one_to_ask(rt: HostRuntime) -> Result<(), Fail> {
-    let closed = a_small_record::<Brand, _>(&rt, rt.alloc(), Blank::new(1), 3, Ok(Reply::Yes))?;
-    assert!(&rt; closed == (Word(0x8000_00a5), 3));
-    Ok(())
+    let first = closed.counts.first().ok_or("two passes")?;
+    let second = closed.counts.get(1).ok_or("two passes")?;
+    Ok((*word, first.wrapping_add(*second)))
 }
 
 /// Closes a service with one of its passes alone, which is refused: both come back.
@@ -272,8 +94,23 @@ fn close_too_early<L: Crew>(
     }
 }
 
+/// Closes a service with all its passes, and tells the word of its one object and the deeds of all.
+fn close<L: Crew>(
+    alloc: Global,
+    live: Live<L>,
+    passes: Vec<LivePass<L>>,
+) -> Result<(Word, u64), Fail>
+    requires belong { All (λ p. p.words.opening ≡ live) passes.items }
+    requires crew { (L.parts ≡ live.count) × (L.passes ≡ live.count) }
+{
+    match live.close(alloc, passes) {
+        Ok(closed) => word_and_deeds(&closed),
+        Err(_) => Err(Fail::from("not closed")),
+    }
+}
+
 /// Closes a service of two passes, the first time with one of them alone.
-fn close_with_one_and_both<L: Crew>(
+pub(crate) fn close_both<L: Crew>(
     alloc: Global,
     live: Live<L>,
     first: LivePass<L>,
@@ -284,131 +121,205 @@ fn close_with_one_and_both<L: Crew>(
     requires crew { (L.parts ≡ live.count) × (L.passes ≡ live.count) }
 {
     let (live, first) = close_too_early(alloc, live, first)?;
-    close_both(alloc, live, first, second)
+    close(alloc, live, vec![in alloc; first, second]?)
 }
 
-const MISSING: [Answered; 2] = [
-    (Call::Enter(ObjectId(1)), Err(LiveFault::NoObject)),
-    (Call::Interrupt(ThreadId(3)), Err(LiveFault::NoThread)),
-];
+/// One of the two threads, by its number.
+#[derive(Clone, Copy, PartialEq, Eq)]
+enum Who {
+    First,
+    Second,
+}
 
-/// Calls that name what is not there, and a moment that would fall.
-fn calls_of_what_is_not_there<L: Crew, R: Abort + Wait + Clock>(
+/// What two threads do one after the other on one object; and what the close leaves of it, the word
+/// of the object and how many deeds there were.
+#[derive(Clone, Copy)]
+struct Scene {
+    low: u8,
+    monitors: u16,
+    places: u32,
+    acts: &'static [(Who, &'static [Step])],
+    leaves: (Word, u64),
+}
+
+/// Each thread takes its steps in turn.
+fn go_through<L: Crew, R: Abort + Wait + Clock>(
     rt: &R,
     live: &Live<L>,
     first: &mut LivePass<L>,
     second: &mut LivePass<L>,
+    acts: &[(Who, &[Step])],
 )
     requires first { first.old.words.opening ≡ live.now }
     requires second { second.old.words.opening ≡ live.now }
     ensures first { first.new.words.opening ≡ live.now }
     ensures second { second.new.words.opening ≡ live.now }
 {
-    are_answered(rt, live, first, &MISSING);
-    assert!(rt; is_told(rt, live, first, 5, Ok(())));
-    assert!(rt; is_told(rt, live, second, 4, Err(LiveFault::Backwards)));
+    let signs = &Signs::new();
+    for &(who, steps) in acts {
+        match who {
+            Who::First => are_done(rt, rt, live, first, signs, steps),
+            Who::Second => are_done(rt, rt, live, second, signs, steps),
+        }
+    }
 }
 
-/// Calls that name what is not there, a moment that would fall, and a close without one of two
-/// passes.
-fn what_is_not_there<L: Crew, R: Abort + Wait + Clock>(
+/// Opens a service, plays a scene, and closes the service.
+fn play<L: Crew, R: Abort + Wait + Clock>(
     rt: &R,
     alloc: Global,
     blank: Blank,
-) -> Result<(Word, u64), Fail>
-    requires name { blank.name ≡ L.name }
-    requires parts { (blank.parts ≡ L.parts) × (L.parts ≡ 2) }
-    requires crew { (L.passes ≡ 2) × (L.monitors ≡ 1) × (L.places ≡ 10) }
-{
-    let (live, mut first, mut second) = open_two::<L>(alloc, blank, 10)?;
-    calls_of_what_is_not_there(rt, &live, &mut first, &mut second);
-    close_with_one_and_both(alloc, live, first, second)
-}
-
-#[test]
-fn what_is_not_there_leaves_one_deed(rt: HostRuntime) -> Result<(), Fail> {
-    let closed = what_is_not_there::<Brand, _>(&rt, rt.alloc(), Blank::new(2))?;
-    assert!(&rt; closed == (Word(0xa5), 1));
-    Ok(())
-}
-
-const OWNS: [Answered; 2] = [
-    (ENTER, ENTERED),
-    (Call::NotifyAll(OBJECT), Ok(Reply::Notified)),
-];
-
-const INTERRUPTS: [Answered; 2] = [
-    (Call::Interrupt(ThreadId(1)), Ok(Reply::Done)),
-    (Call::IsInterrupted(ThreadId(1)), Ok(Reply::Yes)),
-];
-
-const IS_INTERRUPTED: [Answered; 3] = [
-    (WAIT, Ok(Reply::Interrupted)),
-    (Call::Interrupted, Ok(Reply::No)),
-    (EXIT, EXITED),
-];
-
-/// The calls of an owner, whom another thread interrupts.
-fn one_after_another<L: Crew, R: Abort + Wait + Clock>(
-    rt: &R,
-    alloc: Global,
-    blank: Blank,
+    scene: Scene,
 ) -> Result<(), Fail>
     requires name { blank.name ≡ L.name }
     requires parts { (blank.parts ≡ L.parts) × (L.parts ≡ 2) }
-    requires crew { (L.passes ≡ 2) × (L.monitors ≡ 1) × (L.places ≡ 10) }
+    requires crew { (L.passes ≡ 2) × (L.monitors ≡ scene.monitors) × (L.places ≡ scene.places) }
 {
-    let (live, mut first, mut second) = open_two::<L>(alloc, blank, 10)?;
-    are_answered(rt, &live, &mut first, &OWNS);
-    are_answered(rt, &live, &mut second, &INTERRUPTS);
-    are_answered(rt, &live, &mut first, &IS_INTERRUPTED);
-    drop_both(live, first, second);
+    let Scene {
+        low,
+        monitors,
+        places,
+        acts,
+        leaves,
+    } = scene;
+    let (live, mut first, mut second) = open_two::<L>(alloc, blank, low, monitors, places)?;
+    assert!(rt; first.thread() == ThreadId(1));
+    go_through(rt, &live, &mut first, &mut second, acts);
+    let left = close_both(alloc, live, first, second)?;
+    assert!(rt; left == leaves);
     Ok(())
 }
 
-#[test]
-fn interrupts_have_their_answers(rt: HostRuntime) -> Result<(), Fail> {
-    one_after_another::<Brand, _>(&rt, rt.alloc(), Blank::new(2))
-}
+const OTHER_OBJECT: ObjectId = ObjectId(1);
 
-const ENTERS: [Answered; 256] = [(ENTER, ENTERED); 256];
+const NO_MONITOR: Reply = Reply::Refused(Cause::NoMonitor);
 
-const NEED_A_MONITOR: [Answered; 3] = [
-    (ENTER, Ok(Reply::Refused(Cause::NoMonitor))),
-    (
-        Call::Wait {
-            object: OBJECT,
-            millis: -1,
-            nanos: 0,
-        },
-        Ok(Reply::IllegalArgument),
-    ),
-    (WAIT, Ok(Reply::Refused(Cause::NoMonitor))),
-];
+/// A wait whose time is out of its range.
+const BAD_WAIT: Call = Call::Wait {
+    object: OBJECT,
+    millis: -1,
+    nanos: 0,
+};
 
-const EXITS: [Answered; 256] = [(EXIT, EXITED); 256];
+/// A wait binds its monitor, and finds too few places for its action. Of two places, none is left
+/// to ask; its owner leaves all the same.
+const TWO_PLACES: Scene = Scene {
+    low: 0xa5,
+    monitors: 1,
+    places: 2,
+    acts: &[(
+        Who::First,
+        &[
+            ENTER,
+            Step::Fails(WAIT, LiveFault::RecordFull),
+            Step::Finds(1),
+            Step::Fails(Call::Holds(OBJECT), LiveFault::RecordFull),
+            EXIT,
+        ],
+    )],
+    leaves: (Word(0x8000_00a5), 2),
+};
+
+/// Of three places, there is one to ask.
+const THREE_PLACES: Scene = Scene {
+    low: 0xa5,
+    monitors: 1,
+    places: 3,
+    acts: &[(
+        Who::First,
+        &[
+            ENTER,
+            Step::Fails(WAIT, LiveFault::RecordFull),
+            Step::Finds(1),
+            Step::Makes(Call::Holds(OBJECT), Reply::Yes),
+            EXIT,
+        ],
+    )],
+    leaves: (Word(0x8000_00a5), 3),
+};
+
+/// Calls that name what is not there, and a moment that would fall.
+const NOT_THERE: Scene = Scene {
+    low: 0xa5,
+    monitors: 1,
+    places: 10,
+    acts: &[
+        (
+            Who::First,
+            &[
+                Step::Fails(Call::Enter(OTHER_OBJECT), LiveFault::NoObject),
+                Step::Fails(Call::Interrupt(ThreadId(3)), LiveFault::NoThread),
+                Step::Tells(5, Ok(())),
+            ],
+        ),
+        (Who::Second, &[Step::Tells(4, Err(LiveFault::Backwards))]),
+    ],
+    leaves: (Word(0xa5), 1),
+};
+
+/// The calls of an owner, whom another thread interrupts: two deeds of that one; and of the owner a
+/// bind, a wait, a question and an exit.
+const INTERRUPTED: Scene = Scene {
+    low: 0xa5,
+    monitors: 1,
+    places: 10,
+    acts: &[
+        (
+            Who::First,
+            &[ENTER, Step::Makes(Call::NotifyAll(OBJECT), Reply::Notified)],
+        ),
+        (
+            Who::Second,
+            &[
+                Step::Makes(Call::Interrupt(ThreadId(1)), Reply::Done),
+                Step::Makes(Call::IsInterrupted(ThreadId(1)), Reply::Yes),
+            ],
+        ),
+        (
+            Who::First,
+            &[
+                Step::Makes(WAIT, Reply::Interrupted),
+                Step::Makes(Call::Interrupted, Reply::No),
+                EXIT,
+            ],
+        ),
+    ],
+    leaves: (Word(0x8000_00a5), 6),
+};
 
 /// As many enters, and then as many exits, of an object; between them calls that need a monitor, of
 /// which there is none.
-fn no_monitor<L: Crew, R: Abort + Wait + Clock>(
-    rt: &R,
-    alloc: Global,
-    blank: Blank,
-) -> Result<(Word, u64), Fail>
-    requires name { blank.name ≡ L.name }
-    requires parts { (blank.parts ≡ L.parts) × (L.parts ≡ 1) }
-    requires crew { (L.passes ≡ 1) × (L.monitors ≡ 0) × (L.places ≡ 300) }
-{
-    let (live, mut pass) = open_one::<L>(alloc, blank, 0, 0, 300)?;
-    are_answered(rt, &live, &mut pass, &ENTERS);
-    are_answered(rt, &live, &mut pass, &NEED_A_MONITOR);
-    are_answered(rt, &live, &mut pass, &EXITS);
-    close_one(alloc, live, pass)
-}
+const WITHOUT_MONITORS: Scene = Scene {
+    low: 0,
+    monitors: 0,
+    places: 300,
+    acts: &[
+        (Who::First, &[ENTER; 256]),
+        (
+            Who::First,
+            &[
+                Step::Makes(Call::Enter(OBJECT), NO_MONITOR),
+                Step::Makes(BAD_WAIT, Reply::IllegalArgument),
+                Step::Makes(WAIT, NO_MONITOR),
+            ],
+        ),
+        (Who::First, &[EXIT; 256]),
+    ],
+    leaves: (Word(0), 0),
+};
+
+const SCENES: [Scene; 5] = [
+    TWO_PLACES,
+    THREE_PLACES,
+    NOT_THERE,
+    INTERRUPTED,
+    WITHOUT_MONITORS,
+];
 
 #[test]
-fn a_service_without_monitors_refuses_them(rt: HostRuntime) -> Result<(), Fail> {
-    let closed = no_monitor::<Brand, _>(&rt, rt.alloc(), Blank::new(1))?;
-    assert!(&rt; closed == (Word(0), 0));
+fn one_thread_after_the_other(rt: HostRuntime) -> Result<(), Fail> {
+    for scene in SCENES {
+        play::<Brand, _>(&rt, rt.alloc(), Blank::new(2), scene)?;
+    }
     Ok(())
 }

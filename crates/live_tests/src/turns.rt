@@ -1,6 +1,9 @@
-//! The most objects, monitors and passes that a service can have, and its longest record.
+//! The most objects, monitors and passes that a service can have, and its longest record; and
+//! (`driven`) calls that one thread drives.
 
 ghost use Rattle.std.specs.Prelude.{◌≡◌, ◌≤◌};
+
+mod driven;
 
 use live_turns::{Closed, Crew, TurnPass, Turns};
 use lock_word::{ThreadId, Word};

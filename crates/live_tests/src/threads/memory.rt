@@ -6,8 +6,8 @@ ghost use Rattle.std.specs.Prelude.{◌≡◌, IfOk, length, ◌∷◌, []};
 ghost use Rattle.std.specs.List.{All};
 ghost use Rattle.live_threads.specs.Driving.{CanDrive, IsLive};
 
+use crate::threads::OBJECT;
 use crate::threads::works::Open;
-use crate::threads::{OBJECT, open_one};
 use fast_path::Call;
 use fat_monitor::Reply;
 use live_threads::{DriveFault, Live, LiveClose, LivePass, Work, Worked, drive};
@@ -21,6 +21,21 @@ use std::sync::ledger::Blank;
 use std::test::Fail;
 use std::thread::Threads;
 use std::time::Clock;
+
+/// Opens a service of one object, one monitor, one pass and ten places.
+fn open_one<L: Crew>(alloc: Global, blank: Blank) -> Result<(Live<L>, LivePass<L>), Memory>
+    requires name { blank.name ≡ L.name }
+    requires parts { (blank.parts ≡ L.parts) × (L.parts ≡ 1) }
+    requires crew { (L.passes ≡ 1) × (L.monitors ≡ 1) × (L.places ≡ 10) }
+    ensures count { IfOk result (λ r. r.0.count ≡ 1) }
+    ensures here { IfOk result (λ r. r.1.words.opening ≡ r.0) }
+{
+    let (live, mut passes) = Live::<L>::open(alloc, blank, &[0xa5], 1, 1, 10)?;
+    let Some(pass) = passes.pop() else {
+        unreachable!()
+    };
+    Ok((live, pass))
+}
 
 /// A work of one call.
 fn one_work<L: Crew>(
@@ -143,7 +158,7 @@ fn open_drive_and_close<L: Crew + Send + Sync, R: Threads + Wait + Clock + Sync 
     requires parts { (blank.parts ≡ L.parts) × (L.parts ≡ 1) }
     requires crew { (L.passes ≡ 1) × (L.monitors ≡ 1) × (L.places ≡ 10) }
 {
-    let Ok((live, pass)) = open_one::<L>(alloc, blank, 0xa5, 1, 10) else {
+    let Ok((live, pass)) = open_one::<L>(alloc, blank) else {
         return Ok(false);
     };
     drive_and_close(rt, alloc, live, pass)

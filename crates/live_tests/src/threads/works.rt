@@ -79,7 +79,7 @@ fn two_are_driven<L: Crew + Send + Sync, G: Gate + Sync, R: Threads + Wait + Clo
     requires first { All IsLive calls.0.items }
     requires second { All IsLive calls.1.items }
 {
-    let (live, first, second) = open_two::<L>(alloc, blank, places)?;
+    let (live, first, second) = open_two::<L>(alloc, blank, 0xa5, 1, places)?;
     let first = Work {
         pass: first,
         calls: calls.0,

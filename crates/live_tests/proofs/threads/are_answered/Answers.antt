@@ -1,6 +1,0 @@
-use Rattle.std.proofs.Common.{arith}
-use Rattle.std.proofs.lemmas.Grind.{common_steps}
-use Rattle.live_tests.proofs.threads.are_answered.Goals as goal
-
-pub loop-call-preserved : goal.loop-call-preserved
-loop-call-preserved g c = grind (arith, common_steps)
