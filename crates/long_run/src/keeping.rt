@@ -2,7 +2,9 @@
 
 ghost use Rattle.std.specs.Prelude.{◌≡◌};
 
+use crate::outcomes::Outcome;
 use crate::plans::OBJECTS;
+use crate::trouble::Trouble;
 use crossbeam_utils::atomic::AtomicCell;
 use live_threads::{Live, LivePass};
 use live_turns::{Crew, LiveFault};
@@ -66,16 +68,21 @@ fn go_on<L: Crew, R: Wait + Clock>(
     Ok(())
 }
 
-/// Keeps the workers going until they are done, with a pass that comes back.
+/// Keeps the workers going until they are done, with a pass that comes back. A fault is told at
+/// once: without the keeper the workers may never be done.
 pub fn keep<L: Crew, R: Wait + Clock>(
     rt: &R,
     live: &Live<L>,
     mut pass: LivePass<L>,
     is_over: &AtomicCell<bool>,
+    outcome: &Outcome,
 ) -> Kept<L>
     requires here { pass.words.opening ≡ live.now }
     ensures here { result.pass.words.opening ≡ live.entry.now }
 {
     let fault = go_on(rt, live, &mut pass, is_over).err();
+    if let Some(fault) = fault {
+        outcome.tell(rt, Err(Trouble::Keeper(fault)));
+    }
     Kept { pass, fault }
 }

@@ -9,6 +9,7 @@
 
 mod accounts;
 mod keeping;
+mod outcomes;
 mod passes;
 mod plans;
 mod replies;
@@ -16,7 +17,7 @@ mod rounds;
 mod seeds;
 mod trouble;
 
-use rounds::play_round;
+use outcomes::play_apart;
 use std::env;
 use std::io::Print;
 use trouble::Trouble;
@@ -32,7 +33,7 @@ fn main(rt: HostRuntime) -> Result<(), Trouble> {
     };
     let mut calls = 0u64;
     for round in 0..rounds {
-        calls = calls.wrapping_add(play_round(&rt, alloc, round)?);
+        calls = calls.wrapping_add(play_apart(rt, alloc, round)?);
     }
     println!(&rt; "{rounds} rounds, {calls} calls: each had a reply that such a call has")?;
     println!(&rt; "each account has one payment for each enter of its object")?;

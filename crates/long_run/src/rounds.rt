@@ -6,6 +6,7 @@ ghost use Rattle.live_threads.specs.Driving.{CanDrive};
 
 use crate::accounts::Accounts;
 use crate::keeping::{Kept, keep};
+use crate::outcomes::Outcome;
 use crate::passes::{last_pass, passes_of, works_of};
 use crate::plans::{CALLS, OBJECTS, plans_of};
 use crate::trouble::Trouble;
@@ -29,16 +30,17 @@ const PLACES: u32 = 400_000;
 /// How many workers the largest round has.
 const WORKERS: u32 = 7;
 
-/// Plays a round, and tells how many calls its workers made.
+/// Plays a round, and tells how many calls its workers made. A fault of its keeper is told at once.
 pub fn play_round<R: Threads + Wait + Clock + Sync>(
     rt: &R,
     alloc: Global,
     round: u32,
+    outcome: &Outcome,
 ) -> Result<u64, Trouble> {
     let workers = WORKERS - round % WORKERS;
     let threads = workers as u16 + 1;
     let blank = Blank::new(u64::from(threads));
-    let closed = play::<Brand, R>(rt, alloc, blank, round, threads)?;
+    let closed = play::<Brand, R>(rt, alloc, blank, round, threads, outcome)?;
     check_record(&closed)?;
     Ok(u64::from(workers) * CALLS as u64)
 }
@@ -50,6 +52,7 @@ fn play<L: Crew + Send + Sync, R: Threads + Wait + Clock + Sync>(
     blank: Blank,
     round: u32,
     threads: u16,
+    outcome: &Outcome,
 ) -> Result<Closed, Trouble>
     requires name { blank.name ≡ L.name }
     requires parts { (blank.parts ≡ L.parts) × (L.parts ≡ threads) }
@@ -58,7 +61,7 @@ fn play<L: Crew + Send + Sync, R: Threads + Wait + Clock + Sync>(
     requires few { threads ≤ 64 }
 {
     let (live, passes) = Live::<L>::open(alloc, blank, &LOWS, OBJECTS, threads, PLACES)?;
-    let passes = play_on(rt, alloc, &live, round, threads, passes)?;
+    let passes = play_on(rt, alloc, &live, round, threads, passes, outcome)?;
     close(alloc, live, passes)
 }
 
@@ -83,13 +86,14 @@ fn play_on<L: Crew + Send + Sync, R: Threads + Wait + Clock + Sync>(
     round: u32,
     threads: u16,
     passes: Vec<LivePass<L>>,
+    outcome: &Outcome,
 ) -> Result<Vec<LivePass<L>>, Trouble>
     requires here { All (λ p. p.words.opening ≡ live.now) passes.items }
     ensures here { IfOk result (λ ps. All (λ p. p.words.opening ≡ live.entry.now) ps.items) }
 {
     let plans = plans_of(alloc, round, threads)?;
     let accounts = Accounts::new(alloc, plans)?;
-    let passes = work(rt, alloc, live, &accounts, passes)?;
+    let passes = work(rt, alloc, live, &accounts, passes, outcome)?;
     accounts.check()?;
     Ok(passes)
 }
@@ -101,6 +105,7 @@ fn work<L: Crew + Send + Sync, R: Threads + Wait + Clock + Sync>(
     live: &Live<L>,
     accounts: &Accounts,
     mut passes: Vec<LivePass<L>>,
+    outcome: &Outcome,
 ) -> Result<Vec<LivePass<L>>, Trouble>
     requires here { All (λ p. p.words.opening ≡ live.now) passes.items }
     ensures here { IfOk result (λ ps. All (λ p. p.words.opening ≡ live.entry.now) ps.items) }
@@ -121,7 +126,7 @@ fn work<L: Crew + Send + Sync, R: Threads + Wait + Clock + Sync>(
         move || -> Kept<L>
             requires { keeper.words.opening ≡ live.now }
             ensures { result.pass.words.opening ≡ live.entry.now }
-        { keep(rt, live, keeper, is_over) },
+        { keep(rt, live, keeper, is_over, outcome) },
     );
     let Some(worked) = driven else {
         return Err(Trouble::Memory(Memory));

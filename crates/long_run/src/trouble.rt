@@ -38,6 +38,8 @@ pub enum Trouble {
     Passes,
     #[error("the deeds of a pass are not those of the record")]
     Torn,
+    #[error("no thread could be started for a round")]
+    Thread,
     #[error("the system: {0}")]
     System(#[from] io::Error),
 }
