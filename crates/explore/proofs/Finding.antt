@@ -12,7 +12,8 @@ use Rattle.explore.specs.declared.programs.Choice.{Choice}
 use Rattle.explore.specs.declared.programs.Choice.TheVariants as choice
 use Rattle.explore.specs.declared.found.Node.{Node}
 use Rattle.explore.specs.States.{ProgramState, after, after_step, step_for, step_at, step_of_thread, played, played_from, opening}
-use Rattle.explore.specs.Found.{witness_at, witnesses, witnesses_from, grown, IsAt, IsFound, IsEnd, AreEnds, FindsAll}
+use Rattle.explore.specs.Found.{witness_at, witnesses, witnesses_from, grown, IsAt, IsFound, IsEnd, AreEnds, AreStates, FindsAll, HasMore}
+use Rattle.explore.specs.Codes.{code_of}
 use Rattle.explore.specs.Searches.{IsSearch, StaysIn, IsClosed, IsVisited, AreFoundFrom, AllFoundFrom, NoneOf, choice_at, choices_for, choices_below, all_choices}
 use Rattle.explore.proofs.Searching.{stays_more}
 use Rattle.explore.proofs.Trying.{stays_still, stays_then, found_stays, at_stays}
@@ -161,6 +162,7 @@ popped p keys ws queue rest n s h e = record {
   counted = h.counted;
   waiting = (let l = ap (λ (q : List ProgramState). length q) e in let w = h.waiting in omega (arith, l, w));
   known = h.known;
+  distinct = h.distinct;
   queued = λ j r leads.
     let here : IsAt p ws (n + suc j) r = h.queued (suc j) r (rw e leads) in
     subst (λ (m : ℕ). IsAt p ws m r) (omega arith) here;
@@ -227,6 +229,27 @@ first_stays : (ws : List (List Choice)) (ns : List Node) → StaysIn ws (witness
 first_stays ws [] = stays_still ws
 first_stays ws (n ∷ ns) = stays_then ws (grown ws n) (witnesses_from (grown ws n) ns) (stays_more ws _) (first_stays (grown ws n) ns)
 
+-- what is known are states, no two the same
+pub are_states : (p : Program) (keys : List (Vec ℕ Global)) (ws : List (List Choice)) (queue : List ProgramState) (n : ℕ)
+    → IsSearch p keys ws queue n → AreStates p ws
+are_states p keys ws queue n h = record {
+  sound = λ k lt. (let r = h.known k lt in (r.0, r.1.leads));
+  distinct = λ j k s below lt a b.
+    let x = h.known j (omega (arith, below, lt)) in
+    let y = h.known k lt in
+    let xs : x.0 ≡ s = ap (λ (o : Option ProgramState). unwrap_or o s) (sym x.1.leads ∙ a) in
+    let ys : y.0 ≡ s = ap (λ (o : Option ProgramState). unwrap_or o s) (sym y.1.leads ∙ b) in
+    let codes : code_of x.0 ≡ code_of y.0 = ap (λ (r : ProgramState). code_of r) (xs ∙ sym ys) in
+    h.distinct j k x.1.keyed.0 y.1.keyed.0 below x.1.keyed.1 y.1.keyed.1 (x.1.keyed.2 ∙ codes ∙ sym y.1.keyed.2);
+}
+
+-- more states were found than were visited, while some wait
+pub has_more : (p : Program) (keys : List (Vec ℕ Global)) (ns : List Node) (queue : List ProgramState) (ends : List ℕ) (n : ℕ)
+    → IsVisited p keys (witnesses ns) queue ends n → 0 < length queue → HasMore p n
+has_more p keys ns queue ends n v some =
+    let w = v.search.waiting in
+    (witnesses ns, omega (arith, w, some), are_states p keys (witnesses ns) queue n v.search)
+
 -- all is found once no state waits to be visited
 pub finds_all : (p : Program) (keys : List (Vec ℕ Global)) (ns : List Node) (ends : List ℕ) (n : ℕ)
     → IsVisited p keys (witnesses ns) [] ends n → FindsAll p (record { witnesses = witnesses ns; ends = ends })
@@ -237,7 +260,7 @@ finds_all p keys ns ends n v =
     let first = first_stays ([] ∷ []) ns in
     let x = first.more in
     record {
-      sound = λ k lt. (let r = v.search.known k lt in (r.0, r.1.leads));
+      states = are_states p keys ws [] n v.search;
       complete = λ cs s e. complete_from p ws n v.closed all cs (opening p) s
         (0, omega (arith, x), ap (λ (c : List Choice). played p c) (first.same 0 (omega arith))) e;
       ends = subst (λ (m : ℕ). AreEnds p ws m ends) all v.noted;

@@ -6,7 +6,7 @@ use Rattle.std.proofs.Common.{◌≡◌, ◌⊎◌, inl, inr, subst, ◌∙◌, 
 use Rattle.std.proofs.lemmas.List.{get_or_append_left}
 use Rattle.std.specs.Option.{unwrap_or}
 use Rattle.std.specs.List.{list_any}
-use Rattle.std.specs.Prelude.{Bool, false, not, if◌then◌else◌}
+use Rattle.std.specs.Prelude.{zero, suc, Bool, false, not, ◌||◌, if◌then◌else◌}
 use Rattle.indexmap.specs.IndexSet.{insert_key}
 use Rattle.std.specs.Prelude.{slice_get, slice_index_or, nat_eq, true}
 use Rattle.std.specs.Global.{Global}
@@ -49,6 +49,10 @@ get_last xs x =
     let e = length-append xs (x ∷ []) in
     rw (slice_get-get_or (xs ++ x ∷ []) (length xs) x (omega (arith, e))) (ap Some (get_or-append_seam xs x [] x))
 
+get_old : {A : Type 0} (xs : List A) (x : A) (k : ℕ) (y : A) → k < length xs → slice_get (xs ++ x ∷ []) k ≡ Some y → slice_get xs k ≡ Some y
+get_old xs x k y lt h =
+    rw (slice_get-get_or xs k y lt) (rw (← get_or_append_left xs (x ∷ []) y k lt) (ap Some (get_or_from_slice_get (xs ++ x ∷ []) k y y h)))
+
 pub stays_more : (ws : List (List Choice)) (x : List Choice) → StaysIn ws (ws ++ x ∷ [])
 stays_more ws x = record {
   more = let e = length-append ws (x ∷ []) in omega (arith, e);
@@ -75,11 +79,13 @@ known_last p keys ws key x s e leads sound coded = record {
 -- a state that was not among those that were found
 pub search_more : (p : Program) (keys : List (Vec ℕ Global)) (ws : List (List Choice)) (queue : List ProgramState) (popped : ℕ) (key : Vec ℕ Global) (x : List Choice) (made : ProgramState)
     → IsSearch p keys ws queue popped → played p x ≡ Some made → IsCoded made → key.items ≡ code_of made
+    → ((j : ℕ) (y : Vec ℕ Global) → slice_get keys j ≡ Some y → y.items ≡ key.items → ⊥)
     → IsSearch p (keys ++ key ∷ []) (ws ++ x ∷ []) (queue ++ made ∷ []) popped
-search_more p keys ws queue popped key x made h leads sound coded = record {
+search_more p keys ws queue popped key x made h leads sound coded fresh = record {
   counted = let a = length-append keys (key ∷ []) in let b = length-append ws (x ∷ []) in let e = h.counted in omega (arith, a, b, e);
   waiting = let a = length-append queue (made ∷ []) in let b = length-append ws (x ∷ []) in let e = h.waiting in omega (arith, a, b, e);
   known = λ k lt. known_at k lt (cases_lt k (length ws));
+  distinct = λ j k y z lt a b e. apart_at j k y z lt a b e (cases_lt k (length keys));
   queued = λ j s e. queued_at j s e (cases_lt j (length queue));
 }
   where
@@ -90,6 +96,16 @@ search_more p keys ws queue popped key x made h leads sound coded = record {
         let b = length-append ws (x ∷ []) in
         let e : length ws ≡ k = omega (arith, b, lt, past) in
         subst (λ (n : ℕ). (s : ProgramState) × IsKnown p (keys ++ key ∷ []) (ws ++ x ∷ []) n s) e (made, known_last p keys ws key x made h.counted leads sound coded)
+    apart_at : (j k : ℕ) (y z : Vec ℕ Global) → j < k → slice_get (keys ++ key ∷ []) j ≡ Some y → slice_get (keys ++ key ∷ []) k ≡ Some z
+        → y.items ≡ z.items → (k < length keys) ⊎ (length keys ≤ k) → ⊥
+    apart_at j k y z lt a b e (inl below) = h.distinct j k y z lt (get_old keys key j y (omega (arith, lt, below)) a) (get_old keys key k z below b) e
+    apart_at j k y z lt a b e (inr past) =
+        let within = slice_get_within (keys ++ key ∷ []) k z b in
+        let l = length-append keys (key ∷ []) in
+        let here : length keys ≡ k = omega (arith, l, within, past) in
+        let last : slice_get (keys ++ key ∷ []) (length keys) ≡ Some z = subst (λ (n : ℕ). slice_get (keys ++ key ∷ []) n ≡ Some z) (sym here) b in
+        let same : key ≡ z = ap (λ (o : Option (Vec ℕ Global)). unwrap_or o key) (sym (get_last keys key) ∙ last) in
+        fresh j y (get_old keys key j y (omega (arith, lt, here)) a) (e ∙ ap (λ (v : Vec ℕ Global). v.items) (sym same))
     queued_at : (j : ℕ) (s : ProgramState) → slice_get (queue ++ made ∷ []) j ≡ Some s → (j < length queue) ⊎ (length queue ≤ j)
         → IsAt p (ws ++ x ∷ []) (popped + j) s
     queued_at j s e (inl below) =
@@ -153,11 +169,34 @@ first_found p key s e sound coded = record {
     counted = refl;
     waiting = refl;
     known = λ k lt. absurd (omega (arith, lt));
+    distinct = λ j k y z lt a b e. absurd (cc);
     queued = λ j r leads. absurd (cc);
-  }) (ap Some (sym e)) sound coded;
+  }) (ap Some (sym e)) sound coded (λ j y a e. absurd (cc));
   closed = λ k r lt leads. absurd (omega (arith, lt));
   noted = record {
     each = λ i lt. absurd (omega (arith, lt));
     every = λ k r lt leads end. absurd (omega (arith, lt));
   };
 }
+
+-- a key that no key is the same as
+pub fresh_key : (ks : List (Vec ℕ Global)) (k : Vec ℕ Global) → list_any (is_same k) ks ≡ false
+    → (j : ℕ) (y : Vec ℕ Global) → slice_get ks j ≡ Some y → y.items ≡ k.items → ⊥
+fresh_key [] k none j y h e = absurd (cc)
+fresh_key (x ∷ ks) k none zero y h e =
+    let same : x ≡ y = ap (λ (o : Option (Vec ℕ Global)). unwrap_or o x) h in
+    let yes : is_same k x ≡ true = (bytes_eq-Decides k.items x.items).1 (sym (ap (λ (v : Vec ℕ Global). v.items) same ∙ e)) in
+    absurd (grind (arith, yes, none))
+fresh_key (x ∷ ks) k none (suc j) y h e = fresh_key ks k (rest_false (is_same k x) (list_any (is_same k) ks) none) j y h e
+  where
+    rest_false : (a b : Bool) → (a || b) ≡ false → b ≡ false
+    rest_false true b g = absurd (cc)
+    rest_false false b g = g
+
+pub was_absent : (ks : List (Vec ℕ Global)) (k : Vec ℕ Global) (b : Bool)
+    → b ≡ not (list_any (is_same k) ks) → b ≡ true → list_any (is_same k) ks ≡ false
+was_absent ks k b e t = by (list_any (is_same k) ks) (sym e ∙ t)
+  where
+    by : (a : Bool) → not a ≡ true → a ≡ false
+    by true g = absurd (cc)
+    by false g = refl

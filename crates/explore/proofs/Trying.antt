@@ -88,3 +88,21 @@ pub open_next : (p : Program) (ws : List (List Choice)) (s : ProgramState) (c : 
 open_next p ws s c false can before made h = before refl
 open_next p ws s c true true before made h = let m = made refl in (c, m.0, m.1)
 open_next p ws s c true false before made h = absurd (cc)
+
+-- what cannot be made is made by no list of choices that goes on from there
+pub none_goes_on : (p : Program) (cs ds : List Choice) (c : Choice) (s : ProgramState)
+    → played p cs ≡ Some s → after p s c ≡ None → played p (cs ++ c ∷ ds) ≡ None
+none_goes_on p cs ds c s e h = from_none cs (Some (opening p)) e
+  where
+    stuck : (xs : List Choice) → played_from p xs None ≡ None
+    stuck [] = refl
+    stuck (x ∷ xs) = refl
+    from_none : (xs : List Choice) (o : Option ProgramState) → played_from p xs o ≡ Some s → played_from p (xs ++ c ∷ ds) o ≡ None
+    from_none [] o g = rw g (rw h (stuck ds))
+    from_none (x ∷ xs) (Some r) g = from_none xs (after p r x) g
+    from_none (x ∷ xs) None g = absurd (cc)
+
+pub not_taken : (can : Bool) (a : Option ProgramState) (x : ProgramState) → a ≡ (if can then Some x else None)
+    → can ≡ false → a ≡ None
+not_taken false a x e h = e
+not_taken true a x e h = absurd (cc)

@@ -3,6 +3,8 @@ use Rattle.std.specs.Prelude.{◌≡◌, ℕ, ◌+◌, ◌<◌, List, [], ◌∷
 use Rattle.explore.specs.declared.programs.Program.{Program}
 use Rattle.explore.specs.declared.programs.Choice.{Choice}
 use Rattle.explore.specs.declared.found.Node.{Node}
+use Rattle.explore.specs.declared.found.ExploreFault.{ExploreFault}
+use Rattle.explore.specs.declared.found.ExploreFault.TheVariants as fault
 use Rattle.explore.specs.States.{ProgramState, after, played}
 
 -- what was found: for each state the choices that lead there, and which of the states are outcomes
@@ -45,11 +47,24 @@ pub record AreEnds (p : Program) (ws : List (List Choice)) (n : ℕ) (ends : Lis
   pub every : (k : ℕ) (s : ProgramState) → k < n → IsAt p ws k s → IsEnd p s
       → (i : ℕ) × (i < length ends) × (slice_index_or ends i 0 ≡ k)
 
--- Each state that any list of choices leads to is found, and nothing else.
+-- Each witness leads to a state, and no two to the same one.
+pub record AreStates (p : Program) (ws : List (List Choice)) : Type 0 where
+  pub sound : (k : ℕ) → k < length ws → (s : ProgramState) × IsAt p ws k s
+  pub distinct : (j k : ℕ) (s : ProgramState) → j < k → k < length ws → IsAt p ws j s → IsAt p ws k s → ⊥
+
+-- Each state that any list of choices leads to is found, once, and nothing else is.
 pub record FindsAll (p : Program) (f : FoundStates) : Type 0 where
-  -- each witness leads to a state
-  pub sound : (k : ℕ) → k < length f.witnesses → (s : ProgramState) × IsAt p f.witnesses k s
+  pub states : AreStates p f.witnesses
   -- whatever choices lead to is found
   pub complete : (cs : List Choice) (s : ProgramState) → played p cs ≡ Some s → IsFound p f.witnesses s
   -- and the ends are those in which no choice can be made
   pub ends : AreEnds p f.witnesses (length f.witnesses) f.ends
+
+-- there are more states than this
+abbrev pub HasMore : Program → ℕ → Type 0
+HasMore p n = (ws : List (List Choice)) × (n < length ws) × AreStates p ws
+
+-- why a search tells nothing
+abbrev pub IsReason : Program → ℕ → ExploreFault → Type 0
+IsReason p n fault.Memory = Unit {0}
+IsReason p n fault.TooManyStates = HasMore p n

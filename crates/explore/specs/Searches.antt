@@ -18,12 +18,14 @@ pub record IsKnown (p : Program) (keys : List (Vec ℕ Global)) (ws : List (List
   pub coded : IsCoded s
   pub keyed : HasKey keys k s
 
--- Each state that was found is known, and those that are still to be visited wait in their order: the first
+-- Each state that was found is known, no two have one key, and those that are still to be visited wait in their order: the first
 -- states were popped already.
 pub record IsSearch (p : Program) (keys : List (Vec ℕ Global)) (ws : List (List Choice)) (queue : List ProgramState) (popped : ℕ) : Type 0 where
   pub counted : length keys ≡ length ws
   pub waiting : popped + length queue ≡ length ws
   pub known : (k : ℕ) → k < length ws → (s : ProgramState) × IsKnown p keys ws k s
+  pub distinct : (j k : ℕ) (x y : Vec ℕ Global) → j < k → slice_get keys j ≡ Some x → slice_get keys k ≡ Some y
+      → x.items ≡ y.items → ⊥
   pub queued : (j : ℕ) (s : ProgramState) → slice_get queue j ≡ Some s → IsAt p ws (popped + j) s
 
 -- the witnesses that there were stay

@@ -38,6 +38,11 @@ pub enum ExploreFault {
 }
 
 impl From<Memory> for ExploreFault {
+    ghost use Rattle.std.specs.Prelude.{◌≡◌};
+    ghost use Rattle.explore.specs.declared.found.ExploreFault.TheVariants.{Memory};
+
+    ghost from_gives = { λ _ fault. fault ≡ Memory };
+
     fn from(_: Memory) -> ExploreFault {
         ExploreFault::Memory
     }

@@ -6,8 +6,9 @@ mod codes;
 mod found;
 mod programs;
 mod search;
-mod stands;
+mod states;
 
 pub use found::{ExploreFault, Found};
 pub use programs::{Choice, Program};
 pub use search::explore;
+pub use states::{State, play};

@@ -1,17 +1,17 @@
 //! The search: states are visited in the order in which they were found.
 
 ghost use Rattle.std.specs.Prelude.{◌≡◌, ◌+◌, ◌<◌, ◌≤◌, ◌++◌, ◌∷◌, [], length, true, false, Some, None};
-ghost use Rattle.std.specs.Prelude.{IfOk, OnOk, Contains};
+ghost use Rattle.std.specs.Prelude.{IfErr, IfOk, OnOk};
 ghost use Rattle.explore.specs.declared.programs.Choice.{Choice};
 ghost use Rattle.explore.specs.States.{ProgramState, after, played, opening};
-ghost use Rattle.explore.specs.Found.{witnesses, witness_at, IsAt, IsFound, FindsAll};
+ghost use Rattle.explore.specs.Found.{witnesses, witness_at, IsAt, IsFound, FindsAll, IsReason};
 ghost use Rattle.explore.specs.Searches.{IsSearch, StaysIn, AllFoundFrom, AreFoundFrom, NoneOf, IsVisited, all_choices};
 ghost use Rattle.std.specs.Prelude.{if◌then◌else◌};
 
 use crate::codes::codes_tell_states_apart;
 use crate::found::{ExploreFault, Found, Node};
 use crate::programs::{Choice, Program};
-use crate::stands::Stand;
+use crate::states::State;
 use indexmap::IndexSet;
 use lock_word::Memory;
 use std::alloc::Global;
@@ -23,7 +23,7 @@ use std::mem;
 struct Search {
     codes: IndexSet<Vec<u8>>,
     nodes: Vec<Node>,
-    queue: VecDeque<Stand>,
+    queue: VecDeque<State>,
 }
 
 impl Search {
@@ -33,7 +33,7 @@ impl Search {
         &mut self,
         alloc: Global,
         program: &Program,
-        made: Stand,
+        made: State,
         parent: u32,
         choice: Choice,
     ) -> Result<(), Memory>
@@ -63,30 +63,30 @@ impl Search {
         &mut self,
         alloc: Global,
         program: &Program,
-        stand: &Stand,
-        next: &mut Stand,
+        state: &State,
+        next: &mut State,
         at: u32,
         choice: Choice,
     ) -> Result<bool, Memory>
         requires search { IsSearch program.now self.old.codes.keys (witnesses self.old.nodes.items)
             self.old.queue.items (at + 1) }
-        requires here { IsAt program.now (witnesses self.old.nodes.items) at stand.now }
-        requires next { next.old ≡ stand.now }
+        requires here { IsAt program.now (witnesses self.old.nodes.items) at state.now }
+        requires next { next.old ≡ state.now }
         ensures search { OnOk result (IsSearch program.now self.new.codes.keys
             (witnesses self.new.nodes.items) self.new.queue.items (at + 1)) }
         ensures stays { OnOk result (StaysIn (witnesses self.old.nodes.items)
             (witnesses self.new.nodes.items)) }
-        ensures next { OnOk result (next.new ≡ stand.now) }
+        ensures next { OnOk result (next.new ≡ state.now) }
         ensures made { IfOk result (λ yes. yes ≡ true → (s : ProgramState)
-            × (after program.now stand.now choice ≡ Some s)
+            × (after program.now state.now choice ≡ Some s)
             × IsFound program.now (witnesses self.new.nodes.items) s) }
         ensures none { IfOk result (λ yes. yes ≡ false
-            → after program.now stand.now choice ≡ None) }
+            → after program.now state.now choice ≡ None) }
     {
         if !next.make(program, choice)? {
             return Ok(false);
         }
-        let made = mem::replace(next, stand.clone()?);
+        let made = mem::replace(next, state.clone()?);
         self.add(alloc, program, made, at, choice)?;
         Ok(true)
     }
@@ -97,27 +97,27 @@ impl Search {
         alloc: Global,
         program: &Program,
         choices: &[Choice],
-        stand: &Stand,
+        state: &State,
         at: u32,
     ) -> Result<bool, Memory>
         requires search { IsSearch program.now self.old.codes.keys (witnesses self.old.nodes.items)
             self.old.queue.items (at + 1) }
-        requires here { IsAt program.now (witnesses self.old.nodes.items) at stand.now }
+        requires here { IsAt program.now (witnesses self.old.nodes.items) at state.now }
         ensures search { OnOk result (IsSearch program.now self.new.codes.keys
             (witnesses self.new.nodes.items) self.new.queue.items (at + 1)) }
         ensures stays { OnOk result (StaysIn (witnesses self.old.nodes.items)
             (witnesses self.new.nodes.items)) }
         ensures found { OnOk result (AreFoundFrom program.now (witnesses self.new.nodes.items)
-            stand.now choices.now (length choices.now)) }
+            state.now choices.now (length choices.now)) }
         ensures end { IfOk result (λ end. end ≡ true
-            → NoneOf program.now stand.now choices.now (length choices.now)) }
+            → NoneOf program.now state.now choices.now (length choices.now)) }
         ensures open { IfOk result (λ end. end ≡ false → (c : Choice) × (s : ProgramState)
-            × (after program.now stand.now c ≡ Some s)) }
+            × (after program.now state.now c ≡ Some s)) }
     {
         let mut is_end = true;
-        let mut next = stand.clone()?;
+        let mut next = state.clone()?;
         'choosing: for choice in choices {
-            let can = self.try_choice(alloc, program, stand, &mut next, at, *choice)?;
+            let can = self.try_choice(alloc, program, state, &mut next, at, *choice)?;
             is_end &= !can;
         }
         Ok(is_end)
@@ -128,7 +128,7 @@ impl Search {
         ensures { IfOk result (λ s. IsVisited program.now s.codes.keys
             (witnesses s.nodes.items) s.queue.items [] 0) }
     {
-        let first = Stand::open(alloc, program)?;
+        let first = State::open(alloc, program)?;
         let mut codes = IndexSet::new(alloc);
         let mut queue = VecDeque::new(alloc);
         codes.insert_full(first.code(alloc)?)?;
@@ -157,26 +157,28 @@ impl Search {
             (if went then at + 1 else at)) }
         ensures last { IfOk result (λ went. went ≡ false → self.new.queue.items ≡ []) }
     {
-        let Some(stand) = self.queue.pop_front() else {
+        let Some(state) = self.queue.pop_front() else {
             return Ok(false);
         };
-        let is_end = self.expand(alloc, program, choices, &stand, at)?;
+        let is_end = self.expand(alloc, program, choices, &state, at)?;
         note_end(ends, is_end, at)?;
         Ok(true)
     }
 
     /// Whether each state that was found was visited.
     fn is_done(&self) -> bool
-        ensures { result ≡ true → self.now.queue.items ≡ [] }
+        ensures done { result ≡ true → self.now.queue.items ≡ [] }
+        ensures more { result ≡ false → 0 < length self.now.queue.items }
     {
         self.queue.is_empty()
     }
 }
 
-/// All states of a program, at most this many. Each is found where any list of choices leads there,
-/// and none else is.
+/// All states of a program, each once, where there are at most this many: whatever list of choices
+/// leads to a state, it is found.
 pub fn explore(alloc: Global, program: &Program, most: u32) -> Result<Found, ExploreFault>
     ensures all { IfOk result (FindsAll program.now) }
+    ensures reason { IfErr result (IsReason program.now most) }
 {
     let choices = choices_of(alloc, program)?;
     let mut search = Search::open(alloc, program)?;

@@ -1,4 +1,6 @@
-use Rattle.explore.proofs.Finding.{finds_all}
+use native.Mathlib.Omega.{arith}
+use Rattle.std.proofs.Common.{◌≡◌}
+use Rattle.explore.proofs.Finding.{finds_all, has_more}
 use Rattle.explore.proofs.search.explore.Goals as goal
 
 pub returns-then-not-branch : goal.returns-then-not-branch
@@ -7,12 +9,21 @@ returns-then-not-branch c =
     record {
       all = finds_all c.args.program.now c.visit.new.self.codes.keys c.visit.new.self.nodes.items c.visit.new.ends.items c.visiting.at
         (rw (c.if-not-branch.true, done) at c.in_ok-visit.ensures.visited);
+      reason = tt;
     }
 
 pub returns : goal.returns
 returns c =
-    let done = c.is_done.ensures c.if-not-is_done.false in
+    let done = c.is_done.ensures.done c.if-not-is_done.false in
     record {
       all = finds_all c.args.program.now c.visiting.search.codes.keys c.visiting.search.nodes.items c.visiting.ends.items c.visiting.at
         (rw done at c.visiting.invariant);
+      reason = tt;
     }
+
+pub returns-then-not-is_done-clause-reason : goal.returns-then-not-is_done-clause-reason
+returns-then-not-is_done-clause-reason c =
+    let past = c.visiting-test.false in
+    let most : c.visiting.at ≡ c.args.most = omega (arith, past, c.visiting.auto.at-end) in
+    has_more c.args.program.now c.visiting.search.codes.keys c.visiting.search.nodes.items c.visiting.search.queue.items c.visiting.ends.items c.args.most
+      (rw most at c.visiting.invariant) (c.is_done.ensures.more c.if-not-is_done.true)

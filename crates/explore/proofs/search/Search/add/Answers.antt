@@ -1,7 +1,7 @@
 use Rattle.std.proofs.Common.{◌≡◌, List, [], ◌∷◌, ◌++◌, ◌+◌}
 use Rattle.explore.specs.declared.programs.Choice.{Choice}
 use Rattle.explore.specs.Found.{witnesses, witness_at}
-use Rattle.explore.proofs.Searching.{witnesses_more, stays_more, search_more, found_last, found_before, key_added, key_there}
+use Rattle.explore.proofs.Searching.{witnesses_more, stays_more, search_more, found_last, found_before, key_added, key_there, fresh_key, was_absent}
 use Rattle.explore.proofs.search.Search.add.Goals as goal
 
 pub returns-in_ok-push_back-clause-search : goal.returns-in_ok-push_back-clause-search
@@ -11,7 +11,9 @@ returns-in_ok-push_back-clause-search c =
       key_added c.args.self.now.codes.keys c.insert_full.new.self.keys c.in_ok-code.code c.in_ok-is_new.is_new c.in_ok-is_new.ensures.added c.if-is_new.true c.in_ok-is_new.ensures.keys in
     rw (c.in_ok-push.ensures.items, witnesses_more, keys, c.in_ok-push_back.ensures.items)
       (search_more c.args.program.now c.args.self.now.codes.keys ws c.args.self.now.queue.items (c.args.parent + 1) c.in_ok-code.code
-      (witness_at ws c.args.parent ++ c.args.choice ∷ []) c.args.made c.requires.search c.requires.leads c.in_ok-code.ensures.coded c.in_ok-code.ensures.code)
+      (witness_at ws c.args.parent ++ c.args.choice ∷ []) c.args.made c.requires.search c.requires.leads c.in_ok-code.ensures.coded c.in_ok-code.ensures.code
+      (fresh_key c.args.self.now.codes.keys c.in_ok-code.code
+      (was_absent c.args.self.now.codes.keys c.in_ok-code.code c.in_ok-is_new.is_new c.in_ok-is_new.ensures.added c.if-is_new.true)))
 
 pub returns-in_ok-push_back-clause-stays : goal.returns-in_ok-push_back-clause-stays
 returns-in_ok-push_back-clause-stays c =

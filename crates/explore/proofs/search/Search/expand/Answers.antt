@@ -13,11 +13,11 @@ choosing-preserved c =
       stays = stays_then _ _ _ c.choosing.invariant.stays c.in_ok-can.ensures.stays;
       next = c.in_ok-can.ensures.next;
       found = found_next c.args.program.now (witnesses c.choosing.self.nodes.items) (witnesses c.try_choice.new.self.nodes.items)
-        c.args.stand.now c.args.choices.now c.choosing.choice-index x c.in_ok-can.can
+        c.args.state.now c.args.choices.now c.choosing.choice-index x c.in_ok-can.can
         c.choosing.invariant.found c.in_ok-can.ensures.stays refl c.in_ok-can.ensures.made c.in_ok-can.ensures.none;
-      none = end_next c.args.program.now c.args.stand.now c.args.choices.now c.choosing.choice-index x c.choosing.is_end c.in_ok-can.can
+      none = end_next c.args.program.now c.args.state.now c.args.choices.now c.choosing.choice-index x c.choosing.is_end c.in_ok-can.can
         c.choosing.invariant.none refl c.in_ok-can.ensures.none;
-      some = open_next c.args.program.now (witnesses c.try_choice.new.self.nodes.items) c.args.stand.now x c.choosing.is_end c.in_ok-can.can
+      some = open_next c.args.program.now (witnesses c.try_choice.new.self.nodes.items) c.args.state.now x c.choosing.is_end c.in_ok-can.can
         c.choosing.invariant.some c.in_ok-can.ensures.made;
     }
 

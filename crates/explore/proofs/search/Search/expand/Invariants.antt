@@ -9,8 +9,8 @@ abbrev pub invariant-choosing : goal.invariant-choosing
 invariant-choosing l = record {
   search : IsSearch l.program l.self.codes.keys (witnesses l.self.nodes.items) l.self.queue.items (l.at + 1);
   stays : StaysIn (witnesses l.fn.self.nodes.items) (witnesses l.self.nodes.items);
-  next : l.next ≡ l.stand;
-  found : AreFoundFrom l.program (witnesses l.self.nodes.items) l.stand l.choices l.choice-index;
-  none : l.is_end ≡ true → NoneOf l.program l.stand l.choices l.choice-index;
-  some : l.is_end ≡ false → (c : Choice) × (s : ProgramState) × (after l.program l.stand c ≡ Some s);
+  next : l.next ≡ l.state;
+  found : AreFoundFrom l.program (witnesses l.self.nodes.items) l.state l.choices l.choice-index;
+  none : l.is_end ≡ true → NoneOf l.program l.state l.choices l.choice-index;
+  some : l.is_end ≡ false → (c : Choice) × (s : ProgramState) × (after l.program l.state c ≡ Some s);
 }

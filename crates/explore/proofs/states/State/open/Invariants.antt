@@ -1,7 +1,7 @@
 use Rattle.std.proofs.Common.{◌≡◌}
 use Rattle.step_core.specs.World.{opening_world}
 use Rattle.explore.specs.States.{attached}
-use Rattle.explore.proofs.stands.Stand.open.Given as goal
+use Rattle.explore.proofs.states.State.open.Given as goal
 
 abbrev pub invariant-attaching : goal.invariant-attaching
 invariant-attaching l = l.world ≡ attached l.initial.world l.thread

@@ -3,7 +3,8 @@
 ghost use Rattle.std.specs.Prelude.{◌≡◌, ◌≤◌, IfOk, OnErr, OnOk, length, Some, None};
 ghost use Rattle.std.specs.Prelude.{if◌then◌else◌, false, replicate, ◌<◌, IfSome};
 ghost use Rattle.explore.specs.declared.programs.Choice.TheVariants as Choice;
-ghost use Rattle.explore.specs.States.{opening, after, step_at, step_for, end_of, moved, replied, chosen};
+ghost use Rattle.explore.specs.States.{opening, after, played, step_at, step_for, end_of};
+ghost use Rattle.explore.specs.States.{moved, replied, chosen};
 ghost use Rattle.explore.specs.Codes.{code_of, IsCoded};
 ghost use Rattle.explore.specs.Wants.{wants_memory};
 
@@ -17,14 +18,14 @@ use step_core::{Atomic, Cause, Did, Step, World};
 
 /// A state of a program: its world, how far each thread and the clock have come, and the replies.
 #[derive(Drop)]
-pub(crate) struct Stand {
+pub struct State {
     world: World,
     nexts: Vec<usize>,
     replies: Vec<Option<Reply>>,
     told: usize,
 }
 
-impl Model for Stand {
+impl Model for State {
     ghost use Rattle.explore.specs.States.{ProgramState};
 
     ghost use Rattle.std.specs.Coded.{codes};
@@ -38,9 +39,9 @@ impl Model for Stand {
         replies = s.replies.items; told = s.told } };
 }
 
-impl Stand {
+impl State {
     /// The state in which a program begins.
-    pub(crate) fn open(alloc: Global, program: &Program) -> Result<Stand, Memory>
+    pub(crate) fn open(alloc: Global, program: &Program) -> Result<State, Memory>
         ensures { IfOk result (λ s. s ≡ opening program.now) }
     {
         let mut world = World::new(
@@ -60,7 +61,7 @@ impl Stand {
         let mut nexts = Vec::new(alloc);
         nexts.extend_from_slice(&program.starts)?;
         let replies = no_replies(alloc, program.calls.len())?;
-        Ok(Stand {
+        Ok(State {
             world,
             nexts,
             replies,
@@ -68,7 +69,7 @@ impl Stand {
         })
     }
 
-    /// The bytes that stand for the state, and for no other.
+    /// The bytes that state for the state, and for no other.
     pub(crate) fn code(&self, alloc: Global) -> Result<Vec<u8>, Memory>
         ensures code { IfOk result (λ code. code.items ≡ code_of self.now) }
         ensures coded { OnOk result (IsCoded self.now) }
@@ -179,6 +180,23 @@ fn step_at(program: &Program, choice: Choice, next: usize) -> Option<Step>
     }
 }
 
+/// The state behind a list of choices; None where one of them cannot be made.
+pub fn play(
+    alloc: Global,
+    program: &Program,
+    choices: &[Choice],
+) -> Result<Option<State>, Memory>
+    ensures { IfOk result (λ s. s ≡ played program.now choices.now) }
+{
+    let mut state = State::open(alloc, program)?;
+    'playing: for choice in choices {
+        if !state.make(program, *choice)? {
+            return Ok(None);
+        }
+    }
+    Ok(Some(state))
+}
+
 /// No reply yet, to this many calls.
 fn no_replies(alloc: Global, count: usize) -> Result<Vec<Option<Reply>>, Memory>
     ensures { IfOk result (λ v. v.items ≡ replicate count None) }
@@ -226,11 +244,11 @@ fn wants_memory(did: &Did) -> bool
     )
 }
 
-impl Clone for Stand {
-    ghost is_clone = { λ stand copy. copy ≡ stand };
+impl Clone for State {
+    ghost is_clone = { λ state copy. copy ≡ state };
 
-    fn clone(&self) -> Result<Stand, AllocError> {
-        Ok(Stand {
+    fn clone(&self) -> Result<State, AllocError> {
+        Ok(State {
             world: self.world.clone()?,
             nexts: Vec::from_slice(*self.nexts.allocator(), &self.nexts)?,
             replies: Vec::from_slice(*self.replies.allocator(), &self.replies)?,

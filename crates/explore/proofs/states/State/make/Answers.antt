@@ -2,7 +2,7 @@ use Rattle.std.proofs.Common.{◌≡◌, Some, false}
 use Rattle.explore.specs.States.{ProgramState, step_for}
 use Rattle.explore.specs.Wants.{wants_memory}
 use Rattle.explore.proofs.Granted.{made}
-use Rattle.explore.proofs.stands.Stand.make.Goals as goal
+use Rattle.explore.proofs.states.State.make.Goals as goal
 
 pub returns-clause-made : goal.returns-clause-made
 returns-clause-made c =

@@ -1,5 +1,5 @@
 use Rattle.explore.proofs.Granted.{attached_more}
-use Rattle.explore.proofs.stands.Stand.open.Goals as goal
+use Rattle.explore.proofs.states.State.open.Goals as goal
 
 pub attaching-preserved : goal.attaching-preserved
 attaching-preserved c =
