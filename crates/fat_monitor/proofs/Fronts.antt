@@ -23,3 +23,6 @@ front_of_front [] ys zs h = refl
 front_of_front (x ∷ xs) ys [] h = absurd (cc)
 front_of_front (x ∷ xs) ys (z ∷ zs) h =
     λ i. ap first h i ∷ front_of_front xs ys zs (ap behind h) i
+
+-- what tells that numbers that were put stand behind those that were there
+pub ruleset fronts = (front_same, front_more, front_of_front)

@@ -20,7 +20,7 @@ impl Fats {
     /// those that are there; those of the threads are put by [`push_thread`](Fats::push_thread).
     ///
     /// On want of memory the list has its old content, and some of these numbers behind it.
-    #[tactic(auto, using(crate::proofs::Fronts::front_same, crate::proofs::Fronts::front_more, crate::proofs::Fronts::front_of_front))]
+    #[tactic(auto, using(crate::proofs::Fronts::fronts))]
     pub fn push_numbers(&self, numbers: &mut Vec<u64>) -> Result<(), Memory>
         ensures written { OnOk result
             (numbers.new.items ≡ numbers.old.items ++ fat_numbers self.now) }
@@ -56,7 +56,7 @@ impl Fats {
     }
 
     // A monitor with its entry line and its wait set.
-    #[tactic(auto, using(crate::proofs::Fronts::front_same, crate::proofs::Fronts::front_more, crate::proofs::Fronts::front_of_front))]
+    #[tactic(auto, using(crate::proofs::Fronts::fronts))]
     fn push_monitor(
         &self,
         number: u32,
@@ -88,7 +88,7 @@ fn owner_number(owner: Option<ThreadId>) -> u64
 }
 
 /// The threads of a line, and then 0.
-#[tactic(auto, using(crate::proofs::Fronts::front_same, crate::proofs::Fronts::front_more, crate::proofs::Fronts::front_of_front))]
+#[tactic(auto, using(crate::proofs::Fronts::fronts))]
 fn push_line(mut line: All<'_>, numbers: &mut Vec<u64>) -> Result<(), AllocError>
     ensures written { OnOk result
         (numbers.new.items ≡ numbers.old.items ++ line_numbers line.entry) }

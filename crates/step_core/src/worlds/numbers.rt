@@ -3,11 +3,10 @@
 ghost use Rattle.std.specs.Prelude.{◌≡◌, ◌<◌, ◌^◌, ℕ, ◌++◌, length, slice_index, OnOk, OnErr};
 ghost use Rattle.thread_index.specs.Indices.{holder_at};
 ghost use Rattle.fat_monitor.specs.Numbers.{BeginsWith};
-ghost use Rattle.step_core.specs.Sound.{IsSound};
 ghost use Rattle.step_core.specs.Numbers.{berths_numbers, call_numbers, holder_numbers};
 ghost use Rattle.step_core.specs.Numbers.{interrupt_numbers, lock_numbers, numbers_of};
-ghost use Rattle.step_core.specs.Numbers.{operation_numbers, place_numbers, signed_numbers};
-ghost use Rattle.step_core.specs.Numbers.{stage_numbers, words_numbers, IsNumbered};
+ghost use Rattle.step_core.specs.Numbers.{place_numbers, signed_numbers, stage_numbers};
+ghost use Rattle.step_core.specs.Numbers.{words_numbers, IsNumbered};
 
 use super::World;
 use crate::{Place, Stage};
@@ -21,7 +20,7 @@ impl World {
     /// [`numbers_tell_worlds_apart`](crate::numbers_tell_worlds_apart) says.
     ///
     /// On want of memory the list has its old content.
-    #[tactic(auto, using(fat_monitor::proofs::Fronts::front_same, fat_monitor::proofs::Fronts::front_more, fat_monitor::proofs::Fronts::front_of_front))]
+    #[tactic(auto, using(fat_monitor::proofs::Fronts::fronts))]
     pub fn push_numbers(&self, numbers: &mut Vec<u64>) -> Result<(), Memory>
         ensures written { OnOk result
             (numbers.new.items ≡ numbers.old.items ++ numbers_of self.now) }
@@ -38,7 +37,7 @@ impl World {
         pushed
     }
 
-    #[tactic(auto, using(fat_monitor::proofs::Fronts::front_same, fat_monitor::proofs::Fronts::front_more, fat_monitor::proofs::Fronts::front_of_front))]
+    #[tactic(auto, using(fat_monitor::proofs::Fronts::fronts))]
     fn push_parts(&self, numbers: &mut Vec<u64>) -> Result<(), Memory>
         ensures written { OnOk result
             (numbers.new.items ≡ numbers.old.items ++ numbers_of self.now) }
@@ -53,7 +52,7 @@ impl World {
     }
 
     // Each berth with its place.
-    #[tactic(auto, using(fat_monitor::proofs::Fronts::front_same, fat_monitor::proofs::Fronts::front_more, fat_monitor::proofs::Fronts::front_of_front))]
+    #[tactic(auto, using(fat_monitor::proofs::Fronts::fronts))]
     fn push_berths(&self, numbers: &mut Vec<u64>) -> Result<(), Memory>
         ensures written { OnOk result (numbers.new.items ≡ numbers.old.items
             ++ berths_numbers self.now.fats self.now.berths self.now.places) }
@@ -67,7 +66,7 @@ impl World {
     }
 
     // Who has a berth.
-    #[tactic(auto, using(fat_monitor::proofs::Fronts::front_same, fat_monitor::proofs::Fronts::front_more, fat_monitor::proofs::Fronts::front_of_front))]
+    #[tactic(auto, using(fat_monitor::proofs::Fronts::fronts))]
     fn push_holder(&self, berth: u16, numbers: &mut Vec<u64>) -> Result<(), Memory>
         requires { berth < length self.now.berths }
         ensures written { OnOk result (numbers.new.items ≡ numbers.old.items
@@ -83,7 +82,7 @@ impl World {
     }
 }
 
-#[tactic(auto, using(fat_monitor::proofs::Fronts::front_same, fat_monitor::proofs::Fronts::front_more, fat_monitor::proofs::Fronts::front_of_front))]
+#[tactic(auto, using(fat_monitor::proofs::Fronts::fronts))]
 fn push_words(words: &[Word], numbers: &mut Vec<u64>) -> Result<(), AllocError>
     ensures written { OnOk result
         (numbers.new.items ≡ numbers.old.items ++ words_numbers words.now) }
@@ -95,7 +94,7 @@ fn push_words(words: &[Word], numbers: &mut Vec<u64>) -> Result<(), AllocError>
     Ok(())
 }
 
-#[tactic(auto, using(fat_monitor::proofs::Fronts::front_same, fat_monitor::proofs::Fronts::front_more, fat_monitor::proofs::Fronts::front_of_front))]
+#[tactic(auto, using(fat_monitor::proofs::Fronts::fronts))]
 fn push_place(place: Place, numbers: &mut Vec<u64>) -> Result<(), AllocError>
     ensures written { OnOk result
         (numbers.new.items ≡ numbers.old.items ++ place_numbers place) }
@@ -109,7 +108,7 @@ fn push_place(place: Place, numbers: &mut Vec<u64>) -> Result<(), AllocError>
     }
 }
 
-#[tactic(auto, using(fat_monitor::proofs::Fronts::front_same, fat_monitor::proofs::Fronts::front_more, fat_monitor::proofs::Fronts::front_of_front))]
+#[tactic(auto, using(fat_monitor::proofs::Fronts::fronts))]
 fn push_stage(stage: Stage, numbers: &mut Vec<u64>) -> Result<(), AllocError>
     ensures written { OnOk result
         (numbers.new.items ≡ numbers.old.items ++ stage_numbers stage) }
@@ -153,7 +152,7 @@ fn push_stage(stage: Stage, numbers: &mut Vec<u64>) -> Result<(), AllocError>
     push_call(call, numbers)
 }
 
-#[tactic(auto, using(fat_monitor::proofs::Fronts::front_same, fat_monitor::proofs::Fronts::front_more, fat_monitor::proofs::Fronts::front_of_front))]
+#[tactic(auto, using(fat_monitor::proofs::Fronts::fronts))]
 fn push_call(call: MonitorCall, numbers: &mut Vec<u64>) -> Result<(), AllocError>
     ensures written { OnOk result
         (numbers.new.items ≡ numbers.old.items ++ call_numbers call) }
