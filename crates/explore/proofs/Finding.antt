@@ -2,6 +2,10 @@
 use native.Mathlib.Omega.{arith}
 use Rattle.std.proofs.Common.{◌≡◌, ◌⊎◌, inl, inr, ◌∙◌, subst, sym, ap, refl, ℕ, zero, suc, ◌+◌, ◌<◌, ◌≤◌, nat_lt, List, [], ◌∷◌, ◌++◌, length, Option, Some, None, Vec, Bool, true, false, length-append}
 use Rattle.std.specs.Global.{Global}
+use Rattle.std.proofs.Common.{get_or, ◌-◌, append_assoc}
+use Rattle.std.specs.Prelude.{reverse}
+use Rattle.std.proofs.lemmas.List.{reverse-append}
+use Rattle.std.proofs.lemmas.Option.{slice_get-get_or}
 use Rattle.std.specs.Option.{unwrap_or}
 use Rattle.std.specs.Prelude.{slice_get, slice_index_or, if◌then◌else◌}
 use Rattle.std.proofs.lemmas.Bool.{cases_lt, ltb-true}
@@ -12,10 +16,10 @@ use Rattle.explore.specs.declared.programs.Choice.{Choice}
 use Rattle.explore.specs.declared.programs.Choice.TheVariants as choice
 use Rattle.explore.specs.declared.found.Node.{Node}
 use Rattle.explore.specs.States.{ProgramState, after, after_step, step_for, step_at, step_of_thread, played, played_from, opening}
-use Rattle.explore.specs.Found.{witness_at, witnesses, witnesses_from, grown, IsAt, IsFound, IsEnd, AreEnds, AreStates, FindsAll, HasMore}
+use Rattle.explore.specs.Found.{witness_at, witnesses, witnesses_from, grown, IsAt, IsFound, IsEnd, AreEnds, AreStates, AreParents, FindsAll, HasMore, node_at}
 use Rattle.explore.specs.Codes.{code_of}
 use Rattle.explore.specs.Searches.{IsSearch, StaysIn, IsClosed, IsVisited, AreFoundFrom, AllFoundFrom, NoneOf, choice_at, choices_for, choices_below, all_choices}
-use Rattle.explore.proofs.Searching.{stays_more}
+use Rattle.explore.proofs.Searching.{stays_more, witness_before, witness_last}
 use Rattle.explore.proofs.Trying.{stays_still, stays_then, found_stays, at_stays}
 
 -- ---- every choice that can be made is among all that are tried
@@ -265,3 +269,82 @@ finds_all p keys ns ends n v =
         (0, omega (arith, x), ap (λ (c : List Choice). played p c) (first.same 0 (omega arith))) e;
       ends = subst (λ (m : ℕ). AreEnds p ws m ends) all v.noted;
     }
+
+-- ---- the way back from a state
+
+length_from : (ws : List (List Choice)) (ns : List Node) → length (witnesses_from ws ns) ≡ length ws + length ns
+length_from ws [] = omega arith
+length_from ws (n ∷ ns) =
+    let h = length_from (grown ws n) ns in let l = length-append ws ((witness_at ws n.parent ++ n.choice ∷ []) ∷ []) in
+    omega (arith, h, l)
+
+pub length_witnesses : (ns : List Node) → length (witnesses ns) ≡ length ns + 1
+length_witnesses ns = let h = length_from ([] ∷ []) ns in omega (arith, h)
+
+-- the witness of a state is that of its parent, and its choice
+back_from : (ws : List (List Choice)) (ns : List Node) (k : ℕ) → k < length ns → (node_at ns k).parent < length ws + k
+    → witness_at (witnesses_from ws ns) (length ws + k) ≡ witness_at (witnesses_from ws ns) (node_at ns k).parent ++ (node_at ns k).choice ∷ []
+back_from ws [] k lt below = absurd (omega (arith, lt))
+back_from ws (n ∷ ns) zero lt below =
+    let stays = first_stays (grown ws n) ns in
+    let l = length-append ws ((witness_at ws n.parent ++ n.choice ∷ []) ∷ []) in
+    let p : witness_at (witnesses_from (grown ws n) ns) n.parent ≡ witness_at ws n.parent =
+      stays.same n.parent (omega (arith, l, below)) ∙ witness_before ws _ n.parent (omega (arith, below)) in
+    let q : witness_at (witnesses_from (grown ws n) ns) (length ws) ≡ witness_at ws n.parent ++ n.choice ∷ [] =
+      stays.same (length ws) (omega (arith, l)) ∙ witness_last ws _ in
+    let z : length ws + 0 ≡ length ws = omega arith in
+    rw z (q ∙ ap (λ (cs : List Choice). cs ++ n.choice ∷ []) (sym p))
+back_from ws (n ∷ ns) (suc k) lt below =
+    let l = length-append ws ((witness_at ws n.parent ++ n.choice ∷ []) ∷ []) in
+    let h = back_from (grown ws n) ns k (omega (arith, lt)) (omega (arith, l, below)) in
+    let e : length (grown ws n) + k ≡ length ws + suc k = omega (arith, l) in
+    rw e at h
+
+pub witness_back : (ns : List Node) (k : ℕ) → AreParents ns → k < length ns
+    → witness_at (witnesses ns) (k + 1) ≡ witness_at (witnesses ns) (node_at ns k).parent ++ (node_at ns k).choice ∷ []
+witness_back ns k parents lt =
+    let below = parents k lt in
+    let h = back_from ([] ∷ []) ns k lt (omega (arith, below)) in
+    let e : 1 + k ≡ k + 1 = omega arith in
+    rw e at h
+
+pub witness_first : (ns : List Node) → witness_at (witnesses ns) 0 ≡ []
+witness_first ns = (first_stays ([] ∷ []) ns).same 0 (omega arith)
+
+-- a node more, whose parent was there
+pub parents_more : (ns : List Node) (n : Node) → AreParents ns → n.parent ≤ length ns → AreParents (ns ++ n ∷ [])
+parents_more ns n h le = λ i lt. by i lt (cases_lt i (length ns))
+  where
+    by : (i : ℕ) → i < length (ns ++ n ∷ []) → (i < length ns) ⊎ (length ns ≤ i) → (node_at (ns ++ n ∷ []) i).parent ≤ i
+    by i lt (inl below) =
+        let e : node_at (ns ++ n ∷ []) i ≡ node_at ns i = get_or_append_left ns (n ∷ []) _ i below in
+        rw e (h i below)
+    by i lt (inr past) =
+        let l = length-append ns (n ∷ []) in
+        let here : i ≡ length ns = omega (arith, l, lt, past) in
+        let e : node_at (ns ++ n ∷ []) (length ns) ≡ n = get_or-append_seam ns n [] _ in
+        rw (here, e) le
+
+default_free : (ns : List Node) (i : ℕ) (d e : Node) → i < length ns → get_or ns i d ≡ get_or ns i e
+default_free ns i d e lt = ap (λ (o : Option Node). unwrap_or o d) (sym (slice_get-get_or ns i d lt) ∙ slice_get-get_or ns i e lt)
+
+-- one step on the way back
+pub walked : (ns : List Node) (at : ℕ) (node : Node) (cs all : List Choice) → AreParents ns → 0 < at → at < length (witnesses ns)
+    → node ≡ get_or ns (at - 1) node → all ≡ witness_at (witnesses ns) at ++ reverse cs
+    → (node.parent < at) × (node.parent < length (witnesses ns))
+    × (all ≡ witness_at (witnesses ns) node.parent ++ reverse (cs ++ node.choice ∷ []))
+walked ns at node cs all parents some within e h =
+    let l = length_witnesses ns in
+    let lt : at - 1 < length ns = omega (arith, l, some, within) in
+    let one : at - 1 + 1 ≡ at = omega (arith, some) in
+    let same : node ≡ node_at ns (at - 1) = e ∙ default_free ns (at - 1) node _ lt in
+    let below : (node_at ns (at - 1)).parent ≤ at - 1 = parents (at - 1) lt in
+    let p : node.parent ≡ (node_at ns (at - 1)).parent = ap (λ (n : Node). n.parent) same in
+    let back : witness_at (witnesses ns) (at - 1 + 1) ≡ witness_at (witnesses ns) node.parent ++ node.choice ∷ [] =
+      rw same (witness_back ns (at - 1) parents lt) in
+    let here : witness_at (witnesses ns) at ≡ witness_at (witnesses ns) node.parent ++ node.choice ∷ [] =
+      subst (λ (k : ℕ). witness_at (witnesses ns) k ≡ witness_at (witnesses ns) node.parent ++ node.choice ∷ []) one back in
+    (omega (arith, below, p, some), omega (arith, below, p, some, within),
+     h ∙ ap (λ (ys : List Choice). ys ++ reverse cs) here
+     ∙ append_assoc (witness_at (witnesses ns) node.parent) (node.choice ∷ []) (reverse cs)
+     ∙ ap (λ (ys : List Choice). witness_at (witnesses ns) node.parent ++ ys) (sym (reverse-append cs (node.choice ∷ []))))

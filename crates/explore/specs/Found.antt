@@ -1,7 +1,8 @@
 -- What a search of a program finds.
-use Rattle.std.specs.Prelude.{◌≡◌, ℕ, ◌+◌, ◌<◌, List, [], ◌∷◌, ◌++◌, length, slice_index_or, Option, Some, None}
+use Rattle.std.specs.Prelude.{◌≡◌, ℕ, ◌+◌, ◌<◌, ◌≤◌, List, [], ◌∷◌, ◌++◌, length, slice_index_or, Option, Some, None}
 use Rattle.explore.specs.declared.programs.Program.{Program}
 use Rattle.explore.specs.declared.programs.Choice.{Choice}
+use Rattle.explore.specs.declared.programs.Choice.TheVariants as choice
 use Rattle.explore.specs.declared.found.Node.{Node}
 use Rattle.explore.specs.declared.found.ExploreFault.{ExploreFault}
 use Rattle.explore.specs.declared.found.ExploreFault.TheVariants as fault
@@ -27,6 +28,13 @@ witnesses_from ws (n ∷ ns) = witnesses_from (grown ws n) ns
 -- the choices that lead to each state: none to the first, and to each other one its own behind those of its parent
 abbrev pub witnesses : List Node → List (List Choice)
 witnesses ns = witnesses_from ([] ∷ []) ns
+
+-- each state was found from one with a lower number
+abbrev pub node_at : List Node → ℕ → Node
+node_at ns i = slice_index_or ns i (record { parent = 0; choice = choice.Begin 0 })
+
+abbrev pub AreParents : List Node → Type 0
+AreParents ns = (i : ℕ) → i < length ns → (node_at ns i).parent ≤ i
 
 -- the state with this number is this one
 abbrev pub IsAt : Program → List (List Choice) → ℕ → ProgramState → Type 0

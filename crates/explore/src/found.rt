@@ -1,7 +1,11 @@
 //! What a search finds.
 
+ghost use Rattle.std.specs.Prelude.{◌≡◌, ◌<◌, length, IfOk};
+ghost use Rattle.explore.specs.Found.{witness_at};
+
 use crate::programs::Choice;
 use lock_word::Memory;
+use std::alloc::Global;
 use std::marker::Model;
 
 /// A state that was found: the number of the state that it was found from, and the choice.
@@ -23,9 +27,45 @@ pub struct Found {
 impl Model for Found {
     ghost use Rattle.explore.specs.Found.{FoundStates, witnesses};
 
+    ghost use Rattle.explore.specs.Found.{AreParents};
+
     ghost Value = { FoundStates };
 
     ghost view = { λ f. record { witnesses = witnesses f.nodes.items; ends = f.ends.items } };
+
+    ghost invariant = { λ f. AreParents f.nodes.items };
+}
+
+impl Found {
+    /// How many states there are: they are numbered from 0, where the program begins.
+    pub fn states(&self) -> usize
+        ensures { result ≡ length self.now.witnesses }
+    {
+        self.nodes.len() + 1
+    }
+
+    /// The numbers of the states in which no choice can be made, from the lowest on.
+    pub fn ends(&self) -> &[u32]
+        ensures { result.now ≡ self.now.ends }
+    {
+        &self.ends
+    }
+
+    /// The choices that lead to a state, from where the program begins.
+    pub fn witness(&self, alloc: Global, state: u32) -> Result<Vec<Choice>, Memory>
+        requires { state < length self.now.witnesses }
+        ensures { IfOk result (λ cs. cs.items ≡ witness_at self.now.witnesses state) }
+    {
+        let mut choices = Vec::new(alloc);
+        let mut at = state;
+        'back: while at > 0 {
+            let node = self.nodes[at as usize - 1];
+            choices.push(node.choice)?;
+            at = node.parent;
+        }
+        choices.reverse();
+        Ok(choices)
+    }
 }
 
 /// Why a search tells nothing.

@@ -4,7 +4,7 @@ ghost use Rattle.std.specs.Prelude.{◌≡◌, ◌+◌, ◌<◌, ◌≤◌, ◌+
 ghost use Rattle.std.specs.Prelude.{IfErr, IfOk, OnOk};
 ghost use Rattle.explore.specs.declared.programs.Choice.{Choice};
 ghost use Rattle.explore.specs.States.{ProgramState, after, played, opening};
-ghost use Rattle.explore.specs.Found.{witnesses, witness_at, IsAt, IsFound, FindsAll, IsReason};
+ghost use Rattle.explore.specs.Found.{witnesses, witness_at, IsAt, IsFound, FindsAll, IsReason, AreParents};
 ghost use Rattle.explore.specs.Searches.{IsSearch, StaysIn, AllFoundFrom, AreFoundFrom, NoneOf, IsVisited, all_choices};
 ghost use Rattle.std.specs.Prelude.{if◌then◌else◌};
 
@@ -24,6 +24,7 @@ struct Search {
     codes: IndexSet<Vec<u8>>,
     nodes: Vec<Node>,
     queue: VecDeque<State>,
+    ghost parents: { AreParents nodes.items },
 }
 
 impl Search {

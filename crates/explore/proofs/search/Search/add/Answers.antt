@@ -1,7 +1,9 @@
+use native.Mathlib.Omega.{arith}
 use Rattle.std.proofs.Common.{◌≡◌, List, [], ◌∷◌, ◌++◌, ◌+◌}
 use Rattle.explore.specs.declared.programs.Choice.{Choice}
 use Rattle.explore.specs.Found.{witnesses, witness_at}
 use Rattle.explore.proofs.Searching.{witnesses_more, stays_more, search_more, found_last, found_before, key_added, key_there, fresh_key, was_absent}
+use Rattle.explore.proofs.Finding.{length_witnesses, parents_more}
 use Rattle.explore.proofs.search.Search.add.Goals as goal
 
 pub returns-in_ok-push_back-clause-search : goal.returns-in_ok-push_back-clause-search
@@ -39,3 +41,9 @@ returns-else-is_new-clause-found c =
     let stored = rw keys at c.in_ok-is_new.ensures.stored in
     found_before c.args.program.now c.args.self.now.codes.keys (witnesses c.args.self.now.nodes.items) c.args.self.now.queue.items
       (c.args.parent + 1) _ c.in_ok-code.code stored.0 c.args.made c.requires.search c.codes_tell_states_apart.ensures c.in_ok-code.ensures.coded c.in_ok-code.ensures.code stored.1 stored.2
+
+pub invariant_of-self-then-is_new : goal.invariant_of-self-then-is_new
+invariant_of-self-then-is_new c =
+    let l = length_witnesses c.args.self.now.nodes.items in
+    let w = c.requires.search.waiting in
+    record { parents = rw c.in_ok-push.ensures.items (parents_more c.args.self.now.nodes.items _ c.args.self.now.parents (omega (arith, l, w))) }

@@ -1,0 +1,12 @@
+use native.Mathlib.Omega.{arith}
+use Rattle.std.proofs.Common.{◌≡◌, ap, sym, ◌∙◌, length, List}
+use Rattle.explore.specs.Found.{FoundStates}
+use Rattle.explore.proofs.Finding.{length_witnesses}
+use Rattle.explore.proofs.found.Found.states.Goals as goal
+
+pub returns : goal.returns
+returns c =
+    let l = length_witnesses c.self.inside.nodes.items in
+    let v = ap (λ (f : FoundStates). length f.witnesses) c.self.view_is in
+    let n = c.len.ensures in
+    omega (arith, l, v, n)
