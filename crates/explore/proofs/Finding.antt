@@ -18,7 +18,7 @@ use Rattle.explore.specs.declared.found.Node.{Node}
 use Rattle.explore.specs.States.{ProgramState, after, after_step, step_for, step_at, step_of_thread, played, played_from, opening}
 use Rattle.explore.specs.Found.{witness_at, witnesses, witnesses_from, grown, IsAt, IsFound, IsEnd, AreEnds, AreStates, AreParents, FindsAll, HasMore, node_at}
 use Rattle.explore.specs.Codes.{code_of}
-use Rattle.explore.specs.Searches.{IsSearch, StaysIn, IsClosed, IsVisited, AreFoundFrom, AllFoundFrom, NoneOf, choice_at, choices_for, choices_below, all_choices}
+use Rattle.explore.specs.Searches.{IsSearch, StaysIn, IsClosed, IsVisited, AreFoundFrom, AllFoundFrom, NoneChanges, Changes, choice_at, choices_for, choices_below, all_choices}
 use Rattle.explore.proofs.Searching.{stays_more, witness_before, witness_last}
 use Rattle.explore.proofs.Trying.{stays_still, stays_then, found_stays, at_stays}
 
@@ -75,14 +75,10 @@ all_found p ws s h = λ c r e.
     let i = every_choice p s r c e in
     h i.0 r i.1 (subst (λ (x : Choice). after p s x ≡ Some r) (sym i.2) e)
 
-pub is_end : (p : Program) (s : ProgramState) → NoneOf p s (all_choices p) (length (all_choices p)) → IsEnd p s
-is_end p s h = λ c. by c (after p s c) refl
-  where
-    by : (c : Choice) (o : Option ProgramState) → after p s c ≡ o → after p s c ≡ None
-    by c None e = e
-    by c (Some r) e =
-        let i = every_choice p s r c e in
-        subst (λ (x : Choice). after p s x ≡ None) i.2 (h i.0 i.1)
+pub is_end : (p : Program) (s : ProgramState) → NoneChanges p s (all_choices p) (length (all_choices p)) → IsEnd p s
+is_end p s h = λ c t e.
+    let i = every_choice p s t c e in
+    h i.0 t i.1 (subst (λ (x : Choice). after p s x ≡ Some t) (sym i.2) e)
 
 -- ---- visited
 
@@ -187,8 +183,8 @@ first_within p keys ws queue rest n s h e =
 pub visited_next : (p : Program) (keys keys' : List (Vec ℕ Global)) (ws ws' : List (List Choice)) (queue rest queue' : List ProgramState) (ends ends' : List ℕ) (n : ℕ) (s : ProgramState) (cs : List Choice) (end : Bool)
     → IsVisited p keys ws queue ends n → queue ≡ s ∷ rest → cs ≡ all_choices p
     → IsSearch p keys' ws' queue' (n + 1) → StaysIn ws ws' → AreFoundFrom p ws' s cs (length cs)
-    → (end ≡ true → NoneOf p s cs (length cs))
-    → (end ≡ false → (c : Choice) × (r : ProgramState) × (after p s c ≡ Some r))
+    → (end ≡ true → NoneChanges p s cs (length cs))
+    → (end ≡ false → (c : Choice) × Changes p s c)
     → ends' ≡ (if end then ends ++ n ∷ [] else ends)
     → IsVisited p keys' ws' queue' ends' (n + 1)
 visited_next p keys keys' ws ws' queue rest queue' ends ends' n s cs end v e all search stays found none some noted =
@@ -201,15 +197,15 @@ visited_next p keys keys' ws ws' queue rest queue' ends ends' n s cs end v e all
       noted = by end none some noted lt here;
     }
   where
-    by : (end : Bool) → (end ≡ true → NoneOf p s cs (length cs))
-        → (end ≡ false → (c : Choice) × (r : ProgramState) × (after p s c ≡ Some r))
+    by : (end : Bool) → (end ≡ true → NoneChanges p s cs (length cs))
+        → (end ≡ false → (c : Choice) × Changes p s c)
         → ends' ≡ (if end then ends ++ n ∷ [] else ends) → n < length ws → IsAt p ws n s → AreEnds p ws' (n + 1) ends'
     by true none some noted lt here =
         rw noted (ends_more p ws ws' n ends s v.noted stays lt here
-          (is_end p s (subst (λ (xs : List Choice). NoneOf p s xs (length xs)) all (none refl))))
+          (is_end p s (subst (λ (xs : List Choice). NoneChanges p s xs (length xs)) all (none refl))))
     by false none some noted lt here =
         rw noted (ends_stay p ws ws' n ends s v.noted stays lt here
-          (λ is. let o = some refl in absurd (let x = is o.0 in let y = o.2 in cc)))
+          (λ is. let o = some refl in o.1.2 (is o.0 o.1.0 o.1.1)))
 
 -- ---- found in the end
 
@@ -348,3 +344,8 @@ walked ns at node cs all parents some within e h =
      h ∙ ap (λ (ys : List Choice). ys ++ reverse cs) here
      ∙ append_assoc (witness_at (witnesses ns) node.parent) (node.choice ∷ []) (reverse cs)
      ∙ ap (λ (ys : List Choice). witness_at (witnesses ns) node.parent ++ ys) (sym (reverse-append cs (node.choice ∷ []))))
+
+-- the state that was popped last has a number
+pub within_search : (p : Program) (keys : List (Vec ℕ Global)) (ws : List (List Choice)) (queue : List ProgramState) (at : ℕ)
+    → IsSearch p keys ws queue (at + 1) → at < length ws
+within_search p keys ws queue at h = let w = h.waiting in omega (arith, w)

@@ -20,7 +20,7 @@ use Rattle.explore.specs.declared.found.Node.{Node}
 use Rattle.explore.specs.States.{ProgramState, after, opening, played, played_from}
 use Rattle.explore.specs.Codes.{code_of, IsCoded}
 use Rattle.explore.specs.Found.{witness_at, grown, witnesses_from, witnesses, IsAt, IsFound}
-use Rattle.explore.specs.Searches.{HasKey, IsKnown, IsSearch, StaysIn, IsVisited}
+use Rattle.explore.specs.Searches.{HasKey, IsKnown, IsSearch, StaysIn, HasNumber, IsVisited}
 
 witnesses_from_more : (ws : List (List Choice)) (ns : List Node) (n : Node)
     → witnesses_from ws (ns ++ n ∷ []) ≡ grown (witnesses_from ws ns) n
@@ -122,16 +122,11 @@ search_more p keys ws queue popped key x made h leads sound coded fresh = record
         let same : made ≡ s = ap (λ (o : Option ProgramState). unwrap_or o made) (sym (get_last queue made) ∙ g) in
         subst (λ (n : ℕ). IsAt p (ws ++ x ∷ []) n s) there (rw (witness_last ws x) (leads ∙ ap Some same))
 
-pub found_last : (p : Program) (ws : List (List Choice)) (x : List Choice) (made : ProgramState)
-    → played p x ≡ Some made → IsFound p (ws ++ x ∷ []) made
-found_last p ws x made leads =
-    (length ws, (let b = length-append ws (x ∷ []) in omega (arith, b)), rw (witness_last ws x) leads)
-
--- a state whose key is there is found
-pub found_before : (p : Program) (keys : List (Vec ℕ Global)) (ws : List (List Choice)) (queue : List ProgramState) (popped k : ℕ) (code key : Vec ℕ Global) (made : ProgramState)
+-- a state has the number of its key
+pub number_of : (p : Program) (keys : List (Vec ℕ Global)) (ws : List (List Choice)) (queue : List ProgramState) (popped k : ℕ) (code key : Vec ℕ Global) (made : ProgramState)
     → IsSearch p keys ws queue popped → ((s t : ProgramState) → IsCoded s → IsCoded t → code_of s ≡ code_of t → s ≡ t) → IsCoded made → code.items ≡ code_of made
-    → slice_get keys k ≡ Some key → pointwise nat_eq code.items key.items ≡ true → IsFound p ws made
-found_before p keys ws queue popped k code key made h apart sound coded there same =
+    → slice_get keys k ≡ Some key → pointwise nat_eq code.items key.items ≡ true → HasNumber p ws k made
+number_of p keys ws queue popped k code key made h apart sound coded there same =
     let lt = slice_get_within keys k key there in
     let w = h.counted in
     let below : k < length ws = omega (arith, w, lt) in
@@ -139,7 +134,7 @@ found_before p keys ws queue popped k code key made h apart sound coded there sa
     let one : key ≡ r.1.keyed.0 = ap (λ (o : Option (Vec ℕ Global)). unwrap_or o key) (sym there ∙ r.1.keyed.1) in
     let items : code.items ≡ key.items = (bytes_eq-Decides code.items key.items).0 same in
     let codes : code_of made ≡ code_of r.0 = sym coded ∙ items ∙ ap (λ (v : Vec ℕ Global). v.items) one ∙ r.1.keyed.2 in
-    (k, below, r.1.leads ∙ ap Some (apart r.0 made r.1.coded sound (sym codes)))
+    (below, r.1.leads ∙ ap Some (apart r.0 made r.1.coded sound (sym codes)))
 
 -- a key that was not there goes last, and one that was there changes nothing
 abbrev pub is_same : Vec ℕ Global → Vec ℕ Global → Bool

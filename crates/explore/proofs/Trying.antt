@@ -2,12 +2,13 @@
 use native.Mathlib.Omega.{arith}
 use Rattle.std.proofs.Common.{◌≡◌, ◌⊎◌, inl, inr, ◌∙◌, subst, sym, ap, refl, ℕ, ◌+◌, ◌<◌, ◌≤◌, List, [], ◌∷◌, ◌++◌, length, Option, Some, None, Bool, true, false, if◌then◌else◌, not, ◌&&◌}
 use Rattle.std.specs.Option.{unwrap_or}
-use Rattle.std.proofs.lemmas.Bool.{cases_lt}
+use Rattle.std.proofs.lemmas.Bool.{cases_lt, eqb-true, eq-eqb}
+use Rattle.std.specs.Prelude.{◌==◌}
 use Rattle.explore.specs.declared.programs.Program.{Program}
 use Rattle.explore.specs.declared.programs.Choice.{Choice}
 use Rattle.explore.specs.States.{ProgramState, after, played, played_from, opening}
-use Rattle.explore.specs.Found.{witness_at, IsAt, IsFound}
-use Rattle.explore.specs.Searches.{StaysIn, AreFoundFrom, NoneOf, choice_at}
+use Rattle.explore.specs.Found.{witness_at, IsAt, IsFound, AreStates}
+use Rattle.explore.specs.Searches.{StaysIn, AreFoundFrom, NoneChanges, Changes, IsTried, HasNumber, choice_at}
 
 from_more : (p : Program) (cs : List Choice) (o : Option ProgramState) (c : Choice) (s : ProgramState) (t : Option ProgramState)
     → played_from p cs o ≡ Some s → after p s c ≡ t → played_from p (cs ++ c ∷ []) o ≡ t
@@ -38,56 +39,86 @@ pub at_stays : (p : Program) (a b : List (List Choice)) (k : ℕ) (s : ProgramSt
 at_stays p a b k s h lt e = rw (h.same k lt) e
 
 -- one choice more was tried
-pub found_next : (p : Program) (ws ws' : List (List Choice)) (s : ProgramState) (cs : List Choice) (n : ℕ) (c : Choice) (can : Bool)
-    → AreFoundFrom p ws s cs n → StaysIn ws ws' → choice_at cs n ≡ c
-    → (can ≡ true → (r : ProgramState) × (after p s c ≡ Some r) × IsFound p ws' r)
-    → (can ≡ false → after p s c ≡ None)
-    → AreFoundFrom p ws' s cs (n + 1)
-found_next p ws ws' s cs n c can found stays e made none = λ i r lt leads. pick i r lt leads (cases_lt i n)
+pub found_next : (p : Program) (ws ws' : List (List Choice)) (s : ProgramState) (cs : List Choice) (n : ℕ) (c : Choice) (changes : Bool)
+    → AreFoundFrom p ws s cs n → StaysIn ws ws' → choice_at cs n ≡ c → IsTried p ws' s c changes → AreFoundFrom p ws' s cs (n + 1)
+found_next p ws ws' s cs n c changes found stays e tried = λ i r lt leads. pick i r lt leads (cases_lt i n)
   where
-    last : (y : Bool) → can ≡ y → (r : ProgramState) → after p s c ≡ Some r → IsFound p ws' r
-    last true y r leads =
-        let m = made y in
-        let same : m.0 ≡ r = ap (λ (o : Option ProgramState). unwrap_or o r) (sym m.1 ∙ leads) in
-        subst (λ (x : ProgramState). IsFound p ws' x) same m.2
-    last false y r leads = absurd (let h = none y in cc)
     pick : (i : ℕ) (r : ProgramState) → i < n + 1 → after p s (choice_at cs i) ≡ Some r → (i < n) ⊎ (n ≤ i) → IsFound p ws' r
     pick i r lt leads (inl below) = found_stays p ws ws' r stays (found i r below leads)
     pick i r lt leads (inr past) =
         let here : i ≡ n = omega (arith, lt, past) in
         let there : choice_at cs i ≡ c = ap (λ (k : ℕ). choice_at cs k) here ∙ e in
-        last can refl r (subst (λ (x : Choice). after p s x ≡ Some r) there leads)
+        tried.found r (subst (λ (x : Choice). after p s x ≡ Some r) there leads)
 
-pub none_next : (p : Program) (s : ProgramState) (cs : List Choice) (n : ℕ) (c : Choice)
-    → NoneOf p s cs n → choice_at cs n ≡ c → after p s c ≡ None → NoneOf p s cs (n + 1)
-none_next p s cs n c before e h = λ i lt. pick i lt (cases_lt i n)
+none_next : (p : Program) (s : ProgramState) (cs : List Choice) (n : ℕ) (c : Choice)
+    → NoneChanges p s cs n → choice_at cs n ≡ c → ((t : ProgramState) → after p s c ≡ Some t → t ≡ s) → NoneChanges p s cs (n + 1)
+none_next p s cs n c before e h = λ i t lt leads. pick i t lt leads (cases_lt i n)
   where
-    pick : (i : ℕ) → i < n + 1 → (i < n) ⊎ (n ≤ i) → after p s (choice_at cs i) ≡ None
-    pick i lt (inl below) = before i below
-    pick i lt (inr past) =
+    pick : (i : ℕ) (t : ProgramState) → i < n + 1 → after p s (choice_at cs i) ≡ Some t → (i < n) ⊎ (n ≤ i) → t ≡ s
+    pick i t lt leads (inl below) = before i t below leads
+    pick i t lt leads (inr past) =
         let here : i ≡ n = omega (arith, lt, past) in
-        subst (λ (x : Choice). after p s x ≡ None) (sym (ap (λ (k : ℕ). choice_at cs k) here ∙ e)) h
+        let there : choice_at cs i ≡ c = ap (λ (k : ℕ). choice_at cs k) here ∙ e in
+        h t (subst (λ (x : Choice). after p s x ≡ Some t) there leads)
 
 pub taken : (can : Bool) (a : Option ProgramState) (x y : ProgramState) → a ≡ (if can then Some x else None)
     → can ≡ true → y ≡ x → a ≡ Some y
 taken true a x y e h g = e ∙ ap Some (sym g)
 taken false a x y e h g = absurd (cc)
 
--- where a choice can be made the state is no end any more
-pub end_next : (p : Program) (s : ProgramState) (cs : List Choice) (n : ℕ) (c : Choice) (ends can : Bool)
-    → (ends ≡ true → NoneOf p s cs n) → choice_at cs n ≡ c → (can ≡ false → after p s c ≡ None)
-    → (ends && not can) ≡ true → NoneOf p s cs (n + 1)
-end_next p s cs n c true false before e none h = none_next p s cs n c (before refl) e (none refl)
-end_next p s cs n c true true before e none h = absurd (cc)
-end_next p s cs n c false can before e none h = absurd (cc)
+-- where a choice changes the state it is no end any more
+pub end_next : (p : Program) (ws : List (List Choice)) (s : ProgramState) (cs : List Choice) (n : ℕ) (c : Choice) (ends changes : Bool)
+    → (ends ≡ true → NoneChanges p s cs n) → choice_at cs n ≡ c → IsTried p ws s c changes
+    → (ends && not changes) ≡ true → NoneChanges p s cs (n + 1)
+end_next p ws s cs n c true false before e tried h = none_next p s cs n c (before refl) e (tried.stays refl)
+end_next p ws s cs n c true true before e tried h = absurd (cc)
+end_next p ws s cs n c false changes before e tried h = absurd (cc)
 
-pub open_next : (p : Program) (ws : List (List Choice)) (s : ProgramState) (c : Choice) (ends can : Bool)
-    → (ends ≡ false → (d : Choice) × (r : ProgramState) × (after p s d ≡ Some r))
-    → (can ≡ true → (r : ProgramState) × (after p s c ≡ Some r) × IsFound p ws r)
-    → (ends && not can) ≡ false → (d : Choice) × (r : ProgramState) × (after p s d ≡ Some r)
-open_next p ws s c false can before made h = before refl
-open_next p ws s c true true before made h = let m = made refl in (c, m.0, m.1)
-open_next p ws s c true false before made h = absurd (cc)
+pub open_next : (p : Program) (ws : List (List Choice)) (s : ProgramState) (c : Choice) (ends changes : Bool)
+    → (ends ≡ false → (d : Choice) × Changes p s d) → IsTried p ws s c changes
+    → (ends && not changes) ≡ false → (d : Choice) × Changes p s d
+open_next p ws s c false changes before tried h = before refl
+open_next p ws s c true true before tried h = (c, tried.leads refl)
+open_next p ws s c true false before tried h = absurd (cc)
+
+-- a choice that cannot be made
+pub tried_none : (p : Program) (ws : List (List Choice)) (s : ProgramState) (c : Choice) → after p s c ≡ None → IsTried p ws s c false
+tried_none p ws s c h = record {
+  found = λ t e. absurd (cc);
+  leads = λ e. absurd (cc);
+  stays = λ _ t e. absurd (cc);
+}
+
+same_number : (p : Program) (ws : List (List Choice)) (j k : ℕ) (s : ProgramState) → AreStates p ws
+    → HasNumber p ws j s → HasNumber p ws k s → j ≡ k
+same_number p ws j k s states a b = by (cases_lt j k) (cases_lt k j)
+  where
+    by : (j < k) ⊎ (k ≤ j) → (k < j) ⊎ (j ≤ k) → j ≡ k
+    by (inl lt) other = absurd (states.distinct j k s lt b.0 a.1 b.1)
+    by (inr le) (inl lt) = absurd (states.distinct k j s lt a.0 b.1 a.1)
+    by (inr le) (inr ge) = omega (arith, le, ge)
+
+-- a choice that leads to the state with a number changes the state, but where the two have one number
+pub tried_some : (p : Program) (ws : List (List Choice)) (s t : ProgramState) (c : Choice) (at k : ℕ) (changes : Bool) → AreStates p ws
+    → after p s c ≡ Some t → HasNumber p ws at s → HasNumber p ws k t → changes ≡ not (k == at) → IsTried p ws s c changes
+tried_some p ws s t c at k changes states e here there said = record {
+  found = λ r h. (k, there.0, there.1 ∙ sym e ∙ h);
+  leads = λ said_so. (t, e, λ same. other said_so (same_number p ws k at s states (there.0, subst (λ (x : ProgramState). IsAt p ws k x) same there.1) here));
+  stays = λ said_no r h. sym (back r h) ∙ one (equal said_no);
+}
+  where
+    other : changes ≡ true → k ≡ at → ⊥
+    other led same = absurd (let h = eq-eqb k at same in cc)
+    equal : changes ≡ false → k ≡ at
+    equal kept = eqb-true k at (by (k == at) said)
+      where
+        by : (b : Bool) → changes ≡ not b → b ≡ true
+        by true g = refl
+        by false g = absurd (let k = kept in cc)
+    back : (r : ProgramState) → after p s c ≡ Some r → t ≡ r
+    back r h = ap (λ (o : Option ProgramState). unwrap_or o r) (sym e ∙ h)
+    one : k ≡ at → t ≡ s
+    one same = ap (λ (o : Option ProgramState). unwrap_or o s) (sym there.1 ∙ subst (λ (m : ℕ). IsAt p ws m s) (sym same) here.1)
 
 -- what cannot be made is made by no list of choices that goes on from there
 pub none_goes_on : (p : Program) (cs ds : List Choice) (c : Choice) (s : ProgramState)

@@ -1,5 +1,5 @@
 -- What a search of a program finds.
-use Rattle.std.specs.Prelude.{◌≡◌, ℕ, ◌+◌, ◌<◌, ◌≤◌, List, [], ◌∷◌, ◌++◌, length, slice_index_or, Option, Some, None}
+use Rattle.std.specs.Prelude.{◌≡◌, ℕ, ◌+◌, ◌<◌, ◌≤◌, List, [], ◌∷◌, ◌++◌, length, slice_index_or, Option, Some}
 use Rattle.explore.specs.declared.programs.Program.{Program}
 use Rattle.explore.specs.declared.programs.Choice.{Choice}
 use Rattle.explore.specs.declared.programs.Choice.TheVariants as choice
@@ -44,9 +44,10 @@ IsAt p ws k s = played p (witness_at ws k) ≡ Some s
 abbrev pub IsFound : Program → List (List Choice) → ProgramState → Type 0
 IsFound p ws s = (k : ℕ) × (k < length ws) × IsAt p ws k s
 
--- no choice can be made in this state
+-- Nothing changes this state any more: each choice that can be made leads to it again, as the load of a word that
+-- another thread holds thinly, and holds for good.
 abbrev pub IsEnd : Program → ProgramState → Type 0
-IsEnd p s = (c : Choice) → after p s c ≡ None
+IsEnd p s = (c : Choice) (t : ProgramState) → after p s c ≡ Some t → t ≡ s
 
 -- These numbers are those of the ends among the first states.
 pub record AreEnds (p : Program) (ws : List (List Choice)) (n : ℕ) (ends : List ℕ) : Type 0 where
@@ -65,7 +66,7 @@ pub record FindsAll (p : Program) (f : FoundStates) : Type 0 where
   pub states : AreStates p f.witnesses
   -- whatever choices lead to is found
   pub complete : (cs : List Choice) (s : ProgramState) → played p cs ≡ Some s → IsFound p f.witnesses s
-  -- and the ends are those in which no choice can be made
+  -- and the ends are those that no choice changes
   pub ends : AreEnds p f.witnesses (length f.witnesses) f.ends
 
 -- there are more states than this

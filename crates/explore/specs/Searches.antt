@@ -42,9 +42,23 @@ abbrev pub AreFoundFrom : Program → List (List Choice) → ProgramState → Li
 AreFoundFrom p ws s cs n =
     (i : ℕ) (s' : ProgramState) → i < n → after p s (choice_at cs i) ≡ Some s' → IsFound p ws s'
 
--- none of the first of these choices can be made in this state
-abbrev pub NoneOf : Program → ProgramState → List Choice → ℕ → Type 0
-NoneOf p s cs n = (i : ℕ) → i < n → after p s (choice_at cs i) ≡ None
+-- none of the first of these choices changes this state
+abbrev pub NoneChanges : Program → ProgramState → List Choice → ℕ → Type 0
+NoneChanges p s cs n = (i : ℕ) (t : ProgramState) → i < n → after p s (choice_at cs i) ≡ Some t → t ≡ s
+
+-- this choice leads to another state
+abbrev pub Changes : Program → ProgramState → Choice → Type 0
+Changes p s c = (t : ProgramState) × (after p s c ≡ Some t) × (t ≡ s → ⊥)
+
+-- the state has this number
+abbrev pub HasNumber : Program → List (List Choice) → ℕ → ProgramState → Type 0
+HasNumber p ws k s = (k < length ws) × IsAt p ws k s
+
+-- a choice was tried in a state, and changes it or not: where it leads is found
+pub record IsTried (p : Program) (ws : List (List Choice)) (s : ProgramState) (c : Choice) (changes : Bool) : Type 0 where
+  pub found : (t : ProgramState) → after p s c ≡ Some t → IsFound p ws t
+  pub leads : changes ≡ true → Changes p s c
+  pub stays : changes ≡ false → (t : ProgramState) → after p s c ≡ Some t → t ≡ s
 
 -- the same of every choice
 abbrev pub AllFoundFrom : Program → List (List Choice) → ProgramState → Type 0

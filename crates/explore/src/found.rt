@@ -20,7 +20,7 @@ pub struct Node {
 pub struct Found {
     // Of each state but the first.
     pub(crate) nodes: Vec<Node>,
-    // The numbers of those in which no choice can be made.
+    // The numbers of those that no choice changes.
     pub(crate) ends: Vec<u32>,
 }
 
@@ -44,7 +44,8 @@ impl Found {
         self.nodes.len() + 1
     }
 
-    /// The numbers of the states in which no choice can be made, from the lowest on.
+    /// The numbers of the states that no choice changes: none can be made, or each that can leads
+    /// to the same state again, as the load of a thin word whose owner never lets go.
     pub fn ends(&self) -> &[u32]
         ensures { result.now ≡ self.now.ends }
     {

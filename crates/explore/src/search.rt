@@ -5,7 +5,8 @@ ghost use Rattle.std.specs.Prelude.{IfErr, IfOk, OnOk};
 ghost use Rattle.explore.specs.declared.programs.Choice.{Choice};
 ghost use Rattle.explore.specs.States.{ProgramState, after, played, opening};
 ghost use Rattle.explore.specs.Found.{witnesses, witness_at, IsAt, IsFound, FindsAll, IsReason, AreParents};
-ghost use Rattle.explore.specs.Searches.{IsSearch, StaysIn, AllFoundFrom, AreFoundFrom, NoneOf, IsVisited, all_choices};
+ghost use Rattle.explore.specs.Searches.{IsSearch, StaysIn, AllFoundFrom, AreFoundFrom, NoneChanges, Changes, HasNumber,
+    IsTried, IsVisited, all_choices};
 ghost use Rattle.std.specs.Prelude.{if◌then◌else◌};
 
 use crate::codes::codes_tell_states_apart;
@@ -28,8 +29,8 @@ struct Search {
 }
 
 impl Search {
-    /// Takes in the state that a choice led to, behind the state with a number. One that was found
-    /// before is let go.
+    /// Takes in the state that a choice led to, behind the state with a number; answers the number
+    /// that it has. One that was found before is let go.
     fn add(
         &mut self,
         alloc: Global,
@@ -37,7 +38,7 @@ impl Search {
         made: State,
         parent: u32,
         choice: Choice,
-    ) -> Result<(), Memory>
+    ) -> Result<usize, Memory>
         requires search { IsSearch program.now self.old.codes.keys (witnesses self.old.nodes.items)
             self.old.queue.items (parent + 1) }
         requires leads { played program.now
@@ -46,20 +47,21 @@ impl Search {
             (witnesses self.new.nodes.items) self.new.queue.items (parent + 1)) }
         ensures stays { OnOk result (StaysIn (witnesses self.old.nodes.items)
             (witnesses self.new.nodes.items)) }
-        ensures found { OnOk result (IsFound program.now (witnesses self.new.nodes.items) made) }
+        ensures found { IfOk result (λ k.
+            HasNumber program.now (witnesses self.new.nodes.items) k made) }
     {
         codes_tell_states_apart();
         let code = made.code(alloc)?;
-        let (_, is_new) = self.codes.insert_full(code)?;
+        let (number, is_new) = self.codes.insert_full(code)?;
         if is_new {
             self.nodes.push(Node { parent, choice })?;
             self.queue.push_back(made)?;
         }
-        Ok(())
+        Ok(number)
     }
 
-    /// Tries a choice in a state, the one with a number; answers whether it can be made. `next` is
-    /// that state, and is so again.
+    /// Tries a choice in a state, the one with a number; answers whether it changes the state.
+    /// `next` is that state, and is so again.
     fn try_choice(
         &mut self,
         alloc: Global,
@@ -78,21 +80,18 @@ impl Search {
         ensures stays { OnOk result (StaysIn (witnesses self.old.nodes.items)
             (witnesses self.new.nodes.items)) }
         ensures next { OnOk result (next.new ≡ state.now) }
-        ensures made { IfOk result (λ yes. yes ≡ true → (s : ProgramState)
-            × (after program.now state.now choice ≡ Some s)
-            × IsFound program.now (witnesses self.new.nodes.items) s) }
-        ensures none { IfOk result (λ yes. yes ≡ false
-            → after program.now state.now choice ≡ None) }
+        ensures tried { IfOk result (IsTried program.now (witnesses self.new.nodes.items) state.now
+            choice) }
     {
         if !next.make(program, choice)? {
             return Ok(false);
         }
         let made = mem::replace(next, state.clone()?);
-        self.add(alloc, program, made, at, choice)?;
-        Ok(true)
+        let number = self.add(alloc, program, made, at, choice)?;
+        Ok(number != at as usize)
     }
 
-    /// Tries every choice in a state, the one with a number; answers whether none can be made.
+    /// Tries every choice in a state, the one with a number; answers whether none changes it.
     fn expand(
         &mut self,
         alloc: Global,
@@ -111,15 +110,15 @@ impl Search {
         ensures found { OnOk result (AreFoundFrom program.now (witnesses self.new.nodes.items)
             state.now choices.now (length choices.now)) }
         ensures end { IfOk result (λ end. end ≡ true
-            → NoneOf program.now state.now choices.now (length choices.now)) }
-        ensures open { IfOk result (λ end. end ≡ false → (c : Choice) × (s : ProgramState)
-            × (after program.now state.now c ≡ Some s)) }
+            → NoneChanges program.now state.now choices.now (length choices.now)) }
+        ensures open { IfOk result (λ end. end ≡ false
+            → (c : Choice) × Changes program.now state.now c) }
     {
         let mut is_end = true;
         let mut next = state.clone()?;
         'choosing: for choice in choices {
-            let can = self.try_choice(alloc, program, state, &mut next, at, *choice)?;
-            is_end &= !can;
+            let changes = self.try_choice(alloc, program, state, &mut next, at, *choice)?;
+            is_end &= !changes;
         }
         Ok(is_end)
     }

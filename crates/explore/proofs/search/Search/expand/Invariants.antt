@@ -1,8 +1,7 @@
-use Rattle.std.proofs.Common.{◌≡◌, ◌+◌, Some, true, false}
+use Rattle.std.proofs.Common.{◌≡◌, ◌+◌, true, false}
 use Rattle.explore.specs.declared.programs.Choice.{Choice}
-use Rattle.explore.specs.States.{ProgramState, after}
 use Rattle.explore.specs.Found.{witnesses}
-use Rattle.explore.specs.Searches.{IsSearch, StaysIn, AreFoundFrom, NoneOf}
+use Rattle.explore.specs.Searches.{IsSearch, StaysIn, AreFoundFrom, NoneChanges, Changes}
 use Rattle.explore.proofs.search.Search.expand.Given as goal
 
 abbrev pub invariant-choosing : goal.invariant-choosing
@@ -11,6 +10,6 @@ invariant-choosing l = record {
   stays : StaysIn (witnesses l.fn.self.nodes.items) (witnesses l.self.nodes.items);
   next : l.next ≡ l.state;
   found : AreFoundFrom l.program (witnesses l.self.nodes.items) l.state l.choices l.choice-index;
-  none : l.is_end ≡ true → NoneOf l.program l.state l.choices l.choice-index;
-  some : l.is_end ≡ false → (c : Choice) × (s : ProgramState) × (after l.program l.state c ≡ Some s);
+  none : l.is_end ≡ true → NoneChanges l.program l.state l.choices l.choice-index;
+  some : l.is_end ≡ false → (c : Choice) × Changes l.program l.state c;
 }
