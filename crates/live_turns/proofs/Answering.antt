@@ -14,7 +14,7 @@ use Rattle.fat_monitor.specs.declared.actions.Reply.{Reply}
 use Rattle.fat_monitor.specs.declared.actions.Reply.TheVariants as reply
 use Rattle.fat_monitor.specs.declared.actions.Post.{Post}
 use Rattle.fat_monitor.specs.declared.actions.Post.TheVariants.{Out, Entering, Waiting, Back, Granted}
-use Rattle.fat_monitor.specs.FatState.{FatState, IsProper, post_of, post_at, monitor_at, flag_at, flag_of, is_owned_by}
+use Rattle.fat_monitor.specs.FatState.{FatState, IsProper, post_of, monitor_at, flag_at, flag_of, is_owned_by}
 use Rattle.fat_monitor.specs.Acting.{Outcome, outcome_of, by_owner, enter_outcome, exit_outcome, wait_outcome, notify_outcome, interrupt_outcome, flag_outcome, collect_outcome, replies, are_good}
 use Rattle.fat_monitor.specs.Replies.{yes_or_no}
 use Rattle.fast_path.specs.declared.calls.Operation.{Operation}

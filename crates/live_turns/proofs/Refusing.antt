@@ -1,5 +1,5 @@
 -- For what a live call may still be refused, from each point of its path on.
-use Rattle.std.specs.Prelude.{◌≡◌, ◌⊎◌, ℕ, ◌+◌, ◌-◌, ◌==◌, Bool, true, false, nat_lt, List, [], ◌∷◌, Result, Ok, Err, IfOk}
+use Rattle.std.specs.Prelude.{◌≡◌, ◌⊎◌, ℕ, ◌==◌, Bool, true, false, nat_lt, List, [], ◌∷◌, Result, Ok, Err, IfOk}
 use Rattle.std.proofs.Common.{refl, inl, inr, sym, ap, subst}
 use Rattle.std.proofs.lemmas.Bool.{cond_both}
 use Rattle.lock_word.specs.declared.ObjectId.{ObjectId}

@@ -11,7 +11,6 @@ use Rattle.fat_monitor.specs.declared.actions.Answer.{Answer}
 use Rattle.fat_monitor.specs.declared.actions.Answer.TheVariants as answer
 use Rattle.fat_monitor.specs.declared.actions.Cause.{Cause}
 use Rattle.fat_monitor.specs.declared.actions.Cause.TheVariants as cause
-use Rattle.fat_monitor.specs.declared.actions.Reply.{Reply}
 use Rattle.fat_monitor.specs.declared.actions.Reply.TheVariants as reply
 use Rattle.header_words.specs.WideWords.{lock_of}
 use Rattle.header_words.specs.declared.event.Event.{Event}
