@@ -50,6 +50,7 @@ TESTS = {
             "a_refused_dump_succeeds_when_tried_again",
             "a_refused_check_succeeds_when_tried_again",
             "a_refused_check_of_escapes_succeeds_when_tried_again",
+            "a_refused_check_of_a_crowd_succeeds_when_tried_again",
             "a_refused_live_run_succeeds_when_tried_again",
             "a_refused_print_succeeds_when_tried_again",
             "refused_words_are_read_when_tried_again",

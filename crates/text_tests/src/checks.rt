@@ -17,7 +17,7 @@ const ENTERS: &[u8] = b"{\"objects\":1}
 ";
 
 /// The same, but it locks twice: line 5 is not lawful, and line 7 is no line of a history.
-const LOCKS_TWICE: &[u8] = b"{\"objects\":1}
+pub(crate) const LOCKS_TWICE: &[u8] = b"{\"objects\":1}
 {\"move\":\"Attach\",\"thread\":0}
 {\"call\":\"Enter\",\"move\":\"Call\",\"object\":0,\"thread\":0}
 {\"move\":\"Lock\",\"thread\":0}

@@ -1,7 +1,7 @@
 //! Tests of what reads and writes texts: the moves of histories (`moves`), their checks (`checks`),
 //! dumps (`dumps`), the words of the command line (`words`), the lines of a script (`lines`) and
-//! its first bad one (`bad_lines`); readers and writers that fail (`streams`, `histories`), and
-//! want of memory (`memory`).
+//! its first bad one (`bad_lines`); readers and writers that fail (`streams`, `histories`) or
+//! do not (`ends`), and want of memory (`memory`).
 #![tactic(auto)]
 
 #[cfg(test)]
@@ -10,6 +10,8 @@ mod bad_lines;
 mod checks;
 #[cfg(test)]
 mod dumps;
+#[cfg(test)]
+mod ends;
 #[cfg(test)]
 mod histories;
 #[cfg(test)]

@@ -18,10 +18,28 @@ use std::sync::Wait;
 use std::test::Fail;
 use std::thread::Threads;
 use std::time::Clock;
-use step_core::{Call, Move, ObjectId, ThreadId, World};
+use step_core::{Call, Move, ObjectId, Reply, ThreadId, World};
+
+macro_rules! calls {
+    ($thread:expr, $call:expr) => {
+        Move::Call {
+            thread: $thread,
+            call: $call,
+        }
+    };
+}
+
+macro_rules! returns {
+    ($thread:expr, $reply:expr) => {
+        Move::Return {
+            thread: $thread,
+            reply: $reply,
+        }
+    };
+}
 
 /// Two threads that want each other's object.
-const CYCLE: &[u8] = b"world 0 2
+pub(crate) const CYCLE: &[u8] = b"world 0 2
 object a 00
 object b 00
 attach x
@@ -36,14 +54,15 @@ begin x enter b
 begin y enter a
 ";
 
-const CYCLE_DUMP: &[u8] = b"thread x index 1 wants enter b flag no
+pub(crate) const CYCLE_DUMP: &[u8] = b"thread x index 1 wants enter b flag no
 thread y index 2 wants enter a flag no
 cycle x y
 ";
 
-const LIVE: &[u8] = b"world 1 1\nobject a 00\nattach x\nbegin x enter a\nbegin x exit a\n";
+pub(crate) const LIVE: &[u8] =
+    b"world 1 1\nobject a 00\nattach x\nbegin x enter a\nbegin x exit a\n";
 
-const LIVE_TEXT: &[u8] = b"thread x Entered Exited\nobject a 00000000\nactions 0\n";
+pub(crate) const LIVE_TEXT: &[u8] = b"thread x Entered Exited\nobject a 00000000\nactions 0\n";
 
 /// Whether a call wrote the right text whole. Where it did not, it was refused memory, and wrote
 /// nothing; or the writer was, which has a front of the text.
@@ -122,6 +141,105 @@ fn checks_escapes(rt: &impl Abort, alloc: Global) -> bool {
 #[test]
 fn a_refused_check_of_escapes_succeeds_when_tried_again(rt: HostRuntime) {
     assert!(rt; checks_escapes(&rt, rt.alloc()) || checks_escapes(&rt, rt.alloc()));
+}
+
+/// How many threads of a crowd wait. Their machine asks for more memory several times, and gives
+/// some back while they end.
+const CROWD: u32 = 100;
+
+/// A thread comes, enters the object and waits.
+fn comes(thread: ThreadId) -> [Move; 6] {
+    let object = ObjectId(0);
+    let wait = Call::Wait {
+        object,
+        millis: 0,
+        nanos: 0,
+    };
+    [
+        Move::Attach { thread },
+        calls!(thread, Call::Enter(object)),
+        Move::Lock { thread },
+        returns!(thread, Reply::Entered),
+        calls!(thread, wait),
+        Move::Wait { thread },
+    ]
+}
+
+/// A thread comes, enters the object, notifies all who wait, and exits.
+fn notifies(thread: ThreadId) -> [Move; 10] {
+    let object = ObjectId(0);
+    [
+        Move::Attach { thread },
+        calls!(thread, Call::Enter(object)),
+        Move::Lock { thread },
+        returns!(thread, Reply::Entered),
+        calls!(thread, Call::NotifyAll(object)),
+        Move::NotifyAll { thread },
+        returns!(thread, Reply::Notified),
+        calls!(thread, Call::Exit(object)),
+        Move::Unlock { thread },
+        returns!(thread, Reply::Exited),
+    ]
+}
+
+/// A thread comes back from its wait, exits and ends.
+fn goes(thread: ThreadId) -> [Move; 8] {
+    [
+        Move::Relock { thread },
+        returns!(thread, Reply::WaitOver),
+        calls!(thread, Call::Exit(ObjectId(0))),
+        Move::Unlock { thread },
+        returns!(thread, Reply::Exited),
+        calls!(thread, Call::End),
+        Move::End { thread },
+        returns!(thread, Reply::Ended),
+    ]
+}
+
+/// Adds a line for each move.
+fn push_moves(history: &mut Vec<u8>, moves: &[Move]) -> Result<(), Memory> {
+    for made in moves {
+        push_move(history, made)?;
+        history.push(b'\n')?;
+    }
+    Ok(())
+}
+
+/// The history of a crowd that comes to wait, and of the thread that notifies it.
+fn waiting_crowd(alloc: Global) -> Result<Vec<u8>, Memory> {
+    let mut history = Vec::new(alloc);
+    history.extend_from_slice(b"{\"objects\":1}\n")?;
+    for index in 0..CROWD {
+        push_moves(&mut history, &comes(ThreadId(index)))?;
+    }
+    push_moves(&mut history, &notifies(ThreadId(CROWD)))?;
+    Ok(history)
+}
+
+/// The same, and of the crowd that goes.
+fn whole_crowd(alloc: Global) -> Result<Vec<u8>, Memory> {
+    let mut history = waiting_crowd(alloc)?;
+    for index in 0..CROWD {
+        push_moves(&mut history, &goes(ThreadId(index)))?;
+    }
+    Ok(history)
+}
+
+fn checks_crowd(rt: &impl Abort, alloc: Global, history: &[u8]) -> bool {
+    let mut sink = WriterSink::new(Vec::new(alloc));
+    let outcome = replay(alloc, &mut ReaderSource::new(history), &mut sink);
+    is_written(rt, outcome, sink, b"run of 1410 moves\n")
+}
+
+#[test]
+fn a_refused_check_of_a_crowd_succeeds_when_tried_again(rt: HostRuntime) -> Result<(), Fail> {
+    let alloc = rt.alloc();
+    let history = match whole_crowd(alloc) {
+        Ok(history) => history,
+        Err(Memory) => whole_crowd(alloc)?,
+    };
+    assert!(rt; checks_crowd(&rt, alloc, &history) || checks_crowd(&rt, alloc, &history));
+    Ok(())
 }
 
 fn lives<R: Threads + Wait + Clock + Sync + Abort>(rt: &R, alloc: Global) -> bool {

@@ -1,12 +1,12 @@
 //! What no script shows: readers and writers that fail.
 
 use super::memory::tells_moves;
-use super::pieces::{PiecesReader, Then};
+use super::pieces::{FullWriter, PiecesReader, Then};
 use super::words::assert_told;
 use history::{FileFault, ReaderSource, WriterSink, run};
 use std::alloc::Global;
 use std::io;
-use std::io::{ErrorKind, Read, Write};
+use std::io::Read;
 use std::process::Abort;
 use std::test::Fail;
 
@@ -29,36 +29,6 @@ struct EndlessReader;
 impl Read for EndlessReader {
     fn read(&mut self, buf: &mut [u8]) -> io::Result<usize> {
         Ok(buf.len())
-    }
-}
-
-/// Takes a byte at a time, until it has no more room.
-#[derive(Drop)]
-struct FullWriter {
-    taken: Vec<u8>,
-    room: usize,
-    /// Whether it answers with no byte, and not with an error, where it has no room.
-    is_silent: bool,
-}
-
-impl Write for FullWriter {
-    fn write(&mut self, buf: &[u8]) -> io::Result<usize> {
-        if self.taken.len() >= self.room {
-            return if self.is_silent {
-                Ok(0)
-            } else {
-                Err(io::Error::from(ErrorKind::StorageFull))
-            };
-        }
-        let Some(first) = buf.first() else {
-            return Ok(0);
-        };
-        self.taken.push(*first)?;
-        Ok(1)
-    }
-
-    fn flush(&mut self) -> io::Result<()> {
-        Ok(())
     }
 }
 
@@ -100,11 +70,7 @@ fn readers_that_give_a_little(rt: HostRuntime) {
 
 /// Writes a report with room for so many of its bytes, which are taken.
 fn assert_fills(rt: &impl Abort, alloc: Global, room: usize, is_silent: bool) {
-    let mut sink = WriterSink::new(FullWriter {
-        taken: Vec::new(alloc),
-        room,
-        is_silent,
-    });
+    let mut sink = WriterSink::new(FullWriter::new(alloc, room, is_silent));
     let outcome = run(alloc, &mut ReaderSource::new(SCRIPT), &mut sink);
     let wanted = if room == REPORT.len() {
         Ok(())
