@@ -1,4 +1,4 @@
--- The bytes that state for a state.
+-- The bytes that stand for a state.
 use Rattle.std.specs.Prelude.{ℕ, ◌+◌, ◌<◌, ◌^◌, nat_lt, if◌then◌else◌, List, [], ◌∷◌, ◌++◌, length, map, Option, Some, None}
 use Rattle.std.specs.Int.{w64, to_le_bytes}
 use Rattle.fat_monitor.specs.declared.actions.Reply.{Reply}

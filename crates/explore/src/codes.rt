@@ -1,4 +1,4 @@
-//! The bytes that state for a state.
+//! The bytes that stand for a state.
 
 ghost use Rattle.std.specs.Prelude.{◌≡◌, ◌++◌, length, map, if◌then◌else◌, OnOk, IfOk};
 ghost use Rattle.explore.specs.States.{ProgramState};

@@ -69,7 +69,28 @@ impl State {
         })
     }
 
-    /// The bytes that state for the state, and for no other.
+    /// Its world.
+    pub fn world(&self) -> &World
+        ensures { result.now ≡ self.now.world }
+    {
+        &self.world
+    }
+
+    /// The reply of each call of the program; None where it has none yet.
+    pub fn replies(&self) -> &[Option<Reply>]
+        ensures { result.now ≡ self.now.replies }
+    {
+        &self.replies
+    }
+
+    /// How many moments the clock has told.
+    pub fn told(&self) -> usize
+        ensures { result ≡ self.now.told }
+    {
+        self.told
+    }
+
+    /// The bytes that stand for the state, and for no other.
     pub(crate) fn code(&self, alloc: Global) -> Result<Vec<u8>, Memory>
         ensures code { IfOk result (λ code. code.items ≡ code_of self.now) }
         ensures coded { OnOk result (IsCoded self.now) }
