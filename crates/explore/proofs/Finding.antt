@@ -15,7 +15,7 @@ use Rattle.explore.specs.declared.programs.Program.{Program}
 use Rattle.explore.specs.declared.programs.Choice.{Choice}
 use Rattle.explore.specs.declared.programs.Choice.TheVariants as choice
 use Rattle.explore.specs.declared.found.Node.{Node}
-use Rattle.explore.specs.States.{ProgramState, after, after_step, step_for, step_at, step_of_thread, played, played_from, opening}
+use Rattle.explore.specs.States.{ProgramState, after, after_step, step_at, step_of_thread, played, played_from, opening}
 use Rattle.explore.specs.Found.{witness_at, witnesses, witnesses_from, grown, IsAt, IsFound, IsEnd, AreEnds, AreStates, AreParents, FindsAll, HasMore, node_at}
 use Rattle.explore.specs.Codes.{code_of}
 use Rattle.explore.specs.Searches.{IsSearch, StaysIn, IsClosed, IsVisited, AreFoundFrom, AllFoundFrom, NoneChanges, Changes, choice_at, choices_for, choices_below, all_choices}
@@ -106,8 +106,8 @@ pub ends_stay : (p : Program) (a b : List (List Choice)) (n : ℕ) (ends : List 
     → AreEnds p a n ends → StaysIn a b → n < length a → IsAt p a n s → (IsEnd p s → ⊥) → AreEnds p b (n + 1) ends
 ends_stay p a b n ends s h stays lt here not_end = record {
   each = λ i within.
-    let e = h.each i within in
-    (e.0, at_stays p a b (slice_index_or ends i 0) e.0 stays (let x = e.3 in omega (arith, x, lt)) e.1, e.2, (let x = e.3 in omega (arith, x)));
+      let e = h.each i within in
+      (e.0, at_stays p a b (slice_index_or ends i 0) e.0 stays (let x = e.3 in omega (arith, x, lt)) e.1, e.2, (let x = e.3 in omega (arith, x)));
   every = λ k r below leads end. pick k r below leads end (cases_lt k n);
 }
   where
@@ -142,6 +142,7 @@ ends_more p a b n ends s h stays lt here is = record {
         let here_i : i ≡ length ends = omega (arith, l, within, past) in
         let same : slice_index_or (ends ++ n ∷ []) i 0 ≡ n = ap (λ (k : ℕ). slice_index_or (ends ++ n ∷ []) k 0) here_i ∙ get_or-append_seam ends n [] 0 in
         rw same (s, at_stays p a b n s stays lt here, is, omega arith)
+
     pick : (k : ℕ) (r : ProgramState) → k < n + 1 → IsAt p b k r → IsEnd p r → (k < n) ⊎ (n ≤ k)
         → (i : ℕ) × (i < length (ends ++ n ∷ [])) × (slice_index_or (ends ++ n ∷ []) i 0 ≡ k)
     pick k r below leads end (inl before) =
@@ -164,8 +165,8 @@ popped p keys ws queue rest n s h e = record {
   known = h.known;
   distinct = h.distinct;
   queued = λ j r leads.
-    let here : IsAt p ws (n + suc j) r = h.queued (suc j) r (rw e leads) in
-    subst (λ (m : ℕ). IsAt p ws m r) (omega arith) here;
+      let here : IsAt p ws (n + suc j) r = h.queued (suc j) r (rw e leads) in
+      subst (λ (m : ℕ). IsAt p ws m r) (omega arith) here;
 }
 
 pub first_here : (p : Program) (keys : List (Vec ℕ Global)) (ws : List (List Choice)) (queue rest : List ProgramState) (n : ℕ) (s : ProgramState)
@@ -193,7 +194,7 @@ visited_next p keys keys' ws ws' queue rest queue' ends ends' n s cs end v e all
     record {
       search = search;
       closed = closed_next p ws ws' n s v.closed stays lt here
-        (all_found p ws' s (subst (λ (xs : List Choice). AreFoundFrom p ws' s xs (length xs)) all found));
+          (all_found p ws' s (subst (λ (xs : List Choice). AreFoundFrom p ws' s xs (length xs)) all found));
       noted = by end none some noted lt here;
     }
   where
@@ -202,10 +203,10 @@ visited_next p keys keys' ws ws' queue rest queue' ends ends' n s cs end v e all
         → ends' ≡ (if end then ends ++ n ∷ [] else ends) → n < length ws → IsAt p ws n s → AreEnds p ws' (n + 1) ends'
     by true none some noted lt here =
         rw noted (ends_more p ws ws' n ends s v.noted stays lt here
-          (is_end p s (subst (λ (xs : List Choice). NoneChanges p s xs (length xs)) all (none refl))))
+        (is_end p s (subst (λ (xs : List Choice). NoneChanges p s xs (length xs)) all (none refl))))
     by false none some noted lt here =
         rw noted (ends_stay p ws ws' n ends s v.noted stays lt here
-          (λ is. let o = some refl in o.1.2 (is o.0 o.1.0 o.1.1)))
+        (λ is. let o = some refl in o.1.2 (is o.0 o.1.0 o.1.1)))
 
 -- ---- found in the end
 
@@ -235,12 +236,12 @@ pub are_states : (p : Program) (keys : List (Vec ℕ Global)) (ws : List (List C
 are_states p keys ws queue n h = record {
   sound = λ k lt. (let r = h.known k lt in (r.0, r.1.leads));
   distinct = λ j k s below lt a b.
-    let x = h.known j (omega (arith, below, lt)) in
-    let y = h.known k lt in
-    let xs : x.0 ≡ s = ap (λ (o : Option ProgramState). unwrap_or o s) (sym x.1.leads ∙ a) in
-    let ys : y.0 ≡ s = ap (λ (o : Option ProgramState). unwrap_or o s) (sym y.1.leads ∙ b) in
-    let codes : code_of x.0 ≡ code_of y.0 = ap (λ (r : ProgramState). code_of r) (xs ∙ sym ys) in
-    h.distinct j k x.1.keyed.0 y.1.keyed.0 below x.1.keyed.1 y.1.keyed.1 (x.1.keyed.2 ∙ codes ∙ sym y.1.keyed.2);
+      let x = h.known j (omega (arith, below, lt)) in
+      let y = h.known k lt in
+      let xs : x.0 ≡ s = ap (λ (o : Option ProgramState). unwrap_or o s) (sym x.1.leads ∙ a) in
+      let ys : y.0 ≡ s = ap (λ (o : Option ProgramState). unwrap_or o s) (sym y.1.leads ∙ b) in
+      let codes : code_of x.0 ≡ code_of y.0 = ap (λ (r : ProgramState). code_of r) (xs ∙ sym ys) in
+      h.distinct j k x.1.keyed.0 y.1.keyed.0 below x.1.keyed.1 y.1.keyed.1 (x.1.keyed.2 ∙ codes ∙ sym y.1.keyed.2);
 }
 
 -- more states were found than were visited, while some wait
@@ -262,7 +263,7 @@ finds_all p keys ns ends n v =
     record {
       states = are_states p keys ws [] n v.search;
       complete = λ cs s e. complete_from p ws n v.closed all cs (opening p) s
-        (0, omega (arith, x), ap (λ (c : List Choice). played p c) (first.same 0 (omega arith))) e;
+          (0, omega (arith, x), ap (λ (c : List Choice). played p c) (first.same 0 (omega arith))) e;
       ends = subst (λ (m : ℕ). AreEnds p ws m ends) all v.noted;
     }
 
@@ -285,9 +286,9 @@ back_from ws (n ∷ ns) zero lt below =
     let stays = first_stays (grown ws n) ns in
     let l = length-append ws ((witness_at ws n.parent ++ n.choice ∷ []) ∷ []) in
     let p : witness_at (witnesses_from (grown ws n) ns) n.parent ≡ witness_at ws n.parent =
-      stays.same n.parent (omega (arith, l, below)) ∙ witness_before ws _ n.parent (omega (arith, below)) in
+    stays.same n.parent (omega (arith, l, below)) ∙ witness_before ws _ n.parent (omega (arith, below)) in
     let q : witness_at (witnesses_from (grown ws n) ns) (length ws) ≡ witness_at ws n.parent ++ n.choice ∷ [] =
-      stays.same (length ws) (omega (arith, l)) ∙ witness_last ws _ in
+    stays.same (length ws) (omega (arith, l)) ∙ witness_last ws _ in
     let z : length ws + 0 ≡ length ws = omega arith in
     rw z (q ∙ ap (λ (cs : List Choice). cs ++ n.choice ∷ []) (sym p))
 back_from ws (n ∷ ns) (suc k) lt below =
@@ -337,13 +338,15 @@ walked ns at node cs all parents some within e h =
     let below : (node_at ns (at - 1)).parent ≤ at - 1 = parents (at - 1) lt in
     let p : node.parent ≡ (node_at ns (at - 1)).parent = ap (λ (n : Node). n.parent) same in
     let back : witness_at (witnesses ns) (at - 1 + 1) ≡ witness_at (witnesses ns) node.parent ++ node.choice ∷ [] =
-      rw same (witness_back ns (at - 1) parents lt) in
+    rw same (witness_back ns (at - 1) parents lt) in
     let here : witness_at (witnesses ns) at ≡ witness_at (witnesses ns) node.parent ++ node.choice ∷ [] =
-      subst (λ (k : ℕ). witness_at (witnesses ns) k ≡ witness_at (witnesses ns) node.parent ++ node.choice ∷ []) one back in
-    (omega (arith, below, p, some), omega (arith, below, p, some, within),
-     h ∙ ap (λ (ys : List Choice). ys ++ reverse cs) here
-     ∙ append_assoc (witness_at (witnesses ns) node.parent) (node.choice ∷ []) (reverse cs)
-     ∙ ap (λ (ys : List Choice). witness_at (witnesses ns) node.parent ++ ys) (sym (reverse-append cs (node.choice ∷ []))))
+    subst (λ (k : ℕ). witness_at (witnesses ns) k ≡ witness_at (witnesses ns) node.parent ++ node.choice ∷ []) one back in (
+      omega (arith, below, p, some),
+      omega (arith, below, p, some, within),
+      h ∙ ap (λ (ys : List Choice). ys ++ reverse cs) here
+          ∙ append_assoc (witness_at (witnesses ns) node.parent) (node.choice ∷ []) (reverse cs)
+          ∙ ap (λ (ys : List Choice). witness_at (witnesses ns) node.parent ++ ys) (sym (reverse-append cs (node.choice ∷ []))),
+    )
 
 -- the state that was popped last has a number
 pub within_search : (p : Program) (keys : List (Vec ℕ Global)) (ws : List (List Choice)) (queue : List ProgramState) (at : ℕ)

@@ -1,8 +1,7 @@
 -- A step that asks for memory and does not tell that there is none is the step with memory granted.
 use native.Mathlib.Omega.{arith}
-use Rattle.std.proofs.Common.{◌≡◌, ℕ, ◌+◌, Bool, true, false, if◌then◌else◌, nat_lt, length, Option, Some, None, Ok, Err, refl, sym, ap, rules, add-one}
+use Rattle.std.proofs.Common.{◌≡◌, ℕ, ◌+◌, Bool, true, false, if◌then◌else◌, nat_lt, length, Option, Some, None, Ok, refl, sym, ap, add-one}
 use Rattle.lock_word.specs.declared.ThreadId.{ThreadId}
-use Rattle.fat_monitor.specs.declared.actions.Cause.{Cause}
 use Rattle.fat_monitor.specs.declared.actions.Cause.TheVariants as cause
 use Rattle.fast_path.specs.declared.calls.MonitorCall.{MonitorCall}
 use Rattle.thread_index.specs.Indices.{berth_of, free_berth}
@@ -14,8 +13,8 @@ use Rattle.step_core.specs.declared.steps.Did.{Did}
 use Rattle.step_core.specs.declared.steps.Step.{Step}
 use Rattle.step_core.specs.declared.steps.Step.TheVariants as step
 use Rattle.step_core.specs.World.{WorldState, place_at}
-use Rattle.step_core.specs.Go.{after_stage, after_bind, with_go, AfterGo, entering}
-use Rattle.step_core.specs.Step.{AfterStep, accept, refuse, step_of, after_attach, after_go, after_go_at}
+use Rattle.step_core.specs.Go.{after_bind, with_go, entering}
+use Rattle.step_core.specs.Step.{AfterStep, accept, step_of, after_attach, after_go, after_go_at}
 use Rattle.explore.specs.declared.programs.Program.{Program}
 use Rattle.explore.specs.declared.programs.Choice.{Choice}
 use Rattle.explore.specs.States.{ProgramState, thread_of, attached, step_for, after, after_answer, moved, replied, chosen}
@@ -25,10 +24,9 @@ use Rattle.explore.specs.Wants.{wants_memory}
 abbrev pub IsSameBut : AfterStep → AfterStep → Type 0
 IsSameBut x y = (d : Did) → x.answer ≡ Ok d → wants_memory d.atomic ≡ false → x ≡ y
 
-
 bind_same : (w : WorldState) (k : ℕ) (t : ThreadId) (c : MonitorCall) (won : Bool) (n : ℕ) (b : Bool)
     → IsSameBut (accept (with_go w k (after_bind w t c won n (if b then Some cause.Memory else Some cause.NoMonitor))) (after_bind w t c won n (if b then Some cause.Memory else Some cause.NoMonitor)).did)
-      (accept (with_go w k (after_bind w t c won n (if b then None else Some cause.NoMonitor))) (after_bind w t c won n (if b then None else Some cause.NoMonitor)).did)
+    (accept (with_go w k (after_bind w t c won n (if b then None else Some cause.NoMonitor))) (after_bind w t c won n (if b then None else Some cause.NoMonitor)).did)
 bind_same w k t c true n true = λ d e h. absurd (grind (arith, e, h))
 bind_same w k t c false n true = λ d e h. absurd (grind (arith, e, h))
 bind_same w k t c won n false = λ d e h. refl

@@ -2,25 +2,24 @@
 use native.Mathlib.Omega.{arith}
 use Rattle.std.proofs.lemmas.Bool.{cases_lt}
 use Rattle.std.proofs.lemmas.Slice.Eq.{bytes_eq-Decides}
-use Rattle.std.proofs.Common.{◌≡◌, ◌⊎◌, inl, inr, subst, ◌∙◌, ℕ, ◌+◌, ◌<◌, ◌≤◌, List, [], ◌∷◌, ◌++◌, length, Option, Some, None, Vec, refl, sym, ap, rules, length-append}
+use Rattle.std.proofs.Common.{◌≡◌, ◌⊎◌, inl, inr, subst, ◌∙◌, ℕ, ◌+◌, ◌<◌, ◌≤◌, List, [], ◌∷◌, ◌++◌, length, Option, Some, Vec, refl, sym, ap, length-append}
 use Rattle.std.proofs.lemmas.List.{get_or_append_left}
 use Rattle.std.specs.Option.{unwrap_or}
 use Rattle.std.specs.List.{list_any}
 use Rattle.std.specs.Prelude.{zero, suc, Bool, false, not, ◌||◌, if◌then◌else◌}
 use Rattle.indexmap.specs.IndexSet.{insert_key}
-use Rattle.std.specs.Prelude.{slice_get, slice_index_or, nat_eq, true}
+use Rattle.std.specs.Prelude.{slice_get, nat_eq, true}
 use Rattle.std.specs.Global.{Global}
 use Rattle.std.specs.Cmp.Lexicographic.{pointwise}
 use Rattle.std.proofs.Math.Seq.{get_or-append_seam}
-use Rattle.std.proofs.lemmas.Option.{slice_get-get_or, slice_get_within, slice_get_past, get_or_from_slice_get}
-use Rattle.std.proofs.lemmas.Grind.{common_steps}
+use Rattle.std.proofs.lemmas.Option.{slice_get-get_or, slice_get_within, get_or_from_slice_get}
 use Rattle.explore.specs.declared.programs.Program.{Program}
 use Rattle.explore.specs.declared.programs.Choice.{Choice}
 use Rattle.explore.specs.declared.found.Node.{Node}
-use Rattle.explore.specs.States.{ProgramState, after, opening, played, played_from}
+use Rattle.explore.specs.States.{ProgramState, opening, played}
 use Rattle.explore.specs.Codes.{code_of, IsCoded}
-use Rattle.explore.specs.Found.{witness_at, grown, witnesses_from, witnesses, IsAt, IsFound}
-use Rattle.explore.specs.Searches.{HasKey, IsKnown, IsSearch, StaysIn, HasNumber, IsVisited}
+use Rattle.explore.specs.Found.{witness_at, grown, witnesses_from, witnesses, IsAt}
+use Rattle.explore.specs.Searches.{IsKnown, IsSearch, StaysIn, HasNumber, IsVisited}
 
 witnesses_from_more : (ws : List (List Choice)) (ns : List Node) (n : Node)
     → witnesses_from ws (ns ++ n ∷ []) ≡ grown (witnesses_from ws ns) n
@@ -96,6 +95,7 @@ search_more p keys ws queue popped key x made h leads sound coded fresh = record
         let b = length-append ws (x ∷ []) in
         let e : length ws ≡ k = omega (arith, b, lt, past) in
         subst (λ (n : ℕ). (s : ProgramState) × IsKnown p (keys ++ key ∷ []) (ws ++ x ∷ []) n s) e (made, known_last p keys ws key x made h.counted leads sound coded)
+
     apart_at : (j k : ℕ) (y z : Vec ℕ Global) → j < k → slice_get (keys ++ key ∷ []) j ≡ Some y → slice_get (keys ++ key ∷ []) k ≡ Some z
         → y.items ≡ z.items → (k < length keys) ⊎ (length keys ≤ k) → ⊥
     apart_at j k y z lt a b e (inl below) = h.distinct j k y z lt (get_old keys key j y (omega (arith, lt, below)) a) (get_old keys key k z below b) e
@@ -106,6 +106,7 @@ search_more p keys ws queue popped key x made h leads sound coded fresh = record
         let last : slice_get (keys ++ key ∷ []) (length keys) ≡ Some z = subst (λ (n : ℕ). slice_get (keys ++ key ∷ []) n ≡ Some z) (sym here) b in
         let same : key ≡ z = ap (λ (o : Option (Vec ℕ Global)). unwrap_or o key) (sym (get_last keys key) ∙ last) in
         fresh j y (get_old keys key j y (omega (arith, lt, here)) a) (e ∙ ap (λ (v : Vec ℕ Global). v.items) (sym same))
+
     queued_at : (j : ℕ) (s : ProgramState) → slice_get (queue ++ made ∷ []) j ≡ Some s → (j < length queue) ⊎ (length queue ≤ j)
         → IsAt p (ws ++ x ∷ []) (popped + j) s
     queued_at j s e (inl below) =

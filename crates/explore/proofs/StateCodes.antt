@@ -1,6 +1,6 @@
 -- A code is of one state.
 use native.Mathlib.Omega.{arith}
-use Rattle.std.proofs.Common.{◌≡◌, ◌∙◌, sym, ap, refl, subst, ℕ, ◌+◌, ◌<◌, ◌≤◌, ◌^◌, nat_lt, zero, suc, Bool, true, false, if◌then◌else◌, List, [], ◌∷◌, ◌++◌, length, take, drop, get_or, Option, Some, None}
+use Rattle.std.proofs.Common.{◌≡◌, ◌∙◌, sym, ap, refl, ℕ, ◌<◌, ◌^◌, nat_lt, suc, Bool, true, false, if◌then◌else◌, List, [], ◌∷◌, ◌++◌, length, take, drop, get_or, Option, Some, None}
 use Rattle.std.proofs.Common.{append_assoc, append-nil}
 use Rattle.std.specs.Prelude.{map}
 use Rattle.std.specs.Int.{w64, to_le_bytes, from_le_bytes}
@@ -33,9 +33,10 @@ packed_more (x ∷ xs) n = ap (λ (ys : List ℕ). packed_number x ++ ys) (packe
 
 bytes_apart : (x y : ℕ) (a b : List ℕ) → x < 2 ^ 64 → y < 2 ^ 64 → to_le_bytes w64 x ++ a ≡ to_le_bytes w64 y ++ b → (x ≡ y) × (a ≡ b)
 bytes_apart x y a b hx hy e =
-    let l : to_le_bytes w64 x ≡ to_le_bytes w64 y = ap (λ (ns : List ℕ). take 8 ns) e in
-    (sym (from_le_bytes-to_le_bytes_8 x hx) ∙ ap (λ (ns : List ℕ). from_le_bytes w64 ns) l ∙ from_le_bytes-to_le_bytes_8 y hy,
-     ap (λ (ns : List ℕ). drop 8 ns) e)
+    let l : to_le_bytes w64 x ≡ to_le_bytes w64 y = ap (λ (ns : List ℕ). take 8 ns) e in (
+      sym (from_le_bytes-to_le_bytes_8 x hx) ∙ ap (λ (ns : List ℕ). from_le_bytes w64 ns) l ∙ from_le_bytes-to_le_bytes_8 y hy,
+      ap (λ (ns : List ℕ). drop 8 ns) e,
+    )
 
 number_apart : (x y : ℕ) (a b : List ℕ) → x < 2 ^ 64 → y < 2 ^ 64 → packed_number x ++ a ≡ packed_number y ++ b → (x ≡ y) × (a ≡ b)
 number_apart x y a b hx hy e = by (nat_lt x 255) (nat_lt y 255) refl refl e

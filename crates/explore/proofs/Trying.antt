@@ -7,7 +7,7 @@ use Rattle.std.specs.Prelude.{◌==◌}
 use Rattle.explore.specs.declared.programs.Program.{Program}
 use Rattle.explore.specs.declared.programs.Choice.{Choice}
 use Rattle.explore.specs.States.{ProgramState, after, played, played_from, opening}
-use Rattle.explore.specs.Found.{witness_at, IsAt, IsFound, AreStates}
+use Rattle.explore.specs.Found.{IsAt, IsFound, AreStates}
 use Rattle.explore.specs.Searches.{StaysIn, AreFoundFrom, NoneChanges, Changes, IsTried, HasNumber, choice_at}
 
 from_more : (p : Program) (cs : List Choice) (o : Option ProgramState) (c : Choice) (s : ProgramState) (t : Option ProgramState)
@@ -109,14 +109,17 @@ tried_some p ws s t c at k changes states e here there said = record {
   where
     other : changes ≡ true → k ≡ at → ⊥
     other led same = absurd (let h = eq-eqb k at same in cc)
+
     equal : changes ≡ false → k ≡ at
     equal kept = eqb-true k at (by (k == at) said)
       where
         by : (b : Bool) → changes ≡ not b → b ≡ true
         by true g = refl
         by false g = absurd (let k = kept in cc)
+
     back : (r : ProgramState) → after p s c ≡ Some r → t ≡ r
     back r h = ap (λ (o : Option ProgramState). unwrap_or o r) (sym e ∙ h)
+
     one : k ≡ at → t ≡ s
     one same = ap (λ (o : Option ProgramState). unwrap_or o s) (sym there.1 ∙ subst (λ (m : ℕ). IsAt p ws m s) (sym same) here.1)
 
@@ -128,6 +131,7 @@ none_goes_on p cs ds c s e h = from_none cs (Some (opening p)) e
     stuck : (xs : List Choice) → played_from p xs None ≡ None
     stuck [] = refl
     stuck (x ∷ xs) = refl
+
     from_none : (xs : List Choice) (o : Option ProgramState) → played_from p xs o ≡ Some s → played_from p (xs ++ c ∷ ds) o ≡ None
     from_none [] o g = rw g (rw h (stuck ds))
     from_none (x ∷ xs) (Some r) g = from_none xs (after p r x) g

@@ -1,5 +1,5 @@
 -- What a search of a program finds.
-use Rattle.std.specs.Prelude.{◌≡◌, ℕ, ◌+◌, ◌<◌, ◌≤◌, List, [], ◌∷◌, ◌++◌, length, slice_index_or, Option, Some}
+use Rattle.std.specs.Prelude.{◌≡◌, ℕ, ◌<◌, ◌≤◌, List, [], ◌∷◌, ◌++◌, length, slice_index_or, Some}
 use Rattle.explore.specs.declared.programs.Program.{Program}
 use Rattle.explore.specs.declared.programs.Choice.{Choice}
 use Rattle.explore.specs.declared.programs.Choice.TheVariants as choice

@@ -1,10 +1,10 @@
 -- How far a search has come.
-use Rattle.std.specs.Prelude.{◌≡◌, ℕ, zero, suc, ◌+◌, ◌<◌, ◌≤◌, Bool, true, false, List, [], ◌∷◌, ◌++◌, length, slice_index_or, slice_get, Option, Some, None, Vec, Contains}
+use Rattle.std.specs.Prelude.{◌≡◌, ℕ, zero, suc, ◌+◌, ◌<◌, ◌≤◌, Bool, true, false, List, [], ◌∷◌, ◌++◌, length, slice_index_or, slice_get, Some, Vec}
 use Rattle.std.specs.Global.{Global}
 use Rattle.explore.specs.declared.programs.Program.{Program}
 use Rattle.explore.specs.declared.programs.Choice.{Choice}
 use Rattle.explore.specs.declared.programs.Choice.TheVariants as choice
-use Rattle.explore.specs.States.{ProgramState, after, played}
+use Rattle.explore.specs.States.{ProgramState, after}
 use Rattle.explore.specs.Codes.{code_of, IsCoded}
 use Rattle.explore.specs.Found.{IsAt, IsFound, AreEnds, witness_at}
 

@@ -1,5 +1,5 @@
 -- The states of a program, and what each choice leads to.
-use Rattle.std.specs.Prelude.{ℕ, zero, suc, ◌+◌, Bool, true, if◌then◌else◌, nat_lt, List, [], ◌∷◌, length, replicate}
+use Rattle.std.specs.Prelude.{ℕ, zero, suc, ◌+◌, true, if◌then◌else◌, nat_lt, List, [], ◌∷◌, length, replicate}
 use Rattle.std.specs.Prelude.{slice_index_or, slice_get, slice_set, Option, Some, None, Result, Ok, Err}
 use Rattle.lock_word.specs.declared.ThreadId.{ThreadId}
 use Rattle.fat_monitor.specs.declared.actions.Reply.{Reply}

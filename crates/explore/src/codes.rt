@@ -28,10 +28,7 @@ pub(crate) fn push_positions(positions: &[usize], numbers: &mut Vec<u64>) -> Res
 }
 
 /// Puts the number of each reply, 0 where there is none, behind the numbers that are there.
-pub(crate) fn push_answers(
-    answers: &[Option<Reply>],
-    numbers: &mut Vec<u64>,
-) -> Result<(), Memory>
+pub(crate) fn push_answers(answers: &[Option<Reply>], numbers: &mut Vec<u64>) -> Result<(), Memory>
     ensures { OnOk result (numbers.new.items
         ≡ numbers.old.items ++ map answer_number answers.now) }
 {

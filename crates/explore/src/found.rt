@@ -26,7 +26,6 @@ pub struct Found {
 
 impl Model for Found {
     ghost use Rattle.explore.specs.Found.{FoundStates, witnesses};
-
     ghost use Rattle.explore.specs.Found.{AreParents};
 
     ghost Value = { FoundStates };

@@ -5,8 +5,18 @@ ghost use Rattle.std.specs.Prelude.{IfErr, IfOk, OnOk};
 ghost use Rattle.explore.specs.declared.programs.Choice.{Choice};
 ghost use Rattle.explore.specs.States.{ProgramState, after, played, opening};
 ghost use Rattle.explore.specs.Found.{witnesses, witness_at, IsAt, IsFound, FindsAll, IsReason, AreParents};
-ghost use Rattle.explore.specs.Searches.{IsSearch, StaysIn, AllFoundFrom, AreFoundFrom, NoneChanges, Changes, HasNumber,
-    IsTried, IsVisited, all_choices};
+ghost use Rattle.explore.specs.Searches.{
+  IsSearch,
+  StaysIn,
+  AllFoundFrom,
+  AreFoundFrom,
+  NoneChanges,
+  Changes,
+  HasNumber,
+  IsTried,
+  IsVisited,
+  all_choices,
+};
 ghost use Rattle.std.specs.Prelude.{if◌then◌else◌};
 
 use crate::codes::codes_tell_states_apart;

@@ -27,7 +27,6 @@ pub struct State {
 
 impl Model for State {
     ghost use Rattle.explore.specs.States.{ProgramState};
-
     ghost use Rattle.std.specs.Coded.{codes};
     ghost use Rattle.std.specs.FinMap as map;
 
@@ -35,8 +34,12 @@ impl Model for State {
 
     ghost coded = { Prim.hlevel (codes, map.code) };
 
-    ghost view = { λ s. record { world = s.world; nexts = s.nexts.items;
-        replies = s.replies.items; told = s.told } };
+    ghost view = { λ s. record {
+      world = s.world;
+      nexts = s.nexts.items;
+      replies = s.replies.items;
+      told = s.told;
+    } };
 }
 
 impl State {
@@ -202,11 +205,7 @@ fn step_at(program: &Program, choice: Choice, next: usize) -> Option<Step>
 }
 
 /// The state behind a list of choices; None where one of them cannot be made.
-pub fn play(
-    alloc: Global,
-    program: &Program,
-    choices: &[Choice],
-) -> Result<Option<State>, Memory>
+pub fn play(alloc: Global, program: &Program, choices: &[Choice]) -> Result<Option<State>, Memory>
     ensures { IfOk result (λ s. s ≡ played program.now choices.now) }
 {
     let mut state = State::open(alloc, program)?;

@@ -49,7 +49,7 @@ fn text_of(alloc: Global, program: &Program, state: &State) -> Result<String, Tr
         if thread > 0 {
             text.push_str(" | ")?;
         }
-        push_thread(&mut text, program, state, thread)?;
+        push_thread(&mut text, program, state, thread as u8)?;
     }
     for object in 0..state.world().objects() {
         text.push_str(" | ")?;
@@ -63,12 +63,12 @@ fn push_thread(
     text: &mut String,
     program: &Program,
     state: &State,
-    thread: usize,
+    thread: u8,
 ) -> Result<(), Trouble> {
-    let name = THREADS.get(thread).copied().unwrap_or("?");
+    let name = THREADS.get(usize::from(thread)).copied().unwrap_or("?");
     write!(text, "{name}: ")?;
-    push_replies(text, replies_of(program, state, thread))?;
-    let id = ThreadId(thread as u32);
+    push_replies(text, replies_of(program, state, usize::from(thread)))?;
+    let id = ThreadId(u32::from(thread));
     if let Some(doing) = state.world().doing(id) {
         push_doing(text, doing)?;
     }

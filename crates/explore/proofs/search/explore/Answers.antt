@@ -8,7 +8,7 @@ returns-then-not-branch c =
     let done = c.in_ok-visit.ensures.last c.if-not-branch.true in
     record {
       all = finds_all c.args.program.now c.visit.new.self.codes.keys c.visit.new.self.nodes.items c.visit.new.ends.items c.visiting.at
-        (rw (c.if-not-branch.true, done) at c.in_ok-visit.ensures.visited);
+          (rw (c.if-not-branch.true, done) at c.in_ok-visit.ensures.visited);
       reason = tt;
     }
 
@@ -17,7 +17,7 @@ returns c =
     let done = c.is_done.ensures.done c.if-not-is_done.false in
     record {
       all = finds_all c.args.program.now c.visiting.search.codes.keys c.visiting.search.nodes.items c.visiting.ends.items c.visiting.at
-        (rw done at c.visiting.invariant);
+          (rw done at c.visiting.invariant);
       reason = tt;
     }
 
@@ -26,4 +26,4 @@ returns-then-not-is_done-clause-reason c =
     let past = c.visiting-test.false in
     let most : c.visiting.at ≡ c.args.most = omega (arith, past, c.visiting.auto.at-end) in
     has_more c.args.program.now c.visiting.search.codes.keys c.visiting.search.nodes.items c.visiting.search.queue.items c.visiting.ends.items c.args.most
-      (rw most at c.visiting.invariant) (c.is_done.ensures.more c.if-not-is_done.true)
+    (rw most at c.visiting.invariant) (c.is_done.ensures.more c.if-not-is_done.true)

@@ -1,5 +1,5 @@
 use native.Mathlib.Omega.{arith}
-use Rattle.std.proofs.Common.{◌≡◌, ap, sym, ◌∙◌, length, List}
+use Rattle.std.proofs.Common.{ap, length}
 use Rattle.explore.specs.Found.{FoundStates}
 use Rattle.explore.proofs.Finding.{length_witnesses}
 use Rattle.explore.proofs.found.Found.states.Goals as goal

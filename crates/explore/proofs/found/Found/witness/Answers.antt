@@ -1,8 +1,8 @@
 use native.Mathlib.Omega.{arith}
-use Rattle.std.proofs.Common.{◌≡◌, ◌<◌, ap, sym, ◌∙◌, ◌++◌, [], append-nil, length, List, ℕ}
+use Rattle.std.proofs.Common.{◌≡◌, ap, sym, ◌∙◌, ◌++◌, [], length, List, ℕ}
 use Rattle.std.specs.Prelude.{reverse}
 use Rattle.explore.specs.declared.programs.Choice.{Choice}
-use Rattle.explore.specs.Found.{FoundStates, witnesses, witness_at}
+use Rattle.explore.specs.Found.{FoundStates, witness_at}
 use Rattle.explore.proofs.Finding.{length_witnesses, walked, witness_first}
 use Rattle.explore.proofs.found.Found.witness.Goals as goal
 

@@ -12,13 +12,13 @@ more : (c : goal.In_ok-push_back)
 more c =
     let ws : List (List Choice) = witnesses c.args.self.now.nodes.items in
     let keys : c.insert_full.new.self.keys ≡ c.args.self.now.codes.keys ++ c.in_ok-code.code ∷ [] =
-      key_added c.args.self.now.codes.keys c.insert_full.new.self.keys c.in_ok-code.code c.in_ok-number.is_new
-        c.in_ok-number.ensures.added c.if-is_new.true c.in_ok-number.ensures.keys in
+    key_added c.args.self.now.codes.keys c.insert_full.new.self.keys c.in_ok-code.code c.in_ok-number.is_new
+    c.in_ok-number.ensures.added c.if-is_new.true c.in_ok-number.ensures.keys in
     rw (c.in_ok-push.ensures.items, witnesses_more, keys, c.in_ok-push_back.ensures.items)
-      (search_more c.args.program.now c.args.self.now.codes.keys ws c.args.self.now.queue.items (c.args.parent + 1) c.in_ok-code.code
-      (witness_at ws c.args.parent ++ c.args.choice ∷ []) c.args.made c.requires.search c.requires.leads c.in_ok-code.ensures.coded c.in_ok-code.ensures.code
-      (fresh_key c.args.self.now.codes.keys c.in_ok-code.code
-      (was_absent c.args.self.now.codes.keys c.in_ok-code.code c.in_ok-number.is_new c.in_ok-number.ensures.added c.if-is_new.true)))
+    (search_more c.args.program.now c.args.self.now.codes.keys ws c.args.self.now.queue.items (c.args.parent + 1) c.in_ok-code.code
+    (witness_at ws c.args.parent ++ c.args.choice ∷ []) c.args.made c.requires.search c.requires.leads c.in_ok-code.ensures.coded c.in_ok-code.ensures.code
+    (fresh_key c.args.self.now.codes.keys c.in_ok-code.code
+    (was_absent c.args.self.now.codes.keys c.in_ok-code.code c.in_ok-number.is_new c.in_ok-number.ensures.added c.if-is_new.true)))
 
 pub returns-in_ok-push_back-clause-search : goal.returns-in_ok-push_back-clause-search
 returns-in_ok-push_back-clause-search c = more c
@@ -32,25 +32,25 @@ pub returns-in_ok-push_back-clause-found : goal.returns-in_ok-push_back-clause-f
 returns-in_ok-push_back-clause-found c =
     let stored = c.in_ok-number.ensures.stored in
     number_of c.args.program.now c.insert_full.new.self.keys (witnesses c.push.new.self.items) c.push_back.new.self.items (c.args.parent + 1)
-      c.in_ok-number.number c.in_ok-code.code stored.0 c.args.made (more c) c.codes_tell_states_apart.ensures c.in_ok-code.ensures.coded
-      c.in_ok-code.ensures.code stored.1 stored.2
+    c.in_ok-number.number c.in_ok-code.code stored.0 c.args.made (more c) c.codes_tell_states_apart.ensures c.in_ok-code.ensures.coded
+    c.in_ok-code.ensures.code stored.1 stored.2
 
 pub returns-else-is_new-clause-search : goal.returns-else-is_new-clause-search
 returns-else-is_new-clause-search c =
     let keys : c.insert_full.new.self.keys ≡ c.args.self.now.codes.keys =
-      key_there c.args.self.now.codes.keys c.insert_full.new.self.keys c.in_ok-code.code c.in_ok-number.is_new
-        c.in_ok-number.ensures.added c.if-is_new.false c.in_ok-number.ensures.keys in
+    key_there c.args.self.now.codes.keys c.insert_full.new.self.keys c.in_ok-code.code c.in_ok-number.is_new
+    c.in_ok-number.ensures.added c.if-is_new.false c.in_ok-number.ensures.keys in
     rw keys c.requires.search
 
 pub returns-else-is_new-clause-found : goal.returns-else-is_new-clause-found
 returns-else-is_new-clause-found c =
     let keys : c.insert_full.new.self.keys ≡ c.args.self.now.codes.keys =
-      key_there c.args.self.now.codes.keys c.insert_full.new.self.keys c.in_ok-code.code c.in_ok-number.is_new
-        c.in_ok-number.ensures.added c.if-is_new.false c.in_ok-number.ensures.keys in
+    key_there c.args.self.now.codes.keys c.insert_full.new.self.keys c.in_ok-code.code c.in_ok-number.is_new
+    c.in_ok-number.ensures.added c.if-is_new.false c.in_ok-number.ensures.keys in
     let stored = rw keys at c.in_ok-number.ensures.stored in
     number_of c.args.program.now c.args.self.now.codes.keys (witnesses c.args.self.now.nodes.items) c.args.self.now.queue.items
-      (c.args.parent + 1) c.in_ok-number.number c.in_ok-code.code stored.0 c.args.made c.requires.search c.codes_tell_states_apart.ensures
-      c.in_ok-code.ensures.coded c.in_ok-code.ensures.code stored.1 stored.2
+    (c.args.parent + 1) c.in_ok-number.number c.in_ok-code.code stored.0 c.args.made c.requires.search c.codes_tell_states_apart.ensures
+    c.in_ok-code.ensures.coded c.in_ok-code.ensures.code stored.1 stored.2
 
 pub invariant_of-self-then-is_new : goal.invariant_of-self-then-is_new
 invariant_of-self-then-is_new c =

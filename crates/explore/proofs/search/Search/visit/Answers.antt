@@ -5,17 +5,17 @@ use Rattle.explore.proofs.search.Search.visit.Goals as goal
 pub expand-requires-clause-search : goal.expand-requires-clause-search
 expand-requires-clause-search c =
     popped c.args.program.now c.args.self.now.codes.keys (witnesses c.args.self.now.nodes.items) c.args.self.now.queue.items
-      c.pop_front.new.self.items c.args.at c.in-Some.state c.requires.visited.search c.in-Some.ensures.items
+    c.pop_front.new.self.items c.args.at c.in-Some.state c.requires.visited.search c.in-Some.ensures.items
 
 pub expand-requires-clause-here : goal.expand-requires-clause-here
 expand-requires-clause-here c =
     first_here c.args.program.now c.args.self.now.codes.keys (witnesses c.args.self.now.nodes.items) c.args.self.now.queue.items
-      c.pop_front.new.self.items c.args.at c.in-Some.state c.requires.visited.search c.in-Some.ensures.items
+    c.pop_front.new.self.items c.args.at c.in-Some.state c.requires.visited.search c.in-Some.ensures.items
 
 pub returns-clause-visited : goal.returns-clause-visited
 returns-clause-visited c =
     visited_next c.args.program.now c.args.self.now.codes.keys c.expand.new.self.codes.keys (witnesses c.args.self.now.nodes.items)
-      (witnesses c.expand.new.self.nodes.items) c.args.self.now.queue.items c.pop_front.new.self.items c.expand.new.self.queue.items
-      c.args.ends.now.items c.note_end.new.ends.items c.args.at c.in-Some.state c.args.choices.now c.in_ok-is_end.is_end
-      c.requires.visited c.in-Some.ensures.items c.requires.all c.in_ok-is_end.ensures.search c.in_ok-is_end.ensures.stays
-      c.in_ok-is_end.ensures.found c.in_ok-is_end.ensures.end c.in_ok-is_end.ensures.open c.in_ok-note_end.ensures
+    (witnesses c.expand.new.self.nodes.items) c.args.self.now.queue.items c.pop_front.new.self.items c.expand.new.self.queue.items
+    c.args.ends.now.items c.note_end.new.ends.items c.args.at c.in-Some.state c.args.choices.now c.in_ok-is_end.is_end
+    c.requires.visited c.in-Some.ensures.items c.requires.all c.in_ok-is_end.ensures.search c.in_ok-is_end.ensures.stays
+    c.in_ok-is_end.ensures.found c.in_ok-is_end.ensures.end c.in_ok-is_end.ensures.open c.in_ok-note_end.ensures

@@ -16,4 +16,4 @@ returns-clause-made c =
     let b : wants_memory c.in-Ok.did.atomic ≡ false = cc in
     let e = rw (← c.self.view_is) at a in
     rw c.note.ensures (rw (← c.self.view_is)
-      (made c.args.program.now s c.args.choice c.in-Some.step c.step.new.self c.in-Ok.ensures.exact.0 c.in-Ok.did e c.in-Ok.ensures.exact.1 b))
+    (made c.args.program.now s c.args.choice c.in-Some.step c.step.new.self c.in-Ok.ensures.exact.0 c.in-Ok.did e c.in-Ok.ensures.exact.1 b))

@@ -1,5 +1,4 @@
 use Rattle.std.proofs.Common.{◌≡◌}
-use Rattle.step_core.specs.World.{opening_world}
 use Rattle.explore.specs.States.{attached}
 use Rattle.explore.proofs.states.State.open.Given as goal
 
