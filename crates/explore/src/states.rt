@@ -86,13 +86,6 @@ impl State {
         &self.replies
     }
 
-    /// How many moments the clock has told.
-    pub fn told(&self) -> usize
-        ensures { result ≡ self.now.told }
-    {
-        self.told
-    }
-
     /// The bytes that stand for the state, and for no other.
     pub(crate) fn code(&self, alloc: Global) -> Result<Vec<u8>, Memory>
         ensures code { IfOk result (λ code. code.items ≡ code_of self.now) }
