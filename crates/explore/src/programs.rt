@@ -20,7 +20,7 @@ pub struct Program {
     pub split: Split,
     /// The calls of the first thread in order, then those of the second, and so on.
     pub calls: Vec<Call>,
-    /// Where in `calls` those of each thread begin.
+    /// Where in `calls` those of each thread begin, in rising order.
     pub starts: Vec<usize>,
     /// The moments that the clock tells, one after the other, in nanoseconds.
     pub moments: Vec<u64>,
