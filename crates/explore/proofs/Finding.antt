@@ -65,8 +65,8 @@ every_choice p s r (choice.Go k) e =
     has_left (choices_below (length p.starts.items)) _ _ (has_below _ k _ (within p (choice.Go k) k (slice_get s.nexts k) s r e) (1, omega arith, refl))
 every_choice p s r (choice.Expire k) e =
     has_left (choices_below (length p.starts.items)) _ _ (has_below _ k _ (within p (choice.Expire k) k (slice_get s.nexts k) s r e) (2, omega arith, refl))
-every_choice p s r (choice.Wake k) e =
-    has_left (choices_below (length p.starts.items)) _ _ (has_below _ k _ (within p (choice.Wake k) k (slice_get s.nexts k) s r e) (3, omega arith, refl))
+every_choice p s r (choice.Spurious k) e =
+    has_left (choices_below (length p.starts.items)) _ _ (has_below _ k _ (within p (choice.Spurious k) k (slice_get s.nexts k) s r e) (3, omega arith, refl))
 every_choice p s r choice.Tick e = has_right (choices_below (length p.starts.items)) _ _ (0, omega arith, refl)
 
 pub all_found : (p : Program) (ws : List (List Choice)) (s : ProgramState)
@@ -108,6 +108,7 @@ ends_stay p a b n ends s h stays lt here not_end = record {
   each = λ i within.
       let e = h.each i within in
       (e.0, at_stays p a b (slice_index_or ends i 0) e.0 stays (let x = e.3 in omega (arith, x, lt)) e.1, e.2, (let x = e.3 in omega (arith, x)));
+  rising = h.rising;
   every = λ k r below leads end. pick k r below leads end (cases_lt k n);
 }
   where
@@ -127,9 +128,29 @@ pub ends_more : (p : Program) (a b : List (List Choice)) (n : ℕ) (ends : List 
     → AreEnds p a n ends → StaysIn a b → n < length a → IsAt p a n s → IsEnd p s → AreEnds p b (n + 1) (ends ++ n ∷ [])
 ends_more p a b n ends s h stays lt here is = record {
   each = λ i within. one_of i within (cases_lt i (length ends));
+  rising = λ i j below within. rise i j below within (cases_lt j (length ends));
   every = λ k r below leads end. pick k r below leads end (cases_lt k n);
 }
   where
+    kept : (i : ℕ) → i < length ends → slice_index_or (ends ++ n ∷ []) i 0 ≡ slice_index_or ends i 0
+    kept i before = get_or_append_left ends (n ∷ []) 0 i before
+
+    rise : (i j : ℕ) → i < j → j < length (ends ++ n ∷ []) → (j < length ends) ⊎ (length ends ≤ j)
+        → slice_index_or (ends ++ n ∷ []) i 0 < slice_index_or (ends ++ n ∷ []) j 0
+    rise i j below within (inl before) =
+        let a = kept i (omega (arith, below, before)) in
+        let b = kept j before in
+        let h = h.rising i j below before in
+        omega (arith, a, b, h)
+    rise i j below within (inr past) =
+        let l = length-append ends (n ∷ []) in
+        let here : j ≡ length ends = omega (arith, l, within, past) in
+        let first : i < length ends = omega (arith, below, here) in
+        let a = kept i first in
+        let b : slice_index_or (ends ++ n ∷ []) j 0 ≡ n = ap (λ (k : ℕ). slice_index_or (ends ++ n ∷ []) k 0) here ∙ get_or-append_seam ends n [] 0 in
+        let x = (h.each i first).3 in
+        omega (arith, a, b, x)
+
     one_of : (i : ℕ) → i < length (ends ++ n ∷ []) → (i < length ends) ⊎ (length ends ≤ i)
         → (r : ProgramState) × IsAt p b (slice_index_or (ends ++ n ∷ []) i 0) r × IsEnd p r × (slice_index_or (ends ++ n ∷ []) i 0 < n + 1)
     one_of i within (inl before) =
@@ -250,6 +271,16 @@ pub has_more : (p : Program) (keys : List (Vec ℕ Global)) (ns : List Node) (qu
 has_more p keys ns queue ends n v some =
     let w = v.search.waiting in
     (witnesses ns, omega (arith, w, some), are_states p keys (witnesses ns) queue n v.search)
+
+-- more states were found than were asked for
+pub over : (p : Program) (keys : List (Vec ℕ Global)) (ns : List Node) (queue : List ProgramState) (ends : List ℕ) (n most : ℕ)
+    → IsVisited p keys (witnesses ns) queue ends n → most < length (witnesses ns) → HasMore p most
+over p keys ns queue ends n most v more = (witnesses ns, more, are_states p keys (witnesses ns) queue n v.search)
+
+-- and no more, once no state waits to be visited
+pub few : (p : Program) (keys : List (Vec ℕ Global)) (ns : List Node) (ends : List ℕ) (n most : ℕ)
+    → IsVisited p keys (witnesses ns) [] ends n → n ≤ most → length (witnesses ns) ≤ most
+few p keys ns ends n most v le = let w = v.search.waiting in omega (arith, w, le)
 
 -- all is found once no state waits to be visited
 pub finds_all : (p : Program) (keys : List (Vec ℕ Global)) (ns : List Node) (ends : List ℕ) (n : ℕ)

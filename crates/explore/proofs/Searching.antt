@@ -171,6 +171,7 @@ first_found p key s e sound coded = record {
   closed = λ k r lt leads. absurd (omega (arith, lt));
   noted = record {
     each = λ i lt. absurd (omega (arith, lt));
+    rising = λ i j below lt. absurd (omega (arith, lt));
     every = λ k r lt leads end. absurd (omega (arith, lt));
   };
 }

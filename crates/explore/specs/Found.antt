@@ -8,7 +8,7 @@ use Rattle.explore.specs.declared.found.ExploreFault.{ExploreFault}
 use Rattle.explore.specs.declared.found.ExploreFault.TheVariants as fault
 use Rattle.explore.specs.States.{ProgramState, after, played}
 
--- what was found: for each state the choices that lead there, and which of the states are outcomes
+-- what was found: for each state the choices that lead there, and which of the states are ends
 pub record FoundStates : Type 0 where
   pub witnesses : List (List Choice)
   pub ends : List ℕ
@@ -29,10 +29,11 @@ witnesses_from ws (n ∷ ns) = witnesses_from (grown ws n) ns
 abbrev pub witnesses : List Node → List (List Choice)
 witnesses ns = witnesses_from ([] ∷ []) ns
 
--- each state was found from one with a lower number
+-- how a state but the first was found
 abbrev pub node_at : List Node → ℕ → Node
 node_at ns i = slice_index_or ns i (record { parent = 0; choice = choice.Begin 0 })
 
+-- each was found from one with a lower number
 abbrev pub AreParents : List Node → Type 0
 AreParents ns = (i : ℕ) → i < length ns → (node_at ns i).parent ≤ i
 
@@ -49,10 +50,11 @@ IsFound p ws s = (k : ℕ) × (k < length ws) × IsAt p ws k s
 abbrev pub IsEnd : Program → ProgramState → Type 0
 IsEnd p s = (c : Choice) (t : ProgramState) → after p s c ≡ Some t → t ≡ s
 
--- These numbers are those of the ends among the first states.
+-- These numbers, in rising order, are those of the ends among the first states.
 pub record AreEnds (p : Program) (ws : List (List Choice)) (n : ℕ) (ends : List ℕ) : Type 0 where
   pub each : (i : ℕ) → i < length ends
       → (s : ProgramState) × IsAt p ws (slice_index_or ends i 0) s × IsEnd p s × (slice_index_or ends i 0 < n)
+  pub rising : (i j : ℕ) → i < j → j < length ends → slice_index_or ends i 0 < slice_index_or ends j 0
   pub every : (k : ℕ) (s : ProgramState) → k < n → IsAt p ws k s → IsEnd p s
       → (i : ℕ) × (i < length ends) × (slice_index_or ends i 0 ≡ k)
 

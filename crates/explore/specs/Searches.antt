@@ -70,7 +70,7 @@ IsClosed p ws n = (k : ℕ) (s : ProgramState) → k < n → IsAt p ws k s → A
 
 -- the choices of a thread, and of the threads below a number
 abbrev pub choices_for : ℕ → List Choice
-choices_for k = choice.Begin k ∷ choice.Go k ∷ choice.Expire k ∷ choice.Wake k ∷ []
+choices_for k = choice.Begin k ∷ choice.Go k ∷ choice.Expire k ∷ choice.Spurious k ∷ []
 
 abbrev pub choices_below : ℕ → List Choice
 choices_below zero = []

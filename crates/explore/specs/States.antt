@@ -57,7 +57,7 @@ abbrev pub step_at : Program → Choice → ℕ → Option Step
 step_at p (choice.Begin k) n = begin_of k (call_below p k n)
 step_at p (choice.Go k) n = Some (step.Go (thread_of k))
 step_at p (choice.Expire k) n = Some (step.Expire (thread_of k))
-step_at p (choice.Wake k) n = if p.spurious then Some (step.Spurious (thread_of k)) else None
+step_at p (choice.Spurious k) n = if p.spurious then Some (step.Spurious (thread_of k)) else None
 step_at p choice.Tick n = None
 
 -- a choice of thread k means a step where the program has the thread
@@ -74,7 +74,7 @@ abbrev pub chosen : Choice → ℕ
 chosen (choice.Begin k) = k
 chosen (choice.Go k) = k
 chosen (choice.Expire k) = k
-chosen (choice.Wake k) = k
+chosen (choice.Spurious k) = k
 chosen choice.Tick = 0
 
 -- the step that a choice means in a state, if it means one there
@@ -83,7 +83,7 @@ step_for p s choice.Tick = tick_of (slice_get p.moments.items s.told)
 step_for p s (choice.Begin k) = step_of_thread p (choice.Begin k) k (slice_get s.nexts k)
 step_for p s (choice.Go k) = step_of_thread p (choice.Go k) k (slice_get s.nexts k)
 step_for p s (choice.Expire k) = step_of_thread p (choice.Expire k) k (slice_get s.nexts k)
-step_for p s (choice.Wake k) = step_of_thread p (choice.Wake k) k (slice_get s.nexts k)
+step_for p s (choice.Spurious k) = step_of_thread p (choice.Spurious k) k (slice_get s.nexts k)
 
 -- how many moments were told behind a choice
 abbrev pub told_after : Choice → ℕ → ℕ
@@ -91,7 +91,7 @@ told_after choice.Tick n = n + 1
 told_after (choice.Begin k) n = n
 told_after (choice.Go k) n = n
 told_after (choice.Expire k) n = n
-told_after (choice.Wake k) n = n
+told_after (choice.Spurious k) n = n
 
 -- the state with this reply to the call that stands at a position, which is the next of thread k
 abbrev pub with_reply : ProgramState → ℕ → Reply → Option ℕ → ProgramState

@@ -15,14 +15,18 @@ pub struct Program {
     pub lows: Vec<u8>,
     /// How many fat monitors there may be, 0 to 8,388,608.
     pub monitors: u32,
-    /// How many threads may be live at once, at least as many as there are.
+    /// How many threads may be live at once, at least as many as there are: 1 to 32,767, or 2,047
+    /// where the split is [`Deep`](Split::Deep).
     pub indices: u16,
+    /// How thin words divide their bits between index and count.
     pub split: Split,
-    /// The calls of the first thread in order, then those of the second, and so on.
+    /// The calls of the first thread in order, then those of the second, and so on: at most 1,024.
     pub calls: Vec<Call>,
-    /// Where in `calls` those of each thread begin, in rising order.
+    /// Where in `calls` those of each thread begin, in rising order: at most 64 threads. They go on
+    /// to where the next thread's begin.
     pub starts: Vec<usize>,
-    /// The moments that the clock tells, one after the other, in nanoseconds.
+    /// The moments that the clock tells, one after the other, in nanoseconds: at most 1,048,576. One
+    /// that is before the moment that was told last is refused, and the clock stops there.
     pub moments: Vec<u64>,
     /// Whether a wait may end for no reason that a program can see.
     pub spurious: bool,
@@ -45,8 +49,8 @@ pub enum Choice {
     Go { thread: u8 },
     /// The wait of the thread ends, since its deadline has come.
     Expire { thread: u8 },
-    /// The wait of the thread ends for no reason.
-    Wake { thread: u8 },
+    /// The wait of the thread ends for no reason that a program can see.
+    Spurious { thread: u8 },
     /// The clock tells its next moment.
     Tick,
 }

@@ -175,6 +175,13 @@ impl Search {
         Ok(true)
     }
 
+    /// Whether more states were found than this.
+    fn is_over(&self, most: u32) -> bool
+        ensures { result ≡ true → most < length (witnesses self.now.nodes.items) }
+    {
+        self.nodes.len() + 1 > most as usize
+    }
+
     /// Whether each state that was found was visited.
     fn is_done(&self) -> bool
         ensures done { result ≡ true → self.now.queue.items ≡ [] }
@@ -188,6 +195,7 @@ impl Search {
 /// leads to a state, it is found.
 pub fn explore(alloc: Global, program: &Program, most: u32) -> Result<Found, ExploreFault>
     ensures all { IfOk result (FindsAll program.now) }
+    ensures few { IfOk result (λ f. length f.witnesses ≤ most) }
     ensures reason { IfErr result (IsReason program.now most) }
 {
     let choices = choices_of(alloc, program)?;
@@ -199,6 +207,9 @@ pub fn explore(alloc: Global, program: &Program, most: u32) -> Result<Found, Exp
                 nodes: search.nodes,
                 ends,
             });
+        }
+        if search.is_over(most) {
+            return Err(ExploreFault::TooManyStates);
         }
     }
     if !search.is_done() {
@@ -231,7 +242,7 @@ fn choices_of(alloc: Global, program: &Program) -> Result<Vec<Choice>, Memory>
         choices.push(Choice::Begin { thread })?;
         choices.push(Choice::Go { thread })?;
         choices.push(Choice::Expire { thread })?;
-        choices.push(Choice::Wake { thread })?;
+        choices.push(Choice::Spurious { thread })?;
     }
     choices.push(Choice::Tick)?;
     Ok(choices)

@@ -153,7 +153,7 @@ impl State {
             Choice::Begin { thread }
             | Choice::Go { thread }
             | Choice::Expire { thread }
-            | Choice::Wake { thread } => thread,
+            | Choice::Spurious { thread } => thread,
         };
         let next = *self.nexts.get(usize::from(thread))?;
         if usize::from(thread) < program.starts.len() {
@@ -185,7 +185,7 @@ fn step_at(program: &Program, choice: Choice, next: usize) -> Option<Step>
             let thread = ThreadId(u32::from(thread));
             Some(Step::Expire { thread })
         }
-        Choice::Wake { thread } => {
+        Choice::Spurious { thread } => {
             let thread = ThreadId(u32::from(thread));
             if program.spurious {
                 Some(Step::Spurious { thread })
@@ -239,7 +239,7 @@ fn chosen(choice: Choice) -> usize
         Choice::Begin { thread }
         | Choice::Go { thread }
         | Choice::Expire { thread }
-        | Choice::Wake { thread } => usize::from(thread),
+        | Choice::Spurious { thread } => usize::from(thread),
         Choice::Tick => 0,
     }
 }
