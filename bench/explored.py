@@ -376,7 +376,7 @@ def text(program, state):
             elif post[0] == "Waiting":
                 part += f" stuck waits {o} {post[2]}"
             else:
-                part += f" stuck back {o} {post[2]} {post[3]}"
+                part += f" stuck back {o} {post[2]}"
         parts.append(part + (" flag" if flag else ""))
     for name, word in zip(program.objects, words):
         owner, holds = None, 0

@@ -8,7 +8,7 @@ mod programs;
 mod trouble;
 
 use classics::{CLASSICS, Classic};
-use explore::explore;
+use explore::{ExploreFault, explore};
 use std::process::ExitCode;
 use trouble::Trouble;
 
@@ -30,7 +30,29 @@ fn explore_all<R: Print + AllocGlobal>(rt: &R) -> Result<(), Trouble> {
     for classic in &CLASSICS {
         explore_one(rt, classic)?;
     }
-    Ok(())
+    ask_for_few(rt, &CLASSICS[0], 61)
+}
+
+/// Explores a program that has this many states, and asks for one less, which are too few.
+fn ask_for_few<R: Print + AllocGlobal>(
+    rt: &R,
+    classic: &Classic,
+    states: u32,
+) -> Result<(), Trouble> {
+    let program = programs::program_of(rt.alloc(), classic)?;
+    let found = explore(rt.alloc(), &program, states)?;
+    match explore(rt.alloc(), &program, states.saturating_sub(1)) {
+        Err(ExploreFault::TooManyStates) => {
+            println!(rt;
+                "{}: {} states are enough, and one less too few",
+                classic.name,
+                found.states()
+            )?;
+            Ok(())
+        }
+        Err(ExploreFault::Memory) => Err(Trouble::Memory),
+        Ok(_) => Err(Trouble::TooLarge),
+    }
 }
 
 /// Explores a program, and prints its outcomes.

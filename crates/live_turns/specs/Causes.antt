@@ -14,15 +14,14 @@ use Rattle.step_core.specs.declared.paths.Point.{Point}
 use Rattle.step_core.specs.declared.paths.Point.TheVariants.{At, Said}
 use Rattle.live_turns.specs.Ways.{Holding, Went}
 
--- A call on an object: an enter where every monitor is bound, or where its thread holds the object as often as it may; a
--- wait where every monitor is bound; and no other.
+-- For what a call on an object may be refused: an enter NoMonitor or TooDeep, a wait NoMonitor, and no other.
 abbrev pub MayRefuseOn : Operation → Cause → Type 0
 MayRefuseOn op.Enter cause.NoMonitor = Unit {0}
 MayRefuseOn op.Enter cause.TooDeep = Unit {0}
 MayRefuseOn (op.Wait millis nanos) cause.NoMonitor = Unit {0}
 MayRefuseOn p c = ⊥
 
--- a call about interrupts that names a thread, where there is no such thread
+-- a call about interrupts that names a thread may be refused NoThread
 abbrev pub MayRefuseAbout : InterruptCall → Cause → Type 0
 MayRefuseAbout (about.Interrupt u) c = c ≡ cause.NoThread
 MayRefuseAbout about.Interrupted c = ⊥
