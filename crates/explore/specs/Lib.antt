@@ -3,3 +3,4 @@ pub mod Wants
 pub mod Found
 pub mod Codes
 pub mod Searches
+pub mod Starts

@@ -9,6 +9,6 @@ mod search;
 mod states;
 
 pub use found::{ExploreFault, Found};
-pub use programs::{Choice, Program};
+pub use programs::{Choice, Program, are_in_order};
 pub use search::explore;
 pub use states::{State, play};

@@ -1,6 +1,7 @@
 //! Programs, and the choices of what is done next.
 
-ghost use Rattle.std.specs.Prelude.{◌≤◌, vec_len};
+ghost use Rattle.std.specs.Prelude.{◌≡◌, ◌≤◌, true, vec_len};
+ghost use Rattle.explore.specs.Starts.{rise_to};
 ghost use Rattle.lock_word.specs.Layout.{greatest_index};
 
 use fast_path::Call;
@@ -22,7 +23,7 @@ pub struct Program {
     pub split: Split,
     /// The calls of the first thread in order, then those of the second, and so on: at most 1,024.
     pub calls: Vec<Call>,
-    /// Where in `calls` those of each thread begin, in rising order: at most 64 threads. They go on
+    /// Where in `calls` those of each thread begin, in rising order ([`are_in_order`]): at most 64 threads. They go on
     /// to where the next thread's begin.
     pub starts: Vec<usize>,
     /// The moments that the clock tells, one after the other, in nanoseconds: at most 1,048,576. One
@@ -34,10 +35,25 @@ pub struct Program {
     ghost has_indices: { 1 ≤ indices },
     ghost indices_fit: { indices ≤ greatest_index split },
     ghost objects_fit: { vec_len lows ≤ 65535 },
+    ghost starts_rise: { rise_to 0 starts.items (vec_len calls) ≡ true },
     ghost threads_fit: { vec_len starts ≤ 64 },
     ghost threads_are_live: { vec_len starts ≤ indices },
     ghost calls_fit: { vec_len calls ≤ 1024 },
     ghost moments_fit: { vec_len moments ≤ 1048576 },
+}
+
+/// Whether positions rise, and none is past the end: so do those where the calls of threads begin.
+pub fn are_in_order(starts: &[usize], end: usize) -> bool
+    ensures { result ≡ rise_to 0 starts.now end }
+{
+    let mut last = 0;
+    'starts: for start in starts {
+        if *start < last {
+            return false;
+        }
+        last = *start;
+    }
+    last <= end
 }
 
 /// What is done next.

@@ -2,7 +2,7 @@
 
 use crate::classics::Classic;
 use crate::trouble::Trouble;
-use explore::Program;
+use explore::{Program, are_in_order};
 use lock_word::Split;
 use std::alloc::Global;
 use step_core::Call;
@@ -24,7 +24,8 @@ pub(crate) fn program_of(alloc: Global, classic: &Classic) -> Result<Program, Tr
         && classic.monitors <= 8_388_608
         && starts.len() <= usize::from(INDICES)
         && calls.len() <= 1024
-        && moments.len() <= 1_048_576;
+        && moments.len() <= 1_048_576
+        && are_in_order(&starts, calls.len());
     if !is_small {
         return Err(Trouble::TooLarge);
     }
