@@ -1,20 +1,27 @@
 -- Works, and what they came to.
-use Rattle.std.proofs.Common.{◌≡◌, ℕ, suc, List, [], ◌∷◌, ◌++◌, length, map, reverse, Vec, vec_items, Option, Some, None, IfNone, refl, sym, ap, ◌∙◌, arith}
+use Rattle.std.proofs.Common.{◌≡◌, ℕ, suc, List, [], ◌∷◌, ◌++◌, length, map, reverse, Vec, vec_items, Option, Some, None, IfNone, refl, sym, ap, subst, ◌∙◌, arith}
 use Rattle.std.specs.List.{All}
 use Rattle.std.specs.declared.alloc.Global.{Global}
 use Rattle.std.proofs.lemmas.List.{map-append}
 use Rattle.std.proofs.lemmas.List.Elements.{All-nil, All-cons, All-head, All-tail, All-map}
 use mathlib.Core.List.{reverse-cons}
 use Rattle.fast_path.specs.declared.calls.Call.{Call}
+use Rattle.script_text.specs.declared.lines.Line.{Line}
 use Rattle.header_words.specs.Passes.{Opening, new_passes}
 use Rattle.header_words.proofs.Opens.{new_passes_belong}
-use Rattle.live_turns.specs.Ways.{Holding, new_holding}
+use Rattle.live_turns.specs.Ends.{Disagrees}
+use Rattle.live_turns.specs.Ways.{Holding, PassState, new_holding}
 use Rattle.live_threads.specs.declared.driving.Work.{Work}
 use Rattle.live_threads.specs.declared.driving.Worked.{Worked}
 use Rattle.live_threads.specs.Driving.{AllDriven, CanDrive, IsLive}
 use Rattle.live_threads.specs.Ends.{at_rest}
 use Rattle.live_threads.proofs.Drives.{all_of_map}
-use Rattle.live_runs.specs.Runs.{HasWorked, Worker, told_in, told_of}
+use Rattle.live_scripts.specs.Plans.{calls_of, lows_of, monitors_in, objects_of}
+use Rattle.live_scripts.specs.Rules.{attached_threads}
+use Rattle.live_runs.specs.Faults.{IsOfClose, IsOfRun}
+use Rattle.live_runs.specs.Runs.{HasWorked, HaveRun, Worker, told_in, told_of}
+use Rattle.live_runs.specs.declared.faults.RunFault.{RunFault}
+use Rattle.live_runs.specs.declared.faults.RunFault.TheVariants.{File, Torn}
 
 map-reverse : {X Y : Type 0} (f : X → Y) (xs : List X) → map f (reverse xs) ≡ reverse (map f xs)
 map-reverse f [] = refl
@@ -80,7 +87,36 @@ workers_worked z [] (d ∷ ds) h = absurd h
 workers_worked z (w ∷ ws) [] h = absurd h
 workers_worked z (w ∷ ws) (d ∷ ds) h =
     All-cons (HasWorked z) (record { before = w.pass; calls = w.calls.items; answers = d.answers.items; stopped = d.stopped; after = d.pass }) (workers_of ws ds)
-    (record { answered = h.0.1; whole = h.0.2 }) (workers_worked z ws ds h.1)
+    (record { answered = h.0.1; whole = h.0.2; cut = h.0.3 }) (workers_worked z ws ds h.1)
+
+-- the threads of these lines ran
+pub have_run : {L : Type 0} (ls : List Line) (z : Opening) (ws : List (Work L)) (ds : List (Worked L)) → z.lows ≡ lows_of ls → z.count ≡ length (attached_threads ls)
+    → map (λ w. w.pass) ws ≡ map new_holding (new_passes z 1 z.count)
+    → map (λ w. w.calls.items) ws ≡ map (λ t. calls_of (objects_of ls) (attached_threads ls) t ls) (attached_threads ls)
+    → AllDriven z ws ds → HaveRun ls z (workers_of ws ds)
+have_run ls z ws ds lows count passes calls driven = record {
+  lows = lows;
+  count = count;
+  starts = workers_before z ws ds driven ∙ passes;
+  calls = workers_calls z ws ds driven ∙ calls;
+  worked = workers_worked z ws ds driven;
+}
+
+-- the passes as their workers left them
+pub passes_after : {L : Type 0} (z : Opening) (ws : List (Work L)) (ds : List (Worked L)) (ps : List Holding) → AllDriven z ws ds → ps ≡ map (λ d. d.pass) ds
+    → map at_rest ps ≡ map (λ (w : Worker). at_rest w.after) (workers_of ws ds)
+passes_after z ws ds ps driven same = ap (map at_rest) same ∙ sym (workers_after z ws ds driven)
+
+-- why the close failed tells why the run did
+pub of_run : (ls : List Line) (z : Opening) (limit : ℕ) (workers : List Worker) (ps : List PassState) (fault : RunFault) → HaveRun ls z workers
+    → limit ≡ monitors_in ls → ps ≡ map (λ (w : Worker). at_rest w.after) workers → IsOfClose z limit ps fault → IsOfRun ls fault
+of_run ls z limit workers ps (File f) ran many same told = told
+of_run ls z limit workers ps Torn ran many same told = record {
+  opening = z;
+  workers = workers;
+  ran = ran;
+  torn = subst (λ qs. Disagrees z (monitors_in ls) qs) same (subst (λ n. Disagrees z n ps) many told);
+}
 
 -- passes that have moved on belong where they did
 pub passes_belong : {L : Type 0} (z : Opening) (ws : List (Work L)) (ds : List (Worked L)) → AllDriven z ws ds → All (λ (p : Holding). p.words.opening ≡ z) (map (λ d. d.pass) ds)

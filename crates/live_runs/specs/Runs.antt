@@ -1,5 +1,5 @@
 -- What a run of a live script came to.
-use Rattle.std.specs.Prelude.{◌≡◌, ℕ, Bool, false, List, length, map, Vec, vec_items, Result}
+use Rattle.std.specs.Prelude.{◌≡◌, ◌<◌, ℕ, Bool, false, true, List, length, map, Vec, vec_items, Result}
 use Rattle.std.specs.List.{All}
 use Rattle.std.specs.declared.alloc.Global.{Global}
 use Rattle.fat_monitor.specs.declared.actions.Reply.{Reply}
@@ -11,7 +11,7 @@ use Rattle.live_scripts.specs.Rules.{IsLiveScript, attached_threads}
 use Rattle.live_scripts.specs.Plans.{calls_of, lows_of, monitors_in, objects_of}
 use Rattle.live_turns.specs.declared.closed.Closed.{Closed}
 use Rattle.live_book.specs.declared.faults.LiveFault.{LiveFault}
-use Rattle.live_turns.specs.Ends.{IsEnd}
+use Rattle.live_turns.specs.Ends.{IsEnd, Disagrees}
 use Rattle.live_turns.specs.Ways.{Holding, new_holding}
 use Rattle.live_threads.specs.declared.driving.Worked.{Worked}
 use Rattle.live_threads.specs.Driving.{Answered}
@@ -26,10 +26,11 @@ pub record Worker : Type 0 where
   pub stopped : Bool
   pub after : Holding
 
--- it made its calls in order, and all of them unless it was stopped
+-- it made its calls in order: all of them unless it was stopped, and not all of them if it was and had any
 pub record HasWorked (z : Opening) (w : Worker) : Type 0 where
   pub answered : Answered z w.calls w.answers w.before w.after
   pub whole : w.stopped ≡ false → length w.answers ≡ length w.calls
+  pub cut : w.stopped ≡ true → 0 < length w.calls → length w.answers < length w.calls
 
 -- what is told of a worker
 abbrev pub told_of : Worker → List (Result Reply LiveFault) × Bool
@@ -43,20 +44,32 @@ told_in d = (vec_items d.answers, d.stopped)
 abbrev pub told_in_row : Vec (Result Reply LiveFault) Global × Bool → List (Result Reply LiveFault) × Bool
 told_in_row w = (vec_items w.0, w.1)
 
--- The text of a run of these lines: their threads made their calls on a service with their objects, each on a
--- pass of its own from thread 1 on, and the service was closed then. Its text has what they came to.
-pub record IsLiveRun (ls : List Line) (text : List ℕ) : Type 0 where
-  pub opening : Opening
-  pub lows : opening.lows ≡ lows_of ls
-  pub count : opening.count ≡ length (attached_threads ls)
-  pub workers : List Worker
-  pub starts : map (λ (w : Worker). w.before) workers ≡ map new_holding (new_passes opening 1 opening.count)
+-- What the threads of these lines did: they made their calls on a service with their objects, each on a pass of its own
+-- from thread 1 on.
+pub record HaveRun (ls : List Line) (z : Opening) (workers : List Worker) : Type 0 where
+  pub lows : z.lows ≡ lows_of ls
+  pub count : z.count ≡ length (attached_threads ls)
+  pub starts : map (λ (w : Worker). w.before) workers ≡ map new_holding (new_passes z 1 z.count)
   pub calls : map (λ (w : Worker). w.calls) workers
       ≡ map (λ t. calls_of (objects_of ls) (attached_threads ls) t ls) (attached_threads ls)
-  pub worked : All (HasWorked opening) workers
+  pub worked : All (HasWorked z) workers
+
+-- The text of a run of these lines: their threads ran, and the service was closed then. Its text has what they came to.
+pub record IsLiveRun (ls : List Line) (text : List ℕ) : Type 0 where
+  pub opening : Opening
+  pub workers : List Worker
+  pub ran : HaveRun ls opening workers
   pub closed : Closed
   pub end : IsEnd opening (monitors_in ls) (map (λ (w : Worker). at_rest w.after) workers) closed
   pub says : text ≡ live_text ls (map told_of workers) closed
+
+-- A run of these lines that was not closed: their threads ran, and there is a record that replays and is as long as
+-- their deeds together, but does not have just those of each pass under its number.
+pub record IsTornRun (ls : List Line) : Type 0 where
+  pub opening : Opening
+  pub workers : List Worker
+  pub ran : HaveRun ls opening workers
+  pub torn : Disagrees opening (monitors_in ls) (map (λ (w : Worker). at_rest w.after) workers)
 
 -- the bytes are the text of a live script, and this is the text of a run of it
 pub record IsTextOfRun (bytes text : List ℕ) : Type 0 where
@@ -64,3 +77,10 @@ pub record IsTextOfRun (bytes text : List ℕ) : Type 0 where
   pub script : IsLiveScript lines
   pub read : bytes ≡ script_text lines
   pub run : IsLiveRun lines text
+
+-- the bytes are the text of a live script, of which this is so
+pub record IsTornText (bytes : List ℕ) : Type 0 where
+  pub lines : List Line
+  pub script : IsLiveScript lines
+  pub read : bytes ≡ script_text lines
+  pub torn : IsTornRun lines

@@ -9,7 +9,7 @@ ghost use Rattle.live_turns.specs.Ends.{IsEnd};
 ghost use Rattle.live_turns.specs.Numbers.{HasEach};
 ghost use Rattle.live_turns.specs.Ways.{new_holding};
 ghost use Rattle.live_threads.specs.Ends.{at_rest, numbers_of};
-ghost use Rattle.live_runs.specs.Faults.{IsOfRun};
+ghost use Rattle.live_runs.specs.Faults.{IsOfClose, IsOfRun};
 ghost use Rattle.live_runs.specs.Runs.{IsLiveRun};
 
 use crate::RunFault;
@@ -48,7 +48,7 @@ pub fn run_script<R: Threads + Wait + Clock + Sync>(
     script: &LiveScript<'_>,
 ) -> Result<String, RunFault>
     ensures run { IfOk result (λ text. IsLiveRun script.now (string_bytes text)) }
-    ensures fault { IfErr result IsOfRun }
+    ensures fault { IfErr result (IsOfRun script.now) }
 {
     let plan = plan_of(alloc, script)?;
     let passes = plan.threads.len() as u16;
@@ -78,7 +78,7 @@ fn play<L: Crew + Send + Sync, R: Threads + Wait + Clock + Sync>(
     requires plan { IsPlanOf script.now plan }
     requires threads { length plan.threads.items ≡ passes }
     ensures run { IfOk result (λ text. IsLiveRun script.now (string_bytes text)) }
-    ensures fault { IfErr result IsOfRun }
+    ensures fault { IfErr result (IsOfRun script.now) }
 {
     let LivePlan {
         monitors,
@@ -110,7 +110,7 @@ fn drive_all<L: Crew + Send + Sync, R: Threads + Wait + Clock + Sync>(
         ≡ map (λ t. calls_of (objects_of script.now) (attached_threads script.now) t script.now)
         (attached_threads script.now) }
     ensures run { IfOk result (λ text. IsLiveRun script.now (string_bytes text)) }
-    ensures fault { IfErr result IsOfRun }
+    ensures fault { IfErr result (IsOfRun script.now) }
 {
     let Ok(worked) = drive(rt, alloc, &live, works, &Open) else {
         return Err(RunFault::File(FileFault::Memory));
@@ -130,7 +130,7 @@ fn end_of<L: Crew>(
     requires crew { (L.parts ≡ live.count) × (L.passes ≡ live.count) }
     requires back { HasEach live.count (numbers_of passes.items) }
     ensures end { IfOk result (IsEnd live L.monitors (map at_rest passes.items)) }
-    ensures fault { IfErr result IsOfRun }
+    ensures fault { IfErr result (IsOfClose live L.monitors (map at_rest passes.items)) }
 {
     match live.close(alloc, passes) {
         Ok(closed) => Ok(closed),

@@ -9,9 +9,9 @@ ghost use Rattle.text_streams.specs.declared.faults.FileFault.TheVariants.{Broke
 ghost use Rattle.text_streams.specs.declared.faults.FileFault.TheVariants.{Read as ReadFault};
 ghost use Rattle.text_streams.specs.declared.faults.FileFault.TheVariants.{Write as WriteFault};
 ghost use Rattle.text_streams.specs.declared.faults.FileFault.TheVariants.{Memory as MemoryFault};
-ghost use Rattle.live_runs.specs.declared.faults.RunFault.TheVariants.{File};
+ghost use Rattle.live_runs.specs.declared.faults.RunFault.TheVariants.{File, Torn};
 ghost use Rattle.live_runs.specs.Faults.{IsRunReason};
-ghost use Rattle.live_runs.specs.Runs.{IsTextOfRun};
+ghost use Rattle.live_runs.specs.Runs.{IsTextOfRun, IsTornText};
 
 use crate::RunFault;
 use crate::playing::run_script;
@@ -59,6 +59,8 @@ pub fn run_live<S: Source, W: Sink, R: Threads + Wait + Clock + Sync>(
     ensures read_first { IfErr result (λ fault. (fault ≡ File ReadFault) ⊎ (fault ≡ File MemoryFault)
         ⊎ ((S.has_failed source.new → S.has_failed source.old)
         × IfSome (S.left source.old) (λ input. length input ≤ MOST_BYTES))) }
+    // Torn is told where the script was run, and its record is not that of its passes.
+    ensures torn { IsErrOf result Torn → IfSome (S.left source.old) IsTornText }
     // No fault is one of a history.
     ensures kinds { (line : ℕ) → (result ≡ Err (File (BadMove line))
         ⊎ result ≡ Err (File (Broken line))) → ⊥ }

@@ -1,4 +1,4 @@
-use Rattle.std.proofs.Common.{ap, length, map, subst, sym, ◌∙◌, ◌≡◌}
+use Rattle.std.proofs.Common.{ap, length, map, rules, subst, sym, ◌∙◌, ◌≡◌}
 use Rattle.std.specs.List.{All}
 use Rattle.std.proofs.lemmas.List.{length-map}
 use Rattle.header_words.specs.Passes.{new_passes}
@@ -12,7 +12,7 @@ use Rattle.live_scripts.specs.Plans.{calls_of, monitors_in, objects_of}
 use Rattle.live_runs.specs.Texts.{live_text}
 use Rattle.live_runs.specs.Runs.{told_in, told_in_row}
 use Rattle.live_runs.proofs.Plans.{as_many_lows, rows_are, rows_live}
-use Rattle.live_runs.proofs.Workers.{as_many, can_drive, passes_belong, workers_after, workers_before, workers_calls, workers_of, workers_told, workers_worked}
+use Rattle.live_runs.proofs.Workers.{as_many, can_drive, have_run, of_run, passes_after, passes_belong, workers_of, workers_told}
 use Rattle.live_runs.proofs.playing.drive_all.Goals as goal
 
 pub drive-requires-clause-can : goal.drive-requires-clause-can
@@ -40,6 +40,17 @@ pub live_text-requires-clause-objects : goal.live_text-requires-clause-objects
 live_text-requires-clause-objects g c =
     sym (length-map c.in_ok-closed.closed.words.items (λ w. w.0)) ∙ (c.in_ok-closed.ensures.end.words.wide ∙ (ap length c.requires.lows ∙ as_many_lows c.args.script.now))
 
+pub returns-in_err-closed-clause-fault : goal.returns-in_err-closed-clause-fault
+returns-in_err-closed-clause-fault g c =
+    let driven = c.in-Ok.ensures.driven in
+    let ws = c.args.works.items in
+    let ds = c.in-Ok.worked.items in
+    let ran = have_run c.args.script.now c.args.live ws ds c.requires.lows c.requires.threads c.requires.passes c.requires.calls driven in
+    let after = passes_after c.args.live ws ds c.in_ok-passes.passes.items driven c.in_ok-passes.ensures.passes in
+    let fault =
+    of_run c.args.script.now c.args.live _ (workers_of ws ds) (map at_rest c.in_ok-passes.passes.items) c.in_err-closed.field-0.0 ran c.requires.crew.2 after c.in_err-closed.ensures.fault in
+    search (rules, fault)
+
 pub returns-clause-run : goal.returns-clause-run
 returns-clause-run g c =
     let driven = c.in-Ok.ensures.driven in
@@ -47,14 +58,10 @@ returns-clause-run g c =
     let ds = c.in-Ok.worked.items in
     record {
       opening = c.args.live;
-      lows = c.requires.lows;
-      count = c.requires.threads;
       workers = workers_of ws ds;
-      starts = workers_before c.args.live ws ds driven ∙ c.requires.passes;
-      calls = workers_calls c.args.live ws ds driven ∙ c.requires.calls;
-      worked = workers_worked c.args.live ws ds driven;
+      ran = have_run c.args.script.now c.args.live ws ds c.requires.lows c.requires.threads c.requires.passes c.requires.calls driven;
       closed = c.in_ok-closed.closed;
-      end = subst (λ ps. IsEnd c.args.live (monitors_in c.args.script.now) ps c.in_ok-closed.closed) (ap (map at_rest) c.in_ok-passes.ensures.passes ∙ sym (workers_after c.args.live ws ds driven))
+      end = subst (λ ps. IsEnd c.args.live (monitors_in c.args.script.now) ps c.in_ok-closed.closed) (passes_after c.args.live ws ds c.in_ok-passes.passes.items driven c.in_ok-passes.ensures.passes)
           (subst (λ n. IsEnd c.args.live n (map at_rest c.in_ok-passes.passes.items) c.in_ok-closed.closed) c.requires.crew.2 c.in_ok-closed.ensures.end);
       says = c.in_ok-live_text.ensures ∙ ap (λ ts. live_text c.args.script.now ts c.in_ok-closed.closed)
           (ap (map told_in_row) c.deref.ensures.value ∙ (c.in_ok-passes.ensures.told ∙ sym (workers_told c.args.live ws ds driven)));
