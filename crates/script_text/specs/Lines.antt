@@ -181,6 +181,15 @@ abbrev pub call_timed : List ℕ → List ℕ → List ℕ → List ℕ → Opti
 call_timed verb name millis nanos =
     if bytes_eq verb (codes "wait") then wait_from name millis nanos else None
 
+-- the call that these words are
+abbrev pub call_from : List (List ℕ) → Option Call
+call_from [] = None
+call_from (v ∷ []) = call_alone v
+call_from (v ∷ a ∷ []) = call_naming v a
+call_from (v ∷ a ∷ b ∷ []) = None
+call_from (v ∷ a ∷ b ∷ c ∷ []) = call_timed v a b c
+call_from (v ∷ a ∷ b ∷ c ∷ d ∷ more) = None
+
 abbrev pub begin_from : List ℕ → List ℕ → Option Call → Option StepLine
 begin_from verb thread call =
     if bytes_eq verb (codes "begin")

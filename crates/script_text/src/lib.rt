@@ -18,6 +18,9 @@ mod walking;
 pub use declared::Declared;
 pub use lines::{Call, Line, StepLine};
 pub use names::Name;
-pub use scripts::{MOST_BYTES, Script, one_fault, print_script, read_beginning, read_script};
+pub use reading::{call_of_words, line_of_words, number_of, words_in};
+pub use scripts::{
+    MOST_BYTES, Script, cut_line, one_fault, print_script, read_beginning, read_script,
+};
 pub use text_streams::FileFault;
 pub use walking::ScriptReader;

@@ -11,7 +11,7 @@ ghost use Rattle.script_text.specs.Lines.{begin_from, call_alone, call_naming, c
 ghost use Rattle.script_text.specs.Lines.{call_timed, wait_from, world_of, split_from};
 ghost use Rattle.script_text.specs.Lines.{step_of_thread, step_of_two, line_of_three};
 ghost use Rattle.script_text.specs.Lines.{line_of_four, line_from};
-ghost use Rattle.script_text.specs.Lines.{words_of, line_at};
+ghost use Rattle.script_text.specs.Lines.{call_from, words_of, line_at};
 
 use crate::lines::{Call, Line, StepLine};
 use crate::names::Name;
@@ -59,7 +59,8 @@ fn is_number(word: &str) -> bool
     }
 }
 
-pub(crate) fn number_of(word: &str) -> Option<u64>
+/// The number of 64 bits that a word is: decimal digits, with no leading zero and no sign.
+pub fn number_of(word: &str) -> Option<u64>
     ensures { result ≡ number_from word.now }
 {
     if is_number(word) {
@@ -264,7 +265,8 @@ fn line_of_four<'a>(verb: &str, first: &'a str, second: &'a str, third: &'a str)
     begin_of(verb, first, call_naming(second, third))
 }
 
-fn line_of_words<'a>(words: &[&'a str]) -> Option<Line<'a>>
+/// The line that some words are, which is none where they are none of a script.
+pub fn line_of_words<'a>(words: &[&'a str]) -> Option<Line<'a>>
     ensures { result ≡ line_from (map (λ word. word.now) words.now) }
 {
     match words {
@@ -281,7 +283,22 @@ fn line_of_words<'a>(words: &[&'a str]) -> Option<Line<'a>>
     }
 }
 
-fn words_in<'a>(alloc: Global, text: &'a str) -> Result<Vec<&'a str>, AllocError>
+/// The call that some words are: those behind the thread of a `begin` line.
+pub fn call_of_words<'a>(words: &[&'a str]) -> Option<Call<'a>>
+    ensures { result ≡ call_from (map (λ word. word.now) words.now) }
+{
+    match words {
+        &[verb] => call_alone(verb),
+        &[verb, name] => call_naming(verb, name),
+        &[verb, name, millis, nanos] => call_timed(verb, name, millis, nanos),
+        [] => None,
+        [_, _, _] => None,
+        [_, _, _, _, _, ..] => None,
+    }
+}
+
+/// The words of a text, between each two of which one blank stands.
+pub fn words_in<'a>(alloc: Global, text: &'a str) -> Result<Vec<&'a str>, AllocError>
     ensures { IfOk result (λ words. map (λ word. word.now) words.items ≡ words_of text.now) }
 {
     text.split(' ').collect(alloc)

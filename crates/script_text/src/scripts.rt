@@ -143,8 +143,8 @@ fn take_line<'a>(
     Ok(declaring)
 }
 
-/// The bytes before the first line feed, and those after it.
-pub(crate) fn cut_line(bytes: &[u8]) -> Option<(&[u8], &[u8])>
+/// The bytes before the first line feed, and those after it; None where there is no line feed.
+pub fn cut_line(bytes: &[u8]) -> Option<(&[u8], &[u8])>
     ensures parts { MatchOption result (parts_of bytes.now ≡ bytes.now ∷ [])
         (λ cut. parts_of bytes.now ≡ cut.0.now ∷ parts_of cut.1.now) }
     ensures shorter { IfSome result (λ cut. length cut.1.now < length bytes.now) }
