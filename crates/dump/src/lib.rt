@@ -11,4 +11,4 @@ mod waits;
 
 pub use dumping::dump_script;
 pub use owners::cycles;
-pub use reports::report;
+pub use reports::{put_call, put_cycle, report};

@@ -126,7 +126,7 @@ fn why_word(why: Why) -> &'static str
 }
 
 /// Writes a call, as a script does.
-fn put_call(text: &mut String, names: &Names, call: Call) -> Result<(), AllocError>
+pub fn put_call(text: &mut String, names: &Names, call: Call) -> Result<(), AllocError>
     ensures { OnOk result (string_bytes text.new ≡ string_bytes text.old
         ++ join_with_byte 32 (call_words (named_call names.now call))) }
 {
@@ -203,8 +203,8 @@ fn put_each_cycle(
     Ok(())
 }
 
-/// Writes the line of a cycle.
-fn put_cycle(text: &mut String, names: &Names, cycle: &[ThreadId]) -> Result<(), AllocError>
+/// Writes the line of a cycle of owners: the names of its threads behind `cycle`.
+pub fn put_cycle(text: &mut String, names: &Names, cycle: &[ThreadId]) -> Result<(), AllocError>
     ensures { OnOk result (string_bytes text.new
         ≡ string_bytes text.old ++ cycle_text names.now cycle.now) }
 {

@@ -49,7 +49,7 @@ impl Model for Names {
 
 impl Names {
     /// No name.
-    pub(crate) fn new(alloc: Global) -> Names
+    pub fn new(alloc: Global) -> Names
         ensures { result ≡ record { threads = []; objects = [] } }
     {
         Names {
@@ -61,7 +61,7 @@ impl Names {
 
     /// The thread with a name, which gets the next number where the name is new.
     #[inline(always)]
-    pub(crate) fn thread(&mut self, name: &Name<'_>) -> Result<ThreadId, Memory>
+    pub fn thread(&mut self, name: &Name<'_>) -> Result<ThreadId, Memory>
         ensures found { IfOk result (λ thread.
             thread ≡ record { 0 = position_of self.old.threads name.now }) }
         ensures noted { OnOk result (self.new
@@ -73,7 +73,7 @@ impl Names {
     }
 
     /// Declares an object.
-    pub(crate) fn declare(&mut self, name: &Name<'_>) -> Result<(), Memory>
+    pub fn declare(&mut self, name: &Name<'_>) -> Result<(), Memory>
         requires { is_named self.old.objects name.now ≡ false }
         ensures noted { OnOk result (self.new
             ≡ record self.old { objects = self.old.objects ++ name.now ∷ [] }) }
@@ -86,7 +86,7 @@ impl Names {
     /// The object with a name. A name that was not declared stands for the number of the objects,
     /// which no object has.
     #[inline(always)]
-    pub(crate) fn object(&mut self, name: &Name<'_>) -> ObjectId
+    pub fn object(&mut self, name: &Name<'_>) -> ObjectId
         ensures found { result ≡ record { 0 = position_of self.old.objects name.now } }
         ensures same { self.new ≡ self.old }
     {

@@ -160,9 +160,10 @@ fn request_of(names: &mut Names, line: &StepLine<'_>) -> Result<Request, Memory>
     Ok(Request::Step(step))
 }
 
-/// The call that a line has, by the numbers of its names.
+/// The call that a line has, by the numbers of its names. A target whose name is new gets the next
+/// number.
 #[inline(always)]
-fn call_of(names: &mut Names, call: &script_text::Call<'_>) -> Result<Call, Memory>
+pub fn call_of(names: &mut Names, call: &script_text::Call<'_>) -> Result<Call, Memory>
     ensures call { IfOk result (λ c. c ≡ call_in names.old call.now) }
     ensures noted { OnOk result (names.new ≡ names_with names.old call.now) }
     ensures objects { names.new.objects ≡ names.old.objects }

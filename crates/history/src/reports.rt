@@ -331,7 +331,7 @@ fn put_object(
 
 /// Writes who owns an object, and how often.
 #[tactic(auto, unfolding(crate::specs::Reports::standing_text))]
-fn put_standing(
+pub fn put_standing(
     report: &mut String,
     names: &Names,
     world: &World,
@@ -356,8 +356,8 @@ fn owner_name(names: &Names, owner: Option<ThreadId>) -> &str
     }
 }
 
-/// The threads in the wait set of each object, by rising number.
-fn wait_sets_of(
+/// The threads in the wait set of each object, by rising number: those that have a name.
+pub fn wait_sets_of(
     alloc: Global,
     names: &Names,
     world: &World,
@@ -399,7 +399,7 @@ fn add_waiter(
 }
 
 /// Writes the names of some threads between commas, or `-` where there is none.
-fn put_threads(report: &mut String, names: &Names, threads: &[ThreadId]) -> Result<(), AllocError>
+pub fn put_threads(report: &mut String, names: &Names, threads: &[ThreadId]) -> Result<(), AllocError>
     ensures { OnOk result (string_bytes report.new
         ≡ string_bytes report.old ++ threads_text names.now threads.now) }
 {
