@@ -1,5 +1,6 @@
 -- What was visited, and what a search has found in the end.
 use native.Mathlib.Omega.{arith}
+use Rattle.std.proofs.Common.{◌*◌}
 use Rattle.std.proofs.Common.{◌≡◌, ◌⊎◌, inl, inr, ◌∙◌, subst, sym, ap, refl, ℕ, zero, suc, ◌+◌, ◌<◌, ◌≤◌, nat_lt, List, [], ◌∷◌, ◌++◌, length, Option, Some, None, Vec, Bool, true, false, length-append}
 use Rattle.std.specs.Global.{Global}
 use Rattle.std.proofs.Common.{get_or, ◌-◌, append_assoc}
@@ -18,7 +19,8 @@ use Rattle.explore.specs.declared.found.Node.{Node}
 use Rattle.explore.specs.States.{ProgramState, after, after_step, step_at, step_of_thread, played, played_from, opening}
 use Rattle.explore.specs.Found.{witness_at, witnesses, witnesses_from, grown, IsAt, IsFound, IsEnd, AreEnds, AreStates, AreParents, FindsAll, HasMore, node_at}
 use Rattle.explore.specs.Codes.{code_of}
-use Rattle.explore.specs.Searches.{IsSearch, StaysIn, IsClosed, IsVisited, AreFoundFrom, AllFoundFrom, NoneChanges, Changes, choice_at, choices_for, choices_below, all_choices}
+use Rattle.explore.specs.Searches.{IsSearch, StaysIn, IsClosed, IsVisited, AreFoundFrom, AllFoundFrom, NoneChanges, Changes}
+use Rattle.explore.specs.Found.{choice_at, choices_for, choices_below, all_choices, made_among, steps_before}
 use Rattle.explore.proofs.Searching.{stays_more, witness_before, witness_last}
 use Rattle.explore.proofs.Trying.{stays_still, stays_then, found_stays, at_stays}
 
@@ -201,15 +203,48 @@ first_within : (p : Program) (keys : List (Vec ℕ Global)) (ws : List (List Cho
 first_within p keys ws queue rest n s h e =
     let l = ap (λ (q : List ProgramState). length q) e in let w = h.waiting in omega (arith, l, w)
 
+-- ---- counted
+
+steps_stay : (p : Program) (a b : List (List Choice)) (n : ℕ) → StaysIn a b → n ≤ length a → steps_before p a n ≡ steps_before p b n
+steps_stay p a b zero stays le = refl
+steps_stay p a b (suc n) stays le =
+    let h = steps_stay p a b n stays (omega (arith, le)) in
+    let same = stays.same n (omega (arith, le)) in
+    rw (h, same) refl
+
+-- the steps of one state more
+steps_next : (p : Program) (a b : List (List Choice)) (n : ℕ) (s : ProgramState) (steps made : ℕ)
+    → StaysIn a b → n < length a → IsAt p a n s → steps ≡ steps_before p a n
+    → made ≡ made_among p s (all_choices p) (length (all_choices p)) → steps + made ≡ steps_before p b (n + 1)
+steps_next p a b n s steps made stays lt here before counted =
+    let one : n + 1 ≡ suc n = omega arith in
+    let h = steps_stay p a b n stays (omega (arith, lt)) in
+    let there : played p (witness_at b n) ≡ Some s = at_stays p a b n s stays lt here in
+    rw (one, before, h, counted, there) refl
+
+length_below : (n : ℕ) → length (choices_below n) ≡ n * 4
+length_below zero = refl
+length_below (suc n) =
+    let h = length_below n in let l = length-append (choices_below n) (choices_for n) in
+    omega (arith, h, l)
+
+-- at most 64 threads have four choices each, and the clock has one
+few_choices : (p : Program) → length (all_choices p) ≤ 257
+few_choices p =
+    let h = length_below (length p.starts.items) in let l = length-append (choices_below (length p.starts.items)) (choice.Tick ∷ []) in
+    let t = p.threads_fit in
+    omega (arith, h, l, t)
+
 -- one state more was visited
-pub visited_next : (p : Program) (keys keys' : List (Vec ℕ Global)) (ws ws' : List (List Choice)) (queue rest queue' : List ProgramState) (ends ends' : List ℕ) (n : ℕ) (s : ProgramState) (cs : List Choice) (end : Bool)
-    → IsVisited p keys ws queue ends n → queue ≡ s ∷ rest → cs ≡ all_choices p
+pub visited_next : (p : Program) (keys keys' : List (Vec ℕ Global)) (ws ws' : List (List Choice)) (queue rest queue' : List ProgramState) (ends ends' : List ℕ) (steps made n : ℕ) (s : ProgramState) (cs : List Choice) (end : Bool)
+    → IsVisited p keys ws queue ends steps n → queue ≡ s ∷ rest → cs ≡ all_choices p
     → IsSearch p keys' ws' queue' (n + 1) → StaysIn ws ws' → AreFoundFrom p ws' s cs (length cs)
     → (end ≡ true → NoneChanges p s cs (length cs))
     → (end ≡ false → (c : Choice) × Changes p s c)
+    → made ≡ made_among p s cs (length cs) → made ≤ length cs
     → ends' ≡ (if end then ends ++ n ∷ [] else ends)
-    → IsVisited p keys' ws' queue' ends' (n + 1)
-visited_next p keys keys' ws ws' queue rest queue' ends ends' n s cs end v e all search stays found none some noted =
+    → IsVisited p keys' ws' queue' ends' (steps + made) (n + 1)
+visited_next p keys keys' ws ws' queue rest queue' ends ends' steps made n s cs end v e all search stays found none some counted few noted =
     let lt = first_within p keys ws queue rest n s v.search e in
     let here = first_here p keys ws queue rest n s v.search e in
     record {
@@ -217,6 +252,9 @@ visited_next p keys keys' ws ws' queue rest queue' ends ends' n s cs end v e all
       closed = closed_next p ws ws' n s v.closed stays lt here
           (all_found p ws' s (subst (λ (xs : List Choice). AreFoundFrom p ws' s xs (length xs)) all found));
       noted = by end none some noted lt here;
+      counted = steps_next p ws ws' n s steps made stays lt here v.counted
+          (counted ∙ ap (λ (xs : List Choice). made_among p s xs (length xs)) all);
+      few = (let x = v.few in let y = few in let l = ap (λ (xs : List Choice). length xs) all in let m = few_choices p in omega (arith, x, y, l, m));
     }
   where
     by : (end : Bool) → (end ≡ true → NoneChanges p s cs (length cs))
@@ -266,26 +304,26 @@ are_states p keys ws queue n h = record {
 }
 
 -- more states were found than were visited, while some wait
-pub has_more : (p : Program) (keys : List (Vec ℕ Global)) (ns : List Node) (queue : List ProgramState) (ends : List ℕ) (n : ℕ)
-    → IsVisited p keys (witnesses ns) queue ends n → 0 < length queue → HasMore p n
-has_more p keys ns queue ends n v some =
+pub has_more : (p : Program) (keys : List (Vec ℕ Global)) (ns : List Node) (queue : List ProgramState) (ends : List ℕ) (steps n : ℕ)
+    → IsVisited p keys (witnesses ns) queue ends steps n → 0 < length queue → HasMore p n
+has_more p keys ns queue ends steps n v some =
     let w = v.search.waiting in
     (witnesses ns, omega (arith, w, some), are_states p keys (witnesses ns) queue n v.search)
 
 -- more states were found than were asked for
-pub over : (p : Program) (keys : List (Vec ℕ Global)) (ns : List Node) (queue : List ProgramState) (ends : List ℕ) (n most : ℕ)
-    → IsVisited p keys (witnesses ns) queue ends n → most < length (witnesses ns) → HasMore p most
-over p keys ns queue ends n most v more = (witnesses ns, more, are_states p keys (witnesses ns) queue n v.search)
+pub over : (p : Program) (keys : List (Vec ℕ Global)) (ns : List Node) (queue : List ProgramState) (ends : List ℕ) (steps n most : ℕ)
+    → IsVisited p keys (witnesses ns) queue ends steps n → most < length (witnesses ns) → HasMore p most
+over p keys ns queue ends steps n most v more = (witnesses ns, more, are_states p keys (witnesses ns) queue n v.search)
 
 -- and no more, once no state waits to be visited
-pub few : (p : Program) (keys : List (Vec ℕ Global)) (ns : List Node) (ends : List ℕ) (n most : ℕ)
-    → IsVisited p keys (witnesses ns) [] ends n → n ≤ most → length (witnesses ns) ≤ most
-few p keys ns ends n most v le = let w = v.search.waiting in omega (arith, w, le)
+pub few : (p : Program) (keys : List (Vec ℕ Global)) (ns : List Node) (ends : List ℕ) (steps n most : ℕ)
+    → IsVisited p keys (witnesses ns) [] ends steps n → n ≤ most → length (witnesses ns) ≤ most
+few p keys ns ends steps n most v le = let w = v.search.waiting in omega (arith, w, le)
 
 -- all is found once no state waits to be visited
-pub finds_all : (p : Program) (keys : List (Vec ℕ Global)) (ns : List Node) (ends : List ℕ) (n : ℕ)
-    → IsVisited p keys (witnesses ns) [] ends n → FindsAll p (record { witnesses = witnesses ns; ends = ends })
-finds_all p keys ns ends n v =
+pub finds_all : (p : Program) (keys : List (Vec ℕ Global)) (ns : List Node) (ends : List ℕ) (steps n : ℕ)
+    → IsVisited p keys (witnesses ns) [] ends steps n → FindsAll p (record { witnesses = witnesses ns; ends = ends; steps = steps })
+finds_all p keys ns ends steps n v =
     let ws : List (List Choice) = witnesses ns in
     let w = v.search.waiting in
     let all : n ≡ length ws = omega (arith, w) in
@@ -296,6 +334,7 @@ finds_all p keys ns ends n v =
       complete = λ cs s e. complete_from p ws n v.closed all cs (opening p) s
           (0, omega (arith, x), ap (λ (c : List Choice). played p c) (first.same 0 (omega arith))) e;
       ends = subst (λ (m : ℕ). AreEnds p ws m ends) all v.noted;
+      steps = v.counted ∙ ap (λ (m : ℕ). steps_before p ws m) all;
     }
 
 -- ---- the way back from a state

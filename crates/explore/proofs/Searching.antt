@@ -159,7 +159,7 @@ key_there ks ks' k b e t h = by (list_any (is_same k) ks) (sym e ∙ t) h
 
 -- where a program begins
 pub first_found : (p : Program) (key : Vec ℕ Global) (s : ProgramState) → s ≡ opening p → IsCoded s → key.items ≡ code_of s
-    → IsVisited p (key ∷ []) ([] ∷ []) (s ∷ []) [] 0
+    → IsVisited p (key ∷ []) ([] ∷ []) (s ∷ []) [] 0 0
 first_found p key s e sound coded = record {
   search = search_more p [] [] [] 0 key [] s (record {
     counted = refl;
@@ -174,6 +174,8 @@ first_found p key s e sound coded = record {
     rising = λ i j below lt. absurd (omega (arith, lt));
     every = λ k r lt leads end. absurd (omega (arith, lt));
   };
+  counted = refl;
+  few = omega arith;
 }
 
 -- a key that no key is the same as

@@ -8,7 +8,11 @@ use Rattle.explore.specs.declared.programs.Program.{Program}
 use Rattle.explore.specs.declared.programs.Choice.{Choice}
 use Rattle.explore.specs.States.{ProgramState, after, played, played_from, opening}
 use Rattle.explore.specs.Found.{IsAt, IsFound, AreStates}
-use Rattle.explore.specs.Searches.{StaysIn, AreFoundFrom, NoneChanges, Changes, IsTried, HasNumber, choice_at}
+use Rattle.explore.specs.Searches.{StaysIn, AreFoundFrom, NoneChanges, Changes, IsTried, HasNumber, changes, is_made}
+use Rattle.explore.specs.declared.search.Tried.{Tried}
+use Rattle.explore.specs.declared.search.Tried.TheVariants as tried
+use Rattle.std.specs.Prelude.{suc, is_some}
+use Rattle.explore.specs.Found.{choice_at, made_among}
 
 from_more : (p : Program) (cs : List Choice) (o : Option ProgramState) (c : Choice) (s : ProgramState) (t : Option ProgramState)
     → played_from p cs o ≡ Some s → after p s c ≡ t → played_from p (cs ++ c ∷ []) o ≡ t
@@ -39,9 +43,9 @@ pub at_stays : (p : Program) (a b : List (List Choice)) (k : ℕ) (s : ProgramSt
 at_stays p a b k s h lt e = rw (h.same k lt) e
 
 -- one choice more was tried
-pub found_next : (p : Program) (ws ws' : List (List Choice)) (s : ProgramState) (cs : List Choice) (n : ℕ) (c : Choice) (changes : Bool)
-    → AreFoundFrom p ws s cs n → StaysIn ws ws' → choice_at cs n ≡ c → IsTried p ws' s c changes → AreFoundFrom p ws' s cs (n + 1)
-found_next p ws ws' s cs n c changes found stays e tried = λ i r lt leads. pick i r lt leads (cases_lt i n)
+pub found_next : (p : Program) (ws ws' : List (List Choice)) (s : ProgramState) (cs : List Choice) (n : ℕ) (c : Choice) (x : Tried)
+    → AreFoundFrom p ws s cs n → StaysIn ws ws' → choice_at cs n ≡ c → IsTried p ws' s c x → AreFoundFrom p ws' s cs (n + 1)
+found_next p ws ws' s cs n c x found stays e tried = λ i r lt leads. pick i r lt leads (cases_lt i n)
   where
     pick : (i : ℕ) (r : ProgramState) → i < n + 1 → after p s (choice_at cs i) ≡ Some r → (i < n) ⊎ (n ≤ i) → IsFound p ws' r
     pick i r lt leads (inl below) = found_stays p ws ws' r stays (found i r below leads)
@@ -67,26 +71,40 @@ taken true a x y e h g = e ∙ ap Some (sym g)
 taken false a x y e h g = absurd (cc)
 
 -- where a choice changes the state it is no end any more
-pub end_next : (p : Program) (ws : List (List Choice)) (s : ProgramState) (cs : List Choice) (n : ℕ) (c : Choice) (ends changes : Bool)
-    → (ends ≡ true → NoneChanges p s cs n) → choice_at cs n ≡ c → IsTried p ws s c changes
-    → (ends && not changes) ≡ true → NoneChanges p s cs (n + 1)
-end_next p ws s cs n c true false before e tried h = none_next p s cs n c (before refl) e (tried.stays refl)
-end_next p ws s cs n c true true before e tried h = absurd (cc)
-end_next p ws s cs n c false changes before e tried h = absurd (cc)
+pub end_next : (p : Program) (ws : List (List Choice)) (s : ProgramState) (cs : List Choice) (n : ℕ) (c : Choice) (x : Tried) (ends led : Bool)
+    → (ends ≡ true → NoneChanges p s cs n) → choice_at cs n ≡ c → IsTried p ws s c x → led ≡ changes x
+    → (ends && not led) ≡ true → NoneChanges p s cs (n + 1)
+end_next p ws s cs n c x true false before e tried is h = none_next p s cs n c (before refl) e (tried.stays (sym is))
+end_next p ws s cs n c x true true before e tried is h = absurd (cc)
+end_next p ws s cs n c x false led before e tried is h = absurd (cc)
 
-pub open_next : (p : Program) (ws : List (List Choice)) (s : ProgramState) (c : Choice) (ends changes : Bool)
-    → (ends ≡ false → (d : Choice) × Changes p s d) → IsTried p ws s c changes
-    → (ends && not changes) ≡ false → (d : Choice) × Changes p s d
-open_next p ws s c false changes before tried h = before refl
-open_next p ws s c true true before tried h = (c, tried.leads refl)
-open_next p ws s c true false before tried h = absurd (cc)
+pub open_next : (p : Program) (ws : List (List Choice)) (s : ProgramState) (c : Choice) (x : Tried) (ends led : Bool)
+    → (ends ≡ false → (d : Choice) × Changes p s d) → IsTried p ws s c x → led ≡ changes x
+    → (ends && not led) ≡ false → (d : Choice) × Changes p s d
+open_next p ws s c x false led before tried is h = before refl
+open_next p ws s c x true true before tried is h = (c, tried.leads (sym is))
+open_next p ws s c x true false before tried is h = absurd (cc)
+
+-- a choice that can be made is counted
+pub made_next : (p : Program) (ws : List (List Choice)) (s : ProgramState) (cs : List Choice) (n m : ℕ) (c : Choice) (x : Tried) (k : ℕ)
+    → m ≡ made_among p s cs n → choice_at cs n ≡ c → IsTried p ws s c x → k ≡ (if is_made x then 1 else 0)
+    → m + k ≡ made_among p s cs (n + 1)
+made_next p ws s cs n m c x k before e tried is =
+    let one : n + 1 ≡ suc n = omega arith in
+    rw (one, before, e, tried.made, is) refl
+
+pub few_next : (x : Tried) (m k n : ℕ) → m ≤ n → k ≡ (if is_made x then 1 else 0) → m + k ≤ n + 1
+few_next tried.Refused m k n le is = omega (arith, le, is)
+few_next tried.Stays m k n le is = omega (arith, le, is)
+few_next tried.Leads m k n le is = omega (arith, le, is)
 
 -- a choice that cannot be made
-pub tried_none : (p : Program) (ws : List (List Choice)) (s : ProgramState) (c : Choice) → after p s c ≡ None → IsTried p ws s c false
+pub tried_none : (p : Program) (ws : List (List Choice)) (s : ProgramState) (c : Choice) → after p s c ≡ None → IsTried p ws s c tried.Refused
 tried_none p ws s c h = record {
   found = λ t e. absurd (cc);
   leads = λ e. absurd (cc);
   stays = λ _ t e. absurd (cc);
+  made = rw h refl;
 }
 
 same_number : (p : Program) (ws : List (List Choice)) (j k : ℕ) (s : ProgramState) → AreStates p ws
@@ -99,21 +117,30 @@ same_number p ws j k s states a b = by (cases_lt j k) (cases_lt k j)
     by (inr le) (inr ge) = omega (arith, le, ge)
 
 -- a choice that leads to the state with a number changes the state, but where the two have one number
-pub tried_some : (p : Program) (ws : List (List Choice)) (s t : ProgramState) (c : Choice) (at k : ℕ) (changes : Bool) → AreStates p ws
-    → after p s c ≡ Some t → HasNumber p ws at s → HasNumber p ws k t → changes ≡ not (k == at) → IsTried p ws s c changes
-tried_some p ws s t c at k changes states e here there said = record {
+pub tried_some : (p : Program) (ws : List (List Choice)) (s t : ProgramState) (c : Choice) (at k : ℕ) (x : Tried) → AreStates p ws
+    → after p s c ≡ Some t → HasNumber p ws at s → HasNumber p ws k t → x ≡ (if k == at then tried.Stays else tried.Leads) → IsTried p ws s c x
+tried_some p ws s t c at k x states e here there said = record {
   found = λ r h. (k, there.0, there.1 ∙ sym e ∙ h);
   leads = λ said_so. (t, e, λ same. other said_so (same_number p ws k at s states (there.0, subst (λ (x : ProgramState). IsAt p ws k x) same there.1) here));
   stays = λ said_no r h. sym (back r h) ∙ one (equal said_no);
+  made = ap (λ (o : Option ProgramState). is_some o) e ∙ sym (some_made (k == at) said);
 }
   where
-    other : changes ≡ true → k ≡ at → ⊥
-    other led same = absurd (let h = eq-eqb k at same in cc)
+    some_made : (b : Bool) → x ≡ (if b then tried.Stays else tried.Leads) → is_made x ≡ true
+    some_made true g = ap is_made g
+    some_made false g = ap is_made g
 
-    equal : changes ≡ false → k ≡ at
-    equal kept = eqb-true k at (by (k == at) said)
+    leads_only : (b : Bool) → x ≡ (if b then tried.Stays else tried.Leads) → changes x ≡ not b
+    leads_only true g = ap changes g
+    leads_only false g = ap changes g
+
+    other : changes x ≡ true → k ≡ at → ⊥
+    other led same = absurd (let h = eq-eqb k at same in let g = leads_only (k == at) said in cc)
+
+    equal : changes x ≡ false → k ≡ at
+    equal kept = eqb-true k at (by (k == at) (leads_only (k == at) said))
       where
-        by : (b : Bool) → changes ≡ not b → b ≡ true
+        by : (b : Bool) → changes x ≡ not b → b ≡ true
         by true g = refl
         by false g = absurd (let k = kept in cc)
 

@@ -1,5 +1,6 @@
 -- What a search of a program finds.
-use Rattle.std.specs.Prelude.{◌≡◌, ℕ, ◌<◌, ◌≤◌, List, [], ◌∷◌, ◌++◌, length, slice_index_or, Some}
+use Rattle.std.specs.Prelude.{◌≡◌, ℕ, zero, suc, ◌+◌, ◌<◌, ◌≤◌, List, [], ◌∷◌, ◌++◌, length, slice_index_or, Option, Some, None}
+use Rattle.std.specs.Prelude.{if◌then◌else◌, is_some}
 use Rattle.explore.specs.declared.programs.Program.{Program}
 use Rattle.explore.specs.declared.programs.Choice.{Choice}
 use Rattle.explore.specs.declared.programs.Choice.TheVariants as choice
@@ -8,10 +9,12 @@ use Rattle.explore.specs.declared.found.ExploreFault.{ExploreFault}
 use Rattle.explore.specs.declared.found.ExploreFault.TheVariants as fault
 use Rattle.explore.specs.States.{ProgramState, after, played}
 
--- what was found: for each state the choices that lead there, and which of the states are ends
+-- what was found: for each state the choices that lead there, which of the states are ends, and how many choices can
+-- be made in all of them
 pub record FoundStates : Type 0 where
   pub witnesses : List (List Choice)
   pub ends : List ℕ
+  pub steps : ℕ
 
 -- the choices that lead to the state with a number
 abbrev pub witness_at : List (List Choice) → ℕ → List Choice
@@ -63,6 +66,37 @@ pub record AreStates (p : Program) (ws : List (List Choice)) : Type 0 where
   pub sound : (k : ℕ) → k < length ws → (s : ProgramState) × IsAt p ws k s
   pub distinct : (j k : ℕ) (s : ProgramState) → j < k → k < length ws → IsAt p ws j s → IsAt p ws k s → ⊥
 
+-- the choice with a number
+abbrev pub choice_at : List Choice → ℕ → Choice
+choice_at cs i = slice_index_or cs i (choice.Begin 0)
+
+-- the choices of a thread, and of the threads below a number
+abbrev pub choices_for : ℕ → List Choice
+choices_for k = choice.Begin k ∷ choice.Go k ∷ choice.Expire k ∷ choice.Spurious k ∷ []
+
+abbrev pub choices_below : ℕ → List Choice
+choices_below zero = []
+choices_below (suc n) = choices_below n ++ choices_for n
+
+-- all that may be chosen
+abbrev pub all_choices : Program → List Choice
+all_choices p = choices_below (length p.starts.items) ++ choice.Tick ∷ []
+
+-- how many of the first of these choices can be made in a state
+abbrev pub made_among : Program → ProgramState → List Choice → ℕ → ℕ
+made_among p s cs zero = 0
+made_among p s cs (suc n) = made_among p s cs n + (if is_some (after p s (choice_at cs n)) then 1 else 0)
+
+-- how many of all choices can
+abbrev pub made_in : Program → Option ProgramState → ℕ
+made_in p None = 0
+made_in p (Some s) = made_among p s (all_choices p) (length (all_choices p))
+
+-- how many can be made in the first states, each counted where it is made
+abbrev pub steps_before : Program → List (List Choice) → ℕ → ℕ
+steps_before p ws zero = 0
+steps_before p ws (suc n) = steps_before p ws n + made_in p (played p (witness_at ws n))
+
 -- Each state that any list of choices leads to is found, once, and nothing else is.
 pub record FindsAll (p : Program) (f : FoundStates) : Type 0 where
   pub states : AreStates p f.witnesses
@@ -70,6 +104,8 @@ pub record FindsAll (p : Program) (f : FoundStates) : Type 0 where
   pub complete : (cs : List Choice) (s : ProgramState) → played p cs ≡ Some s → IsFound p f.witnesses s
   -- and the ends are those that no choice changes
   pub ends : AreEnds p f.witnesses (length f.witnesses) f.ends
+  -- and the steps are counted, each state with each choice that can be made there
+  pub steps : f.steps ≡ steps_before p f.witnesses (length f.witnesses)
 
 -- there are more states than this
 abbrev pub HasMore : Program → ℕ → Type 0

@@ -1,12 +1,13 @@
 -- How far a search has come.
-use Rattle.std.specs.Prelude.{◌≡◌, ℕ, zero, suc, ◌+◌, ◌<◌, ◌≤◌, Bool, true, false, List, [], ◌∷◌, ◌++◌, length, slice_index_or, slice_get, Some, Vec}
+use Rattle.std.specs.Prelude.{◌≡◌, ℕ, ◌+◌, ◌*◌, ◌<◌, ◌≤◌, is_some, Bool, true, false, List, length, slice_get, Some, Vec}
 use Rattle.std.specs.Global.{Global}
 use Rattle.explore.specs.declared.programs.Program.{Program}
 use Rattle.explore.specs.declared.programs.Choice.{Choice}
-use Rattle.explore.specs.declared.programs.Choice.TheVariants as choice
 use Rattle.explore.specs.States.{ProgramState, after}
 use Rattle.explore.specs.Codes.{code_of, IsCoded}
-use Rattle.explore.specs.Found.{IsAt, IsFound, AreEnds, witness_at}
+use Rattle.explore.specs.declared.search.Tried.{Tried}
+use Rattle.explore.specs.declared.search.Tried.TheVariants as tried
+use Rattle.explore.specs.Found.{IsAt, IsFound, AreEnds, choice_at, steps_before, witness_at}
 
 -- the codes of the states that were found, the choices that lead to each, and states that wait
 abbrev pub Keys : Type 0
@@ -43,10 +44,6 @@ pub record StaysIn (ws ws' : Witnesses) : Type 0 where
   pub more : length ws ≤ length ws'
   pub same : (k : ℕ) → k < length ws → witness_at ws' k ≡ witness_at ws k
 
--- the choice with a number
-abbrev pub choice_at : List Choice → ℕ → Choice
-choice_at cs i = slice_index_or cs i (choice.Begin 0)
-
 -- what the first of these choices lead to from this state is found
 abbrev pub AreFoundFrom : Program → Witnesses → ProgramState → List Choice → ℕ → Type 0
 AreFoundFrom p ws s cs n =
@@ -64,11 +61,23 @@ Changes p s c = (t : ProgramState) × (after p s c ≡ Some t) × (t ≡ s → �
 abbrev pub HasNumber : Program → Witnesses → ℕ → ProgramState → Type 0
 HasNumber p ws k s = (k < length ws) × IsAt p ws k s
 
--- a choice was tried in a state, and changes it or not: where it leads is found
-pub record IsTried (p : Program) (ws : Witnesses) (s : ProgramState) (c : Choice) (changes : Bool) : Type 0 where
+-- what came of a choice that was tried: whether it changes the state, and whether it can be made
+abbrev pub changes : Tried → Bool
+changes tried.Refused = false
+changes tried.Stays = false
+changes tried.Leads = true
+
+abbrev pub is_made : Tried → Bool
+is_made tried.Refused = false
+is_made tried.Stays = true
+is_made tried.Leads = true
+
+-- a choice was tried in a state: where it leads is found
+pub record IsTried (p : Program) (ws : Witnesses) (s : ProgramState) (c : Choice) (x : Tried) : Type 0 where
   pub found : (t : ProgramState) → after p s c ≡ Some t → IsFound p ws t
-  pub leads : changes ≡ true → Changes p s c
-  pub stays : changes ≡ false → (t : ProgramState) → after p s c ≡ Some t → t ≡ s
+  pub leads : changes x ≡ true → Changes p s c
+  pub stays : changes x ≡ false → (t : ProgramState) → after p s c ≡ Some t → t ≡ s
+  pub made : is_some (after p s c) ≡ is_made x
 
 -- the same of every choice
 abbrev pub AllFoundFrom : Program → Witnesses → ProgramState → Type 0
@@ -78,20 +87,11 @@ AllFoundFrom p ws s = (c : Choice) (s' : ProgramState) → after p s c ≡ Some 
 abbrev pub IsClosed : Program → Witnesses → ℕ → Type 0
 IsClosed p ws n = (k : ℕ) (s : ProgramState) → k < n → IsAt p ws k s → AllFoundFrom p ws s
 
--- the choices of a thread, and of the threads below a number
-abbrev pub choices_for : ℕ → List Choice
-choices_for k = choice.Begin k ∷ choice.Go k ∷ choice.Expire k ∷ choice.Spurious k ∷ []
-
-abbrev pub choices_below : ℕ → List Choice
-choices_below zero = []
-choices_below (suc n) = choices_below n ++ choices_for n
-
--- all that may be chosen
-abbrev pub all_choices : Program → List Choice
-all_choices p = choices_below (length p.starts.items) ++ choice.Tick ∷ []
-
--- The first states were visited: what they lead to is found, and those that are ends are noted.
-pub record IsVisited (p : Program) (keys : Keys) (ws : Witnesses) (q : States) (ends : List ℕ) (n : ℕ) : Type 0 where
+-- The first states were visited: what they lead to is found, those that are ends are noted, and the choices that can
+-- be made there are counted.
+pub record IsVisited (p : Program) (keys : Keys) (ws : Witnesses) (q : States) (ends : List ℕ) (steps n : ℕ) : Type 0 where
   pub search : IsSearch p keys ws q n
   pub closed : IsClosed p ws n
   pub noted : AreEnds p ws n ends
+  pub counted : steps ≡ steps_before p ws n
+  pub few : steps ≤ n * 257

@@ -22,6 +22,8 @@ pub struct Found {
     pub(crate) nodes: Vec<Node>,
     // The numbers of those that no choice changes.
     pub(crate) ends: Vec<u32>,
+    // How many choices can be made in all of them.
+    pub(crate) steps: u64,
 }
 
 impl Model for Found {
@@ -30,7 +32,11 @@ impl Model for Found {
 
     ghost Value = { FoundStates };
 
-    ghost view = { λ f. record { witnesses = witnesses f.nodes.items; ends = f.ends.items } };
+    ghost view = { λ f. record {
+      witnesses = witnesses f.nodes.items;
+      ends = f.ends.items;
+      steps = f.steps;
+    } };
 
     ghost invariant = { λ f. AreParents f.nodes.items };
 }
@@ -49,6 +55,14 @@ impl Found {
         ensures { result.now ≡ self.now.ends }
     {
         &self.ends
+    }
+
+    /// How many steps there are between them: in each state, each choice that can be made there is
+    /// one.
+    pub fn steps(&self) -> u64
+        ensures { result ≡ self.now.steps }
+    {
+        self.steps
     }
 
     /// The choices that lead to a state, from where the program begins.

@@ -4,7 +4,10 @@ ghost use Rattle.std.specs.Prelude.{◌≡◌, ◌+◌, ◌<◌, ◌≤◌, ◌+
 ghost use Rattle.std.specs.Prelude.{IfErr, IfOk, OnOk};
 ghost use Rattle.explore.specs.declared.programs.Choice.{Choice};
 ghost use Rattle.explore.specs.States.{ProgramState, after, played, opening};
+ghost use Rattle.explore.specs.declared.search.Tried.TheVariants as tried;
 ghost use Rattle.explore.specs.Found.{witnesses, witness_at, IsAt, IsFound, FindsAll, IsReason, AreParents};
+ghost use Rattle.explore.specs.Found.{all_choices, made_among};
+ghost use Rattle.std.specs.Prelude.{◌==◌};
 ghost use Rattle.explore.specs.Searches.{
   IsSearch,
   StaysIn,
@@ -15,7 +18,8 @@ ghost use Rattle.explore.specs.Searches.{
   HasNumber,
   IsTried,
   IsVisited,
-  all_choices,
+  changes,
+  is_made,
 };
 ghost use Rattle.std.specs.Prelude.{if◌then◌else◌};
 
@@ -36,6 +40,43 @@ struct Search {
     nodes: Vec<Node>,
     queue: VecDeque<State>,
     ghost parents: { AreParents nodes.items },
+}
+
+/// What came of a choice that was tried in a state.
+#[derive(Clone, Copy)]
+pub enum Tried {
+    /// It cannot be made there.
+    Refused,
+    /// It leads to the same state.
+    Stays,
+    /// It leads to another state.
+    Leads,
+}
+
+impl Tried {
+    /// Whether the choice changes the state.
+    fn changes(self) -> bool
+        ensures { result ≡ changes self }
+    {
+        matches!(self, Tried::Leads)
+    }
+
+    /// How many steps it is: one, where the choice can be made.
+    fn steps(self) -> u64
+        ensures { result ≡ (if is_made self then 1 else 0) }
+    {
+        match self {
+            Tried::Refused => 0,
+            Tried::Stays | Tried::Leads => 1,
+        }
+    }
+}
+
+/// What came of all choices in a state: whether none changes it, and how many can be made.
+#[derive(Clone, Copy)]
+struct Expanded {
+    is_end: bool,
+    made: u64,
 }
 
 impl Search {
@@ -70,8 +111,7 @@ impl Search {
         Ok(number)
     }
 
-    /// Tries a choice in a state, the one with a number; answers whether it changes the state.
-    /// `next` is that state, and is so again.
+    /// Tries a choice in a state, the one with a number. `next` is that state, and is so again.
     fn try_choice(
         &mut self,
         alloc: Global,
@@ -80,7 +120,7 @@ impl Search {
         next: &mut State,
         at: u32,
         choice: Choice,
-    ) -> Result<bool, Memory>
+    ) -> Result<Tried, Memory>
         requires search { IsSearch program.now self.old.codes.keys (witnesses self.old.nodes.items)
             self.old.queue.items (at + 1) }
         requires here { IsAt program.now (witnesses self.old.nodes.items) at state.now }
@@ -94,14 +134,14 @@ impl Search {
             choice) }
     {
         if !next.make(program, choice)? {
-            return Ok(false);
+            return Ok(Tried::Refused);
         }
         let made = mem::replace(next, state.clone()?);
         let number = self.add(alloc, program, made, at, choice)?;
-        Ok(number != at as usize)
+        Ok(tried_from(at, number))
     }
 
-    /// Tries every choice in a state, the one with a number; answers whether none changes it.
+    /// Tries every choice in a state, the one with a number.
     fn expand(
         &mut self,
         alloc: Global,
@@ -109,7 +149,7 @@ impl Search {
         choices: &[Choice],
         state: &State,
         at: u32,
-    ) -> Result<bool, Memory>
+    ) -> Result<Expanded, Memory>
         requires search { IsSearch program.now self.old.codes.keys (witnesses self.old.nodes.items)
             self.old.queue.items (at + 1) }
         requires here { IsAt program.now (witnesses self.old.nodes.items) at state.now }
@@ -119,24 +159,29 @@ impl Search {
             (witnesses self.new.nodes.items)) }
         ensures found { OnOk result (AreFoundFrom program.now (witnesses self.new.nodes.items)
             state.now choices.now (length choices.now)) }
-        ensures end { IfOk result (λ end. end ≡ true
+        ensures end { IfOk result (λ x. x.is_end ≡ true
             → NoneChanges program.now state.now choices.now (length choices.now)) }
-        ensures open { IfOk result (λ end. end ≡ false
+        ensures open { IfOk result (λ x. x.is_end ≡ false
             → (c : Choice) × Changes program.now state.now c) }
+        ensures made { IfOk result (λ x.
+            x.made ≡ made_among program.now state.now choices.now (length choices.now)) }
+        ensures few { IfOk result (λ x. x.made ≤ length choices.now) }
     {
         let mut is_end = true;
+        let mut made = 0;
         let mut next = state.clone()?;
         'choosing: for choice in choices {
-            let changes = self.try_choice(alloc, program, state, &mut next, at, *choice)?;
-            is_end &= !changes;
+            let tried = self.try_choice(alloc, program, state, &mut next, at, *choice)?;
+            is_end &= !tried.changes();
+            made += tried.steps();
         }
-        Ok(is_end)
+        Ok(Expanded { is_end, made })
     }
 
     /// A search that has found where the program begins, and visited nothing.
     fn open(alloc: Global, program: &Program) -> Result<Search, Memory>
         ensures { IfOk result (λ s. IsVisited program.now s.codes.keys
-            (witnesses s.nodes.items) s.queue.items [] 0) }
+            (witnesses s.nodes.items) s.queue.items [] 0 0) }
     {
         let first = State::open(alloc, program)?;
         let mut codes = IndexSet::new(alloc);
@@ -150,28 +195,31 @@ impl Search {
         })
     }
 
-    /// Visits the next state, the one with a number, and notes an end. False: there is none.
+    /// Visits the next state, the one with a number, notes an end, and counts the choices that can
+    /// be made. False: there is none.
     fn visit(
         &mut self,
         alloc: Global,
         program: &Program,
         choices: &[Choice],
         ends: &mut Vec<u32>,
+        steps: &mut u64,
         at: u32,
     ) -> Result<bool, Memory>
         requires visited { IsVisited program.now self.old.codes.keys
-            (witnesses self.old.nodes.items) self.old.queue.items ends.old.items at }
+            (witnesses self.old.nodes.items) self.old.queue.items ends.old.items steps.old at }
         requires all { choices.now ≡ all_choices program.now }
         ensures visited { IfOk result (λ went. IsVisited program.now self.new.codes.keys
-            (witnesses self.new.nodes.items) self.new.queue.items ends.new.items
+            (witnesses self.new.nodes.items) self.new.queue.items ends.new.items steps.new
             (if went then at + 1 else at)) }
         ensures last { IfOk result (λ went. went ≡ false → self.new.queue.items ≡ []) }
     {
         let Some(state) = self.queue.pop_front() else {
             return Ok(false);
         };
-        let is_end = self.expand(alloc, program, choices, &state, at)?;
-        note_end(ends, is_end, at)?;
+        let expanded = self.expand(alloc, program, choices, &state, at)?;
+        note_end(ends, expanded.is_end, at)?;
+        *steps += expanded.made;
         Ok(true)
     }
 
@@ -201,11 +249,13 @@ pub fn explore(alloc: Global, program: &Program, most: u32) -> Result<Found, Exp
     let choices = choices_of(alloc, program)?;
     let mut search = Search::open(alloc, program)?;
     let mut ends = Vec::new(alloc);
+    let mut steps = 0;
     'visiting: for at in 0..most {
-        if !search.visit(alloc, program, &choices, &mut ends, at)? {
+        if !search.visit(alloc, program, &choices, &mut ends, &mut steps, at)? {
             return Ok(Found {
                 nodes: search.nodes,
                 ends,
+                steps,
             });
         }
         if search.is_over(most) {
@@ -218,7 +268,19 @@ pub fn explore(alloc: Global, program: &Program, most: u32) -> Result<Found, Exp
     Ok(Found {
         nodes: search.nodes,
         ends,
+        steps,
     })
+}
+
+/// What came of a choice in the state with a number, where it leads to the one with another.
+fn tried_from(at: u32, number: usize) -> Tried
+    ensures { result ≡ (if number == at then tried.Stays else tried.Leads) }
+{
+    if number == at as usize {
+        Tried::Stays
+    } else {
+        Tried::Leads
+    }
 }
 
 /// Notes the number of a state that is an end.

@@ -44,7 +44,7 @@ impl Model for State {
 
 impl State {
     /// The state in which a program begins.
-    pub(crate) fn open(alloc: Global, program: &Program) -> Result<State, Memory>
+    pub fn open(alloc: Global, program: &Program) -> Result<State, Memory>
         ensures { IfOk result (λ s. s ≡ opening program.now) }
     {
         let mut world = World::new(
@@ -101,7 +101,7 @@ impl State {
 
     /// Makes a choice. False: it cannot be made here, and nothing changes. On want of memory the
     /// state is not to be used any more.
-    pub(crate) fn make(&mut self, program: &Program, choice: Choice) -> Result<bool, Memory>
+    pub fn make(&mut self, program: &Program, choice: Choice) -> Result<bool, Memory>
         ensures made { IfOk result (λ yes. after program.now self.old choice
             ≡ (if yes then Some self.new else None)) }
         ensures kept { IfOk result (λ yes. yes ≡ false → self.new ≡ self.old) }
@@ -140,8 +140,8 @@ impl State {
         }
     }
 
-    /// The step that a choice means, if it means one.
-    fn step_for(&self, program: &Program, choice: Choice) -> Option<Step>
+    /// The step of the world that a choice means here, if it means one: the world may refuse it.
+    pub fn step_for(&self, program: &Program, choice: Choice) -> Option<Step>
         ensures value { result ≡ step_for program.now self.now choice }
         ensures told { IfSome result (λ x. choice ≡ Choice.Tick → self.now.told < 1048576) }
     {

@@ -1,5 +1,5 @@
 use Rattle.std.proofs.Common.{◌≡◌}
-use Rattle.explore.specs.Searches.{choices_below}
+use Rattle.explore.specs.Found.{choices_below}
 use Rattle.explore.proofs.search.choices_of.Given as goal
 
 abbrev pub invariant-threads : goal.invariant-threads

@@ -1,6 +1,6 @@
-use Rattle.std.proofs.Common.{◌≡◌, ◌+◌, true, false}
+use Rattle.std.proofs.Common.{◌≡◌, ◌≤◌, ◌+◌, true, false}
 use Rattle.explore.specs.declared.programs.Choice.{Choice}
-use Rattle.explore.specs.Found.{witnesses}
+use Rattle.explore.specs.Found.{made_among, witnesses}
 use Rattle.explore.specs.Searches.{IsSearch, StaysIn, AreFoundFrom, NoneChanges, Changes}
 use Rattle.explore.proofs.search.Search.expand.Given as goal
 
@@ -12,4 +12,6 @@ invariant-choosing l = record {
   found : AreFoundFrom l.program (witnesses l.self.nodes.items) l.state l.choices l.choice-index;
   none : l.is_end ≡ true → NoneChanges l.program l.state l.choices l.choice-index;
   some : l.is_end ≡ false → (c : Choice) × Changes l.program l.state c;
+  made : l.made ≡ made_among l.program l.state l.choices l.choice-index;
+  few : l.made ≤ l.choice-index;
 }

@@ -1,5 +1,5 @@
 use native.Mathlib.Omega.{arith}
-use Rattle.std.proofs.Common.{◌≡◌, Some, refl}
+use Rattle.std.proofs.Common.{◌≡◌, Some}
 use Rattle.explore.specs.States.{after}
 use Rattle.explore.specs.Found.{witnesses, witness_at}
 use Rattle.explore.proofs.Trying.{played_more, taken, not_taken, tried_none, tried_some, at_stays}
@@ -30,4 +30,4 @@ returns-clause-tried c =
     tried_some c.args.program.now new c.args.state.now c.replace-made.result c.args.choice c.args.at c.in_ok-number.number _
     (are_states c.args.program.now c.add.new.self.codes.keys new c.add.new.self.queue.items _ c.in_ok-number.ensures.search)
     e (omega (arith, lt, more), at_stays c.args.program.now old new c.args.at c.args.state.now c.in_ok-number.ensures.stays lt c.requires.here)
-    c.in_ok-number.ensures.found refl
+    c.in_ok-number.ensures.found c.tried_from.ensures

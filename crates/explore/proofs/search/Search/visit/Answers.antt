@@ -16,6 +16,7 @@ pub returns-clause-visited : goal.returns-clause-visited
 returns-clause-visited c =
     visited_next c.args.program.now c.args.self.now.codes.keys c.expand.new.self.codes.keys (witnesses c.args.self.now.nodes.items)
     (witnesses c.expand.new.self.nodes.items) c.args.self.now.queue.items c.pop_front.new.self.items c.expand.new.self.queue.items
-    c.args.ends.now.items c.note_end.new.ends.items c.args.at c.in-Some.state c.args.choices.now c.in_ok-is_end.is_end
-    c.requires.visited c.in-Some.ensures.items c.requires.all c.in_ok-is_end.ensures.search c.in_ok-is_end.ensures.stays
-    c.in_ok-is_end.ensures.found c.in_ok-is_end.ensures.end c.in_ok-is_end.ensures.open c.in_ok-note_end.ensures
+    c.args.ends.now.items c.note_end.new.ends.items c.args.steps.now c.in_ok-expanded.expanded.made c.args.at c.in-Some.state c.args.choices.now
+    c.in_ok-expanded.expanded.is_end c.requires.visited c.in-Some.ensures.items c.requires.all c.in_ok-expanded.ensures.search
+    c.in_ok-expanded.ensures.stays c.in_ok-expanded.ensures.found c.in_ok-expanded.ensures.end c.in_ok-expanded.ensures.open
+    c.in_ok-expanded.ensures.made c.in_ok-expanded.ensures.few c.in_ok-note_end.ensures
