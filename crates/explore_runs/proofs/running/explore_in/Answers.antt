@@ -1,0 +1,10 @@
+use Rattle.std.proofs.Common.{refl}
+use Rattle.explore_runs.proofs.running.explore_in.Goals as goal
+
+pub returns-in-Err-TooManyStates-clause-fault : goal.returns-in-Err-TooManyStates-clause-fault
+returns-in-Err-TooManyStates-clause-fault c = record {
+  told = refl;
+  named = c.in_ok-named.named;
+  read = c.in_ok-named.ensures.program;
+  more = rw c.in-Err-TooManyStates.field-0-is at c.in-Err-TooManyStates.ensures.reason;
+}

@@ -1,0 +1,5 @@
+pub mod Scripts
+pub mod Outcomes
+pub mod Reports
+pub mod Runs
+pub mod Faults
