@@ -57,7 +57,8 @@ TESTS = {
             "a_refused_line_is_written_when_tried_again",
             "a_refused_play_succeeds_when_tried_again",
             "a_refused_play_of_a_text_succeeds_when_tried_again",
-        ]
+        ],
+        "programs": ["a_refused_exploration_succeeds_when_tried_again"],
     },
 }
 

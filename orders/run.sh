@@ -106,6 +106,14 @@ run_full() {
     fi
 }
 
+# Programs that are explored, beside a second explorer, where there is a Python to run it.
+run_explored() {
+    command -v python3 >/dev/null || { echo "skipped: the second explorer, since there is no python3"; return; }
+    status=0
+    python3 explored.py "$program" >"$made/written" 2>"$made/told" || status=$?
+    if [ "$status" = 0 ]; then judge well; else judge wrong "the programs that are explored"; fi
+}
+
 for program in ../crates/thinmon/out/thinmon ../crates/thinmon/out/thinmon.by-rattle; do
     [ -x "$program" ] || { echo "orders: ${program##*/} is not there: run rt ci first"; exit 1; }
     program=$(realpath "$program")
@@ -113,6 +121,7 @@ for program in ../crates/thinmon/out/thinmon ../crates/thinmon/out/thinmon.by-ra
     run_words
     run_bytes
     run_full
+    run_explored
 done
 echo "orders: $passed as wanted, $failed not"
 [ "$failed" = 0 ]

@@ -6,7 +6,7 @@ use Rattle.clap.specs.Walk.{Row, Rule, Text, first_of}
 use Rattle.clap.specs.Simple.{App, new_app, new_rule, on_top, subcommand_of, with_rule, with_subcommand}
 use Rattle.clap.specs.declared.builder.action.ArgAction.TheVariants.{Set, SetTrue}
 use Rattle.command_line.specs.declared.orders.Task.{Task}
-use Rattle.command_line.specs.declared.orders.Task.TheVariants.{Run, Moves, Check, Dump, Live}
+use Rattle.command_line.specs.declared.orders.Task.TheVariants.{Run, Moves, Check, Dump, Live, Explore}
 
 -- ---- the program, as far as it is read from words
 
@@ -34,11 +34,12 @@ bare_program =
 
 abbrev pub program_words : App
 program_words =
-    with_subcommand (with_subcommand (with_subcommand (with_subcommand bare_program
+    with_subcommand (with_subcommand (with_subcommand (with_subcommand (with_subcommand bare_program
     run_words.top)
     (file_words (codes "check")).top)
     (file_words (codes "dump")).top)
-    (file_words (codes "live")).top
+    (file_words (codes "live")).top)
+    (file_words (codes "explore")).top
 
 -- ---- what they order
 
@@ -48,7 +49,8 @@ task_of name moves =
     if bytes_eq name (codes "check") then Check
     else (if bytes_eq name (codes "dump") then Dump
     else (if bytes_eq name (codes "live") then Live
-    else (if moves then Moves else Run)))
+    else (if bytes_eq name (codes "explore") then Explore
+    else (if moves then Moves else Run))))
 
 -- the text of a flag that was given
 abbrev pub is_set : Option Text → Bool

@@ -8,9 +8,19 @@ use Rattle.clap.specs.declared.error.kind.ErrorKind.TheVariants.{WrongNumberOfVa
 use Rattle.clap.specs.declared.error.kind.ErrorKind.TheVariants.{MissingRequiredArgument, MissingSubcommand}
 use Rattle.clap.specs.declared.error.kind.ErrorKind.TheVariants.{DisplayHelp, DisplayHelpOnMissingArgumentOrSubcommand}
 use Rattle.clap.specs.declared.error.kind.ErrorKind.TheVariants.{DisplayVersion, Io, Format, OutOfMemory}
+use Rattle.explore_runs.specs.declared.faults.ExploreTextFault.{ExploreTextFault}
+use Rattle.explore_runs.specs.declared.faults.ExploreTextFault.TheVariants as exploring
 use Rattle.live_runs.specs.Faults.{out_of_memory}
+use Rattle.live_runs.specs.declared.faults.RunFault.TheVariants.{File}
+use Rattle.command_line.specs.declared.ends.TaskFault.{TaskFault}
+use Rattle.command_line.specs.declared.ends.TaskFault.TheVariants.{Run, TooManyStates}
 use Rattle.command_line.specs.declared.ends.ProgramEnd.{ProgramEnd}
 use Rattle.command_line.specs.declared.ends.ProgramEnd.TheVariants.{Done, Shown, Failed, Misused}
+
+-- the fault of an order to explore
+abbrev pub fault_of_exploring : ExploreTextFault → TaskFault
+fault_of_exploring (exploring.File fault) = Run (File fault)
+fault_of_exploring (exploring.TooManyStates most) = TooManyStates most
 
 -- the exit status
 abbrev pub status_of : ProgramEnd → ℕ
@@ -21,7 +31,7 @@ status_of Misused = 2
 
 -- how the program ends where a parse of its words gives no order
 abbrev pub end_for : ErrorKind → ProgramEnd
-end_for OutOfMemory = Failed out_of_memory
+end_for OutOfMemory = Failed (Run out_of_memory)
 end_for DisplayHelp = Shown
 end_for DisplayVersion = Shown
 end_for InvalidValue = Misused

@@ -8,14 +8,20 @@ use Rattle.history.specs.Plans.{IsPlanOf}
 use Rattle.history.specs.Reports.{IsReportOf}
 use Rattle.history.specs.declared.plans.Plan.{Plan}
 use Rattle.dump.specs.Dumps.{IsDumpOf}
+use Rattle.explore_runs.specs.Runs.{IsReportOfText}
 use Rattle.live_runs.specs.Runs.{IsTextOfRun}
 use Rattle.command_line.specs.declared.orders.Task.{Task}
-use Rattle.command_line.specs.declared.orders.Task.TheVariants.{Run, Moves, Check, Dump, Live}
+use Rattle.command_line.specs.declared.orders.Task.TheVariants.{Run, Moves, Check, Dump, Live, Explore}
+
+-- the most states of a program that is explored
+abbrev pub most_states : ℕ
+most_states = 10000000
 
 -- Of the bytes that were left before and after, how many were given, and those that are held before and
 -- after: a script was read, and a report written; or its history; or a history was read whose moves are a
 -- run, and their number written; or a script was read, and a dump of the world that it leads to written; or a
--- live script was read, and the text of a run of it written.
+-- live script was read, and the text of a run of it written; or a program was read, and the report of its outcomes
+-- written.
 abbrev pub IsDone : Task → Option (List ℕ) → Option (List ℕ) → ℕ → Option (List ℕ) → Option (List ℕ)
     → Type 0
 IsDone Run left rest given held holds =
@@ -30,3 +36,5 @@ IsDone Dump left rest given held holds =
     (text : List ℕ) × IfSome left (λ input. IsDumpOf input text) × Appends held holds text
 IsDone Live left rest given held holds =
     (text : List ℕ) × IfSome left (λ input. IsTextOfRun input text) × Appends held holds text
+IsDone Explore left rest given held holds =
+    (text : List ℕ) × IfSome left (λ input. IsReportOfText input most_states text) × Appends held holds text

@@ -5,9 +5,59 @@ ghost use Rattle.clap.specs.Values.{kind_of};
 ghost use Rattle.command_line.specs.ProgramEnds.{end_for, status_of};
 
 use clap::error::ErrorKind;
+use explore_runs::ExploreTextFault;
 use history::FileFault;
 use live_runs::RunFault;
 use std::fmt;
+use thiserror::Error;
+
+/// Why an order was not carried out.
+#[derive(Clone, Copy, PartialEq, Eq, Debug, Error)]
+pub enum TaskFault {
+    /// A fault of reading, writing or running, or want of memory.
+    #[error("{0}")]
+    Run(RunFault),
+    /// A program has more states than this.
+    #[error("too many states: more than {0}")]
+    TooManyStates(u32),
+}
+
+impl From<RunFault> for TaskFault {
+    ghost use Rattle.std.specs.Prelude.{◌≡◌};
+    ghost use Rattle.command_line.specs.declared.ends.TaskFault.TheVariants.{Run};
+
+    ghost from_gives = { λ cause fault. fault ≡ Run cause };
+
+    fn from(fault: RunFault) -> Self {
+        TaskFault::Run(fault)
+    }
+}
+
+impl From<FileFault> for TaskFault {
+    ghost use Rattle.std.specs.Prelude.{◌≡◌};
+    ghost use Rattle.command_line.specs.declared.ends.TaskFault.TheVariants.{Run};
+    ghost use Rattle.live_runs.specs.declared.faults.RunFault.TheVariants.{File};
+
+    ghost from_gives = { λ cause fault. fault ≡ Run (File cause) };
+
+    fn from(fault: FileFault) -> Self {
+        TaskFault::Run(RunFault::File(fault))
+    }
+}
+
+impl From<ExploreTextFault> for TaskFault {
+    ghost use Rattle.std.specs.Prelude.{◌≡◌};
+    ghost use Rattle.command_line.specs.ProgramEnds.{fault_of_exploring};
+
+    ghost from_gives = { λ cause fault. fault ≡ fault_of_exploring cause };
+
+    fn from(fault: ExploreTextFault) -> Self {
+        match fault {
+            ExploreTextFault::File(fault) => TaskFault::Run(RunFault::File(fault)),
+            ExploreTextFault::TooManyStates(most) => TaskFault::TooManyStates(most),
+        }
+    }
+}
 
 /// How the program ends.
 #[derive(Clone, Copy, PartialEq, Eq, Debug)]
@@ -17,7 +67,7 @@ pub enum ProgramEnd {
     /// Help or the version was asked for.
     Shown,
     /// The order was not carried out, for this fault.
-    Failed(RunFault),
+    Failed(TaskFault),
     /// The words are no order.
     Misused,
 }
@@ -37,7 +87,7 @@ impl ProgramEnd {
 
 /// The line that tells a fault, without its end.
 #[derive(Clone, Copy, Drop)]
-pub struct FaultLine(pub RunFault);
+pub struct FaultLine(pub TaskFault);
 
 impl fmt::Display for FaultLine {
     fn fmt<W: fmt::Write>(&self, f: &mut fmt::Formatter<W>) -> fmt::Result {
@@ -51,7 +101,9 @@ pub fn end_for(error: &clap::Error) -> ProgramEnd
     ensures { result ≡ end_for (kind_of error.now) }
 {
     match error.kind() {
-        ErrorKind::OutOfMemory => ProgramEnd::Failed(RunFault::File(FileFault::Memory)),
+        ErrorKind::OutOfMemory => {
+            ProgramEnd::Failed(TaskFault::Run(RunFault::File(FileFault::Memory)))
+        }
         ErrorKind::DisplayHelp | ErrorKind::DisplayVersion => ProgramEnd::Shown,
         _ => ProgramEnd::Misused,
     }

@@ -7,6 +7,6 @@ mod ends;
 mod orders;
 mod serving;
 
-pub use ends::{FaultLine, ProgramEnd, end_for};
+pub use ends::{FaultLine, ProgramEnd, TaskFault, end_for};
 pub use orders::{Order, Task, read_words};
 pub use serving::{serve, serve_words};

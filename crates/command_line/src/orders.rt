@@ -30,6 +30,8 @@ pub enum Task {
     Dump,
     /// Run a live script on threads of the system, and write what came of it.
     Live,
+    /// Explore a program, and write every outcome of it.
+    Explore,
 }
 
 /// What the program is to do, and with what.
@@ -103,6 +105,8 @@ fn task_of(name: &str, moves: bool) -> Task
         Task::Dump
     } else if name == "live" {
         Task::Live
+    } else if name == "explore" {
+        Task::Explore
     } else if moves {
         Task::Moves
     } else {
@@ -131,12 +135,19 @@ fn program<'a>(alloc: Global) -> Result<Command<'a>, AllocError>
         "Plays a script and prints what its threads are doing then, and who waits for whom",
         "The script; standard input where it is left out",
     )?;
-    with_file_command(
+    let with_live = with_file_command(
         alloc,
         with_dump,
         "live",
         "Runs the threads of a live script on threads of the system, and prints their replies",
         "The live script; standard input where it is left out",
+    )?;
+    with_file_command(
+        alloc,
+        with_live,
+        "explore",
+        "Explores every interleaving of a program and prints each outcome with a script for it",
+        "The program; standard input where it is left out",
     )
 }
 

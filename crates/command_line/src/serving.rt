@@ -9,9 +9,10 @@ ghost use Rattle.command_line.specs.declared.ends.ProgramEnd.{ProgramEnd};
 ghost use Rattle.command_line.specs.ProgramEnds.{EndsFor, end_for, status_of};
 ghost use Rattle.command_line.specs.Tasks.{IsDone};
 
-use crate::ends::{FaultLine, ProgramEnd, end_for};
+use crate::ends::{FaultLine, ProgramEnd, TaskFault, end_for};
 use crate::orders::{Order, Task, read_words};
 use dump::dump_script;
+use explore_runs::explore_text;
 use history::{FileFault, ReaderSource, Sink, Source, WriterSink, moves, replay, run};
 use live_runs::{RunFault, run_live};
 use std::process::ExitCode;
@@ -20,6 +21,9 @@ use std::sync::Wait;
 use std::thread::Threads;
 use std::time::Clock;
 use std::{env, fs, io};
+
+/// The most states of a program that is explored.
+const MOST_STATES: u32 = 10_000_000;
 
 /// Does what the words of the command line order, and answers the exit status.
 pub fn serve<R>(rt: &R) -> ExitCode
@@ -58,7 +62,7 @@ where
     }
 }
 
-fn tell_fault(rt: &impl Eprint, fault: RunFault) -> ProgramEnd
+fn tell_fault(rt: &impl Eprint, fault: TaskFault) -> ProgramEnd
     ensures { result ≡ ProgramEnd.Failed fault }
 {
     let _ = rt.eprintln(FaultLine(fault));
@@ -68,7 +72,7 @@ fn tell_fault(rt: &impl Eprint, fault: RunFault) -> ProgramEnd
 /// Tells why the words of the command line could not be had.
 fn refuse_words(rt: &impl Eprint, error: &io::Error) -> ProgramEnd {
     if error.kind() == io::ErrorKind::OutOfMemory {
-        return tell_fault(rt, RunFault::File(FileFault::Memory));
+        return tell_fault(rt, TaskFault::Run(RunFault::File(FileFault::Memory)));
     }
     let _ = rt.eprintln("thinmon: a word of the command line is not text");
     ProgramEnd::Misused
@@ -87,7 +91,7 @@ fn answer(rt: &(impl Print + Eprint), error: &clap::Error) -> ProgramEnd
 }
 
 /// Carries an order out on its file, or on standard input.
-fn carry_out<R>(rt: &R, order: Order<'_>) -> Result<(), RunFault>
+fn carry_out<R>(rt: &R, order: Order<'_>) -> Result<(), TaskFault>
 where
     R: Files + Input + Print + AllocGlobal + Threads + Wait + Clock + Sync,
 {
@@ -110,7 +114,7 @@ fn do_task<R, S: Source, W: Sink>(
     task: Task,
     source: &mut S,
     sink: &mut W,
-) -> Result<(), RunFault>
+) -> Result<(), TaskFault>
 where
     R: AllocGlobal + Threads + Wait + Clock + Sync,
     requires { S.given source.old ≡ 0 }
@@ -124,6 +128,7 @@ where
         Task::Check => replay(alloc, source, sink)?,
         Task::Dump => dump_script(alloc, source, sink)?,
         Task::Live => run_live(rt, alloc, source, sink)?,
+        Task::Explore => explore_text(alloc, source, sink, MOST_STATES)?,
     }
     Ok(())
 }

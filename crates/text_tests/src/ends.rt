@@ -4,9 +4,11 @@
 use super::checks::LOCKS_TWICE;
 use super::memory::{CYCLE, CYCLE_DUMP, LIVE, LIVE_TEXT};
 use super::pieces::{FullWriter, PiecesReader, Then};
+use super::programs::{ONE_ENTER, ONE_REPORT};
 use super::streams::{HISTORY, REPORT, SCRIPT};
 use command_line::Task;
 use dump::dump_script;
+use explore_runs::{ExploreTextFault, explore_text};
 use history::{FileFault, ReaderSource, WriterSink, moves, replay, run};
 use live_runs::{RunFault, run_live};
 use std::alloc::Global;
@@ -14,6 +16,9 @@ use std::process::Abort;
 use std::sync::Wait;
 use std::thread::Threads;
 use std::time::Clock;
+
+/// No program here has more states.
+const MOST_STATES: u32 = 100;
 
 /// What a task comes to that has read this text: what it writes, or its fault.
 #[derive(Clone, Copy)]
@@ -23,7 +28,7 @@ struct Row {
     outcome: Result<&'static [u8], FileFault>,
 }
 
-const ROWS: [Row; 10] = [
+const ROWS: [Row; 12] = [
     Row {
         task: Task::Run,
         text: SCRIPT,
@@ -50,6 +55,11 @@ const ROWS: [Row; 10] = [
         outcome: Ok(LIVE_TEXT),
     },
     Row {
+        task: Task::Explore,
+        text: ONE_ENTER,
+        outcome: Ok(ONE_REPORT),
+    },
+    Row {
         task: Task::Run,
         text: b"world 4 4\ngo\n",
         outcome: Err(FileFault::BadLine(2)),
@@ -74,6 +84,11 @@ const ROWS: [Row; 10] = [
         text: b"world 1 1\ntick 1\n",
         outcome: Err(FileFault::BadLine(2)),
     },
+    Row {
+        task: Task::Explore,
+        text: b"world 1 1\nthread x\ngo x\n",
+        outcome: Err(FileFault::BadLine(3)),
+    },
 ];
 
 /// Does a task on what the reader gives; or tells its fault, which is one of files.
@@ -95,6 +110,11 @@ fn do_task<R: Threads + Wait + Clock + Sync + Abort>(
             Ok(()) => Ok(()),
             Err(RunFault::File(fault)) => Err(fault),
             Err(RunFault::Torn) => panic!(rt; "torn"),
+        },
+        Task::Explore => match explore_text(alloc, source, sink, MOST_STATES) {
+            Ok(()) => Ok(()),
+            Err(ExploreTextFault::File(fault)) => Err(fault),
+            Err(ExploreTextFault::TooManyStates(most)) => panic!(rt; "more than {most} states"),
         },
     }
 }

@@ -3,7 +3,7 @@
 
 use super::streams::{HISTORY, REPORT, SCRIPT};
 use super::words::words_of;
-use command_line::{Order, ProgramEnd, Task, end_for, read_words};
+use command_line::{Order, ProgramEnd, Task, TaskFault, end_for, read_words};
 use dump::{cycles, dump_script, report};
 use history::{
     FileFault, Names, ReaderSource, WriterSink, moves, play, play_text, print_script, read_script,
@@ -284,7 +284,7 @@ const MOVES_OF_F: Order<'static> = Order {
     file: Some("f"),
 };
 
-const FAILED: ProgramEnd = ProgramEnd::Failed(RunFault::File(FileFault::Memory));
+const FAILED: ProgramEnd = ProgramEnd::Failed(TaskFault::Run(RunFault::File(FileFault::Memory)));
 
 fn reads(rt: &impl Abort, alloc: Global, words: &[String]) -> bool {
     let outcome = read_words(alloc, words);

@@ -1,7 +1,7 @@
 //! The words of the command line, behind the program's name, and the line of a fault. What is told
 //! of words that are no order is compared by `orders/`.
 
-use command_line::{FaultLine, Order, Task, read_words};
+use command_line::{FaultLine, Order, Task, TaskFault, read_words};
 use history::FileFault;
 use live_runs::RunFault;
 use std::alloc::{AllocError, Global};
@@ -18,7 +18,7 @@ pub(crate) fn words_of(alloc: Global, line: &str) -> Result<Vec<String>, AllocEr
 }
 
 /// A line of words, and the order that it is read as: its task and its file.
-const ORDERS: [(&str, Task, Option<&str>); 16] = [
+const ORDERS: [(&str, Task, Option<&str>); 18] = [
     ("run", Task::Run, None),
     ("run x.script", Task::Run, Some("x.script")),
     ("run -", Task::Run, Some("-")),
@@ -35,6 +35,8 @@ const ORDERS: [(&str, Task, Option<&str>); 16] = [
     ("dump dump", Task::Dump, Some("dump")),
     ("live", Task::Live, None),
     ("live x.script", Task::Live, Some("x.script")),
+    ("explore", Task::Explore, None),
+    ("explore x.program", Task::Explore, Some("x.program")),
 ];
 
 /// Whether a line of words is read as this order.
@@ -76,16 +78,23 @@ pub(crate) fn assert_told<F: Display>(
     Ok(())
 }
 
-const FAULT_LINES: [(FaultLine, &str); 3] = [
+const FAULT_LINES: [(FaultLine, &str); 4] = [
     (
-        FaultLine(RunFault::File(FileFault::BadLine(5))),
+        FaultLine(TaskFault::Run(RunFault::File(FileFault::BadLine(5)))),
         "thinmon: bad line 5",
     ),
     (
-        FaultLine(RunFault::File(FileFault::Read)),
+        FaultLine(TaskFault::Run(RunFault::File(FileFault::Read))),
         "thinmon: read failed",
     ),
-    (FaultLine(RunFault::Torn), "thinmon: fault 18 Torn"),
+    (
+        FaultLine(TaskFault::Run(RunFault::Torn)),
+        "thinmon: fault 18 Torn",
+    ),
+    (
+        FaultLine(TaskFault::TooManyStates(10_000_000)),
+        "thinmon: too many states: more than 10000000",
+    ),
 ];
 
 #[test]

@@ -1,8 +1,9 @@
 //! `thinmon run [--moves] [FILE]` plays a script of monitor steps and prints its report or its
 //! history, `thinmon dump [FILE]` a dump of its last world; `thinmon check [FILE]` judges a
-//! history; `thinmon live [FILE]` runs the threads of a live script on threads of the system.
+//! history; `thinmon live [FILE]` runs the threads of a live script on threads of the system;
+//! `thinmon explore [FILE]` tells every outcome of a program.
 //!
-//! `docs/FORMATS.md` has the forms of scripts, reports, dumps, histories and live scripts.
+//! `docs/FORMATS.md` has the forms of scripts, reports, dumps, histories, live scripts and programs.
 #![tactic(auto)]
 
 use command_line::serve;

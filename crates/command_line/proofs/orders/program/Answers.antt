@@ -14,4 +14,5 @@ returns-clause-words c =
     ∙ ap₂ with_subcommand c.in_ok-bare_program.ensures.words (ap (λ (a : App). a.top) c.in_ok-run.ensures.words) in
     let check = c.in_ok-with_check.ensures.words ∙ ap (λ a. with_subcommand a (file_words (codes "check")).top) run in
     let dump = c.in_ok-with_dump.ensures.words ∙ ap (λ a. with_subcommand a (file_words (codes "dump")).top) check in
-    IfOk-weaker c.with_file_command-3.result _ _ (λ m h. h ∙ ap (λ a. with_subcommand a (file_words (codes "live")).top) dump) c.with_file_command-3.ensures.words
+    let live = c.in_ok-with_live.ensures.words ∙ ap (λ a. with_subcommand a (file_words (codes "live")).top) dump in
+    IfOk-weaker c.with_file_command-4.result _ _ (λ m h. h ∙ ap (λ a. with_subcommand a (file_words (codes "explore")).top) live) c.with_file_command-4.ensures.words

@@ -1,0 +1,124 @@
+//! Programs that are explored: the first bad line of a text, how many states are asked for, and want
+//! of memory.
+
+use explore_runs::{ExploreTextFault, explore_text};
+use history::{FileFault, ReaderSource, WriterSink};
+use program_text::read_program;
+use std::alloc::Global;
+use std::process::Abort;
+
+/// A program with each line that one may have.
+const WHOLE: &str = "world 1 2 deep\nobject a 00\nthread x\ncall wait a -1 0\ncall interrupt y\n\
+    thread y\ncall end\nclock 0 5 5\nspurious 2\n";
+
+/// A program, and its first bad line; None where it has none.
+const PROGRAMS: [(&str, Option<u64>); 27] = [
+    (WHOLE, None),
+    ("world 1 1\nthread x\n", None),
+    ("world 1 1\nthread x\nclock 7\n", None),
+    ("world 1 1\nthread x\nspurious 0\n", None),
+    ("world 1 1\nthread x\ncall interrupt nobody\n", None),
+    ("", Some(1)),
+    ("thread x\n", Some(1)),
+    ("world 1 2048 deep\nthread x\n", Some(1)),
+    ("world 1 1\n", Some(2)),
+    ("world 1 1\nobject a 00\n", Some(3)),
+    ("world 1 1\nworld 1 1\nthread x\n", Some(2)),
+    ("world 1 1\nthread x", Some(2)),
+    ("world 1 1\nthread\n", Some(2)),
+    ("world 1 1\nthread x y\n", Some(2)),
+    ("world 1 1\nthread X\n", Some(2)),
+    ("world 1 2\nthread x\nthread x\n", Some(3)),
+    ("world 1 1\nthread x\nthread y\n", Some(3)),
+    ("world 1 1\nobject a 00\ncall enter a\n", Some(3)),
+    ("world 1 1\nobject a 00\nobject a 00\n", Some(3)),
+    ("world 1 1\nthread x\ncall enter a\n", Some(3)),
+    ("world 1 1\nthread x\nobject a 00\n", Some(3)),
+    ("world 1 1\nthread x\ncall lock a\n", Some(3)),
+    ("world 1 1\nthread x\nclock\n", Some(3)),
+    ("world 1 1\nthread x\nclock 5 4\n", Some(3)),
+    ("world 1 1\nthread x\nspurious 1\nclock 5\n", Some(4)),
+    ("world 1 1\nthread x\nbegin x end\n", Some(3)),
+    ("world 1 1\nthread \u{e9}\n", Some(2)),
+];
+
+/// The first bad line of a program, if it has one.
+fn bad_line_of(alloc: Global, text: &str) -> Option<FileFault> {
+    match read_program(alloc, text.as_bytes()) {
+        Ok(_) => None,
+        Err(fault) => Some(fault),
+    }
+}
+
+#[test]
+fn first_bad_lines_of_programs(rt: HostRuntime) {
+    for (text, line) in PROGRAMS {
+        let wanted = line.map(FileFault::BadLine);
+        assert!(rt; bad_line_of(rt.alloc(), text) == wanted, "{text}");
+    }
+}
+
+#[test]
+fn a_program_says_what_its_lines_say(rt: HostRuntime) -> Result<(), FileFault> {
+    let named = read_program(rt.alloc(), WHOLE.as_bytes())?;
+    assert!(rt; named.program.monitors == 1 && named.program.indices == 2);
+    assert!(rt;
+        named.program.calls.len() == 3 && named.program.starts.as_slice() == [0, 2].as_slice()
+    );
+    assert!(rt; named.program.moments.as_slice() == [0, 5, 5].as_slice() && named.program.spurious);
+    Ok(())
+}
+
+/// A thread that enters an object and exits it: seven states, one behind the other.
+pub(crate) const ONE_ENTER: &[u8] =
+    b"world 1 1\nobject a 00\nthread x\ncall enter a\ncall exit a\n";
+
+pub(crate) const ONE_REPORT: &[u8] = b"states 7 steps 6
+outcome 1 ends 1
+thread x Entered Exited
+object a owner - holds 0 waiting -
+script 9
+world 1 1
+object a 00
+attach x
+begin x enter a
+go x
+go x
+begin x exit a
+go x
+go x
+";
+
+/// Whether the program ends so where this many states are asked for, and this is written.
+fn ends_so(alloc: Global, most: u32, ending: Result<(), ExploreTextFault>, text: &[u8]) -> bool {
+    let mut sink = WriterSink::new(Vec::new(alloc));
+    let outcome = explore_text(alloc, &mut ReaderSource::new(ONE_ENTER), &mut sink, most);
+    outcome == ending && sink.into_inner().as_slice() == text
+}
+
+#[test]
+fn states_that_are_enough_and_one_less(rt: HostRuntime) {
+    assert!(rt; ends_so(rt.alloc(), 7, Ok(()), ONE_REPORT));
+    let few = Err(ExploreTextFault::TooManyStates(6));
+    assert!(rt; ends_so(rt.alloc(), 6, few, b""));
+}
+
+/// Whether a program is explored. Where it is not, memory was refused, and nothing was written; or
+/// the writer was refused some, which has a front of the report.
+fn explores(rt: &impl Abort, alloc: Global) -> bool {
+    let mut sink = WriterSink::new(Vec::new(alloc));
+    let outcome = explore_text(alloc, &mut ReaderSource::new(ONE_ENTER), &mut sink, 7);
+    let bytes = sink.into_inner();
+    let is_right = match outcome {
+        Ok(()) => bytes.as_slice() == ONE_REPORT,
+        Err(ExploreTextFault::File(FileFault::Write)) => ONE_REPORT.starts_with(bytes.as_slice()),
+        Err(fault) => { fault == ExploreTextFault::File(FileFault::Memory) && bytes.is_empty() }
+    };
+    assert!(rt; is_right);
+    outcome.is_ok()
+}
+
+#[test]
+fn a_refused_exploration_succeeds_when_tried_again(rt: HostRuntime) {
+    assert!(rt; explores(&rt, rt.alloc()) || explores(&rt, rt.alloc()));
+}

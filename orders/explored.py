@@ -1,0 +1,189 @@
+#!/usr/bin/env python3
+"""Whether `thinmon explore` tells of each program what a second explorer finds.
+
+python3 orders/explored.py THINMON
+
+The programs are those of `crates/explored_programs/data/classic.programs`, and the second explorer is
+`bench/explored.py`, which was written from the rules and not from the code. Of each program are compared how
+many states and steps it has, its outcomes with how many ends have each, and how long the script of each is: no
+other leads there with fewer steps. Each script is then played by `thinmon run`, and has to come to that outcome.
+"""
+import pathlib
+import subprocess
+import sys
+
+sys.dont_write_bytecode = True
+
+ROOT = pathlib.Path(__file__).resolve().parent.parent
+sys.path.insert(0, str(ROOT / "bench"))
+import explored  # noqa: E402
+
+PROGRAMS = ROOT / "crates/explored_programs/data/classic.programs"
+
+
+def texts():
+    """The text of each program, without its name, and with each call as often as it is made."""
+    for block in PROGRAMS.read_text().split("program ")[1:]:
+        lines = []
+        for line in block.split("\n")[1:]:
+            words = line.split()
+            if words[-2:-1] == ["*"]:
+                lines += [" ".join(words[:-2])] * int(words[-1])
+            elif words == ["spurious"]:
+                lines.append("spurious 1")
+            elif words:
+                lines.append(line)
+        yield "".join(line + "\n" for line in lines)
+
+
+def thread_line(program, thread, monitors, name):
+    place, post, flag, _, replies = thread
+    line = "".join(f" {reply.replace(' ', '/')}" for reply in replies)
+    if place[0] == "Begun":
+        line += f" stuck enter {program.objects[place[1][1]]}"
+    elif place not in (explored.IDLE, explored.GONE):
+        o = program.objects[monitors[post[1]][0]]
+        if post[0] == "Entering":
+            line += f" stuck enter {o}"
+        else:
+            line += f" stuck {'waits' if post[0] == 'Waiting' else 'back'} {o} {post[2]}"
+    return f"thread {name}{line}{' interrupted' if flag else ''}"
+
+
+def owner_of(word, monitors):
+    if word[0] == "Thin":
+        return word[1] - 1, word[2] + 1
+    if word[0] == "Fat":
+        return monitors[word[1]][1], monitors[word[1]][2]
+    return None, 0
+
+
+def wanted(program, thread, monitors):
+    """The object that a thread is to lock, if it is to lock one."""
+    place, post = thread[0], thread[1]
+    if place[0] == "Begun":
+        return place[1][1]
+    if place[0] == "AtPost" and post[0] in ("Entering", "Back"):
+        return monitors[post[1]][0]
+    return None
+
+
+def cycles(program, state):
+    words, threads, monitors, _, _ = state
+    follows = {}
+    for t, thread in enumerate(threads):
+        o = wanted(program, thread, monitors)
+        owner = None if o is None else owner_of(words[o], monitors)[0]
+        if owner is not None and owner != t:
+            follows[t] = owner
+    found = []
+    for t in follows:
+        ring, u = [t], follows[t]
+        while u in follows and u not in ring:
+            ring.append(u)
+            u = follows[u]
+        if u == t and t == min(ring):
+            found.append("cycle " + " ".join(program.threads[v] for v in ring))
+    return found
+
+
+def outcome(program, state):
+    words, threads, monitors, _, _ = state
+    lines = [thread_line(program, thread, monitors, name) for name, thread in zip(program.threads, threads)]
+    for o, (name, word) in enumerate(zip(program.objects, words)):
+        owner, holds = owner_of(word, monitors)
+        waiting = [n for n, t in zip(program.threads, threads)
+                   if t[1][0] == "Waiting" and monitors[t[1][1]][0] == o]
+        lines.append(f"object {name} owner {'-' if owner is None else program.threads[owner]} holds {holds}"
+                     f" waiting {','.join(waiting) or '-'}")
+    return tuple(lines + cycles(program, state))
+
+
+def explore(program):
+    """How many states and steps there are, and of each outcome how many ends have it, and the fewest steps."""
+    thread = (explored.IDLE, explored.OUT, False, 0, ())
+    first = ((explored.FREE,) * len(program.objects), (thread,) * len(program.threads), (), 0, 0)
+    seen, line, steps, depth, outcomes = {first}, [first], 0, 0, {}
+    while line:
+        following = []
+        for state in line:
+            moved = False
+            for step, *arguments in explored.choices(program, state):
+                world = explored.World(program, state)
+                step(world, *arguments)
+                after, steps = world.state(), steps + 1
+                moved = moved or after != state
+                if after not in seen:
+                    seen.add(after)
+                    following.append(after)
+            if not moved:
+                ends, fewest = outcomes.get(outcome(program, state), (0, depth))
+                outcomes[outcome(program, state)] = (ends + 1, fewest)
+        line, depth = following, depth + 1
+    return len(seen), steps, outcomes
+
+
+def parts_of(report):
+    """The counts of a report, and its outcomes: how many ends, the lines, and the script of each."""
+    lines = report.split("\n")
+    counts, parts, at = lines[0], [], 1
+    while lines[at]:
+        head, at = lines[at].split(), at + 1
+        told = []
+        while not lines[at].startswith("script "):
+            told.append(lines[at])
+            at += 1
+        count = int(lines[at].split()[1])
+        parts.append((int(head[1]), int(head[3]), tuple(told), lines[at + 1:at + 1 + count]))
+        at += 1 + count
+    return counts, parts
+
+
+def played(thinmon, script):
+    """What a script comes to: the replies of each thread, and the lines of the objects without their words."""
+    done = subprocess.run([thinmon, "run"], input="".join(line + "\n" for line in script), text=True,
+                          capture_output=True, check=True)
+    replies, objects = {}, []
+    for line in done.stdout.split("\n"):
+        words = line.split()
+        if words[:1] == ["attach"]:
+            replies[words[1]] = []
+        elif words[:1] == ["object"]:
+            objects.append(" ".join(words[:2] + words[3:]))
+        elif words[:1] == ["fault"]:
+            raise SystemExit(f"a step of the script is refused: {line}")
+        elif " = " in line and not line.endswith(" = parked"):
+            replies[words[1]].append("/".join(line.split(" = ")[1].split()))
+    return replies, objects
+
+
+def compare(thinmon, program, text):
+    done = subprocess.run([thinmon, "explore"], input=text, text=True, capture_output=True, check=True)
+    counts, parts = parts_of(done.stdout)
+    states, steps, outcomes = explore(program)
+    assert counts == f"states {states} steps {steps}", counts
+    assert [number for number, _, _, _ in parts] == list(range(1, len(outcomes) + 1))
+    assert {told: ends for _, ends, told, _ in parts} == {told: ends for told, (ends, _) in outcomes.items()}
+    opening = 1 + len(program.objects) + len(program.threads)
+    for _, _, told, script in parts:
+        assert len(script) == opening + outcomes[told][1], "a script is not a shortest one"
+        replies, objects = played(thinmon, script)
+        for line in told:
+            words = line.split()
+            if words[0] == "thread":
+                assert words[2:2 + len(replies[words[1]])] == replies[words[1]], line
+        assert objects == [line for line in told if line.startswith("object ")], objects
+
+
+def main():
+    (thinmon,) = sys.argv[1:]
+    programs = list(explored.read(str(PROGRAMS)))
+    for program, text in zip(programs, texts(), strict=True):
+        try:
+            compare(thinmon, program, text)
+        except AssertionError as error:
+            raise SystemExit(f"explored: {program.name}: {error}")
+    print(f"explored: {len(programs)} programs as the second explorer finds them")
+
+
+main()
