@@ -2,10 +2,10 @@ ghost use Rattle.std.specs.Prelude.{◌≤◌};
 
 mod plain;
 
+use crate::rows::expect_none;
 use lock_word::ThreadId;
 use plain::PlainIndices;
 use std::alloc::Global;
-use std::process::Abort;
 use std::test::Fail;
 use thread_index::{Indices, TakeFault};
 
@@ -46,11 +46,14 @@ fn answers(indices: &mut Indices, ask: Ask) -> bool {
     }
 }
 
-/// Asks these questions, one after the other.
-fn check(rt: &impl Abort, indices: &mut Indices, asks: &[Ask]) {
-    for (row, ask) in asks.iter().enumerate() {
-        assert!(rt; answers(indices, *ask), "row {row}");
+/// The first of these that is answered otherwise.
+fn first_other(indices: &mut Indices, asks: &[Ask]) -> Option<usize> {
+    for (row, &ask) in asks.iter().enumerate() {
+        if !answers(indices, ask) {
+            return Some(row);
+        }
     }
+    None
 }
 
 /// So many indices, of which no thread has one.
@@ -84,7 +87,27 @@ fn two_indices_and_three_threads(rt: HostRuntime) {
         Ask::Has(9, Some(2)),
     ];
     let mut indices = open(rt.alloc(), 2);
-    check(&rt, &mut indices, &ASKS);
+    expect_none(&rt, "two indices", Ok(first_other(&mut indices, &ASKS)));
+}
+
+/// The first thread that does not get the next index, of so many.
+fn first_without(indices: &mut Indices, limit: u16) -> Option<usize>
+    requires { limit ≤ 32767 }
+{
+    for number in 0..limit {
+        if indices.take(ThreadId(u32::from(number))) != Ok(number + 1) {
+            return Some(usize::from(number));
+        }
+    }
+    None
+}
+
+/// The same; or else the first of these that is answered otherwise then.
+fn first_behind_all(indices: &mut Indices, asks: &[Ask]) -> Option<usize> {
+    match first_without(indices, 32_767) {
+        None => first_other(indices, asks),
+        without => without,
+    }
 }
 
 #[test]
@@ -108,11 +131,11 @@ fn every_index_is_taken(rt: HostRuntime) {
         Ask::Takes(32_766, Ok(32_767)),
     ];
     let mut indices = open(rt.alloc(), 32_767);
-    for number in 0..32_767u16 {
-        let ask = Ask::Takes(u32::from(number), Ok(number + 1));
-        assert!(rt; answers(&mut indices, ask), "{number}");
-    }
-    check(&rt, &mut indices, &ASKS);
+    expect_none(
+        &rt,
+        "every index",
+        Ok(first_behind_all(&mut indices, &ASKS)),
+    );
 }
 
 /// The thread takes an index, or gives back the one that it has, as this number says. Whether the
@@ -131,36 +154,49 @@ fn is_as_plain(
     is_same && indices.index_of(thread).map(usize::from) == plain.index_of(thread)
 }
 
-#[test]
-fn takes_and_gives_in_no_order(rt: HostRuntime) {
-    let mut indices = open(rt.alloc(), 150);
-    let mut plain = PlainIndices::new(rt.alloc(), 150);
+/// The first round in which indices and a plain list answer differently, for threads whose numbers
+/// are drawn: of so many, those from the last plain one on end alike, in 16 bits.
+fn first_other_round(
+    indices: &mut Indices,
+    plain: &mut PlainIndices,
+    threads: u32,
+    plain_ones: u32,
+) -> Option<usize>
+    requires { 1 ≤ threads }
+{
     let mut state = 1u32;
-    for round in 0..8_000 {
+    for round in 0..8_000usize {
         state = state.wrapping_mul(1_664_525).wrapping_add(1_013_904_223);
-        let thread = ThreadId((state >> 16) % 200);
-        assert!(rt;
-            is_as_plain(&mut indices, &mut plain, thread, state),
-            "{round}"
-        );
+        let number = (state >> 16) % threads;
+        let thread = ThreadId(if number < plain_ones {
+            number
+        } else {
+            number << 16
+        });
+        if !is_as_plain(indices, plain, thread, state) {
+            return Some(round);
+        }
     }
+    None
+}
+
+/// The same of so many indices.
+fn first_other_of(alloc: Global, limit: u16, threads: u32, plain_ones: u32) -> Option<usize>
+    requires indices { (1 ≤ limit) × (limit ≤ 32767) }
+    requires threads { 1 ≤ threads }
+{
+    let mut indices = open(alloc, limit);
+    let mut plain = PlainIndices::new(alloc, usize::from(limit));
+    first_other_round(&mut indices, &mut plain, threads, plain_ones)
 }
 
 /// Numbers of threads that have the same low bits have one hint together, in a row of any width.
 #[test]
-fn threads_whose_numbers_end_alike(rt: HostRuntime) {
-    let mut indices = open(rt.alloc(), 600);
-    let mut plain = PlainIndices::new(rt.alloc(), 600);
-    let mut state = 1u32;
-    for round in 0..8_000 {
-        state = state.wrapping_mul(1_664_525).wrapping_add(1_013_904_223);
-        let number = (state >> 16) % 700;
-        let thread = ThreadId(if number < 350 { number } else { number << 16 });
-        assert!(rt;
-            is_as_plain(&mut indices, &mut plain, thread, state),
-            "{round}"
-        );
-    }
+fn takes_and_gives_in_no_order(rt: HostRuntime) {
+    let other = first_other_of(rt.alloc(), 150, 200, 200);
+    expect_none(&rt, "numbers in a row", Ok(other));
+    let other = first_other_of(rt.alloc(), 600, 700, 350);
+    expect_none(&rt, "numbers that end alike", Ok(other));
 }
 
 /// Run with each allocation refused in turn, this meets every refusal.
@@ -172,6 +208,6 @@ fn what_was_refused_succeeds_when_tried_again(rt: HostRuntime) -> Result<(), Fai
         Ask::TakesAtLast(9, 3),
     ];
     let mut indices = open(rt.alloc(), 4);
-    check(&rt, &mut indices, &ASKS);
+    expect_none(&rt, "refused", Ok(first_other(&mut indices, &ASKS)));
     Ok(())
 }

@@ -25,6 +25,8 @@ mod machines;
 #[cfg(test)]
 mod monitors;
 #[cfg(test)]
+mod rows;
+#[cfg(test)]
 mod texts;
 #[cfg(test)]
 mod words;

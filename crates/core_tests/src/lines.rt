@@ -2,10 +2,10 @@ ghost use Rattle.std.specs.Prelude.{◌<◌};
 
 mod plain;
 
+use crate::rows::expect_none;
 use lock_word::{Memory, ThreadId};
 use plain::PlainLines;
 use std::alloc::Global;
-use std::process::Abort;
 use wait_lines::{Lines, Role};
 
 /// What is asked of the lines, where threads go by their numbers, and what has to be answered.
@@ -57,51 +57,55 @@ fn answers(lines: &mut Lines, ask: Ask) -> bool {
     }
 }
 
-/// Asks these questions of new lines, one after the other.
-fn check(rt: &impl Abort, alloc: Global, asks: &[Ask]) {
-    let mut lines = Lines::new(alloc);
-    for (row, ask) in asks.iter().enumerate() {
-        assert!(rt; answers(&mut lines, *ask), "row {row}");
+/// The first of these that is answered otherwise.
+fn first_other(lines: &mut Lines, asks: &[Ask]) -> Option<usize> {
+    for (row, &ask) in asks.iter().enumerate() {
+        if !answers(lines, ask) {
+            return Some(row);
+        }
     }
+    None
 }
 
-#[test]
-fn two_wait_and_one_leaves(rt: HostRuntime) {
-    const ASKS: [Ask; 7] = [
-        Ask::Joins(5, 0, Role::Waiting),
-        Ask::Joins(6, 0, Role::Waiting),
-        Ask::IsFirst(0, Role::Waiting, Some(5)),
-        Ask::Leaves(5, true),
-        Ask::IsFirst(0, Role::Waiting, Some(6)),
-        Ask::Stand(0, Role::Waiting, &[6]),
-        Ask::Leaves(5, false),
-    ];
-    check(&rt, rt.alloc(), &ASKS);
-}
+const TWO_WAIT_AND_ONE_LEAVES: [Ask; 7] = [
+    Ask::Joins(5, 0, Role::Waiting),
+    Ask::Joins(6, 0, Role::Waiting),
+    Ask::IsFirst(0, Role::Waiting, Some(5)),
+    Ask::Leaves(5, true),
+    Ask::IsFirst(0, Role::Waiting, Some(6)),
+    Ask::Stand(0, Role::Waiting, &[6]),
+    Ask::Leaves(5, false),
+];
+
+const LINES_ARE_APART: [Ask; 6] = [
+    Ask::Joins(7, 0, Role::Entry),
+    Ask::Joins(8, 1, Role::Waiting),
+    Ask::IsFirst(0, Role::Entry, Some(7)),
+    Ask::IsFirst(0, Role::Waiting, None),
+    Ask::IsFirst(1, Role::Entry, None),
+    Ask::IsFirst(1, Role::Waiting, Some(8)),
+];
+
+const THE_MIDDLE_ONE_LEAVES: [Ask; 5] = [
+    Ask::Joins(3, 9, Role::Entry),
+    Ask::Joins(1, 9, Role::Entry),
+    Ask::Joins(2, 9, Role::Entry),
+    Ask::Leaves(1, true),
+    Ask::Stand(9, Role::Entry, &[3, 2]),
+];
+
+const TABLES: [(&str, &[Ask]); 3] = [
+    ("two wait and one leaves", &TWO_WAIT_AND_ONE_LEAVES),
+    ("lines are apart", &LINES_ARE_APART),
+    ("the middle one leaves", &THE_MIDDLE_ONE_LEAVES),
+];
 
 #[test]
-fn lines_are_apart(rt: HostRuntime) {
-    const ASKS: [Ask; 6] = [
-        Ask::Joins(7, 0, Role::Entry),
-        Ask::Joins(8, 1, Role::Waiting),
-        Ask::IsFirst(0, Role::Entry, Some(7)),
-        Ask::IsFirst(0, Role::Waiting, None),
-        Ask::IsFirst(1, Role::Entry, None),
-        Ask::IsFirst(1, Role::Waiting, Some(8)),
-    ];
-    check(&rt, rt.alloc(), &ASKS);
-}
-
-#[test]
-fn the_middle_one_leaves(rt: HostRuntime) {
-    const ASKS: [Ask; 5] = [
-        Ask::Joins(3, 9, Role::Entry),
-        Ask::Joins(1, 9, Role::Entry),
-        Ask::Joins(2, 9, Role::Entry),
-        Ask::Leaves(1, true),
-        Ask::Stand(9, Role::Entry, &[3, 2]),
-    ];
-    check(&rt, rt.alloc(), &ASKS);
+fn threads_join_and_leave(rt: HostRuntime) {
+    for (name, asks) in TABLES {
+        let mut lines = Lines::new(rt.alloc());
+        expect_none(&rt, name, Ok(first_other(&mut lines, asks)));
+    }
 }
 
 /// Lines, and the plain ones that have to answer the same.
@@ -136,18 +140,10 @@ impl Both {
     }
 
     /// Whether a line has the threads of the plain one in their order, and its first as first.
-    fn is_same(&self, alloc: Global, monitor: u32, role: Role) -> bool {
-        let Ok(all) = self
-            .lines
-            .all(monitor, role)
-            .collect::<Vec<ThreadId>>(alloc)
-        else {
-            return false;
-        };
-        let Ok(plain) = self.plain.all(alloc, monitor, role) else {
-            return false;
-        };
-        all == plain && self.lines.first(monitor, role) == all.first().copied()
+    fn is_same(&self, monitor: u32, role: Role) -> bool {
+        self.plain
+            .is_all(self.lines.all(monitor, role), monitor, role)
+            && self.plain.first(monitor, role) == self.lines.first(monitor, role)
     }
 }
 
@@ -162,34 +158,46 @@ fn outwards(turn: u32) -> ThreadId
     })
 }
 
-/// Threads 0 to 999 wait for monitor 3.
-fn a_thousand(rt: &impl Abort, alloc: Global) -> Both {
-    let mut both = Both::new(alloc);
+/// Whether threads 0 to 999 come to wait for monitor 3.
+fn a_thousand_join(both: &mut Both) -> bool {
     for number in 0..1000 {
-        assert!(rt; both.join(number, 3, Role::Waiting));
+        if !both.join(number, 3, Role::Waiting) {
+            return false;
+        }
     }
-    both
+    true
 }
 
-/// Whether the thread of this turn leaves the line of monitor 3, which is then as the plain one.
-fn leaves_outwards(alloc: Global, both: &mut Both, turn: u32) -> bool
-    requires { turn < 1000 }
-{
-    both.leave_by_node(outwards(turn)) && both.is_same(alloc, 3, Role::Waiting)
+/// The first turn in which a thread cannot leave that line, or it is then not as the plain one.
+fn first_other_turn(both: &mut Both) -> Option<usize> {
+    for turn in 0..1000 {
+        if !both.leave_by_node(outwards(turn)) || !both.is_same(3, Role::Waiting) {
+            return Some(turn as usize);
+        }
+    }
+    None
+}
+
+/// The same, behind the joins; or the turn behind the last one, where somebody stands there still.
+fn empties(both: &mut Both) -> Result<Option<usize>, Memory> {
+    if !a_thousand_join(both) {
+        return Err(Memory);
+    }
+    match first_other_turn(both) {
+        None if both.lines.first(3, Role::Waiting) != None => Ok(Some(1000)),
+        other => Ok(other),
+    }
 }
 
 #[test]
 fn a_long_line_is_emptied_from_the_middle_outwards(rt: HostRuntime) {
-    let mut both = a_thousand(&rt, rt.alloc());
-    for turn in 0..1000 {
-        assert!(rt; leaves_outwards(rt.alloc(), &mut both, turn), "{turn}");
-    }
-    assert!(rt; both.lines.first(3, Role::Waiting) == None);
+    let mut both = Both::new(rt.alloc());
+    expect_none(&rt, "turn", empties(&mut both));
 }
 
 /// A thread joins a line, or leaves the one in which it stands, as this number says. Whether the
 /// line that the number names is then as the plain one.
-fn joins_or_leaves(alloc: Global, both: &mut Both, number: u32) -> bool {
+fn joins_or_leaves(both: &mut Both, number: u32) -> bool {
     let thread = ThreadId((number >> 8) % 60);
     let monitor = (number >> 16) % 90;
     let role = if number >> 31 == 0 {
@@ -202,31 +210,39 @@ fn joins_or_leaves(alloc: Global, both: &mut Both, number: u32) -> bool {
     if leaves {
         both.lines.leave(thread);
     }
-    (leaves || both.join(thread.0, monitor, role)) && both.is_same(alloc, monitor, role)
+    (leaves || both.join(thread.0, monitor, role)) && both.is_same(monitor, role)
+}
+
+/// The first of so many rounds in which that is not so.
+fn first_other_round(both: &mut Both, rounds: usize) -> Option<usize> {
+    let mut state = 1u32;
+    for round in 0..rounds {
+        state = state.wrapping_mul(1_664_525).wrapping_add(1_013_904_223);
+        if !joins_or_leaves(both, state) {
+            return Some(round);
+        }
+    }
+    None
 }
 
 #[test]
 fn threads_join_and_leave_in_no_order(rt: HostRuntime) {
     let mut both = Both::new(rt.alloc());
-    let mut state = 1u32;
-    for round in 0..600u32 {
-        state = state.wrapping_mul(1_664_525).wrapping_add(1_013_904_223);
-        assert!(rt; joins_or_leaves(rt.alloc(), &mut both, state), "{round}");
-    }
+    expect_none(&rt, "round", Ok(first_other_round(&mut both, 600)));
 }
 
-/// Makes room for one more thread. False: there was not room for just so many, or is no memory.
-fn grows(lines: &mut Lines, reservations: u16) -> bool
-    requires { reservations < 32767 }
-{
-    lines.reservations() == reservations && lines.reserve_one().is_ok()
+/// How many threads get room, one by one, before one does not.
+fn grow(lines: &mut Lines) -> u16 {
+    for number in 0..32_767 {
+        if lines.reservations() != number || lines.reserve_one().is_err() {
+            return number;
+        }
+    }
+    lines.reservations()
 }
 
 #[test]
 fn there_is_room_for_every_thread(rt: HostRuntime) {
     let mut lines = Lines::new(rt.alloc());
-    for number in 0..32_767 {
-        assert!(rt; grows(&mut lines, number), "{number}");
-    }
-    assert!(rt; lines.reservations() == 32_767);
+    assert!(rt; grow(&mut lines) == 32_767);
 }

@@ -3,12 +3,12 @@
 
 mod memory;
 
+use crate::rows::expect_none;
 use fast_path::Call;
 use fat_monitor::{Cause, Reply};
 use jls_check::{Machine, MoveFault};
 use lock_word::{Memory, ObjectId, ThreadId};
 use std::alloc::Global;
-use std::process::Abort;
 use step_core::Move;
 
 macro_rules! calls {
@@ -63,77 +63,93 @@ const LAWFUL: Answer = Ok(());
 
 const BROKEN: Answer = Err(MoveFault::Broken);
 
-/// Asks these moves of a new machine with one object, one after the other.
-fn check_all(rt: &impl Abort, alloc: Global, moves: &[(Move, Answer)]) {
-    let mut machine = Machine::new(alloc, 1).expect(rt, "memory");
-    for &(made, answer) in moves {
-        check(rt, &mut machine, made, answer);
+/// What a machine answers, of which nothing is claimed here.
+fn take(machine: &mut Machine, made: Move) -> Answer {
+    machine.take(made)
+}
+
+/// The first of these moves that is answered otherwise.
+fn first_other(machine: &mut Machine, moves: &[(Move, Answer)]) -> Option<usize> {
+    for (row, &(made, answer)) in moves.iter().enumerate() {
+        if take(machine, made) != answer {
+            return Some(row);
+        }
     }
+    None
 }
 
-fn check(rt: &impl Abort, machine: &mut Machine, made: Move, answer: Answer) {
-    assert!(rt; machine.take(made) == answer, "{made:?}");
+/// The same of a new machine with one object.
+fn first_of_new(alloc: Global, moves: &[(Move, Answer)]) -> Result<Option<usize>, Memory> {
+    let mut machine = Machine::new(alloc, 1)?;
+    Ok(first_other(&mut machine, moves))
 }
+
+const WAITER: ThreadId = ThreadId(7);
+
+const NOTIFIER: ThreadId = ThreadId(9);
+
+const OWNER: ThreadId = ThreadId(3);
+
+const ATTACHED_TWICE: [(Move, Answer); 2] = [
+    (Move::Attach { thread: OWNER }, LAWFUL),
+    (Move::Attach { thread: OWNER }, BROKEN),
+];
+
+const WAITS_AND_IS_NOTIFIED: [(Move, Answer); 23] = [
+    (Move::Attach { thread: WAITER }, LAWFUL),
+    (Move::Attach { thread: NOTIFIER }, LAWFUL),
+    (calls!(WAITER, Call::Enter(OBJECT)), LAWFUL),
+    (Move::Lock { thread: WAITER }, LAWFUL),
+    (returns!(WAITER, Reply::Entered), LAWFUL),
+    (calls!(WAITER, WAIT), LAWFUL),
+    (Move::Wait { thread: WAITER }, LAWFUL),
+    (calls!(NOTIFIER, Call::Enter(OBJECT)), LAWFUL),
+    (Move::Lock { thread: NOTIFIER }, LAWFUL),
+    (returns!(NOTIFIER, Reply::Entered), LAWFUL),
+    (calls!(NOTIFIER, Call::Notify(OBJECT)), LAWFUL),
+    (notifies!(NOTIFIER, None), BROKEN),
+    (notifies!(NOTIFIER, Some(NOTIFIER)), BROKEN),
+    (Move::Expire { thread: WAITER }, BROKEN),
+    (Move::Relock { thread: WAITER }, BROKEN),
+    (notifies!(NOTIFIER, Some(WAITER)), LAWFUL),
+    (Move::Relock { thread: WAITER }, BROKEN),
+    (returns!(NOTIFIER, Reply::Notified), LAWFUL),
+    (calls!(NOTIFIER, Call::Exit(OBJECT)), LAWFUL),
+    (Move::Unlock { thread: NOTIFIER }, LAWFUL),
+    (Move::Relock { thread: WAITER }, LAWFUL),
+    (returns!(WAITER, Reply::Interrupted), BROKEN),
+    (returns!(WAITER, Reply::WaitOver), LAWFUL),
+];
+
+const OWNER_ENDS: [(Move, Answer); 11] = [
+    (Move::Attach { thread: OWNER }, LAWFUL),
+    (calls!(OWNER, Call::Enter(OBJECT)), LAWFUL),
+    (calls!(OWNER, Call::End), BROKEN),
+    (refuses!(OWNER, Cause::NoMonitor), BROKEN),
+    (Move::Illegal { thread: OWNER }, BROKEN),
+    (Move::Lock { thread: OWNER }, LAWFUL),
+    (returns!(OWNER, Reply::Entered), LAWFUL),
+    (calls!(OWNER, Call::End), LAWFUL),
+    (Move::End { thread: OWNER }, BROKEN),
+    (refuses!(OWNER, Cause::StillOwner), LAWFUL),
+    (calls!(OWNER, Call::Exit(ObjectId(1))), BROKEN),
+];
+
+/// Runs of moves, by name.
+const RUNS: [(&str, &[(Move, Answer)]); 3] = [
+    ("a thread is attached once", &ATTACHED_TWICE),
+    (
+        "a notified thread locks again after the notifier",
+        &WAITS_AND_IS_NOTIFIED,
+    ),
+    ("an owner does not end", &OWNER_ENDS),
+];
 
 #[test]
-fn a_thread_is_attached_once(rt: HostRuntime) {
-    const ONE: ThreadId = ThreadId(0);
-    const MOVES: [(Move, Answer); 2] = [
-        (Move::Attach { thread: ONE }, LAWFUL),
-        (Move::Attach { thread: ONE }, BROKEN),
-    ];
-    check_all(&rt, rt.alloc(), &MOVES);
-}
-
-#[test]
-fn a_notified_thread_locks_again_after_the_notifier(rt: HostRuntime) {
-    const WAITER: ThreadId = ThreadId(7);
-    const NOTIFIER: ThreadId = ThreadId(9);
-    const MOVES: [(Move, Answer); 23] = [
-        (Move::Attach { thread: WAITER }, LAWFUL),
-        (Move::Attach { thread: NOTIFIER }, LAWFUL),
-        (calls!(WAITER, Call::Enter(OBJECT)), LAWFUL),
-        (Move::Lock { thread: WAITER }, LAWFUL),
-        (returns!(WAITER, Reply::Entered), LAWFUL),
-        (calls!(WAITER, WAIT), LAWFUL),
-        (Move::Wait { thread: WAITER }, LAWFUL),
-        (calls!(NOTIFIER, Call::Enter(OBJECT)), LAWFUL),
-        (Move::Lock { thread: NOTIFIER }, LAWFUL),
-        (returns!(NOTIFIER, Reply::Entered), LAWFUL),
-        (calls!(NOTIFIER, Call::Notify(OBJECT)), LAWFUL),
-        (notifies!(NOTIFIER, None), BROKEN),
-        (notifies!(NOTIFIER, Some(NOTIFIER)), BROKEN),
-        (Move::Expire { thread: WAITER }, BROKEN),
-        (Move::Relock { thread: WAITER }, BROKEN),
-        (notifies!(NOTIFIER, Some(WAITER)), LAWFUL),
-        (Move::Relock { thread: WAITER }, BROKEN),
-        (returns!(NOTIFIER, Reply::Notified), LAWFUL),
-        (calls!(NOTIFIER, Call::Exit(OBJECT)), LAWFUL),
-        (Move::Unlock { thread: NOTIFIER }, LAWFUL),
-        (Move::Relock { thread: WAITER }, LAWFUL),
-        (returns!(WAITER, Reply::Interrupted), BROKEN),
-        (returns!(WAITER, Reply::WaitOver), LAWFUL),
-    ];
-    check_all(&rt, rt.alloc(), &MOVES);
-}
-
-#[test]
-fn an_owner_does_not_end(rt: HostRuntime) {
-    const OWNER: ThreadId = ThreadId(3);
-    const MOVES: [(Move, Answer); 11] = [
-        (Move::Attach { thread: OWNER }, LAWFUL),
-        (calls!(OWNER, Call::Enter(OBJECT)), LAWFUL),
-        (calls!(OWNER, Call::End), BROKEN),
-        (refuses!(OWNER, Cause::NoMonitor), BROKEN),
-        (Move::Illegal { thread: OWNER }, BROKEN),
-        (Move::Lock { thread: OWNER }, LAWFUL),
-        (returns!(OWNER, Reply::Entered), LAWFUL),
-        (calls!(OWNER, Call::End), LAWFUL),
-        (Move::End { thread: OWNER }, BROKEN),
-        (refuses!(OWNER, Cause::StillOwner), LAWFUL),
-        (calls!(OWNER, Call::Exit(ObjectId(1))), BROKEN),
-    ];
-    check_all(&rt, rt.alloc(), &MOVES);
+fn moves_of_a_few_threads(rt: HostRuntime) {
+    for (name, moves) in RUNS {
+        expect_none(&rt, name, first_of_new(rt.alloc(), moves));
+    }
 }
 
 /// What a thread does, as a plain list has it.
@@ -144,168 +160,277 @@ enum Stands {
     Waits,
 }
 
-/// A machine with one object, beside a plain list of what each of some threads does.
-#[derive(Drop)]
-struct Crowd {
-    machine: Machine,
-    // The thread at an index has this multiple of it for its number.
-    step: u32,
-    threads: Vec<Stands>,
+/// What a thread of a crowd does.
+#[derive(Clone, Copy)]
+enum Deed {
+    /// It becomes live, if it is not.
+    Attach,
+    /// It ends, if it may.
+    End,
+    /// It goes into the wait set, if it is live and not there.
+    GoToWait,
+    /// It is live and not in the wait set, and takes all others out of it.
+    NotifyAll,
+    /// After that, just those that were in the wait set lock again.
+    Relock,
 }
 
-impl Crowd {
-    fn open(alloc: Global, step: u32, count: usize) -> Result<Crowd, Memory> {
-        Ok(Crowd {
-            machine: Machine::new(alloc, 1)?,
-            step,
-            threads: vec![in alloc; Stands::Gone; count]?,
-        })
-    }
+/// The moves of a deed, which name any thread.
+#[derive(Clone, Copy)]
+struct Moves {
+    /// What it does where it stands like this, and how it stands then.
+    from: Stands,
+    moves: &'static [(Move, Answer)],
+    to: Stands,
+    /// What it does then, wherever it stood.
+    always: &'static [(Move, Answer)],
+}
 
-    fn new(rt: &impl Abort, alloc: Global, step: u32, count: usize) -> Crowd {
-        Crowd::open(alloc, step, count).expect(rt, "memory")
-    }
+const ANY: ThreadId = ThreadId(0);
 
-    fn stands(&self, index: u32) -> Stands {
-        self.threads
-            .get(index as usize)
-            .copied()
-            .unwrap_or(Stands::Gone)
-    }
+const ATTACH: Moves = Moves {
+    from: Stands::Gone,
+    moves: &[
+        (calls!(ANY, Call::End), BROKEN),
+        (Move::Attach { thread: ANY }, LAWFUL),
+    ],
+    to: Stands::Idle,
+    always: &[(Move::Attach { thread: ANY }, BROKEN)],
+};
 
-    fn write(&mut self, index: u32, stands: Stands) {
-        if let Some(thread) = self.threads.get_mut(index as usize) {
-            *thread = stands;
-        }
-    }
+const END: Moves = Moves {
+    from: Stands::Idle,
+    moves: &[
+        (calls!(ANY, Call::End), LAWFUL),
+        (Move::End { thread: ANY }, LAWFUL),
+        (returns!(ANY, Reply::Ended), LAWFUL),
+    ],
+    to: Stands::Gone,
+    always: &[
+        (calls!(ANY, Call::End), BROKEN),
+        (returns!(ANY, Reply::Ended), BROKEN),
+    ],
+};
 
-    fn check(&mut self, rt: &impl Abort, made: Move, answer: Answer) {
-        check(rt, &mut self.machine, made, answer);
-    }
+const GO_TO_WAIT: Moves = Moves {
+    from: Stands::Idle,
+    moves: &[
+        (calls!(ANY, Call::Enter(OBJECT)), LAWFUL),
+        (Move::Lock { thread: ANY }, LAWFUL),
+        (returns!(ANY, Reply::Entered), LAWFUL),
+        (calls!(ANY, WAIT), LAWFUL),
+        (Move::Wait { thread: ANY }, LAWFUL),
+    ],
+    to: Stands::Waits,
+    always: &[],
+};
 
-    fn thread(&self, index: u32) -> ThreadId {
-        ThreadId(index.wrapping_mul(self.step))
-    }
+const NOTIFY_ALL: Moves = Moves {
+    from: Stands::Idle,
+    moves: &[],
+    to: Stands::Idle,
+    always: &[
+        (calls!(ANY, Call::Enter(OBJECT)), LAWFUL),
+        (Move::Lock { thread: ANY }, LAWFUL),
+        (returns!(ANY, Reply::Entered), LAWFUL),
+        (calls!(ANY, Call::NotifyAll(OBJECT)), LAWFUL),
+        (Move::NotifyAll { thread: ANY }, LAWFUL),
+        (returns!(ANY, Reply::Notified), LAWFUL),
+        (calls!(ANY, Call::Exit(OBJECT)), LAWFUL),
+        (Move::Unlock { thread: ANY }, LAWFUL),
+        (returns!(ANY, Reply::Exited), LAWFUL),
+    ],
+};
 
-    /// Makes a thread live, if it is not.
-    fn attach(&mut self, rt: &impl Abort, index: u32) {
-        let thread = self.thread(index);
-        if self.stands(index) == Stands::Gone {
-            self.check(rt, calls!(thread, Call::End), BROKEN);
-            let answer = self.machine.take(Move::Attach { thread });
-            assert!(rt; answer == LAWFUL || answer == Err(MoveFault::Memory));
-            if answer != LAWFUL {
-                // It was refused memory, and is not live.
-                self.check(rt, calls!(thread, Call::End), BROKEN);
-                self.check(rt, Move::Attach { thread }, LAWFUL);
+const RELOCK: Moves = Moves {
+    from: Stands::Waits,
+    moves: &[
+        (Move::Relock { thread: ANY }, LAWFUL),
+        (returns!(ANY, Reply::WaitOver), LAWFUL),
+        (calls!(ANY, Call::Exit(OBJECT)), LAWFUL),
+        (Move::Unlock { thread: ANY }, LAWFUL),
+        (returns!(ANY, Reply::Exited), LAWFUL),
+    ],
+    to: Stands::Idle,
+    always: &[(Move::Relock { thread: ANY }, BROKEN)],
+};
+
+fn moves_of(deed: Deed) -> Moves {
+    match deed {
+        Deed::Attach => ATTACH,
+        Deed::End => END,
+        Deed::GoToWait => GO_TO_WAIT,
+        Deed::NotifyAll => NOTIFY_ALL,
+        Deed::Relock => RELOCK,
+    }
+}
+
+/// A move of a deed, as this thread makes it.
+fn made_by(thread: ThreadId, made: Move) -> Move {
+    match made {
+        Move::Attach { .. } => Move::Attach { thread },
+        Move::Call { call, .. } => Move::Call { thread, call },
+        Move::Return { reply, .. } => Move::Return { thread, reply },
+        Move::Lock { .. } => Move::Lock { thread },
+        Move::Unlock { .. } => Move::Unlock { thread },
+        Move::Wait { .. } => Move::Wait { thread },
+        Move::NotifyAll { .. } => Move::NotifyAll { thread },
+        Move::Relock { .. } => Move::Relock { thread },
+        Move::End { .. } => Move::End { thread },
+        _ => made,
+    }
+}
+
+/// What the threads of a crowd do, those below a number or so many others.
+#[derive(Clone, Copy)]
+enum Act {
+    /// They come, some of them wait, they go and come again, and the last ones notify.
+    Live(u32),
+    /// They are live, a few of them wait, and these are notified beside the others.
+    NotifyFew(u32, u32),
+    /// They come, two of three wait, and the rest ends before all are notified.
+    NotifyRest(u32),
+}
+
+/// A machine with one object, beside a plain list of what each of some threads does.
+#[derive(Drop)]
+struct Crowd<'a> {
+    machine: &'a mut Machine,
+    // The thread at an index has this multiple of it for its number.
+    step: u32,
+    threads: &'a mut [Stands],
+}
+
+impl Crowd<'_> {
+    /// Whether a move is answered so. An attach that is refused memory leaves its thread not live,
+    /// and is tried again.
+    fn takes(&mut self, made: Move, answer: Answer) -> bool {
+        let told = take(self.machine, made);
+        match made {
+            Move::Attach { thread } if told == Err(MoveFault::Memory) => {
+                take(self.machine, calls!(thread, Call::End)) == BROKEN
+                    && take(self.machine, made) == answer
             }
-            self.write(index, Stands::Idle);
-        }
-        self.check(rt, Move::Attach { thread }, BROKEN);
-    }
-
-    /// A thread ends, if it may.
-    fn end(&mut self, rt: &impl Abort, index: u32) {
-        let thread = self.thread(index);
-        if self.stands(index) == Stands::Idle {
-            self.check(rt, calls!(thread, Call::End), LAWFUL);
-            self.check(rt, Move::End { thread }, LAWFUL);
-            self.check(rt, returns!(thread, Reply::Ended), LAWFUL);
-            self.write(index, Stands::Gone);
-        }
-        self.check(rt, calls!(thread, Call::End), BROKEN);
-        self.check(rt, returns!(thread, Reply::Ended), BROKEN);
-    }
-
-    fn lock(&mut self, rt: &impl Abort, thread: ThreadId) {
-        self.check(rt, calls!(thread, Call::Enter(OBJECT)), LAWFUL);
-        self.check(rt, Move::Lock { thread }, LAWFUL);
-        self.check(rt, returns!(thread, Reply::Entered), LAWFUL);
-    }
-
-    fn unlock(&mut self, rt: &impl Abort, thread: ThreadId) {
-        self.check(rt, calls!(thread, Call::Exit(OBJECT)), LAWFUL);
-        self.check(rt, Move::Unlock { thread }, LAWFUL);
-        self.check(rt, returns!(thread, Reply::Exited), LAWFUL);
-    }
-
-    /// A thread goes into the wait set, if it is live and not there.
-    fn wait(&mut self, rt: &impl Abort, index: u32) {
-        if self.stands(index) == Stands::Idle {
-            let thread = self.thread(index);
-            self.lock(rt, thread);
-            self.check(rt, calls!(thread, WAIT), LAWFUL);
-            self.check(rt, Move::Wait { thread }, LAWFUL);
-            self.write(index, Stands::Waits);
+            _ => told == answer,
         }
     }
 
-    /// A thread that is live and not in the wait set takes all others out of it.
-    fn notify_all(&mut self, rt: &impl Abort, index: u32) {
-        let thread = self.thread(index);
-        self.lock(rt, thread);
-        self.check(rt, calls!(thread, Call::NotifyAll(OBJECT)), LAWFUL);
-        self.check(rt, Move::NotifyAll { thread }, LAWFUL);
-        self.check(rt, returns!(thread, Reply::Notified), LAWFUL);
-        self.unlock(rt, thread);
-    }
-
-    /// After that, just those that were in the wait set lock again.
-    fn relock(&mut self, rt: &impl Abort, index: u32) {
-        let thread = self.thread(index);
-        if self.stands(index) == Stands::Waits {
-            self.check(rt, Move::Relock { thread }, LAWFUL);
-            self.check(rt, returns!(thread, Reply::WaitOver), LAWFUL);
-            self.unlock(rt, thread);
-            self.write(index, Stands::Idle);
-        }
-        self.check(rt, Move::Relock { thread }, BROKEN);
-    }
-
-    /// So many threads are live, a few of them wait, and these are notified beside the others.
-    fn notify_few(&mut self, rt: &impl Abort, count: u32, waiting: u32) {
-        for index in 0..count {
-            self.attach(rt, index);
-        }
-        for index in 1..=waiting {
-            self.wait(rt, index);
-        }
-        self.notify_all(rt, 0);
-        for index in 0..count {
-            self.relock(rt, index);
-        }
-    }
-
-    /// Threads come, some of them wait, threads go and come again, and the last ones notify.
-    fn live(&mut self, rt: &impl Abort, count: u32) {
-        for index in 0..count {
-            self.attach(rt, index);
-            if index % 7 == 3 {
-                self.wait(rt, index);
+    fn takes_all(&mut self, thread: ThreadId, moves: &[(Move, Answer)]) -> bool {
+        for &(made, answer) in moves {
+            if !self.takes(made_by(thread, made), answer) {
+                return false;
             }
         }
-        let mut drawn: u32 = count;
+        true
+    }
+
+    /// Whether a thread does what it should.
+    fn does(&mut self, index: u32, deed: Deed) -> bool {
+        let Moves {
+            from,
+            moves,
+            to,
+            always,
+        } = moves_of(deed);
+        let thread = ThreadId(index.wrapping_mul(self.step));
+        let Some(stands) = self.threads.get_mut(index as usize) else {
+            return false;
+        };
+        let stood_so = *stands == from;
+        if stood_so {
+            *stands = to;
+        }
+        (!stood_so || self.takes_all(thread, moves)) && self.takes_all(thread, always)
+    }
+
+    /// The same of threads from the first up to an end, but for each that is a multiple of this.
+    fn all_do(&mut self, first: u32, end: u32, but: u32, deed: Deed) -> bool {
+        for index in first..end {
+            if index.checked_rem(but) != Some(0) && !self.does(index, deed) {
+                return false;
+            }
+        }
+        true
+    }
+
+    /// Threads come, and some of them wait.
+    fn come(&mut self, count: u32) -> bool {
+        for index in 0..count {
+            let waits = index % 7 == 3;
+            if !self.does(index, Deed::Attach) || waits && !self.does(index, Deed::GoToWait) {
+                return false;
+            }
+        }
+        true
+    }
+
+    /// Threads go, and come again.
+    fn come_and_go(&mut self, count: u32) -> bool {
+        let mut drawn = count;
         for _ in 0..count {
             drawn = drawn.wrapping_mul(1_664_525).wrapping_add(1_013_904_223);
             let index = (drawn >> 8) % count.max(1);
-            if drawn % 3 == 0 {
-                self.attach(rt, index);
+            let deed = if drawn % 3 == 0 {
+                Deed::Attach
             } else {
-                self.end(rt, index);
+                Deed::End
+            };
+            if !self.does(index, deed) {
+                return false;
             }
         }
-        for index in 1..count {
-            self.end(rt, index);
-        }
-        self.attach(rt, 0);
-        self.notify_all(rt, 0);
-        for index in 0..count {
-            self.relock(rt, index);
-        }
-        for index in 0..count {
-            self.end(rt, index);
+        true
+    }
+
+    /// Whether the threads act as they should.
+    fn acts(&mut self, act: Act) -> bool {
+        match act {
+            Act::Live(count) => {
+                self.come(count)
+                    && self.come_and_go(count)
+                    && self.all_do(1, count, 0, Deed::End)
+                    && self.does(0, Deed::Attach)
+                    && self.does(0, Deed::NotifyAll)
+                    && self.all_do(0, count, 0, Deed::Relock)
+                    && self.all_do(0, count, 0, Deed::End)
+            }
+            Act::NotifyFew(count, waiting) => {
+                self.all_do(0, count, 0, Deed::Attach)
+                    && self.all_do(1, waiting.saturating_add(1), 0, Deed::GoToWait)
+                    && self.does(0, Deed::NotifyAll)
+                    && self.all_do(0, count, 0, Deed::Relock)
+            }
+            Act::NotifyRest(count) => {
+                self.all_do(0, count, 0, Deed::Attach)
+                    && self.all_do(0, count, 3, Deed::GoToWait)
+                    && self.all_do(1, count, 0, Deed::End)
+                    && self.does(0, Deed::NotifyAll)
+                    && self.all_do(0, count, 0, Deed::Relock)
+            }
         }
     }
+}
+
+/// Whether a crowd acts as it should.
+fn all_act(crowd: &mut Crowd<'_>, acts: &[Act]) -> bool {
+    for act in acts {
+        if !crowd.acts(*act) {
+            return false;
+        }
+    }
+    true
+}
+
+/// The same of a new crowd of so many threads, whose numbers are so far apart.
+fn plays(alloc: Global, step: u32, count: usize, acts: &[Act]) -> Result<bool, Memory> {
+    let mut threads = vec![in alloc; Stands::Gone; count]?;
+    let mut machine = Machine::new(alloc, 1)?;
+    let mut crowd = Crowd {
+        machine: &mut machine,
+        step,
+        threads: threads.as_mut_slice(),
+    };
+    Ok(all_act(&mut crowd, acts))
 }
 
 /// Threads come and go while a table of positions for their numbers grows and gives memory back:
@@ -314,13 +439,19 @@ impl Crowd {
 #[test]
 fn crowds_come_and_go(rt: HostRuntime) {
     const STEPS: [u32; 6] = [1, 7, 65_536, 1_048_576, 2_147_483_647, 2_654_435_769];
-    const COUNTS: [u32; 8] = [1, 4, 5, 9, 16, 40, 300, 1_500];
+    const ACTS: [Act; 9] = [
+        Act::Live(1),
+        Act::Live(4),
+        Act::Live(5),
+        Act::Live(9),
+        Act::Live(16),
+        Act::Live(40),
+        Act::Live(300),
+        Act::Live(1_500),
+        Act::Live(20),
+    ];
     for step in STEPS {
-        let mut crowd = Crowd::new(&rt, rt.alloc(), step, 1_500);
-        for count in COUNTS {
-            crowd.live(&rt, count);
-        }
-        crowd.live(&rt, 20);
+        assert!(rt; plays(rt.alloc(), step, 1_500, &ACTS) == Ok(true), "{step}");
     }
 }
 
@@ -329,23 +460,9 @@ fn crowds_come_and_go(rt: HostRuntime) {
 #[test]
 fn the_rest_of_a_crowd_is_notified(rt: HostRuntime) {
     const STEPS: [u32; 3] = [65_536, 1, 2_654_435_769];
+    const ACTS: [Act; 1] = [Act::NotifyRest(1_200)];
     for step in STEPS {
-        let mut crowd = Crowd::new(&rt, rt.alloc(), step, 1_200);
-        for index in 0..1_200 {
-            crowd.attach(&rt, index);
-        }
-        for index in 0..1_200 {
-            if index % 3 != 0 {
-                crowd.wait(&rt, index);
-            }
-        }
-        for index in 1..1_200 {
-            crowd.end(&rt, index);
-        }
-        crowd.notify_all(&rt, 0);
-        for index in 0..1_200 {
-            crowd.relock(&rt, index);
-        }
+        assert!(rt; plays(rt.alloc(), step, 1_200, &ACTS) == Ok(true), "{step}");
     }
 }
 
@@ -354,8 +471,10 @@ fn the_rest_of_a_crowd_is_notified(rt: HostRuntime) {
 #[test]
 fn a_few_of_a_crowd_are_notified(rt: HostRuntime) {
     for waiting in [1, 3, 9, 10, 11, 40] {
-        let mut crowd = Crowd::new(&rt, rt.alloc(), 65_536, 320);
-        crowd.notify_few(&rt, 320, waiting);
-        crowd.notify_few(&rt, 320, 2);
+        let acts = [Act::NotifyFew(320, waiting), Act::NotifyFew(320, 2)];
+        assert!(rt;
+            plays(rt.alloc(), 65_536, 320, &acts) == Ok(true),
+            "{waiting}"
+        );
     }
 }

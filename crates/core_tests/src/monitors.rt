@@ -4,10 +4,11 @@
 ghost use Rattle.std.specs.Prelude.{◌+◌, ◌<◌, ◌≤◌};
 ghost use Rattle.fat_monitor.specs.FatState.{thread_count};
 
+use crate::rows::expect_none;
+use binding::{RECEIPT, RESERVED};
 use fat_monitor::{Action, Cause, Done, Fats, Post, Receipt};
-use lock_word::{ObjectId, ThreadId};
-use std::alloc::Global;
-use std::process::Abort;
+use lock_word::{Memory, ObjectId, ThreadId};
+use readers::{BOUND, GRANTS, WAITER};
 
 mod binding;
 mod names;
@@ -19,13 +20,15 @@ const EIGHT: ThreadId = ThreadId(8);
 
 const OBJECT: ObjectId = ObjectId(0);
 
-fn attach(rt: &impl Abort, fats: &mut Fats, thread: ThreadId)
+/// Whether the thread is attached now, and was not before.
+fn attach(fats: &mut Fats, thread: ThreadId) -> bool
     requires { thread_count fats.old < 100 }
     ensures { thread_count fats.new ≤ thread_count fats.old + 1 }
 {
     let Ok(()) = fats.attach(thread) else {
-        panic!(rt; "the thread is attached");
+        return false;
     };
+    true
 }
 
 /// What is asked of fat monitors, and what has to be answered.
@@ -105,22 +108,47 @@ fn answers(fats: &mut Fats, ask: Ask) -> bool {
     }
 }
 
-/// Fat monitors, of which so many can be bound, and threads 8 and 7.
-fn with_both(rt: &impl Abort, alloc: Global, limit: u32) -> Fats
-    requires { limit ≤ 8388608 }
+/// Whether threads 8 and 7 are attached now, and were not before.
+fn attach_both(fats: &mut Fats) -> bool
+    requires { thread_count fats.old < 50 }
 {
-    let mut fats = Fats::new(alloc, limit);
-    attach(rt, &mut fats, EIGHT);
-    attach(rt, &mut fats, SEVEN);
-    fats
+    attach(fats, EIGHT) && attach(fats, SEVEN)
 }
 
-/// Asks these questions of such monitors, one after the other.
-fn check(rt: &impl Abort, alloc: Global, limit: u32, asks: &[Ask])
-    requires { limit ≤ 8388608 }
+/// The first of these that is answered otherwise.
+fn first_other(fats: &mut Fats, asks: &[Ask]) -> Option<usize> {
+    for (row, &ask) in asks.iter().enumerate() {
+        if !answers(fats, ask) {
+            return Some(row);
+        }
+    }
+    None
+}
+
+/// The same, once both threads are attached.
+fn first_behind_both(fats: &mut Fats, asks: &[Ask]) -> Result<Option<usize>, Memory>
+    requires { thread_count fats.old < 50 }
 {
-    let mut fats = with_both(rt, alloc, limit);
-    for (row, ask) in asks.iter().enumerate() {
-        assert!(rt; answers(&mut fats, *ask), "row {row}");
+    if attach_both(fats) {
+        Ok(first_other(fats, asks))
+    } else {
+        Err(Memory)
+    }
+}
+
+/// How many monitors can be bound, and what is asked of them.
+const TABLES: [(&str, u8, &[Ask]); 5] = [
+    ("a receipt tells what was bound", 1, &RECEIPT),
+    ("a bind takes room that was reserved", 1, &RESERVED),
+    ("a bound monitor shows its owner and holds", 2, &BOUND),
+    ("a waiter shows its holds and its deadline", 1, &WAITER),
+    ("an answer names the thread that was granted", 1, &GRANTS),
+];
+
+#[test]
+fn monitors_are_bound_and_acted_on(rt: HostRuntime) {
+    for (name, limit, asks) in TABLES {
+        let mut fats = Fats::new(rt.alloc(), u32::from(limit));
+        expect_none(&rt, name, first_behind_both(&mut fats, asks));
     }
 }

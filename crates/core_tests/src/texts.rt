@@ -2,10 +2,11 @@
 
 use std::alloc::Global;
 use std::fmt::Display;
-use std::process::Abort;
 
-/// Asks that the value is written so.
-pub(crate) fn writes<T: Display>(rt: &impl Abort, alloc: Global, value: &T, text: &str) {
-    let written = format!(in alloc; "{value}").ok().expect(rt, "memory");
-    assert!(rt; written.as_str() == text, "{text}");
+/// Whether the value is written so.
+pub(crate) fn is_written<T: Display>(alloc: Global, value: &T, text: &str) -> bool {
+    match format!(in alloc; "{value}") {
+        Ok(written) => written.as_str() == text,
+        Err(_) => false,
+    }
 }

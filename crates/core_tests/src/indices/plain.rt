@@ -21,10 +21,10 @@ impl PlainIndices {
     }
 
     pub(super) fn take(&mut self, id: ThreadId) -> Result<usize, TakeFault> {
-        if self.berth_of(id).is_some() {
+        if self.berth_of(Some(id)).is_some() {
             return Err(TakeFault::Known);
         }
-        match self.holders.iter().position(|holder| holder.is_none()) {
+        match self.berth_of(None) {
             Some(berth) => {
                 self.holders[berth] = Some(id);
                 Ok(berth + 1)
@@ -38,18 +38,19 @@ impl PlainIndices {
     }
 
     pub(super) fn give(&mut self, id: ThreadId) -> Option<usize> {
-        let berth = self.berth_of(id)?;
+        let berth = self.berth_of(Some(id))?;
         self.holders[berth] = None;
         Some(berth + 1)
     }
 
     pub(super) fn index_of(&self, id: ThreadId) -> Option<usize> {
-        Some(self.berth_of(id)? + 1)
+        Some(self.berth_of(Some(id))? + 1)
     }
 
-    fn berth_of(&self, id: ThreadId) -> Option<usize>
+    /// The first berth of a holder; None: the first that is free.
+    fn berth_of(&self, wanted: Option<ThreadId>) -> Option<usize>
         ensures { IfSome result (λ k. k < length self.now.holders.items) }
     {
-        self.holders.iter().position(|&holder| holder == Some(id))
+        self.holders.iter().position(|&holder| holder == wanted)
     }
 }

@@ -2,7 +2,7 @@
 
 use lock_word::ThreadId;
 use std::alloc::{AllocError, Global};
-use wait_lines::Role;
+use wait_lines::{All, Role};
 
 #[derive(Clone, Copy)]
 struct Arrival {
@@ -41,16 +41,24 @@ impl PlainLines {
         self.arrivals.retain(|arrival| arrival.thread != thread);
     }
 
-    pub(super) fn all(
-        &self,
-        alloc: Global,
-        monitor: u32,
-        role: Role,
-    ) -> Result<Vec<ThreadId>, AllocError> {
-        self.arrivals
-            .iter()
-            .filter(|arrival| arrival.monitor == monitor && arrival.role == role)
-            .map(|arrival| arrival.thread)
-            .collect(alloc)
+    /// The first of those who stand in a line.
+    pub(super) fn first(&self, monitor: u32, role: Role) -> Option<ThreadId> {
+        for arrival in &self.arrivals {
+            if arrival.monitor == monitor && arrival.role == role {
+                return Some(arrival.thread);
+            }
+        }
+        None
+    }
+
+    /// Whether just those who stand in a line come, in their order.
+    pub(super) fn is_all(&self, mut line: All<'_>, monitor: u32, role: Role) -> bool {
+        for arrival in &self.arrivals {
+            let stands = arrival.monitor == monitor && arrival.role == role;
+            if stands && line.next() != Some(arrival.thread) {
+                return false;
+            }
+        }
+        line.next() == None
     }
 }

@@ -1,36 +1,24 @@
 //! What is written, and the numbers of causes.
 
-use crate::texts::writes;
+use crate::texts::is_written;
 use fat_monitor::{ActFault, Action, AttachFault, Backwards, Cause, Reply};
 
 #[test]
-fn names_are_written_out(rt: HostRuntime) {
-    writes(
-        &rt,
-        rt.alloc(),
-        &Reply::Refused(Cause::TooDeep),
-        "Refused TooDeep",
-    );
-    writes(&rt, rt.alloc(), &Action::Enter { monitor: 0 }, "Enter");
-}
-
-#[test]
-fn faults_are_written_out(rt: HostRuntime) {
+fn names_and_faults_are_written_out(rt: HostRuntime) {
     const FAULTS: [(ActFault, &str); 3] = [
         (ActFault::Parked, "no reply is granted"),
         (ActFault::NotDue, "no wait of the thread is over"),
         (ActFault::NotWaiting, "the thread does not wait"),
     ];
-    writes(
-        &rt,
-        rt.alloc(),
-        &AttachFault::Known,
-        "the thread is attached already",
-    );
-    writes(&rt, rt.alloc(), &Backwards, "the moment would fall");
     for (fault, text) in &FAULTS {
-        writes(&rt, rt.alloc(), fault, text);
+        assert!(rt; is_written(rt.alloc(), fault, text), "{text}");
     }
+    let refused = Reply::Refused(Cause::TooDeep);
+    let known = "the thread is attached already";
+    assert!(rt; is_written(rt.alloc(), &refused, "Refused TooDeep"));
+    assert!(rt; is_written(rt.alloc(), &Action::Enter { monitor: 0 }, "Enter"));
+    assert!(rt; is_written(rt.alloc(), &AttachFault::Known, known));
+    assert!(rt; is_written(rt.alloc(), &Backwards, "the moment would fall"));
 }
 
 #[test]

@@ -1,6 +1,9 @@
 //! What the readers answer.
 
-use crate::monitors::{Ask, EIGHT, OBJECT, SEVEN, attach, check};
+ghost use Rattle.std.specs.Prelude.{◌<◌};
+ghost use Rattle.fat_monitor.specs.FatState.{thread_count};
+
+use crate::monitors::{Ask, EIGHT, OBJECT, SEVEN, attach};
 use fat_monitor::{Action, Answer, AttachFault, Done, Fats, Post, Reply};
 
 const PARKED: Done = Done {
@@ -14,61 +17,59 @@ fn is_seven(fats: &Fats, post: Option<Post>, flag: Option<bool>) -> bool {
     fats.post(SEVEN) == post && fats.flag(SEVEN) == flag
 }
 
+/// Whether thread 7 is attached once, and then shows where it stands and its flag.
+fn is_attached_once(fats: &mut Fats) -> bool
+    requires { thread_count fats.old < 100 }
+{
+    is_seven(fats, None, None)
+        && attach(fats, SEVEN)
+        && is_seven(fats, Some(Post::Out), Some(false))
+        && fats.attach(SEVEN) == Err(AttachFault::Known)
+}
+
 #[test]
 fn a_thread_is_attached_once(rt: HostRuntime) {
     let mut fats = Fats::new(rt.alloc(), 1);
-    assert!(rt; is_seven(&fats, None, None));
-    attach(&rt, &mut fats, SEVEN);
-    assert!(rt; is_seven(&fats, Some(Post::Out), Some(false)));
-    assert!(rt; fats.attach(SEVEN) == Err(AttachFault::Known));
+    assert!(rt; is_attached_once(&mut fats));
 }
 
-#[test]
-fn a_bound_monitor_shows_its_owner_and_holds(rt: HostRuntime) {
-    const ASKS: [Ask; 5] = [
-        Ask::Shows(0, None, None, 0),
-        Ask::Binds(256, Ok(0)),
-        Ask::Counts(1, 2),
-        Ask::Shows(0, Some(OBJECT), Some(SEVEN), 256),
-        Ask::Shows(1, None, None, 0),
-    ];
-    check(&rt, rt.alloc(), 2, &ASKS);
-}
+pub(super) const BOUND: [Ask; 5] = [
+    Ask::Shows(0, None, None, 0),
+    Ask::Binds(256, Ok(0)),
+    Ask::Counts(1, 2),
+    Ask::Shows(0, Some(OBJECT), Some(SEVEN), 256),
+    Ask::Shows(1, None, None, 0),
+];
 
-#[test]
-fn a_waiter_shows_its_holds_and_its_deadline(rt: HostRuntime) {
-    const WAIT: Action = Action::Wait {
-        monitor: 0,
-        millis: 1,
-        nanos: 2,
-    };
-    const WAITING: Post = Post::Waiting {
-        monitor: 0,
-        holds: 3,
-        deadline: Some(1_000_012),
-    };
-    const ASKS: [Ask; 5] = [
-        Ask::Binds(3, Ok(0)),
-        Ask::Ticks(10),
-        Ask::Acts(SEVEN, WAIT, PARKED),
-        Ask::Times(10, 1),
-        Ask::Stands(SEVEN, WAITING),
-    ];
-    check(&rt, rt.alloc(), 1, &ASKS);
-}
+const WAIT: Action = Action::Wait {
+    monitor: 0,
+    millis: 1,
+    nanos: 2,
+};
 
-#[test]
-fn an_answer_names_the_thread_that_was_granted(rt: HostRuntime) {
-    const GRANTED: Done = Done {
-        answer: Answer::Reply(Reply::Exited),
-        granted: Some(EIGHT),
-        chosen: None,
-    };
-    const ASKS: [Ask; 4] = [
-        Ask::Binds(1, Ok(0)),
-        Ask::Acts(EIGHT, Action::Enter { monitor: 0 }, PARKED),
-        Ask::Acts(SEVEN, Action::Exit { monitor: 0 }, GRANTED),
-        Ask::Stands(EIGHT, Post::Granted(Reply::Entered)),
-    ];
-    check(&rt, rt.alloc(), 1, &ASKS);
-}
+const WAITING: Post = Post::Waiting {
+    monitor: 0,
+    holds: 3,
+    deadline: Some(1_000_012),
+};
+
+pub(super) const WAITER: [Ask; 5] = [
+    Ask::Binds(3, Ok(0)),
+    Ask::Ticks(10),
+    Ask::Acts(SEVEN, WAIT, PARKED),
+    Ask::Times(10, 1),
+    Ask::Stands(SEVEN, WAITING),
+];
+
+const GRANTED: Done = Done {
+    answer: Answer::Reply(Reply::Exited),
+    granted: Some(EIGHT),
+    chosen: None,
+};
+
+pub(super) const GRANTS: [Ask; 4] = [
+    Ask::Binds(1, Ok(0)),
+    Ask::Acts(EIGHT, Action::Enter { monitor: 0 }, PARKED),
+    Ask::Acts(SEVEN, Action::Exit { monitor: 0 }, GRANTED),
+    Ask::Stands(EIGHT, Post::Granted(Reply::Entered)),
+];

@@ -1,6 +1,6 @@
 //! How a report names a fault.
 
-use crate::texts::writes;
+use crate::texts::is_written;
 use step_core::{Fault, RelayoutFault};
 
 #[test]
@@ -18,9 +18,9 @@ fn faults_have_numbers_and_names(rt: HostRuntime) {
         (Fault::Backwards, 10, "Backwards"),
         (Fault::NotWaiting, 28, "NotWaiting"),
     ];
-    for &(fault, number, name) in &FAULTS {
-        assert!(rt; fault.number() == number, "{name}");
-        writes(&rt, rt.alloc(), &fault, name);
+    for (fault, number, name) in &FAULTS {
+        let is_named = fault.number() == *number && is_written(rt.alloc(), fault, name);
+        assert!(rt; is_named, "{name}");
     }
 }
 
@@ -32,8 +32,8 @@ fn faults_of_a_relayout_have_numbers_and_names(rt: HostRuntime) {
         (RelayoutFault::NotAtRest, 29, "NotAtRest"),
         (RelayoutFault::IndexTooWide, 30, "IndexTooWide"),
     ];
-    for &(fault, number, name) in &FAULTS {
-        assert!(rt; fault.number() == number, "{name}");
-        writes(&rt, rt.alloc(), &fault, name);
+    for (fault, number, name) in &FAULTS {
+        let is_named = fault.number() == *number && is_written(rt.alloc(), fault, name);
+        assert!(rt; is_named, "{name}");
     }
 }

@@ -1,0 +1,13 @@
+//! Tables of rows, each with what is asked and what has to be answered.
+
+use lock_word::Memory;
+use std::process::Abort;
+
+/// No row of this name was answered otherwise, of which the first is told here.
+pub(crate) fn expect_none(rt: &impl Abort, name: &str, other: Result<Option<usize>, Memory>) {
+    match other {
+        Ok(None) => {}
+        Ok(Some(row)) => panic!(rt; "{name}: row {row}"),
+        Err(Memory) => panic!(rt; "{name}: memory"),
+    }
+}
