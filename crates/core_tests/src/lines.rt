@@ -1,5 +1,3 @@
-ghost use Rattle.std.specs.Prelude.{◌<◌};
-
 mod plain;
 
 use crate::rows::expect_none;
@@ -141,21 +139,12 @@ impl Both {
 
     /// Whether a line has the threads of the plain one in their order, and its first as first.
     fn is_same(&self, monitor: u32, role: Role) -> bool {
-        self.plain
-            .is_all(self.lines.all(monitor, role), monitor, role)
-            && self.plain.first(monitor, role) == self.lines.first(monitor, role)
+        let mut line = self.lines.all(monitor, role);
+        self.lines.first(monitor, role) == line.next()
+            && self
+                .plain
+                .is_all(self.lines.all(monitor, role), monitor, role)
     }
-}
-
-/// From the middle of a line of 1,000 outwards: 500, 499, 501, 498 and so on.
-fn outwards(turn: u32) -> ThreadId
-    requires { turn < 1000 }
-{
-    ThreadId(if turn % 2 == 0 {
-        500 + turn / 2
-    } else {
-        499 - turn / 2
-    })
 }
 
 /// Whether threads 0 to 999 come to wait for monitor 3.
@@ -168,10 +157,16 @@ fn a_thousand_join(both: &mut Both) -> bool {
     true
 }
 
-/// The first turn in which a thread cannot leave that line, or it is then not as the plain one.
+/// The first turn in which a thread cannot leave that line, or it is then not as the plain one. They
+/// leave from the middle outwards: 500, 499, 501, 498 and so on.
 fn first_other_turn(both: &mut Both) -> Option<usize> {
-    for turn in 0..1000 {
-        if !both.leave_by_node(outwards(turn)) || !both.is_same(3, Role::Waiting) {
+    for turn in 0..1000u32 {
+        let thread = ThreadId(if turn % 2 == 0 {
+            500 + turn / 2
+        } else {
+            499 - turn / 2
+        });
+        if !both.leave_by_node(thread) || !both.is_same(3, Role::Waiting) {
             return Some(turn as usize);
         }
     }

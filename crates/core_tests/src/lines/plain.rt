@@ -41,16 +41,6 @@ impl PlainLines {
         self.arrivals.retain(|arrival| arrival.thread != thread);
     }
 
-    /// The first of those who stand in a line.
-    pub(super) fn first(&self, monitor: u32, role: Role) -> Option<ThreadId> {
-        for arrival in &self.arrivals {
-            if arrival.monitor == monitor && arrival.role == role {
-                return Some(arrival.thread);
-            }
-        }
-        None
-    }
-
     /// Whether just those who stand in a line come, in their order.
     pub(super) fn is_all(&self, mut line: All<'_>, monitor: u32, role: Role) -> bool {
         for arrival in &self.arrivals {
