@@ -399,7 +399,11 @@ fn add_waiter(
 }
 
 /// Writes the names of some threads between commas, or `-` where there is none.
-pub fn put_threads(report: &mut String, names: &Names, threads: &[ThreadId]) -> Result<(), AllocError>
+pub fn put_threads(
+    report: &mut String,
+    names: &Names,
+    threads: &[ThreadId],
+) -> Result<(), AllocError>
     ensures { OnOk result (string_bytes report.new
         ≡ string_bytes report.old ++ threads_text names.now threads.now) }
 {

@@ -6,6 +6,7 @@ use history::{FileFault, ReaderSource, WriterSink};
 use program_text::read_program;
 use std::alloc::Global;
 use std::process::Abort;
+use std::test::Fail;
 
 /// A program with each line that one may have.
 const WHOLE: &str = "world 1 2 deep\nobject a 00\nthread x\ncall wait a -1 0\ncall interrupt y\n\
@@ -59,7 +60,7 @@ fn first_bad_lines_of_programs(rt: HostRuntime) {
 }
 
 #[test]
-fn a_program_says_what_its_lines_say(rt: HostRuntime) -> Result<(), FileFault> {
+fn a_program_says_what_its_lines_say(rt: HostRuntime) -> Result<(), Fail> {
     let named = read_program(rt.alloc(), WHOLE.as_bytes())?;
     assert!(rt; named.program.monitors == 1 && named.program.indices == 2);
     assert!(rt;
