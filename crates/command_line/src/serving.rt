@@ -1,13 +1,15 @@
 //! Does what the words of the command line order, over files and streams.
 
-ghost use Rattle.std.specs.Prelude.{◌≡◌, OnOk, map, string_bytes};
+ghost use Rattle.std.specs.Prelude.{◌≡◌, ℕ, Err, IfSome, OnOk, map, string_bytes};
 ghost use Rattle.std.specs.Process.{exit_status};
 ghost use Rattle.clap.specs.Faults.{fault_of};
 ghost use Rattle.clap.specs.Values.{kind_of};
 ghost use Rattle.command_line.specs.Orders.{program_words};
 ghost use Rattle.command_line.specs.declared.ends.ProgramEnd.{ProgramEnd};
 ghost use Rattle.command_line.specs.ProgramEnds.{EndsFor, end_for, status_of};
-ghost use Rattle.command_line.specs.Tasks.{IsDone};
+ghost use Rattle.command_line.specs.declared.ends.TaskFault.TheVariants.{TooManyStates};
+ghost use Rattle.command_line.specs.Tasks.{IsDone, most_states};
+ghost use Rattle.explore_runs.specs.Faults.{HasTooMany};
 
 use crate::ends::{FaultLine, ProgramEnd, TaskFault, end_for};
 use crate::orders::{Order, Task, read_words};
@@ -118,8 +120,11 @@ fn do_task<R, S: Source, W: Sink>(
 where
     R: AllocGlobal + Threads + Wait + Clock + Sync,
     requires { S.given source.old ≡ 0 }
-    ensures { OnOk result (IsDone task (S.left source.old) (S.left source.new)
+    ensures done { OnOk result (IsDone task (S.left source.old) (S.left source.new)
         (S.given source.new) (W.holds sink.old) (W.holds sink.new)) }
+    // Too many states are told only of a program that has more than its limit.
+    ensures many { (n : ℕ) → result ≡ Err (TooManyStates n)
+        → IfSome (S.left source.old) (λ input. HasTooMany input most_states n) }
 {
     let alloc = rt.alloc();
     match task {

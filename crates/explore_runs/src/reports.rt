@@ -141,8 +141,7 @@ fn put_script_part(
         ++ script_part named.now.names named.now.program choices.now) }
 {
     let program = &named.program;
-    let opening = 1 + program.lows.len() as u64 + program.starts.len() as u64;
-    let lines = opening.saturating_add(choices.len() as u64);
+    let lines = 1 + program.lows.len() + program.starts.len() + choices.len();
     writeln!(report, "script {lines}")?;
     put_script(alloc, report, &named.names, program, choices)?;
     Ok(())

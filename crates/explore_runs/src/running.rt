@@ -56,8 +56,8 @@ pub fn explore_text<S: Source, W: Sink>(
     ensures unwritten { IfErr result (λ fault.
         (fault ≡ File WriteFault) ⊎ Keeps (W.holds sink.old) (W.holds sink.new)) }
     // But for a failed read and want of memory, a fault comes only once the text was read whole.
-    ensures read_first { IfErr result (λ fault. (fault ≡ File ReadFault) ⊎ (fault ≡ File MemoryFault)
-        ⊎ ((S.has_failed source.new → S.has_failed source.old)
+    ensures read_first { IfErr result (λ fault. (fault ≡ File ReadFault)
+        ⊎ (fault ≡ File MemoryFault) ⊎ ((S.has_failed source.new → S.has_failed source.old)
         × IfSome (S.left source.old) (λ input. length input ≤ MOST_BYTES))) }
     // No fault is one of a history.
     ensures kinds { (line : ℕ) → (result ≡ Err (File (BadMove line))

@@ -10,8 +10,6 @@ mod lines;
 mod numbering;
 mod reading;
 
-pub use drafts::Draft;
-pub use lines::{Moments, ProgramLine};
 pub use numbering::NamedProgram;
 pub use reading::read_program;
 pub use text_streams::FileFault;

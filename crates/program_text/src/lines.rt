@@ -125,7 +125,8 @@ fn shared_line<'a>(line: Line<'a>) -> Option<ProgramLine<'a>>
     }
 }
 
-fn opening_line<'a>(words: &[&'a str]) -> Option<ProgramLine<'a>>
+/// The line of a program that some words of a script's line are: its world, or an object.
+fn script_line<'a>(words: &[&'a str]) -> Option<ProgramLine<'a>>
     ensures { result ≡ option_and_then shared_line (line_from (map (λ word. word.now) words.now)) }
 {
     shared_line(line_of_words(words)?)
@@ -147,7 +148,7 @@ fn program_line_of<'a>(
         "call" => Ok(call_line(rest)),
         "clock" => clock_of(alloc, rest),
         "spurious" => Ok(spurious_of(rest)),
-        _ => Ok(opening_line(words)),
+        _ => Ok(script_line(words)),
     }
 }
 

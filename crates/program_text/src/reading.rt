@@ -96,8 +96,8 @@ fn take_lines<'a>(alloc: Global, draft: &mut Draft<'a>, bytes: &'a [u8]) -> Resu
     Ok(())
 }
 
-/// Takes the line that some bytes are. False: there is none that may follow, and the draft is not to
-/// be used any more.
+/// Takes the line that some bytes are. False: there is none that may follow, and the draft is not
+/// to be used any more.
 #[tactic(auto, unfolding(crate::specs::Drafts::next_draft))]
 fn take_next<'a>(alloc: Global, draft: &mut Draft<'a>, bytes: &'a [u8]) -> Result<bool, Memory>
     requires { draft.old.lines ≤ 16777216 }
