@@ -91,8 +91,18 @@ const NOTIFIER: ThreadId = ThreadId(9);
 const OWNER: ThreadId = ThreadId(3);
 
 const ATTACHED_TWICE: [(Move, Answer); 2] = [
-    (Move::Attach { thread: OWNER }, LAWFUL),
-    (Move::Attach { thread: OWNER }, BROKEN),
+    (
+        Move::Attach {
+            thread: ThreadId(0),
+        },
+        LAWFUL,
+    ),
+    (
+        Move::Attach {
+            thread: ThreadId(0),
+        },
+        BROKEN,
+    ),
 ];
 
 const WAITS_AND_IS_NOTIFIED: [(Move, Answer); 23] = [
@@ -302,12 +312,12 @@ struct Crowd<'a> {
 }
 
 impl Crowd<'_> {
-    /// Whether a move is answered so. An attach that is refused memory leaves its thread not live,
-    /// and is tried again.
+    /// Whether a move is answered so. An attach that is to be lawful and is refused memory leaves its
+    /// thread not live, and is tried again.
     fn takes(&mut self, made: Move, answer: Answer) -> bool {
         let told = take(self.machine, made);
         match made {
-            Move::Attach { thread } if told == Err(MoveFault::Memory) => {
+            Move::Attach { thread } if answer == LAWFUL && told == Err(MoveFault::Memory) => {
                 take(self.machine, calls!(thread, Call::End)) == BROKEN
                     && take(self.machine, made) == answer
             }

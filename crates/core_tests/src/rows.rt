@@ -3,7 +3,7 @@
 use lock_word::Memory;
 use std::process::Abort;
 
-/// No row of this name was answered otherwise, of which the first is told here.
+/// Asserts that no row of a table was answered otherwise than it says; `other` is the first that was.
 pub(crate) fn expect_none(rt: &impl Abort, name: &str, other: Result<Option<usize>, Memory>) {
     match other {
         Ok(None) => {}
