@@ -13,7 +13,7 @@ const WHOLE: &str = "world 1 2 deep\nobject a 00\nthread x\ncall wait a -1 0\nca
     thread y\ncall end\nclock 0 5 5\nspurious 2\n";
 
 /// A program, and its first bad line; None where it has none.
-const PROGRAMS: [(&str, Option<u64>); 27] = [
+const PROGRAMS: [(&str, Option<u64>); 29] = [
     (WHOLE, None),
     ("world 1 1\nthread x\n", None),
     ("world 1 1\nthread x\nclock 7\n", None),
@@ -38,6 +38,8 @@ const PROGRAMS: [(&str, Option<u64>); 27] = [
     ("world 1 1\nthread x\ncall lock a\n", Some(3)),
     ("world 1 1\nthread x\nclock\n", Some(3)),
     ("world 1 1\nthread x\nclock 5 4\n", Some(3)),
+    ("world 1 1\nthread x\nclock 4\nclock 5\n", Some(4)),
+    ("world 1 1\nthread x\nspurious\n", Some(3)),
     ("world 1 1\nthread x\nspurious 1\nclock 5\n", Some(4)),
     ("world 1 1\nthread x\nbegin x end\n", Some(3)),
     ("world 1 1\nthread \u{e9}\n", Some(2)),
@@ -67,6 +69,41 @@ fn a_program_says_what_its_lines_say(rt: HostRuntime) -> Result<(), Fail> {
         named.program.calls.len() == 3 && named.program.starts.as_slice() == [0, 2].as_slice()
     );
     assert!(rt; named.program.moments.as_slice() == [0, 5, 5].as_slice() && named.program.spurious);
+    Ok(())
+}
+
+/// A beginning of a program, and a line that is put behind it so many times, each with its number.
+fn text_of(alloc: Global, front: &str, line: &str, times: u32) -> Result<String, Fail> {
+    let mut text = String::from_str(alloc, front)?;
+    for number in 0..times {
+        text.push_str(line)?;
+        text.push_str(number.to_string(alloc)?.as_str())?;
+        text.push_str("\n")?;
+    }
+    Ok(text)
+}
+
+#[test]
+fn the_most_threads_and_calls_and_one_more(rt: HostRuntime) -> Result<(), Fail> {
+    let rows = [
+        ("world 1 100\n", "thread t", 64, None),
+        ("world 1 100\n", "thread t", 65, Some(66)),
+        ("world 1 1\nthread x\n", "call interrupt t", 1_024, None),
+        (
+            "world 1 1\nthread x\n",
+            "call interrupt t",
+            1_025,
+            Some(1_027),
+        ),
+    ];
+    for (front, line, times, bad) in rows {
+        let text = text_of(rt.alloc(), front, line, times)?;
+        let wanted = bad.map(FileFault::BadLine);
+        assert!(rt;
+            bad_line_of(rt.alloc(), text.as_str()) == wanted,
+            "{times} {line}"
+        );
+    }
     Ok(())
 }
 
