@@ -1,5 +1,5 @@
 -- The program that a text says, with numbers for its names.
-use Rattle.std.specs.Prelude.{◌≡◌, ℕ, ◌≤◌, ◌<◌, nat_lt, List, [], ◌∷◌, length, Result, Ok, Err, IfOk, IfErr}
+use Rattle.std.specs.Prelude.{◌≡◌, ℕ, ◌≤◌, ◌<◌, nat_lt, List, [], ◌∷◌, length, Result, Ok, Err}
 use Rattle.fast_path.specs.declared.calls.Call.{Call}
 use Rattle.script_text.specs.declared.lines.Call.{Call as CallLine}
 use Rattle.history.specs.Calls.{call_in, names_with}
