@@ -17,3 +17,5 @@ mod waits;
 
 pub use faults::MoveFault;
 pub use machine::Machine;
+pub use monitors::Held;
+pub use threads::Live;

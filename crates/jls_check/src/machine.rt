@@ -2,11 +2,13 @@
 
 ghost use Rattle.std.specs.Prelude.{◌≡◌, ◌↔◌, OnOk, OnErr, IsErrOf, IfOk, IsSome, Bool, true, not};
 ghost use Rattle.std.specs.Prelude.{length};
+ghost use Rattle.std.specs.Option.{option_map};
 ghost use Rattle.step_core.specs.Machine.{opening, over_at, Steps};
 ghost use Rattle.step_core.specs.Lasting.{LastsBut, MoveReturns};
 ghost use Rattle.jls_check.specs.LiveThreads.{live_of, some_waits};
 ghost use Rattle.jls_check.specs.Monitors.{kept_at, waiting_in, owns_one};
-ghost use Rattle.jls_check.specs.MachineState.{state, held_at, owns, IsSound};
+ghost use Rattle.jls_check.specs.MachineState.{state, held_at, owns, IsSound, monitor_of};
+ghost use Rattle.jls_check.specs.MachineState.{thread_of};
 ghost use Rattle.jls_check.specs.Judging.{IsUnlawful, IsAttach};
 ghost use Rattle.jls_check.specs.declared.faults.MoveFault.TheVariants.{Broken, Memory as NoMemory};
 ghost use Rattle.fast_path.specs.Calls.{object_of};
@@ -15,7 +17,7 @@ ghost use Rattle.jls_check.specs.Taking.{wanted, wish};
 
 use crate::MoveFault;
 use crate::monitors::{Held, ObjectRecord, UNTOUCHED};
-use crate::threads::Threads;
+use crate::threads::{Live, Threads};
 use fast_path::Call;
 use fat_monitor::Cause;
 use lock_word::{Memory, ObjectId, ThreadId};
@@ -138,7 +140,7 @@ impl Machine {
         ensures wanted { result ≡ wanted self.now thread }
         ensures live { IsSome result → IsSome (live_of self.now.threads thread) }
     {
-        let live = self.threads.get(thread)?;
+        let live = self.live(thread)?;
         match live.act {
             Doing::Wants(call) => Some((live.flag, call)),
             _ => None,
@@ -155,10 +157,22 @@ impl Machine {
         }
     }
 
-    pub(crate) fn held(&self, object: ObjectId) -> Held
-        ensures { result ≡ held_at self.now object }
+    /// Who owns the monitor of an object, and how many times it is locked (JLS SE 8, 17.1). An
+    /// object that does not exist is free.
+    pub fn held(&self, object: ObjectId) -> Held
+        ensures kept { result ≡ held_at self.now object }
+        ensures shown { monitor_of result ≡ (state self.now).monitor object }
     {
         self.kept(object).held
+    }
+
+    /// The interrupt flag of a live thread (JLS SE 8, 17.2.3), and what it is doing; None where it
+    /// is not live.
+    pub fn live(&self, thread: ThreadId) -> Option<Live>
+        ensures kept { result ≡ live_of self.now.threads thread }
+        ensures shown { option_map thread_of result ≡ (state self.now).thread thread }
+    {
+        self.threads.get(thread)
     }
 
     /// How many threads wait on the object.

@@ -10,10 +10,10 @@ use lock_word::ThreadId;
 use step_core::Doing;
 
 /// The monitor of an object: who owns it, and how many times it is locked (JLS SE 8, 17.1).
-#[derive(Clone, Copy)]
-pub(crate) struct Held {
-    pub(crate) owner: Option<ThreadId>,
-    pub(crate) count: u16,
+#[derive(Clone, Copy, PartialEq, Eq)]
+pub struct Held {
+    pub owner: Option<ThreadId>,
+    pub count: u16,
 }
 
 /// What is kept of an object.

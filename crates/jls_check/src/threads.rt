@@ -21,10 +21,10 @@ use std::marker::Model;
 use step_core::Doing;
 
 /// A live thread: its interrupt flag (JLS SE 8, 17.2.3), and what it is doing.
-#[derive(Clone, Copy)]
-pub(crate) struct Live {
-    pub(crate) flag: bool,
-    pub(crate) act: Doing,
+#[derive(Clone, Copy, PartialEq, Eq)]
+pub struct Live {
+    pub flag: bool,
+    pub act: Doing,
 }
 
 /// What is kept of a live thread.

@@ -1,0 +1,10 @@
+//! A history as a picture, before anybody draws it: what the abstract machine of `docs/MACHINE.md`
+//! says of each thread and of each object, column by column, and which moves lead from one thread
+//! to another.
+#![tactic(auto)]
+
+mod picture;
+
+pub use picture::{
+    Arrow, ArrowKind, CallMark, Lane, MomentMark, Picture, ReplyMark, Span, Strip, StripSpan,
+};
