@@ -3,3 +3,4 @@ pub mod Histories
 pub mod Reading
 pub mod OneNext
 pub mod Answers
+pub mod MoveLists

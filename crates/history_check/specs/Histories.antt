@@ -69,6 +69,11 @@ pub record IsRunOf (bytes : List ℕ) (ms : List Move) : Type 0 where
   pub spelled : Spell lines ms
   pub run : Run (opening objects) ms state
 
+-- the same, and there are so many objects
+pub record IsRunFrom (bytes : List ℕ) (n : ℕ) (ms : List Move) : Type 0 where
+  pub run : IsRunOf bytes ms
+  pub objects : run.objects ≡ n
+
 -- Nothing is wrong as far as the bytes came: whole lines of a run, and the front of one more.
 pub record IsRightSoFar (came : List ℕ) (count : ℕ) (reached : Option State) (line : List ℕ) : Type 0 where
   pub whole : List (List ℕ)

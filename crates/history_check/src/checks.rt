@@ -32,8 +32,9 @@ pub(crate) struct Check {
 impl Check {
     /// A check of nothing yet.
     pub(crate) fn new(alloc: Global) -> Check
-        ensures { IsRightSoFar [] result.count (option_map state_of result.machine)
+        ensures right { IsRightSoFar [] result.count (option_map state_of result.machine)
             result.line.items }
+        ensures none { result.count ≡ 0 }
     {
         Check {
             alloc,
@@ -210,7 +211,7 @@ fn judge(
 }
 
 /// The bytes before the first line feed, and those behind it.
-fn cut_line(bytes: &[u8]) -> Option<(&[u8], &[u8])>
+pub(crate) fn cut_line(bytes: &[u8]) -> Option<(&[u8], &[u8])>
     ensures parts { MatchOption result (NoFeed bytes.now)
         (λ cut. NoFeed cut.0.now × (bytes.now ≡ cut.0.now ++ (10 ∷ cut.1.now))) }
 {

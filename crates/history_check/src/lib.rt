@@ -8,7 +8,9 @@
 #![tactic(auto)]
 
 mod checks;
+mod move_lists;
 mod replaying;
 
+pub use move_lists::{MoveList, read_moves};
 pub use replaying::{MOST_BYTES, one_answer, replay};
 pub use text_streams::{FileFault, ReaderSource, Sink, Source, WriterSink};
