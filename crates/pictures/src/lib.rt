@@ -3,8 +3,14 @@
 //! to another.
 #![tactic(auto)]
 
+mod arrows;
+mod columns;
+mod marks;
 mod picture;
+mod same;
+mod spans;
 
+pub use columns::Column;
 pub use picture::{
     Arrow, ArrowKind, CallMark, Lane, MomentMark, Picture, ReplyMark, Span, Strip, StripSpan,
 };
