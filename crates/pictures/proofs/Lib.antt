@@ -1,1 +1,4 @@
+pub mod Nexts
 pub mod MoreColumns
+pub mod Follows
+pub mod Films

@@ -1,6 +1,6 @@
 -- Spans with a column more.
 use Rattle.std.proofs.Common.{◌≡◌, ℕ, zero, suc, ◌+◌, ◌<◌, List, [], ◌∷◌, ◌++◌, length, drop, get_or, Option, refl, sym, ap, ◌∙◌, arith, append_assoc, append-nil, length-append}
-use Rattle.std.proofs.Math.Seq.{drop-cons}
+use Rattle.pictures.proofs.Nexts.{drop_next}
 use Rattle.std.specs.List.{flat_map}
 use Rattle.std.proofs.lemmas.Grind.{flat_map-append}
 use Rattle.step_core.specs.Machine.{State}
@@ -49,11 +49,6 @@ length_repeated (suc n) x = ap suc (length_repeated n x)
 
 covered_length : (s : StripSpan) (ss : List StripSpan) → length (strip_covered (s ∷ ss)) ≡ s.columns + length (strip_covered ss)
 covered_length s ss = length-append (repeated s.columns s.held) (strip_covered ss) ∙ ap (λ n. n + length (strip_covered ss)) (length_repeated s.columns s.held)
-
-drop_next : {A : Type 0} (xs : List A) (i : ℕ) (d : A) → i < length xs → drop i xs ≡ get_or xs i d ∷ drop (i + 1) xs
-drop_next xs i d within =
-    let next : suc i ≡ i + 1 = omega arith in
-    drop-cons xs i d within ∙ ap (λ k. get_or xs i d ∷ drop k xs) next
 
 pub columns_left : (spans : List StripSpan) (i n : ℕ) (d : StripSpan) → i < length spans
     → n + length (strip_covered (drop i spans)) ≡ n + (get_or spans i d).columns + length (strip_covered (drop (i + 1) spans))

@@ -85,3 +85,13 @@ abbrev pub hand_overs : Option LastOwner → ℕ → List StripSpan → List Arr
 hand_overs last n [] = []
 hand_overs last n (s ∷ ss) =
     hand_over last n s.held.owner ++ hand_overs (last_after last (n + s.columns) s.held.owner) (n + s.columns) ss
+
+-- the move, if it is there, may be made in s
+abbrev pub IsLawful : State → Option Move → Type 0
+IsLawful s None = Unit {0}
+IsLawful s (Some m) = (next : State) × Steps s m next
+
+-- the move, if it is there, leads from s to s', and its arrows were added
+abbrev pub TellsOne : List ThreadId → ℕ → State → Option Move → State → List Arrow → List Arrow → Type 0
+TellsOne us n s None s' before after = (s' ≡ s) × (after ≡ before)
+TellsOne us n s (Some m) s' before after = Steps s m s' × (after ≡ before ++ arrows_of us n s m)

@@ -1,3 +1,4 @@
 pub mod Spans
 pub mod Marks
 pub mod Arrows
+pub mod Pictures

@@ -5,12 +5,17 @@
 
 mod arrows;
 mod columns;
+mod faults;
 mod marks;
+mod order;
 mod picture;
+mod picturing;
+mod playing;
 mod same;
 mod spans;
 
 pub use columns::Column;
+pub use faults::PictureFault;
 pub use picture::{
     Arrow, ArrowKind, CallMark, Lane, MomentMark, Picture, ReplyMark, Span, Strip, StripSpan,
 };
