@@ -93,8 +93,9 @@ fn report_in(alloc: Global, bytes: Vec<u8>) -> Result<String, FileFault>
     Ok(report)
 }
 
-/// What the script plays that some bytes are the text of.
-pub(crate) fn plan_in(alloc: Global, bytes: &[u8]) -> Result<Plan, FileFault>
+/// What the script plays that some bytes are the text of: its world, and its steps with numbers for
+/// names. Else a fault tells why there is none.
+pub fn plan_in(alloc: Global, bytes: &[u8]) -> Result<Plan, FileFault>
     ensures a_script { OnOk result (IsScriptText bytes.now) }
     ensures a_plan { IfOk result (λ plan. IsPlanOf plan bytes.now) }
     ensures too_long { MOST_BYTES < length bytes.now → result ≡ Err FileFault.Read }
