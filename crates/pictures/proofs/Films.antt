@@ -172,3 +172,15 @@ pub strips_short : (us : List ThreadId) (objects : ℕ) (cs : List Column) (stat
     → Follow us 0 (opening objects) cs states arrows → AreStrips states os ps → length cs ≤ 20000 → AreShort ps
 strips_short us objects cs states arrows os ps f p few =
     short states os ps (omega (arith, few, follow_length us 0 (opening objects) cs states arrows f)) p
+
+pub lanes_length : (cs : List Column) (states : List State) (ts : List ThreadId) (ls : List Lane) → AreLanes cs states ts ls → length ls ≡ length ts
+lanes_length cs states [] [] p = refl
+lanes_length cs states [] (l ∷ ls) p = absurd p
+lanes_length cs states (t ∷ ts) [] p = absurd p
+lanes_length cs states (t ∷ ts) (l ∷ ls) p = ap suc (lanes_length cs states ts ls p.1)
+
+pub strips_length : (states : List State) (os : List ℕ) (ps : List Strip) → AreStrips states os ps → length ps ≡ length os
+strips_length states [] [] p = refl
+strips_length states [] (q ∷ ps) p = absurd p
+strips_length states (o ∷ os) [] p = absurd p
+strips_length states (o ∷ os) (q ∷ ps) p = ap suc (strips_length states os ps p.1)

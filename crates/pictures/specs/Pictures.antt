@@ -1,5 +1,5 @@
 -- Which picture a list of columns has.
-use Rattle.std.specs.Prelude.{◌≡◌, ℕ, ◌<◌, ◌^◌, List, [], ◌∷◌, ◌++◌, length, Option, Some, None, map as list_map}
+use Rattle.std.specs.Prelude.{◌≡◌, ◌⊎◌, ℕ, ◌<◌, ◌≤◌, ◌^◌, List, [], ◌∷◌, ◌++◌, length, Option, Some, None, map as list_map}
 use Rattle.std.specs.List.{flat_map, Contains}
 use Rattle.std.specs.List.Sorted.{IsStrictlyIncreasing}
 use Rattle.lock_word.specs.declared.ThreadId.{ThreadId}
@@ -115,3 +115,15 @@ pub record IsPicture (objects : ℕ) (cs : List Column) (p : Picture) : Type 0 w
   pub first : p.first ≡ 1
   pub columns : p.columns ≡ length cs
   pub cycles : p.cycles.items ≡ []
+
+-- it has at most so many columns, lanes and strips
+pub record IsWithin (p : Picture) : Type 0 where
+  pub columns : p.columns ≤ 20000
+  pub lanes : length p.lanes.items ≤ 200
+  pub strips : length p.strips.items ≤ 200
+
+-- they have more threads, or more objects, than a picture has lanes or strips
+pub record HasTooManyLanes (cs : List Column) : Type 0 where
+  pub numbers : List ℕ
+  pub are : AreInOrder (all_attached cs) numbers ⊎ AreInOrder (all_named cs) numbers
+  pub many : 200 < length numbers

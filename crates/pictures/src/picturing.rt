@@ -2,8 +2,9 @@
 
 ghost use Rattle.std.specs.Prelude.{◌≡◌, ◌↔◌, ◌⊎◌, ◌<◌, ◌≤◌, ◌++◌, [], ℕ, List, IfOk, OnOk, IsErrOf, length};
 ghost use Rattle.pictures.specs.Pictures.{AreLanes, AreStrips, IsPicture, IsRun, all_hand_overs};
+ghost use Rattle.pictures.specs.Pictures.{HasTooManyLanes, IsWithin};
 ghost use Rattle.pictures.specs.Pictures.{AreShort, IsFilm, IsLane, IsStrip, threads_numbered};
-ghost use Rattle.pictures.specs.declared.faults.PictureFault.TheVariants.{TooManyColumns};
+ghost use Rattle.pictures.specs.declared.faults.PictureFault.TheVariants.{TooManyColumns, TooManyLanes};
 
 use crate::arrows::put_hand_overs;
 use crate::columns::Column;
@@ -37,7 +38,9 @@ struct Film {
 pub fn picture_of(alloc: Global, objects: u32, columns: &[Column]) -> Result<Picture, PictureFault>
     requires { IsRun objects columns.now }
     ensures picture { IfOk result (IsPicture objects columns.now) }
+    ensures within { IfOk result IsWithin }
     ensures columns { IsErrOf result TooManyColumns ↔ (MOST_COLUMNS < length columns.now) }
+    ensures lanes { IsErrOf result TooManyLanes → HasTooManyLanes columns.now }
 {
     if columns.len() > MOST_COLUMNS {
         return Err(PictureFault::TooManyColumns);

@@ -1,0 +1,69 @@
+//! Why nothing was drawn.
+
+use lock_word::Memory;
+use pictures::PictureFault;
+use std::alloc::AllocError;
+use text_streams::FileFault;
+use thiserror::Error;
+
+/// Why nothing was drawn.
+#[derive(Clone, Copy, PartialEq, Eq, Debug, Error)]
+pub enum DrawFault {
+    /// A fault of reading or writing, or want of memory.
+    #[error("{0}")]
+    File(FileFault),
+    /// There are more columns than [`MOST_COLUMNS`](pictures::MOST_COLUMNS).
+    #[error("too many columns: more than 20000")]
+    TooManyColumns,
+    /// There are more threads, or more objects, than [`MOST_LANES`](pictures::MOST_LANES).
+    #[error("too many lanes: more than 200")]
+    TooManyLanes,
+}
+
+impl From<FileFault> for DrawFault {
+    ghost use Rattle.std.specs.Prelude.{◌≡◌};
+    ghost use Rattle.drawing.specs.declared.faults.DrawFault.TheVariants.{File};
+
+    ghost from_gives = { λ cause fault. fault ≡ File cause };
+
+    fn from(fault: FileFault) -> Self {
+        DrawFault::File(fault)
+    }
+}
+
+impl From<Memory> for DrawFault {
+    ghost use Rattle.std.specs.Prelude.{◌≡◌};
+    ghost use Rattle.drawing.specs.Faults.{out_of_memory};
+
+    ghost from_gives = { λ _ fault. fault ≡ out_of_memory };
+
+    fn from(_: Memory) -> Self {
+        DrawFault::File(FileFault::Memory)
+    }
+}
+
+impl From<AllocError> for DrawFault {
+    ghost use Rattle.std.specs.Prelude.{◌≡◌};
+    ghost use Rattle.drawing.specs.Faults.{out_of_memory};
+
+    ghost from_gives = { λ _ fault. fault ≡ out_of_memory };
+
+    fn from(_: AllocError) -> Self {
+        DrawFault::File(FileFault::Memory)
+    }
+}
+
+impl From<PictureFault> for DrawFault {
+    ghost use Rattle.std.specs.Prelude.{◌≡◌};
+    ghost use Rattle.drawing.specs.Faults.{fault_in};
+
+    ghost from_gives = { λ cause fault. fault ≡ fault_in cause };
+
+    fn from(fault: PictureFault) -> Self {
+        match fault {
+            PictureFault::TooManyColumns => DrawFault::TooManyColumns,
+            PictureFault::TooManyLanes => DrawFault::TooManyLanes,
+            PictureFault::Memory => DrawFault::File(FileFault::Memory),
+        }
+    }
+}

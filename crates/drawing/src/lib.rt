@@ -1,0 +1,10 @@
+//! Drawing scripts and histories: a picture of what every thread does and of who owns which object,
+//! as SVG.
+//!
+//! `docs/DRAW.md` says what a picture shows and what is proved of it.
+#![tactic(auto)]
+
+mod columns;
+mod faults;
+
+pub use faults::DrawFault;
