@@ -1,1 +1,2 @@
 pub mod ColumnLists
+pub mod Handed

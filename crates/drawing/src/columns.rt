@@ -1,6 +1,8 @@
 //! The columns of a script and of a history.
 
-ghost use Rattle.std.specs.Prelude.{◌≡◌, [], Err, IfOk, OnOk};
+ghost use Rattle.std.specs.Prelude.{◌≡◌, [], Err, IfOk, OnOk, length};
+ghost use Rattle.step_core.specs.Machine.{opening};
+ghost use Rattle.step_core.specs.Shown.{shown};
 ghost use Rattle.step_core.specs.Step.{moves_of};
 ghost use Rattle.step_core.specs.declared.steps.Fault.TheVariants.{Memory as OutOfMemory};
 ghost use Rattle.pictures.specs.Marks.{moves_in};
@@ -22,8 +24,10 @@ pub(crate) struct Played {
 
 /// Plays what a script plays.
 pub(crate) fn play_plan(alloc: Global, plan: &Plan) -> Result<Played, Memory>
-    ensures { IfOk result (λ played. AreColumns (first_world plan.now) plan.now.steps.items
+    ensures columns { IfOk result (λ played. AreColumns (first_world plan.now) plan.now.steps.items
         played.world played.columns.items) }
+    ensures opens { OnOk result
+        (shown (first_world plan.now) ≡ opening (length plan.now.lows.items)) }
 {
     let mut world = World::new(alloc, &plan.lows, plan.monitors, plan.indices, plan.split)?;
     let columns = play_steps(alloc, &mut world, &plan.steps)?;

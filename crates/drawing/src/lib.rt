@@ -5,6 +5,8 @@
 #![tactic(auto)]
 
 mod columns;
+mod drawings;
 mod faults;
 
+pub use drawings::{draw_moves, draw_script};
 pub use faults::DrawFault;

@@ -19,3 +19,4 @@ pub use faults::PictureFault;
 pub use picture::{
     Arrow, ArrowKind, CallMark, Lane, MomentMark, Picture, ReplyMark, Span, Strip, StripSpan,
 };
+pub use picturing::{MOST_COLUMNS, MOST_LANES, picture_of};
