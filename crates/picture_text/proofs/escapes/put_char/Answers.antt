@@ -1,0 +1,7 @@
+use Rattle.std.proofs.Common.{arith}
+use Rattle.std.proofs.lemmas.Grind.{common_steps}
+use Rattle.picture_text.proofs.Escaping.{escaped_char}
+use Rattle.picture_text.proofs.escapes.put_char.Goals as goal
+
+pub returns-in_default : goal.returns-in_default
+returns-in_default c = grind (arith, common_steps, escaped_char)

@@ -1,0 +1,5 @@
+pub mod Nodes
+pub mod Pieces
+pub mod Labels
+pub mod Layout
+pub mod Naming
