@@ -6,9 +6,16 @@ use Rattle.std.proofs.lemmas.Grind.{flat_map-append}
 use Rattle.std.proofs.lemmas.Str.{inside_one, chars-nil, chars_past_char}
 use Rattle.std.specs.Char.{encode_utf8}
 use Rattle.std.specs.Str.{IsUtf8, chars, encode_utf8_all}
+use Rattle.std.specs.Prelude.{codes}
+use Rattle.fat_monitor.specs.declared.actions.Cause.{Cause}
+use Rattle.fat_monitor.specs.declared.actions.Cause.TheVariants as cause
+use Rattle.fat_monitor.specs.declared.actions.Reply.{Reply}
+use Rattle.fat_monitor.specs.declared.actions.Reply.TheVariants as reply
+use Rattle.fat_monitor.specs.Names.{cause_name, reply_name}
 use Rattle.picture_text.specs.Nodes.{escape, escaped}
 
 pub escaped_append : (a b : List ℕ) → escaped (a ++ b) ≡ escaped a ++ escaped b
+unfolding escaped
 escaped_append a b = flat_map-append escape a b
 
 escape_other : (c : ℕ) → (c ≡ 34 → ⊥) → (c ≡ 38 → ⊥) → (c ≡ 60 → ⊥) → (c ≡ 62 → ⊥) → escape c ≡ c ∷ []
@@ -16,6 +23,7 @@ escape_other c a b d e = grind (arith, nat_tests)
 
 -- bytes that are not escaped one by one are not escaped together
 escaped_other : (bs : List ℕ) → ((k : ℕ) → k < length bs → escape (get_or bs k 0) ≡ get_or bs k 0 ∷ []) → escaped bs ≡ bs
+unfolding escaped
 escaped_other [] h = refl
 escaped_other (b ∷ bs) h =
     let first : escape b ≡ b ∷ [] = h 0 (omega arith) in
@@ -49,5 +57,35 @@ take_none (suc n) = rw chars-nil refl
 
 -- none is left
 pub front_end : (bs : List ℕ) (n : ℕ) → length bs ≡ 0 → escaped (encode_utf8_all (take n (chars bs))) ≡ []
+unfolding escaped
 front_end [] n e = ap (λ (cs : List ℕ). escaped (encode_utf8_all cs)) (take_none n)
 front_end (b ∷ bs) n e = absurd (omega arith)
+
+-- none is to be written
+pub front_none : (bs : List ℕ) (n : ℕ) → n ≡ 0 → escaped (encode_utf8_all (take n (chars bs))) ≡ []
+unfolding escaped
+front_none bs n e = rw e refl
+
+-- nothing in a reply is escaped
+escaped_cause : (c : Cause) → escaped (cause_name c) ≡ cause_name c
+unfolding escaped
+escaped_cause cause.NoMonitor = refl
+escaped_cause cause.Memory = refl
+escaped_cause cause.TooDeep = refl
+escaped_cause cause.StillOwner = refl
+escaped_cause cause.NoThread = refl
+
+pub escaped_reply : (r : Reply) → escaped (reply_name r) ≡ reply_name r
+unfolding escaped
+escaped_reply (reply.Refused c) = rw (escaped_append (codes "Refused ") (cause_name c), escaped_cause c) refl
+escaped_reply reply.Entered = refl
+escaped_reply reply.Exited = refl
+escaped_reply reply.WaitOver = refl
+escaped_reply reply.Interrupted = refl
+escaped_reply reply.Notified = refl
+escaped_reply reply.Yes = refl
+escaped_reply reply.No = refl
+escaped_reply reply.Done = refl
+escaped_reply reply.Ended = refl
+escaped_reply reply.IllegalMonitorState = refl
+escaped_reply reply.IllegalArgument = refl

@@ -5,7 +5,7 @@ use Rattle.picture_text.specs.Nodes.{Node, Words, Nothing}
 use Rattle.picture_text.specs.Pieces.{label}
 
 -- at most so many characters; where some are left out, the last one is …
-abbrev pub cut : ℕ → List ℕ → List ℕ
+unfoldable pub cut : ℕ → List ℕ → List ℕ
 cut room words =
     if nat_le (length (chars words)) room then words
     else encode_utf8_all (take (room - 1) (chars words)) ++ 226 ∷ 128 ∷ 166 ∷ []
@@ -15,5 +15,5 @@ abbrev pub room_in : ℕ → ℕ
 room_in width = (width - 4) / 6
 
 -- words at a place, left out where there is room for fewer than 3 characters
-abbrev pub cut_label : List ℕ → ℕ → ℕ → ℕ → List ℕ → Node
+unfoldable pub cut_label : List ℕ → ℕ → ℕ → ℕ → List ℕ → Node
 cut_label look x y room words = if nat_lt room 3 then Nothing else label look x y (Words (cut room words))

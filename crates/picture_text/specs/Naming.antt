@@ -15,11 +15,11 @@ use Rattle.picture_text.specs.declared.naming.Naming.{Naming}
 use Rattle.picture_text.specs.declared.naming.Naming.TheVariants.{Names, Numbers}
 use Rattle.picture_text.specs.Nodes.{Node, Words, Figure}
 
-abbrev pub thread_node : Naming → ThreadId → Node
+unfoldable pub thread_node : Naming → ThreadId → Node
 thread_node (Names names) t = Words (name_at names.now.threads t.0)
 thread_node Numbers t = Figure t.0
 
-abbrev pub object_node : Naming → ObjectId → Node
+unfoldable pub object_node : Naming → ObjectId → Node
 object_node (Names names) o = Words (name_at names.now.objects o.0)
 object_node Numbers o = Figure o.0
 

@@ -30,7 +30,7 @@ escape c =
     else (if c == 60 then codes "&lt;"
     else (if c == 62 then codes "&gt;" else c ∷ [])))
 
-abbrev pub escaped : List ℕ → List ℕ
+unfoldable pub escaped : List ℕ → List ℕ
 escaped words = flat_map escape words
 
 abbrev pub value_text : Value → List ℕ
@@ -46,10 +46,10 @@ attributes_then (a ∷ behind) rest =
     32 ∷ a.name ++ (61 ∷ 34 ∷ (value_text a.value ++ (34 ∷ attributes_then behind rest)))
 
 -- the tag that an element begins with, and the one that it ends with
-abbrev pub opening : List ℕ → List Attribute → List ℕ
+unfoldable pub opening : List ℕ → List Attribute → List ℕ
 opening name attributes = 60 ∷ name ++ attributes_then attributes (62 ∷ [])
 
-abbrev pub closing : List ℕ → List ℕ
+unfoldable pub closing : List ℕ → List ℕ
 closing name = 60 ∷ 47 ∷ name ++ 62 ∷ []
 
 abbrev pub node_text : Node → List ℕ
@@ -60,6 +60,10 @@ node_text Nothing = []
 node_text (Then a b) = node_text a ++ node_text b
 
 -- some nodes, one behind another
+abbrev pub from_first : Node → List Node → Node
+from_first a [] = a
+from_first a (b ∷ rest) = Then a (from_first b rest)
+
 abbrev pub in_turn : List Node → Node
 in_turn [] = Nothing
-in_turn (a ∷ rest) = Then a (in_turn rest)
+in_turn (a ∷ rest) = from_first a rest

@@ -9,7 +9,7 @@ abbrev pub word : List ℕ → List ℕ → Attribute
 word name text = record { name = name; value = Word text }
 
 -- where a box lies, and how it looks: its class in the style of the picture
-abbrev pub box_attributes : List ℕ → ℕ → ℕ → ℕ → ℕ → List Attribute
+unfoldable pub box_attributes : List ℕ → ℕ → ℕ → ℕ → ℕ → List Attribute
 box_attributes look x y width height =
     word (codes "class") look ∷ number (codes "x") x ∷ number (codes "y") y ∷ number (codes "width") width
     ∷ number (codes "height") height ∷ []
@@ -17,7 +17,7 @@ box_attributes look x y width height =
 abbrev pub box : List ℕ → ℕ → ℕ → ℕ → ℕ → Node → Node
 box look x y width height inside = Element (codes "rect") (box_attributes look x y width height) inside
 
-abbrev pub line_attributes : List ℕ → ℕ → ℕ → ℕ → ℕ → List Attribute
+unfoldable pub line_attributes : List ℕ → ℕ → ℕ → ℕ → ℕ → List Attribute
 line_attributes look x1 y1 x2 y2 =
     word (codes "class") look ∷ number (codes "x1") x1 ∷ number (codes "y1") y1 ∷ number (codes "x2") x2
     ∷ number (codes "y2") y2 ∷ []
@@ -26,10 +26,10 @@ abbrev pub line : List ℕ → ℕ → ℕ → ℕ → ℕ → Node → Node
 line look x1 y1 x2 y2 inside = Element (codes "line") (line_attributes look x1 y1 x2 y2) inside
 
 -- a thin line that says nothing of itself
-abbrev pub tick_node : ℕ → ℕ → ℕ → ℕ → Node
+unfoldable pub tick_node : ℕ → ℕ → ℕ → ℕ → Node
 tick_node x1 y1 x2 y2 = line (codes "tick") x1 y1 x2 y2 Nothing
 
-abbrev pub place_attributes : List ℕ → ℕ → ℕ → List Attribute
+unfoldable pub place_attributes : List ℕ → ℕ → ℕ → List Attribute
 place_attributes look x y = word (codes "class") look ∷ number (codes "x") x ∷ number (codes "y") y ∷ []
 
 -- words at a place

@@ -5,7 +5,7 @@ ghost use Rattle.std.specs.Str.{chars, encode_utf8_all};
 ghost use Rattle.picture_text.specs.Labels.{cut, cut_label, room_in};
 ghost use Rattle.picture_text.specs.Nodes.{escaped, node_text};
 
-use crate::elements::{Place, begin_label};
+use crate::elements::{Place, begin_label, end};
 use crate::escapes::{put_char, put_escaped};
 use std::alloc::AllocError;
 
@@ -18,6 +18,7 @@ pub(crate) fn room_in(width: u64) -> u64
 
 /// Writes words at a place, cut to the room that they have, in characters. Where it is less than 3,
 /// nothing is written.
+#[tactic(auto, unfolding(crate::specs::Labels::cut_label))]
 pub(crate) fn put_cut_label(
     text: &mut String,
     look: &str,
@@ -25,7 +26,6 @@ pub(crate) fn put_cut_label(
     room: u64,
     words: &str,
 ) -> Result<(), AllocError>
-    requires { escaped look.now ≡ look.now }
     ensures { OnOk result (string_bytes text.new ≡ string_bytes text.old
         ++ node_text (cut_label look.now at.x at.y room words.now)) }
 {
@@ -34,10 +34,11 @@ pub(crate) fn put_cut_label(
     }
     begin_label(text, look, at)?;
     put_cut(text, words, room)?;
-    text.push_str("</text>")
+    end(text, "text")
 }
 
 /// Writes at most so many characters of some words: where some are left out, the last one is `…`.
+#[tactic(auto, unfolding(crate::specs::Labels::cut))]
 pub(crate) fn put_cut(text: &mut String, words: &str, room: u64) -> Result<(), AllocError>
     ensures { OnOk result (string_bytes text.new
         ≡ string_bytes text.old ++ escaped (cut room words.now)) }
@@ -46,7 +47,7 @@ pub(crate) fn put_cut(text: &mut String, words: &str, room: u64) -> Result<(), A
         return put_escaped(text, words);
     }
     put_first(text, words, room.saturating_sub(1))?;
-    text.push_str("…")
+    put_escaped(text, "…")
 }
 
 /// How many characters some words have.

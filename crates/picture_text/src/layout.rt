@@ -1,6 +1,6 @@
 //! Where things lie in a picture, in units from its left and top edges.
 
-ghost use Rattle.std.specs.Prelude.{◌≡◌, ◌≤◌, ◌<◌, ◌+◌, ◌*◌, ◌^◌};
+ghost use Rattle.std.specs.Prelude.{◌≡◌, ◌≤◌, ◌<◌, ◌+◌, ◌*◌, ◌^◌, min};
 ghost use Rattle.picture_text.specs.Layout.{Fits, bottom_of, lane_height, lane_top, middle_at};
 ghost use Rattle.picture_text.specs.Layout.{right_of, strip_top, unit_of, width_of, x_at};
 
@@ -69,6 +69,16 @@ impl Layout {
             20_000,
             52,
         )
+    }
+
+    /// Where so many columns end that begin there.
+    pub(crate) fn end_of(self, from: u64, columns: u32) -> u64
+        requires fits { Fits self }
+        requires from { from ≤ 20_000 }
+        ensures end { result ≡ min (from + columns) self.columns }
+        ensures most { result ≤ 20_000 }
+    {
+        u64::min(from + u64::from(columns), self.columns)
     }
 
     /// The right edge of the picture.

@@ -5,6 +5,8 @@ mod elements;
 mod escapes;
 mod labels;
 mod layout;
+mod marks;
 mod naming;
+mod spans;
 
 pub use naming::Naming;

@@ -4,11 +4,13 @@ ghost use Rattle.std.specs.Prelude.{◌≡◌, ◌++◌, ◌∷◌, [], IfOk, On
 ghost use Rattle.std.specs.List.{join_with_byte};
 ghost use Rattle.script_text.specs.Lines.{call_words};
 ghost use Rattle.picture_text.specs.Naming.{call_text, numbered_call, object_node, thread_node};
-ghost use Rattle.picture_text.specs.Nodes.{node_text};
+ghost use Rattle.picture_text.specs.Nodes.{escaped, node_text};
+ghost use Rattle.fat_monitor.specs.Names.{reply_name};
 
 use crate::escapes::put_escaped;
 use dump::put_call;
 use fast_path::Call;
+use fat_monitor::Reply;
 use lock_word::{ObjectId, ThreadId};
 use std::alloc::{AllocError, Global};
 use std::fmt::Write;
@@ -22,6 +24,7 @@ pub enum Naming<'a> {
 }
 
 /// Writes what a thread is called.
+#[tactic(auto, unfolding(crate::specs::Naming::thread_node))]
 pub(crate) fn put_thread(
     text: &mut String,
     naming: &Naming<'_>,
@@ -37,6 +40,7 @@ pub(crate) fn put_thread(
 }
 
 /// Writes what an object is called.
+#[tactic(auto, unfolding(crate::specs::Naming::object_node))]
 pub(crate) fn put_object(
     text: &mut String,
     naming: &Naming<'_>,
@@ -49,6 +53,15 @@ pub(crate) fn put_object(
         Naming::Names(names) => put_escaped(text, names.name_of_object(object)),
         Naming::Numbers => write!(text, "{}", object.0),
     }
+}
+
+/// Writes a reply by its name; of a refusal the cause too.
+#[tactic(auto, using(crate::proofs::Escaping::escaped_reply))]
+pub(crate) fn put_reply_name(text: &mut String, reply: Reply) -> Result<(), AllocError>
+    ensures { OnOk result (string_bytes text.new
+        ≡ string_bytes text.old ++ escaped (reply_name reply)) }
+{
+    write!(text, "{reply}")
 }
 
 /// A call as a script writes it. Nothing in it is escaped.

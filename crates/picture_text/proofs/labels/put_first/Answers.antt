@@ -2,7 +2,7 @@ use Rattle.std.proofs.Common.{◌≡◌, ◌<◌, ◌++◌, [], sym, ap, ◌∙�
 use Rattle.std.proofs.lemmas.Str.{IsUtf8-past_char}
 use Rattle.std.specs.Char.{encode_utf8}
 use Rattle.std.specs.Str.Iter.{chars_rest}
-use Rattle.picture_text.proofs.Escaping.{front_end, front_step}
+use Rattle.picture_text.proofs.Escaping.{front_end, front_none, front_step}
 use Rattle.picture_text.specs.Nodes.{escaped}
 use Rattle.picture_text.proofs.labels.put_first.Goals as goal
 
@@ -20,4 +20,10 @@ chars-preserved c =
 pub returns : goal.returns
 returns c =
     let none = front_end (chars_rest c.chars.ch-iterator) c.chars.left c.in-None.ensures.steps.0.0 in
+    sym (append-nil _) ∙ ap (λ r. string_bytes c.chars.text ++ r) (sym none) ∙ c.chars.invariant.text
+
+pub returns-then-left-eq0 : goal.returns-then-left-eq0
+returns-then-left-eq0 c =
+    let e : c.chars.left ≡ 0 = omega arith in
+    let none = front_none (chars_rest c.chars.ch-iterator) c.chars.left e in
     sym (append-nil _) ∙ ap (λ r. string_bytes c.chars.text ++ r) (sym none) ∙ c.chars.invariant.text
