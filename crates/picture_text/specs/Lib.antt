@@ -5,3 +5,5 @@ pub mod Layout
 pub mod Naming
 pub mod Spans
 pub mod Marks
+pub mod Positions
+pub mod Lanes

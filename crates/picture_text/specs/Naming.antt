@@ -23,6 +23,15 @@ unfoldable pub object_node : Naming → ObjectId → Node
 object_node (Names names) o = Words (name_at names.now.objects o.0)
 object_node Numbers o = Figure o.0
 
+-- what a thread and an object are called beside their lanes and strips
+abbrev pub thread_words : Naming → ThreadId → List ℕ
+thread_words (Names names) t = name_at names.now.threads t.0
+thread_words Numbers t = codes "thread " ++ decimal t.0
+
+abbrev pub object_words : Naming → ObjectId → List ℕ
+object_words (Names names) o = name_at names.now.objects o.0
+object_words Numbers o = codes "object " ++ decimal o.0
+
 -- a call with numbers for names
 abbrev pub numbered_call : Call → CallLine
 numbered_call (Enter o) = line.Enter (decimal o.0)

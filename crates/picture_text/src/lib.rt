@@ -4,9 +4,11 @@
 mod elements;
 mod escapes;
 mod labels;
+mod lanes;
 mod layout;
 mod marks;
 mod naming;
+mod positions;
 mod spans;
 
 pub use naming::Naming;

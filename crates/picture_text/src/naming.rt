@@ -3,7 +3,8 @@
 ghost use Rattle.std.specs.Prelude.{◌≡◌, ◌++◌, ◌∷◌, [], IfOk, OnOk, decimal, string_bytes};
 ghost use Rattle.std.specs.List.{join_with_byte};
 ghost use Rattle.script_text.specs.Lines.{call_words};
-ghost use Rattle.picture_text.specs.Naming.{call_text, numbered_call, object_node, thread_node};
+ghost use Rattle.picture_text.specs.Naming.{call_text, numbered_call, object_node, object_words};
+ghost use Rattle.picture_text.specs.Naming.{thread_node, thread_words};
 ghost use Rattle.picture_text.specs.Nodes.{escaped, node_text};
 ghost use Rattle.fat_monitor.specs.Names.{reply_name};
 
@@ -53,6 +54,38 @@ pub(crate) fn put_object(
         Naming::Names(names) => put_escaped(text, names.name_of_object(object)),
         Naming::Numbers => write!(text, "{}", object.0),
     }
+}
+
+/// What a thread is called beside its lane. Nothing in it is escaped.
+pub(crate) fn thread_words(
+    alloc: Global,
+    naming: &Naming<'_>,
+    thread: ThreadId,
+) -> Result<String, AllocError>
+    ensures { IfOk result (λ words. string_bytes words ≡ thread_words naming.now thread) }
+{
+    let mut words = String::new(alloc);
+    match naming {
+        Naming::Names(names) => words.push_str(names.name_of_thread(thread))?,
+        Naming::Numbers => write!(words, "thread {}", thread.0)?,
+    }
+    Ok(words)
+}
+
+/// What an object is called beside its strip. Nothing in it is escaped.
+pub(crate) fn object_words(
+    alloc: Global,
+    naming: &Naming<'_>,
+    object: ObjectId,
+) -> Result<String, AllocError>
+    ensures { IfOk result (λ words. string_bytes words ≡ object_words naming.now object) }
+{
+    let mut words = String::new(alloc);
+    match naming {
+        Naming::Names(names) => words.push_str(names.name_of_object(object))?,
+        Naming::Numbers => write!(words, "object {}", object.0)?,
+    }
+    Ok(words)
 }
 
 /// Writes a reply by its name; of a refusal the cause too.
