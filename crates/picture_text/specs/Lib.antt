@@ -7,3 +7,5 @@ pub mod Spans
 pub mod Marks
 pub mod Positions
 pub mod Lanes
+pub mod Strips
+pub mod Arrows

@@ -1,6 +1,6 @@
 -- Attributes and elements of which a picture is made.
 use Rattle.std.specs.Prelude.{ℕ, List, [], ◌∷◌, ◌++◌, codes}
-use Rattle.picture_text.specs.Nodes.{Attribute, Number, Word, Node, Element, Words, Nothing}
+use Rattle.picture_text.specs.Nodes.{Attribute, Number, Word, Numbered, Node, Element, Words, Nothing}
 
 abbrev pub number : List ℕ → ℕ → Attribute
 number name n = record { name = name; value = Number n }
@@ -16,6 +16,15 @@ box_attributes look x y width height =
 
 abbrev pub box : List ℕ → ℕ → ℕ → ℕ → ℕ → Node → Node
 box look x y width height inside = Element (codes "rect") (box_attributes look x y width height) inside
+
+-- a box in the pattern with this number
+unfoldable pub bar_attributes : ℕ → ℕ → ℕ → ℕ → ℕ → List Attribute
+bar_attributes pattern x y width height =
+    record { name = codes "class"; value = Numbered (codes "p") pattern } ∷ number (codes "x") x
+    ∷ number (codes "y") y ∷ number (codes "width") width ∷ number (codes "height") height ∷ []
+
+abbrev pub bar : ℕ → ℕ → ℕ → ℕ → ℕ → Node → Node
+bar pattern x y width height inside = Element (codes "rect") (bar_attributes pattern x y width height) inside
 
 unfoldable pub line_attributes : List ℕ → ℕ → ℕ → ℕ → ℕ → List Attribute
 line_attributes look x1 y1 x2 y2 =

@@ -2,7 +2,7 @@
 
 ghost use Rattle.std.specs.Prelude.{◌≡◌, ◌++◌, ◌∷◌, [], OnOk, codes, string_bytes};
 ghost use Rattle.picture_text.specs.Nodes.{escaped, opening, closing};
-ghost use Rattle.picture_text.specs.Pieces.{box_attributes, line_attributes, place_attributes};
+ghost use Rattle.picture_text.specs.Pieces.{bar_attributes, box_attributes, line_attributes, place_attributes};
 ghost use Rattle.picture_text.specs.Pieces.{word};
 
 use crate::escapes::put_escaped;
@@ -38,6 +38,26 @@ pub(crate) fn begin_box(
         ++ opening (codes "rect") (box_attributes look.now corner.x corner.y width height)) }
 {
     begin_look(text, "rect", look)?;
+    let Place { x, y } = corner;
+    write!(
+        text,
+        "\" x=\"{x}\" y=\"{y}\" width=\"{width}\" height=\"{height}\">"
+    )
+}
+
+/// Begins a box in the pattern with this number.
+#[tactic(auto, unfolding(crate::specs::Nodes::opening, crate::specs::Nodes::escaped, crate::specs::Pieces::bar_attributes))]
+pub(crate) fn begin_bar(
+    text: &mut String,
+    pattern: u64,
+    corner: Place,
+    width: u64,
+    height: u64,
+) -> Result<(), AllocError>
+    ensures { OnOk result (string_bytes text.new ≡ string_bytes text.old
+        ++ opening (codes "rect") (bar_attributes pattern corner.x corner.y width height)) }
+{
+    write!(text, "<rect class=\"p{pattern}")?;
     let Place { x, y } = corner;
     write!(
         text,

@@ -1,6 +1,7 @@
 //! Pictures of histories as SVG.
 #![tactic(auto)]
 
+mod arrows;
 mod elements;
 mod escapes;
 mod labels;
@@ -10,5 +11,6 @@ mod marks;
 mod naming;
 mod positions;
 mod spans;
+mod strips;
 
 pub use naming::Naming;
