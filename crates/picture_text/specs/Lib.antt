@@ -9,3 +9,4 @@ pub mod Positions
 pub mod Lanes
 pub mod Strips
 pub mod Arrows
+pub mod Frame

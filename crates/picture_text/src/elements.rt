@@ -17,7 +17,7 @@ pub(crate) struct Place {
 }
 
 /// Begins an element with a look, up to the quote that ends the look.
-fn begin_look(text: &mut String, name: &str, look: &str) -> Result<(), AllocError>
+pub(crate) fn begin_look(text: &mut String, name: &str, look: &str) -> Result<(), AllocError>
     ensures { OnOk result (string_bytes text.new ≡ string_bytes text.old
         ++ 60 ∷ name.now ++ (codes " class=\"" ++ escaped look.now)) }
 {

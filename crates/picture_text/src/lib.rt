@@ -4,6 +4,7 @@
 mod arrows;
 mod elements;
 mod escapes;
+mod frame;
 mod labels;
 mod lanes;
 mod layout;
@@ -13,4 +14,5 @@ mod positions;
 mod spans;
 mod strips;
 
+pub use frame::picture_text;
 pub use naming::Naming;
