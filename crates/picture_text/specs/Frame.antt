@@ -4,7 +4,7 @@ use Rattle.pictures.specs.declared.picture.Picture.{Picture}
 use Rattle.picture_text.specs.declared.layout.Layout.{Layout}
 use Rattle.picture_text.specs.declared.naming.Naming.{Naming}
 use Rattle.picture_text.specs.declared.naming.Naming.TheVariants.{Names, Numbers}
-use Rattle.picture_text.specs.declared.frame.TheConstants.{DESCRIPTION, NAMESPACE, STYLE}
+use Rattle.picture_text.specs.declared.frame.TheConstants.{DESCRIPTION, STYLE}
 use Rattle.picture_text.specs.Nodes.{Attribute, Node, Element, Words, Figure, Number, Numbered, Word, Nothing, Then, in_turn, node_text}
 use Rattle.picture_text.specs.Nodes.{Numbers as Row}
 use Rattle.picture_text.specs.Pieces.{box, number, title, word}
@@ -13,10 +13,7 @@ use Rattle.picture_text.specs.Lanes.{lanes_below}
 use Rattle.picture_text.specs.Layout.{bottom_of, layout_of, right_of}
 use Rattle.picture_text.specs.Strips.{strips_below}
 
--- the namespace of SVG, the style of the picture, and what it shows
-unfoldable pub namespace_words : List ℕ
-namespace_words = NAMESPACE.now
-
+-- the style of the picture, and what it shows
 unfoldable pub style_words : List ℕ
 style_words = STYLE.now
 
@@ -25,7 +22,7 @@ description_words = DESCRIPTION.now
 
 unfoldable pub root_attributes : ℕ → ℕ → List Attribute
 root_attributes width height =
-    word (codes "xmlns") namespace_words ∷ word (codes "version") (codes "1.1") ∷ number (codes "width") width
+    word (codes "xmlns") (codes "http://www.w3.org/2000/svg") ∷ word (codes "version") (codes "1.1") ∷ number (codes "width") width
     ∷ number (codes "height") height ∷ record { name = codes "viewBox"; value = Row (0 ∷ 0 ∷ width ∷ height ∷ []) } ∷ []
 
 unfoldable pub path_attributes : List ℕ → List ℕ → List Attribute
@@ -42,35 +39,48 @@ pattern_node n path =
     Element (codes "pattern") (pattern_attributes n) (Element (codes "path") (path_attributes (codes "hatch") path) Nothing)
 
 -- the head of an arrow, in a box of 10 by 10
-unfoldable pub marker_attributes : List ℕ → List Attribute
-marker_attributes id =
-    word (codes "id") id ∷ record { name = codes "viewBox"; value = Row (0 ∷ 0 ∷ 10 ∷ 10 ∷ []) }
-    ∷ number (codes "refX") 9 ∷ number (codes "refY") 5 ∷ number (codes "markerWidth") 7
-    ∷ number (codes "markerHeight") 7 ∷ word (codes "orient") (codes "auto") ∷ []
+unfoldable pub marker_attributes : ℕ → List Attribute
+marker_attributes n =
+    record { name = codes "id"; value = Numbered (codes "a") n } ∷ word (codes "viewBox") (codes "0 0 10 10")
+    ∷ word (codes "refX") (codes "9") ∷ word (codes "refY") (codes "5") ∷ word (codes "markerWidth") (codes "7")
+    ∷ word (codes "markerHeight") (codes "7") ∷ word (codes "orient") (codes "auto") ∷ []
 
-unfoldable pub marker_node : List ℕ → List ℕ → List ℕ → Node
-marker_node id look path =
-    Element (codes "marker") (marker_attributes id) (Element (codes "path") (path_attributes look path) Nothing)
+unfoldable pub marker_node : ℕ → List ℕ → List ℕ → Node
+marker_node n look path =
+    Element (codes "marker") (marker_attributes n) (Element (codes "path") (path_attributes look path) Nothing)
 
-unfoldable pub patterns_node : Node
-patterns_node = in_turn (
+unfoldable pub first_patterns : Node
+first_patterns = in_turn (
     pattern_node 0 (codes "M0 6L6 0") ∷ pattern_node 1 (codes "M0 0L6 6") ∷ pattern_node 2 (codes "M0 3H6")
-    ∷ pattern_node 3 (codes "M3 0V6") ∷ pattern_node 4 (codes "M0 3H6M3 0V6") ∷ pattern_node 5 (codes "M2 3H4")
-    ∷ pattern_node 6 (codes "M0 0L6 6M0 6L6") ∷ pattern_node 7 (codes "M1 1H5V5H1Z") ∷ [])
+    ∷ pattern_node 3 (codes "M3 0V6") ∷ [])
+
+unfoldable pub last_patterns : Node
+last_patterns = in_turn (
+    pattern_node 4 (codes "M0 0H6V6") ∷ pattern_node 5 (codes "M2 3H4") ∷ pattern_node 6 (codes "M0 0L3 6")
+    ∷ pattern_node 7 (codes "M2 2H4V4") ∷ [])
 
 unfoldable pub markers_node : Node
 markers_node = in_turn (
-    marker_node (codes "notify") (codes "head") (codes "M0 0L9 5L0 10Z")
-    ∷ marker_node (codes "interrupt") (codes "open") (codes "M0 0L9 5L0 10")
-    ∷ marker_node (codes "handover") (codes "head") (codes "M0 5L5 1L9 5L5 9Z") ∷ [])
+    marker_node 0 (codes "head") (codes "M0 0L9 5L0 10Z")
+    ∷ marker_node 1 (codes "open") (codes "M0 0L9 5L0 10")
+    ∷ marker_node 2 (codes "head") (codes "M0 5L5 1L9 5L5 9Z") ∷ [])
 
--- what stands in front of the lanes: title, description, style, patterns, heads of arrows, and a white ground
+-- for those who do not see the picture
+unfoldable pub about_node : Node
+about_node = Then (title (Words (codes "Monitors"))) (Element (codes "desc") [] (Words description_words))
+
+unfoldable pub style_node : Node
+style_node = Element (codes "style") [] (Words style_words)
+
+unfoldable pub defs_node : Node
+defs_node = Element (codes "defs") [] (in_turn (first_patterns ∷ last_patterns ∷ markers_node ∷ []))
+
+unfoldable pub ground_node : Layout → ℕ → Node
+ground_node l cycles = box (codes "ground") 0 0 (right_of l) (bottom_of l cycles) Nothing
+
+-- what stands in front of the lanes
 unfoldable pub head_node : Layout → ℕ → Node
-head_node l cycles = in_turn (
-    title (Words (codes "Monitors"))
-    ∷ Element (codes "desc") [] (Words description_words) ∷ Element (codes "style") [] (Words style_words)
-    ∷ Element (codes "defs") [] (Then patterns_node markers_node)
-    ∷ box (codes "ground") 0 0 (right_of l) (bottom_of l cycles) Nothing ∷ [])
+head_node l cycles = in_turn (about_node ∷ style_node ∷ defs_node ∷ ground_node l cycles ∷ [])
 
 -- a script has header words, which need a row of their own
 abbrev pub strip_height_of : Naming → ℕ
