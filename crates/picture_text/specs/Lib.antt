@@ -10,3 +10,4 @@ pub mod Lanes
 pub mod Strips
 pub mod Arrows
 pub mod Frame
+pub mod Axis

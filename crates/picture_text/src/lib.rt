@@ -2,6 +2,7 @@
 #![tactic(auto)]
 
 mod arrows;
+mod axis;
 mod elements;
 mod escapes;
 mod frame;

@@ -35,7 +35,7 @@ fn put_column(text: &mut String, layout: Layout, column: u32) -> Result<(), Allo
 
 /// Writes a line from one place to another that says nothing of itself.
 #[tactic(auto, unfolding(crate::specs::Pieces::tick_node))]
-fn put_tick(text: &mut String, from: Place, to: Place) -> Result<(), AllocError>
+pub(crate) fn put_tick(text: &mut String, from: Place, to: Place) -> Result<(), AllocError>
     ensures { OnOk result (string_bytes text.new ≡ string_bytes text.old
         ++ node_text (tick_node from.x from.y to.x to.y)) }
 {
