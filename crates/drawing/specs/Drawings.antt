@@ -1,5 +1,5 @@
 -- The drawing of a script and of a history.
-use Rattle.std.specs.Prelude.{◌≡◌, ℕ, ◌<◌, List, length, map, vec_items}
+use Rattle.std.specs.Prelude.{◌≡◌, ◌⊎◌, ℕ, ◌<◌, List, length, map, vec_items}
 use Rattle.lock_word.specs.declared.ThreadId.{ThreadId}
 use Rattle.text_streams.specs.declared.faults.FileFault.TheVariants as faults
 use Rattle.script_text.specs.Scripts.{IsReasonFor}
@@ -16,7 +16,7 @@ use Rattle.pictures.specs.declared.picture.Picture.{Picture}
 use Rattle.pictures.specs.Pictures.{HasTooManyLanes, IsPicture}
 use Rattle.picture_text.specs.declared.naming.Naming.{Naming}
 use Rattle.picture_text.specs.declared.naming.Naming.TheVariants.{Names, Numbers}
-use Rattle.picture_text.specs.Svg.{svg_text}
+use Rattle.picture_text.specs.Frame.{svg_text}
 use Rattle.drawing.specs.Columns.{AreColumns, columns_of}
 use Rattle.drawing.specs.declared.faults.DrawFault.{DrawFault}
 use Rattle.drawing.specs.declared.faults.DrawFault.TheVariants.{File, TooManyColumns, TooManyLanes}
@@ -38,15 +38,13 @@ abbrev pub NamesBy : Plan → Naming → Type 0
 NamesBy plan (Names names) = names.now ≡ plan.names
 NamesBy plan Numbers = ⊥
 
--- The picture of the columns of what a script plays, with the cycles of owners in the world that it leads to.
-pub record IsPlayedDrawing (plan : Plan) (world : WorldState) (columns : List Column) (text : List ℕ) : Type 0 where
+-- The picture of the columns that lead to a world, with the cycles of owners there.
+pub record IsPlayedDrawing (naming : Naming) (objects : ℕ) (world : WorldState) (columns : List Column) (text : List ℕ) : Type 0 where
   pub picture : Picture
-  pub is_picture : IsPicture (length plan.lows.items) columns picture
+  pub is_picture : IsPicture objects columns picture
   pub drawn : Picture
   pub same : drawn ≡ record picture { cycles = drawn.cycles }
   pub cycles : AreCycles (shown world) (map vec_items drawn.cycles.items)
-  pub naming : Naming
-  pub names : NamesBy plan naming
   pub exact : text ≡ svg_text naming drawn
 
 -- a column for each step
@@ -54,14 +52,30 @@ pub record IsPlanDrawing (plan : Plan) (text : List ℕ) : Type 0 where
   pub world : WorldState
   pub columns : List Column
   pub played : AreColumns (first_world plan) plan.steps.items world columns
-  pub drawing : IsPlayedDrawing plan world columns text
+  pub naming : Naming
+  pub names : NamesBy plan naming
+  pub drawing : IsPlayedDrawing naming (length plan.lows.items) world columns text
+
+-- more cycles of owners than a picture has lanes
+pub record HasTooManyCycles (world : WorldState) : Type 0 where
+  pub cycles : List (List ThreadId)
+  pub exact : AreCycles (shown world) cycles
+  pub many : 200 < length cycles
+
+-- why what was played has no picture
+abbrev pub PlayedTooMuch : WorldState → List Column → DrawFault → Type 0
+PlayedTooMuch world cs fault = HaveTooMany cs fault ⊎ ((fault ≡ TooManyLanes) × HasTooManyCycles world)
+
+abbrev pub IsPlayedReason : WorldState → List Column → DrawFault → Type 0
+IsPlayedReason world cs (File fault) = fault ≡ faults.Memory
+IsPlayedReason world cs fault = PlayedTooMuch world cs fault
 
 -- it has more steps, threads or objects than a picture shows
 pub record PlanHasTooMany (plan : Plan) (fault : DrawFault) : Type 0 where
   pub world : WorldState
   pub columns : List Column
   pub played : AreColumns (first_world plan) plan.steps.items world columns
-  pub many : HaveTooMany columns fault
+  pub many : PlayedTooMuch world columns fault
 
 abbrev pub IsPlanReason : Plan → DrawFault → Type 0
 IsPlanReason plan (File fault) = fault ≡ faults.Memory

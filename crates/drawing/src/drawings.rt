@@ -1,6 +1,7 @@
 //! Drawing: from a reader's bytes to a writer's picture.
 
-ghost use Rattle.std.specs.Prelude.{◌≡◌, ◌<◌, ◌≤◌, ◌⊎◌, ℕ, List, length, string_bytes, take};
+ghost use Rattle.std.specs.Prelude.{◌≡◌, ◌<◌, ◌≤◌, ◌⊎◌, ℕ, List, length, map, string_bytes, take};
+ghost use Rattle.std.specs.Prelude.{vec_items};
 ghost use Rattle.std.specs.Prelude.{IsErrOf, IfSome, OnOk, IfErr, IfOk, Err};
 ghost use Rattle.std.specs.Io.KnownBytes.{Keeps, Appends};
 ghost use Rattle.text_streams.specs.declared.faults.FileFault.TheVariants.{BadLine, BadMove};
@@ -13,9 +14,9 @@ ghost use Rattle.drawing.specs.declared.faults.DrawFault.TheVariants.{TooManyLan
 ghost use Rattle.drawing.specs.Drawings.{IsHistoryDrawing, IsHistoryReason, IsScriptDrawing};
 ghost use Rattle.drawing.specs.Drawings.{IsMovesDrawing, IsPictureReason, IsPlanDrawing};
 ghost use Rattle.drawing.specs.Drawings.{IsPlanReason, IsScriptReason};
-ghost use Rattle.drawing.specs.Columns.{AreColumns, columns_of};
-ghost use Rattle.drawing.specs.Drawings.{IsPlayedDrawing};
-ghost use Rattle.history.specs.Histories.{first_world};
+ghost use Rattle.drawing.specs.Columns.{columns_of};
+ghost use Rattle.drawing.specs.Drawings.{HasTooManyCycles, IsPlayedDrawing, IsPlayedReason};
+ghost use Rattle.step_core.specs.Cycles.{AreCycles};
 ghost use Rattle.pictures.specs.Pictures.{IsPicture, IsRun, IsWithin};
 ghost use Rattle.step_core.specs.Machine.{State, Run, opening};
 ghost use Rattle.step_core.specs.Shown.{shown};
@@ -25,10 +26,12 @@ use crate::faults::DrawFault;
 use dump::cycles;
 use history::{Plan, plan_in, read_all};
 use history_check::{MoveList, read_moves};
+use lock_word::ThreadId;
 use picture_text::{Naming, picture_text};
-use pictures::{Column, Picture, PictureFault, picture_of};
+use pictures::{Column, MOST_LANES, Picture, PictureFault, picture_of};
 use script_text::MOST_BYTES;
 use std::alloc::Global;
+use step_core::World;
 use text_streams::{FileFault, Sink, Source, write_out};
 
 /// Reads a script to its end, plays it, and writes a picture of it as SVG: a column for each step.
@@ -144,22 +147,42 @@ fn plan_drawing(alloc: Global, plan: &Plan) -> Result<String, DrawFault>
     ensures fault { IfErr result (IsPlanReason plan.now) }
 {
     let played = play_plan(alloc, plan)?;
-    played_drawing(alloc, plan, &played)
+    let objects = plan.lows.len() as u32;
+    played_drawing(alloc, &Naming::Names(&plan.names), objects, &played)
 }
 
-/// The picture of what a script has played.
-fn played_drawing(alloc: Global, plan: &Plan, played: &Played) -> Result<String, DrawFault>
-    requires columns { AreColumns (first_world plan.now) plan.now.steps.items played.now.world
-        played.now.columns.items }
-    requires opens { shown (first_world plan.now) ≡ opening (length plan.now.lows.items) }
-    ensures drawing { IfOk result (λ text. IsPlayedDrawing plan.now played.now.world
+/// The picture of what was played.
+fn played_drawing(
+    alloc: Global,
+    naming: &Naming<'_>,
+    objects: u32,
+    played: &Played,
+) -> Result<String, DrawFault>
+    requires { IsRun objects played.now.columns.items }
+    ensures drawing { IfOk result (λ text. IsPlayedDrawing naming.now objects played.now.world
         played.now.columns.items (string_bytes text)) }
-    ensures fault { IfErr result (IsPictureReason played.now.columns.items) }
+    ensures fault { IfErr result (IsPlayedReason played.now.world played.now.columns.items) }
 {
-    let mut picture = picture_in(alloc, plan.lows.len() as u32, &played.columns)?;
-    picture.cycles = cycles(alloc, &played.world)?;
-    let text = picture_text(alloc, &Naming::Names(&plan.names), &picture)?;
+    let mut picture = picture_in(alloc, objects, &played.columns)?;
+    let cycles = cycles_in(alloc, &played.world)?;
+    picture.cycles = cycles;
+    let text = picture_text(alloc, naming, &picture)?;
     Ok(text)
+}
+
+/// The cycles of owners of a world, if they are no more than a picture has lanes.
+fn cycles_in(alloc: Global, world: &World) -> Result<Vec<Vec<ThreadId>>, DrawFault>
+    ensures cycles { IfOk result (λ cycles.
+        AreCycles (shown world.now) (map vec_items cycles.items)) }
+    ensures few { IfOk result (λ cycles. length cycles.items ≤ MOST_LANES) }
+    ensures fault { IfErr result (λ fault. (fault ≡ File MemoryFault)
+        ⊎ ((fault ≡ TooManyLanes) × HasTooManyCycles world.now)) }
+{
+    let cycles = cycles(alloc, world)?;
+    if cycles.len() > MOST_LANES {
+        return Err(DrawFault::TooManyLanes);
+    }
+    Ok(cycles)
 }
 
 /// The picture of columns whose moves are a run of the machine with so many objects.

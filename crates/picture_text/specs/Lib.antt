@@ -1,0 +1,13 @@
+pub mod Nodes
+pub mod Pieces
+pub mod Labels
+pub mod Layout
+pub mod Naming
+pub mod Spans
+pub mod Marks
+pub mod Positions
+pub mod Lanes
+pub mod Strips
+pub mod Arrows
+pub mod Frame
+pub mod Axis
