@@ -6,7 +6,7 @@ use Rattle.clap.specs.Walk.{Row, Rule, Text, first_of}
 use Rattle.clap.specs.Simple.{App, new_app, new_rule, on_top, subcommand_of, with_rule, with_subcommand}
 use Rattle.clap.specs.declared.builder.action.ArgAction.TheVariants.{Set, SetTrue}
 use Rattle.command_line.specs.declared.orders.Task.{Task}
-use Rattle.command_line.specs.declared.orders.Task.TheVariants.{Run, Moves, Check, Dump, Live, Explore}
+use Rattle.command_line.specs.declared.orders.Task.TheVariants.{Run, Moves, Check, Dump, Live, Explore, Draw, DrawMoves}
 
 -- ---- the program, as far as it is read from words
 
@@ -22,9 +22,9 @@ moves_rule = record (new_rule (codes "moves")) { long = Some (codes "moves"); ac
 abbrev pub file_words : Text → App
 file_words name = with_rule (new_app name) file_rule
 
--- `run`
-abbrev pub run_words : App
-run_words = with_rule (with_rule (new_app (codes "run")) moves_rule) file_rule
+-- a subcommand of a file, with the flag `--moves`
+abbrev pub moves_words : Text → App
+moves_words name = with_rule (with_rule (new_app name) moves_rule) file_rule
 
 -- It has a version, its words begin behind its name, and it wants a subcommand.
 abbrev pub bare_program : App
@@ -34,14 +34,19 @@ bare_program =
 
 abbrev pub program_words : App
 program_words =
-    with_subcommand (with_subcommand (with_subcommand (with_subcommand (with_subcommand bare_program
-    run_words.top)
+    with_subcommand (with_subcommand (with_subcommand (with_subcommand (with_subcommand (with_subcommand bare_program
+    (moves_words (codes "run")).top)
     (file_words (codes "check")).top)
     (file_words (codes "dump")).top)
     (file_words (codes "live")).top)
-    (file_words (codes "explore")).top
+    (file_words (codes "explore")).top)
+    (moves_words (codes "draw")).top
 
 -- ---- what they order
+
+-- a script is drawn, or with `--moves` a history
+abbrev pub drawing_with : Bool → Task
+drawing_with moves = if moves then DrawMoves else Draw
 
 -- the task of a subcommand, with `--moves` or without
 abbrev pub task_of : Text → Bool → Task
@@ -50,7 +55,8 @@ task_of name moves =
     else (if bytes_eq name (codes "dump") then Dump
     else (if bytes_eq name (codes "live") then Live
     else (if bytes_eq name (codes "explore") then Explore
-    else (if moves then Moves else Run))))
+    else (if bytes_eq name (codes "draw") then drawing_with moves
+    else (if moves then Moves else Run)))))
 
 -- the text of a flag that was given
 abbrev pub is_set : Option Text → Bool

@@ -13,7 +13,9 @@ use Rattle.explore_runs.specs.declared.faults.ExploreTextFault.TheVariants as ex
 use Rattle.live_runs.specs.Faults.{out_of_memory}
 use Rattle.live_runs.specs.declared.faults.RunFault.TheVariants.{File}
 use Rattle.command_line.specs.declared.ends.TaskFault.{TaskFault}
-use Rattle.command_line.specs.declared.ends.TaskFault.TheVariants.{Run, TooManyStates}
+use Rattle.command_line.specs.declared.ends.TaskFault.TheVariants.{Run, TooManyStates, TooManyColumns, TooManyLanes}
+use Rattle.drawing.specs.declared.faults.DrawFault.{DrawFault}
+use Rattle.drawing.specs.declared.faults.DrawFault.TheVariants as drawing
 use Rattle.command_line.specs.declared.ends.ProgramEnd.{ProgramEnd}
 use Rattle.command_line.specs.declared.ends.ProgramEnd.TheVariants.{Done, Shown, Failed, Misused}
 
@@ -21,6 +23,12 @@ use Rattle.command_line.specs.declared.ends.ProgramEnd.TheVariants.{Done, Shown,
 abbrev pub fault_of_exploring : ExploreTextFault → TaskFault
 fault_of_exploring (exploring.File fault) = Run (File fault)
 fault_of_exploring (exploring.TooManyStates most) = TooManyStates most
+
+-- the fault of an order to draw
+abbrev pub fault_of_drawing : DrawFault → TaskFault
+fault_of_drawing (drawing.File fault) = Run (File fault)
+fault_of_drawing drawing.TooManyColumns = TooManyColumns
+fault_of_drawing drawing.TooManyLanes = TooManyLanes
 
 -- the exit status
 abbrev pub status_of : ProgramEnd → ℕ

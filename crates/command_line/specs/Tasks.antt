@@ -10,8 +10,9 @@ use Rattle.history.specs.declared.plans.Plan.{Plan}
 use Rattle.dump.specs.Dumps.{IsDumpOf}
 use Rattle.explore_runs.specs.Runs.{IsReportOfText}
 use Rattle.live_runs.specs.Runs.{IsTextOfRun}
+use Rattle.drawing.specs.Drawings.{IsHistoryDrawing, IsScriptDrawing}
 use Rattle.command_line.specs.declared.orders.Task.{Task}
-use Rattle.command_line.specs.declared.orders.Task.TheVariants.{Run, Moves, Check, Dump, Live, Explore}
+use Rattle.command_line.specs.declared.orders.Task.TheVariants.{Run, Moves, Check, Dump, Live, Explore, Draw, DrawMoves}
 
 -- the most states of a program that is explored
 abbrev pub most_states : ℕ
@@ -21,7 +22,7 @@ most_states = 10000000
 -- after: a script was read, and a report written; or its history; or a history was read whose moves are a
 -- run, and their number written; or a script was read, and a dump of the world that it leads to written; or a
 -- live script was read, and the text of a run of it written; or a program was read, and the report of its outcomes
--- written.
+-- written; or a script, or a history, was read, and a picture of it written.
 abbrev pub IsDone : Task → Option (List ℕ) → Option (List ℕ) → ℕ → Option (List ℕ) → Option (List ℕ)
     → Type 0
 IsDone Run left rest given held holds =
@@ -38,3 +39,7 @@ IsDone Live left rest given held holds =
     (text : List ℕ) × IfSome left (λ input. IsTextOfRun input text) × Appends held holds text
 IsDone Explore left rest given held holds =
     (text : List ℕ) × IfSome left (λ input. IsReportOfText input most_states text) × Appends held holds text
+IsDone Draw left rest given held holds =
+    (text : List ℕ) × IfSome left (λ input. IsScriptDrawing input text) × Appends held holds text
+IsDone DrawMoves left rest given held holds =
+    (text : List ℕ) × IfSome left (λ input. IsHistoryDrawing input text) × Appends held holds text

@@ -5,6 +5,7 @@ ghost use Rattle.clap.specs.Values.{kind_of};
 ghost use Rattle.command_line.specs.ProgramEnds.{end_for, status_of};
 
 use clap::error::ErrorKind;
+use drawing::DrawFault;
 use explore_runs::ExploreTextFault;
 use history::FileFault;
 use live_runs::RunFault;
@@ -20,6 +21,12 @@ pub enum TaskFault {
     /// A program has more states than this.
     #[error("too many states: more than {0}")]
     TooManyStates(u32),
+    /// A picture has more columns than 20,000.
+    #[error("too many columns: more than 20000")]
+    TooManyColumns,
+    /// A picture has more lanes than 200: more threads, or more objects.
+    #[error("too many lanes: more than 200")]
+    TooManyLanes,
 }
 
 impl From<RunFault> for TaskFault {
@@ -55,6 +62,21 @@ impl From<ExploreTextFault> for TaskFault {
         match fault {
             ExploreTextFault::File(fault) => TaskFault::Run(RunFault::File(fault)),
             ExploreTextFault::TooManyStates(most) => TaskFault::TooManyStates(most),
+        }
+    }
+}
+
+impl From<DrawFault> for TaskFault {
+    ghost use Rattle.std.specs.Prelude.{◌≡◌};
+    ghost use Rattle.command_line.specs.ProgramEnds.{fault_of_drawing};
+
+    ghost from_gives = { λ cause fault. fault ≡ fault_of_drawing cause };
+
+    fn from(fault: DrawFault) -> Self {
+        match fault {
+            DrawFault::File(fault) => TaskFault::Run(RunFault::File(fault)),
+            DrawFault::TooManyColumns => TaskFault::TooManyColumns,
+            DrawFault::TooManyLanes => TaskFault::TooManyLanes,
         }
     }
 }

@@ -9,7 +9,8 @@ ghost use Rattle.clap.specs.Faults.{fault_of};
 ghost use Rattle.clap.specs.Kinds.{FailsBy};
 ghost use Rattle.clap.specs.declared.builder.command.Command.TheViews.{out-Command};
 ghost use Rattle.command_line.specs.Orders.{bare_program, file_rule, file_words, is_set, order_in};
-ghost use Rattle.command_line.specs.Orders.{moves_rule, order_of, program_words, run_words, task_of};
+ghost use Rattle.command_line.specs.Orders.{drawing_with, moves_rule, moves_words, order_of, program_words};
+ghost use Rattle.command_line.specs.Orders.{task_of};
 
 use clap::{Arg, ArgAction, ArgMatches, Command, Error};
 use std::alloc::{AllocError, Global};
@@ -32,6 +33,10 @@ pub enum Task {
     Live,
     /// Explore a program, and write every outcome of it.
     Explore,
+    /// Draw a script.
+    Draw,
+    /// Draw a history.
+    DrawMoves,
 }
 
 /// What the program is to do, and with what.
@@ -107,6 +112,8 @@ fn task_of(name: &str, moves: bool) -> Task
         Task::Live
     } else if name == "explore" {
         Task::Explore
+    } else if name == "draw" {
+        drawing_with(moves)
     } else if moves {
         Task::Moves
     } else {
@@ -114,13 +121,26 @@ fn task_of(name: &str, moves: bool) -> Task
     }
 }
 
+/// What is drawn, with `--moves` or without.
+fn drawing_with(moves: bool) -> Task
+    ensures { result ≡ drawing_with moves }
+{
+    if moves { Task::DrawMoves } else { Task::Draw }
+}
+
 /// The program, with its subcommands.
 fn program<'a>(alloc: Global) -> Result<Command<'a>, AllocError>
     ensures words { IfOk result (λ program. app_of program ≡ program_words) }
     ensures local { IfOk result (λ program. (out-Command program).has_globals ≡ false) }
 {
-    let run = run_command(alloc)?;
-    let with_run = bare_program(alloc)?.subcommand(run)?;
+    let with_run = with_moves_command(
+        alloc,
+        bare_program(alloc)?,
+        "run",
+        "Plays a script and prints its report, or its history",
+        "Prints the moves of the abstract machine and no report",
+        "The script; standard input where it is left out",
+    )?;
     let with_check = with_file_command(
         alloc,
         with_run,
@@ -142,12 +162,20 @@ fn program<'a>(alloc: Global) -> Result<Command<'a>, AllocError>
         "Runs the threads of a live script on threads of the system, and prints their replies",
         "The live script; standard input where it is left out",
     )?;
-    with_file_command(
+    let with_explore = with_file_command(
         alloc,
         with_live,
         "explore",
         "Explores every interleaving of a program and prints each outcome with a script for it",
         "The program; standard input where it is left out",
+    )?;
+    with_moves_command(
+        alloc,
+        with_explore,
+        "draw",
+        "Draws what the threads of a script do, and who owns its objects, as SVG",
+        "Draws a history of moves and no script",
+        "The script or the history; standard input where it is left out",
     )
 }
 
@@ -164,15 +192,39 @@ fn bare_program<'a>(alloc: Global) -> Result<Command<'a>, AllocError>
         .bin_name("thinmon")
 }
 
-/// The subcommand `run`.
-fn run_command<'a>(alloc: Global) -> Result<Command<'a>, AllocError>
-    ensures words { IfOk result (λ command. app_of command ≡ run_words) }
+/// A subcommand of a file, with the flag that orders the moves.
+fn moves_command<'a>(
+    alloc: Global,
+    name: &'a str,
+    about: &'a str,
+    moves_help: &'a str,
+    file_help: &'a str,
+) -> Result<Command<'a>, AllocError>
+    ensures words { IfOk result (λ command. app_of command ≡ moves_words name.now) }
     ensures local { IfOk result (λ command. (out-Command command).has_globals ≡ false) }
 {
-    Command::new(alloc, "run")
-        .about("Plays a script and prints its report, or its history")
-        .arg(moves(alloc))?
-        .arg(file(alloc, "The script; standard input where it is left out"))
+    Command::new(alloc, name)
+        .about(about)
+        .arg(moves(alloc, moves_help))?
+        .arg(file(alloc, file_help))
+}
+
+/// A program with a subcommand of a file and the flag `--moves` more.
+fn with_moves_command<'a>(
+    alloc: Global,
+    program: Command<'a>,
+    name: &'a str,
+    about: &'a str,
+    moves_help: &'a str,
+    file_help: &'a str,
+) -> Result<Command<'a>, AllocError>
+    requires { (out-Command program).has_globals ≡ false }
+    ensures words { IfOk result (λ with.
+        app_of with ≡ with_subcommand (app_of program.entry) (moves_words name.now).top) }
+    ensures local { IfOk result (λ with. (out-Command with).has_globals ≡ false) }
+{
+    let command = moves_command(alloc, name, about, moves_help, file_help)?;
+    program.subcommand(command)
 }
 
 /// A subcommand of a file alone.
@@ -208,14 +260,14 @@ fn with_file_command<'a>(
 }
 
 /// The flag that orders the moves.
-fn moves<'a>(alloc: Global) -> Arg<'a>
+fn moves<'a>(alloc: Global, help: &'a str) -> Arg<'a>
     ensures rule { rule_of result ≡ moves_rule }
     ensures local { result.global ≡ false }
 {
     Arg::new(alloc, "moves")
         .long("moves")
         .action(ArgAction::SetTrue)
-        .help("Prints the moves of the abstract machine and no report")
+        .help(help)
 }
 
 /// The argument that names the file to read.

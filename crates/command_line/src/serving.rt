@@ -13,6 +13,7 @@ ghost use Rattle.explore_runs.specs.Faults.{HasTooMany};
 
 use crate::ends::{FaultLine, ProgramEnd, TaskFault, end_for};
 use crate::orders::{Order, Task, read_words};
+use drawing::{draw_moves, draw_script};
 use dump::dump_script;
 use explore_runs::explore_text;
 use history::{FileFault, ReaderSource, Sink, Source, WriterSink, moves, replay, run};
@@ -134,6 +135,8 @@ where
         Task::Dump => dump_script(alloc, source, sink)?,
         Task::Live => run_live(rt, alloc, source, sink)?,
         Task::Explore => explore_text(alloc, source, sink, MOST_STATES)?,
+        Task::Draw => draw_script(alloc, source, sink)?,
+        Task::DrawMoves => draw_moves(alloc, source, sink)?,
     }
     Ok(())
 }
