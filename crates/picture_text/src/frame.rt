@@ -13,6 +13,8 @@ ghost use Rattle.picture_text.specs.Layout.{Fits, layout_of};
 ghost use Rattle.picture_text.specs.Nodes.{escaped, node_text, opening};
 
 use crate::arrows::put_arrows;
+use crate::axis::{put_moments, put_numbers};
+use crate::cycles::put_cycles;
 use crate::elements::{Place, begin, begin_box, begin_look, end};
 use crate::escapes::put_escaped;
 use crate::lanes::put_lanes;
@@ -272,7 +274,7 @@ fn layout_of(picture: &Picture, strip_height: u64) -> Layout
     }
 }
 
-/// Writes lanes, strips and arrows.
+/// Writes all that is drawn.
 #[tactic(auto, unfolding(crate::specs::Frame::body_node))]
 fn put_body(
     alloc: Global,
@@ -287,6 +289,8 @@ fn put_body(
         ++ node_text (body_node naming.now layout picture.now)) }
 {
     let positions = positions(alloc, &picture.lanes)?;
+    put_numbers(text, layout)?;
+    put_moments(alloc, text, layout, &picture.moments)?;
     put_lanes(alloc, text, naming, layout, &picture.lanes)?;
     put_strips(
         alloc,
@@ -302,6 +306,14 @@ fn put_body(
         naming,
         layout,
         &picture.arrows,
+        &positions,
+        &picture.lanes,
+    )?;
+    put_cycles(
+        text,
+        naming,
+        layout,
+        &picture.cycles,
         &positions,
         &picture.lanes,
     )

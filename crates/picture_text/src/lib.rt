@@ -3,6 +3,7 @@
 
 mod arrows;
 mod axis;
+mod cycles;
 mod elements;
 mod escapes;
 mod frame;
