@@ -4,7 +4,8 @@ ghost use Rattle.std.specs.Prelude.{◌≡◌, ◌≤◌, ◌<◌, ℕ, ◌++◌
 ghost use Rattle.std.specs.Prelude.{slice_get, string_bytes};
 ghost use Rattle.std.specs.HashMap.{get as map_get};
 ghost use Rattle.picture_text.specs.Axis.{cycle_at, cycle_node, cycle_parts, cycles_below};
-ghost use Rattle.picture_text.specs.Axis.{member_in, members_below, stuck_below, stuck_in, stuck_node};
+ghost use Rattle.picture_text.specs.Axis.{member_in, members_below};
+ghost use Rattle.picture_text.specs.Axis.{stuck_below, stuck_in, stuck_node};
 ghost use Rattle.picture_text.specs.Axis.{stuck_where};
 ghost use Rattle.picture_text.specs.Layout.{Fits};
 ghost use Rattle.picture_text.specs.Nodes.{node_text};
