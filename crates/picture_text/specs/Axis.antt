@@ -1,6 +1,6 @@
 -- The numbers of columns and the moments, above the lanes; the cycles of owners, below the strips.
 use Rattle.std.specs.Prelude.{ℕ, zero, suc, ◌+◌, ◌-◌, ◌*◌, ◌%◌, ◌==◌, ◌++◌, List, [], ◌∷◌, Option, None, Some, codes, decimal, length}
-use Rattle.std.specs.Prelude.{slice_get, nat_le, nat_lt, vec_items, map, if◌then◌else◌}
+use Rattle.std.specs.Prelude.{slice_get, nat_le, if◌then◌else◌}
 use Rattle.std.specs.Prelude.{Vec}
 use Rattle.std.specs.declared.alloc.Global.{Global}
 use Rattle.lock_word.specs.declared.ThreadId.{ThreadId}

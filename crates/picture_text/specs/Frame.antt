@@ -1,11 +1,11 @@
 -- The whole picture.
-use Rattle.std.specs.Prelude.{ℕ, ◌+◌, ◌-◌, ◌≤◌, List, [], ◌∷◌, ◌++◌, codes, length}
+use Rattle.std.specs.Prelude.{ℕ, ◌≤◌, List, [], ◌∷◌, ◌++◌, codes, length}
 use Rattle.pictures.specs.declared.picture.Picture.{Picture}
 use Rattle.picture_text.specs.declared.layout.Layout.{Layout}
 use Rattle.picture_text.specs.declared.naming.Naming.{Naming}
 use Rattle.picture_text.specs.declared.naming.Naming.TheVariants.{Names, Numbers}
 use Rattle.picture_text.specs.declared.frame.TheConstants.{DESCRIPTION, STYLE}
-use Rattle.picture_text.specs.Nodes.{Attribute, Node, Element, Words, Figure, Number, Numbered, Word, Nothing, Then, in_turn, node_text}
+use Rattle.picture_text.specs.Nodes.{Attribute, Node, Element, Words, Numbered, Nothing, Then, in_turn, node_text}
 use Rattle.picture_text.specs.Nodes.{Numbers as Row}
 use Rattle.picture_text.specs.Pieces.{box, number, title, word}
 use Rattle.picture_text.specs.Arrows.{arrows_below}

@@ -1,5 +1,5 @@
 -- What a thread is doing, drawn from column to column.
-use Rattle.std.specs.Prelude.{ℕ, zero, suc, ◌+◌, ◌-◌, ◌*◌, Bool, true, false, List, [], ◌∷◌, Option, None, Some, codes, min}
+use Rattle.std.specs.Prelude.{ℕ, zero, suc, ◌+◌, ◌-◌, Bool, true, false, List, [], ◌∷◌, Option, None, Some, codes, min}
 use Rattle.std.specs.Prelude.{slice_get, nat_lt, if◌then◌else◌}
 use Rattle.lock_word.specs.declared.ObjectId.{ObjectId}
 use Rattle.lock_word.specs.declared.ThreadId.{ThreadId}
@@ -16,7 +16,7 @@ use Rattle.pictures.specs.declared.picture.Span.{Span}
 use Rattle.picture_text.specs.declared.layout.Layout.{Layout}
 use Rattle.picture_text.specs.declared.layout.Stretch.{Stretch}
 use Rattle.picture_text.specs.declared.naming.Naming.{Naming}
-use Rattle.picture_text.specs.Nodes.{Node, Element, Words, Figure, Nothing, Then, in_turn}
+use Rattle.picture_text.specs.Nodes.{Node, Words, Figure, Nothing, Then, in_turn}
 use Rattle.picture_text.specs.Pieces.{box, label, line, title}
 use Rattle.picture_text.specs.Labels.{cut_label, room_in}
 use Rattle.picture_text.specs.Layout.{x_at, width_of}
