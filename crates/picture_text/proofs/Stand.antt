@@ -1,5 +1,5 @@
 -- Positions of lanes.
-use Rattle.std.proofs.Common.{◌≡◌, ◌∙◌, sym, ap, refl, ℕ, zero, suc, ◌+◌, ◌<◌, Bool, true, false, List, Option, Some, None, add-one, arith}
+use Rattle.std.proofs.Common.{◌≡◌, sym, ℕ, zero, suc, ◌+◌, ◌<◌, Bool, true, false, List, Option, Some, None, add-one, arith}
 use Rattle.std.specs.Prelude.{slice_get, cond, nat_eq, IfSome}
 use Rattle.pictures.specs.declared.picture.Lane.{Lane}
 use Rattle.picture_text.specs.Positions.{is_lane_of, position_in}

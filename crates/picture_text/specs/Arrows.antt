@@ -1,7 +1,6 @@
 -- The moves that lead from one thread to another, and the cycles of owners.
-use Rattle.std.specs.Prelude.{ℕ, zero, suc, ◌+◌, ◌-◌, ◌*◌, List, [], ◌∷◌, Option, None, Some, codes, length}
+use Rattle.std.specs.Prelude.{ℕ, zero, suc, ◌+◌, List, [], ◌∷◌, Option, None, Some, codes}
 use Rattle.std.specs.Prelude.{slice_get, nat_lt, if◌then◌else◌}
-use Rattle.lock_word.specs.declared.ThreadId.{ThreadId}
 use Rattle.pictures.specs.declared.picture.Arrow.{Arrow}
 use Rattle.pictures.specs.declared.picture.ArrowKind.{ArrowKind}
 use Rattle.pictures.specs.declared.picture.ArrowKind.TheVariants as kind

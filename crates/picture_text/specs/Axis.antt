@@ -1,6 +1,8 @@
 -- The numbers of columns and the moments, above the lanes; the cycles of owners, below the strips.
 use Rattle.std.specs.Prelude.{ℕ, zero, suc, ◌+◌, ◌-◌, ◌*◌, ◌%◌, ◌==◌, ◌++◌, List, [], ◌∷◌, Option, None, Some, codes, decimal, length}
-use Rattle.std.specs.Prelude.{slice_get, nat_le, nat_lt, vec_items, map, if◌then◌else◌}
+use Rattle.std.specs.Prelude.{slice_get, nat_le, if◌then◌else◌}
+use Rattle.std.specs.Prelude.{Vec}
+use Rattle.std.specs.declared.alloc.Global.{Global}
 use Rattle.lock_word.specs.declared.ThreadId.{ThreadId}
 use Rattle.pictures.specs.declared.picture.Lane.{Lane}
 use Rattle.pictures.specs.declared.picture.MomentMark.{MomentMark}
@@ -92,13 +94,16 @@ abbrev pub stuck_below : Layout → List Lane → List ThreadId → ℕ → Node
 stuck_below l lanes cycle zero = Nothing
 stuck_below l lanes cycle (suc n) = Then (stuck_below l lanes cycle n) (stuck_in l lanes (slice_get cycle n))
 
-unfoldable pub cycle_in : Naming → Layout → List Lane → ℕ → Option (List ThreadId) → Node
-cycle_in naming l lanes n None = Nothing
-cycle_in naming l lanes n (Some cycle) =
+unfoldable pub cycle_parts : Naming → Layout → List Lane → ℕ → List ThreadId → Node
+cycle_parts naming l lanes n cycle =
     Then (cycle_node naming (strip_top l l.strips + 14 + 14 * n) cycle) (stuck_below l lanes cycle (length cycle))
 
+unfoldable pub cycle_at : Naming → Layout → List Lane → ℕ → Option (Vec ThreadId Global) → Node
+cycle_at naming l lanes n None = Nothing
+cycle_at naming l lanes n (Some cycle) = cycle_parts naming l lanes n cycle.items
+
 -- the first cycles
-abbrev pub cycles_below : Naming → Layout → List Lane → List (List ThreadId) → ℕ → Node
+abbrev pub cycles_below : Naming → Layout → List Lane → List (Vec ThreadId Global) → ℕ → Node
 cycles_below naming l lanes cycles zero = Nothing
 cycles_below naming l lanes cycles (suc n) =
-    Then (cycles_below naming l lanes cycles n) (cycle_in naming l lanes n (slice_get cycles n))
+    Then (cycles_below naming l lanes cycles n) (cycle_at naming l lanes n (slice_get cycles n))

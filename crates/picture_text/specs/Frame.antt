@@ -1,14 +1,15 @@
 -- The whole picture.
-use Rattle.std.specs.Prelude.{ℕ, ◌+◌, ◌-◌, ◌≤◌, List, [], ◌∷◌, ◌++◌, codes, length}
+use Rattle.std.specs.Prelude.{ℕ, ◌≤◌, List, [], ◌∷◌, ◌++◌, codes, length}
 use Rattle.pictures.specs.declared.picture.Picture.{Picture}
 use Rattle.picture_text.specs.declared.layout.Layout.{Layout}
 use Rattle.picture_text.specs.declared.naming.Naming.{Naming}
 use Rattle.picture_text.specs.declared.naming.Naming.TheVariants.{Names, Numbers}
 use Rattle.picture_text.specs.declared.frame.TheConstants.{DESCRIPTION, STYLE}
-use Rattle.picture_text.specs.Nodes.{Attribute, Node, Element, Words, Figure, Number, Numbered, Word, Nothing, Then, in_turn, node_text}
+use Rattle.picture_text.specs.Nodes.{Attribute, Node, Element, Words, Numbered, Nothing, Then, in_turn, node_text}
 use Rattle.picture_text.specs.Nodes.{Numbers as Row}
 use Rattle.picture_text.specs.Pieces.{box, number, title, word}
 use Rattle.picture_text.specs.Arrows.{arrows_below}
+use Rattle.picture_text.specs.Axis.{cycles_below, moments_below, numbers_below}
 use Rattle.picture_text.specs.Lanes.{lanes_below}
 use Rattle.picture_text.specs.Layout.{bottom_of, layout_of, right_of}
 use Rattle.picture_text.specs.Strips.{strips_below}
@@ -87,12 +88,14 @@ abbrev pub strip_height_of : Naming → ℕ
 strip_height_of (Names names) = 40
 strip_height_of Numbers = 28
 
--- strips and bars lie behind arrows
+-- arrows lie in front of strips and bars, and the numbers of columns behind all
 unfoldable pub body_node : Naming → Layout → Picture → Node
 body_node naming l p = in_turn (
-    lanes_below naming l p.lanes.items (length p.lanes.items)
+    numbers_below l l.columns ∷ moments_below l p.moments.items (length p.moments.items)
+    ∷ lanes_below naming l p.lanes.items (length p.lanes.items)
     ∷ strips_below naming l p.lanes.items p.strips.items (length p.strips.items)
-    ∷ arrows_below naming l p.lanes.items p.arrows.items (length p.arrows.items) ∷ [])
+    ∷ arrows_below naming l p.lanes.items p.arrows.items (length p.arrows.items)
+    ∷ cycles_below naming l p.lanes.items p.cycles.items (length p.cycles.items) ∷ [])
 
 abbrev pub picture_in : Naming → Layout → Picture → Node
 picture_in naming l p =

@@ -1,5 +1,5 @@
 -- The calls of a thread and its replies, each at its column.
-use Rattle.std.specs.Prelude.{ℕ, zero, suc, ◌+◌, ◌-◌, ◌*◌, Bool, true, false, List, [], ◌∷◌, Option, None, Some, codes}
+use Rattle.std.specs.Prelude.{ℕ, zero, suc, ◌+◌, ◌-◌, Bool, true, false, List, [], ◌∷◌, Option, None, Some, codes}
 use Rattle.std.specs.Prelude.{slice_get, if◌then◌else◌}
 use Rattle.lock_word.specs.declared.ThreadId.{ThreadId}
 use Rattle.fat_monitor.specs.declared.actions.Reply.{Reply}

@@ -1,5 +1,5 @@
 -- How threads, objects, calls and replies are named in a picture.
-use Rattle.std.specs.Prelude.{ℕ, List, [], ◌∷◌, ◌++◌, codes, decimal}
+use Rattle.std.specs.Prelude.{ℕ, List, ◌++◌, codes, decimal}
 use Rattle.std.specs.List.{join_with_byte}
 use Rattle.lock_word.specs.declared.ObjectId.{ObjectId}
 use Rattle.lock_word.specs.declared.ThreadId.{ThreadId}
@@ -13,15 +13,15 @@ use Rattle.history.specs.NameLists.{name_at}
 use Rattle.dump.specs.Reports.{named_call}
 use Rattle.picture_text.specs.declared.naming.Naming.{Naming}
 use Rattle.picture_text.specs.declared.naming.Naming.TheVariants.{Names, Numbers}
-use Rattle.picture_text.specs.Nodes.{Node, Words, Figure}
+use Rattle.picture_text.specs.Nodes.{Node, Words, Figure, Then}
 
 unfoldable pub thread_node : Naming → ThreadId → Node
 thread_node (Names names) t = Words (name_at names.now.threads t.0)
-thread_node Numbers t = Figure t.0
+thread_node Numbers t = Then (Words (codes "thread ")) (Figure t.0)
 
 unfoldable pub object_node : Naming → ObjectId → Node
 object_node (Names names) o = Words (name_at names.now.objects o.0)
-object_node Numbers o = Figure o.0
+object_node Numbers o = Then (Words (codes "object ")) (Figure o.0)
 
 -- what a thread and an object are called beside their lanes and strips
 abbrev pub thread_words : Naming → ThreadId → List ℕ

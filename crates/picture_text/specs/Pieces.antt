@@ -1,6 +1,6 @@
 -- Attributes and elements of which a picture is made.
-use Rattle.std.specs.Prelude.{ℕ, List, [], ◌∷◌, ◌++◌, codes}
-use Rattle.picture_text.specs.Nodes.{Attribute, Number, Word, Numbered, Node, Element, Words, Nothing}
+use Rattle.std.specs.Prelude.{ℕ, List, [], ◌∷◌, codes}
+use Rattle.picture_text.specs.Nodes.{Attribute, Number, Word, Numbered, Node, Element, Nothing}
 
 abbrev pub number : List ℕ → ℕ → Attribute
 number name n = record { name = name; value = Number n }

@@ -1,5 +1,5 @@
 -- What a thread is doing, drawn from column to column.
-use Rattle.std.specs.Prelude.{ℕ, zero, suc, ◌+◌, ◌-◌, ◌*◌, Bool, true, false, List, [], ◌∷◌, Option, None, Some, codes, min}
+use Rattle.std.specs.Prelude.{ℕ, zero, suc, ◌+◌, ◌-◌, Bool, true, false, List, [], ◌∷◌, Option, None, Some, codes, min}
 use Rattle.std.specs.Prelude.{slice_get, nat_lt, if◌then◌else◌}
 use Rattle.lock_word.specs.declared.ObjectId.{ObjectId}
 use Rattle.lock_word.specs.declared.ThreadId.{ThreadId}
@@ -16,7 +16,7 @@ use Rattle.pictures.specs.declared.picture.Span.{Span}
 use Rattle.picture_text.specs.declared.layout.Layout.{Layout}
 use Rattle.picture_text.specs.declared.layout.Stretch.{Stretch}
 use Rattle.picture_text.specs.declared.naming.Naming.{Naming}
-use Rattle.picture_text.specs.Nodes.{Node, Element, Words, Figure, Nothing, Then, in_turn}
+use Rattle.picture_text.specs.Nodes.{Node, Words, Figure, Nothing, Then, in_turn}
 use Rattle.picture_text.specs.Pieces.{box, label, line, title}
 use Rattle.picture_text.specs.Labels.{cut_label, room_in}
 use Rattle.picture_text.specs.Layout.{x_at, width_of}
@@ -90,9 +90,9 @@ unfoldable pub doing_shape : Naming → Layout → ThreadId → Doing → Stretc
 doing_shape naming l t act s top =
     if is_idle act then idle_node naming l t act s top else state_node naming l t act s top
 
--- a mark at the beginning, where there is room for it
+-- a mark at the right end, where there is room for it
 unfoldable pub flag_mark : ℕ → ℕ → ℕ → Node
-flag_mark x y width = if nat_lt width 8 then Nothing else label (codes "mark") x y (Words (codes "!"))
+flag_mark x y width = if nat_lt width 8 then Nothing else label (codes "mark") (x + width - 8) y (Words (codes "!"))
 
 unfoldable pub flag_title : Naming → Layout → ThreadId → Stretch → Node
 flag_title naming l t s = title (in_turn (thread_node naming t ∷ Words (codes " interrupted") ∷ columns_node l s ∷ []))
@@ -101,7 +101,7 @@ unfoldable pub flag_node : Naming → Layout → ThreadId → Bool → Stretch �
 flag_node naming l t false s top = Nothing
 flag_node naming l t true s top = in_turn (
     box (codes "flag") (x_at l s.from) (top + 34) (width_of l s) 3 (flag_title naming l t s)
-    ∷ flag_mark (x_at l s.from) (top + 34) (width_of l s) ∷ [])
+    ∷ flag_mark (x_at l s.from) (top + 31) (width_of l s) ∷ [])
 
 abbrev pub live_node : Naming → Layout → ThreadId → Live → Stretch → ℕ → Node
 live_node naming l t live s top =

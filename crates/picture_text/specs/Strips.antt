@@ -5,7 +5,6 @@ use Rattle.lock_word.specs.declared.ObjectId.{ObjectId}
 use Rattle.lock_word.specs.declared.ThreadId.{ThreadId}
 use Rattle.lock_word.specs.declared.Word.{Word}
 use Rattle.lock_word.specs.Names.{word_text}
-use Rattle.jls_check.specs.declared.monitors.Held.{Held}
 use Rattle.pictures.specs.declared.picture.Lane.{Lane}
 use Rattle.pictures.specs.declared.picture.Strip.{Strip}
 use Rattle.pictures.specs.declared.picture.StripSpan.{StripSpan}

@@ -4,7 +4,8 @@ ghost use Rattle.std.specs.Prelude.{◌≡◌, ◌≤◌, ◌<◌, ℕ, ◌++◌
 ghost use Rattle.std.specs.Prelude.{slice_get, string_bytes};
 ghost use Rattle.std.specs.HashMap.{get as map_get};
 ghost use Rattle.picture_text.specs.Arrows.{arrow_between, arrow_in, arrow_look, arrow_node};
-ghost use Rattle.picture_text.specs.Arrows.{arrow_title, arrow_words, arrows_below, ends_at, leaves_at};
+ghost use Rattle.picture_text.specs.Arrows.{arrow_title, arrow_words};
+ghost use Rattle.picture_text.specs.Arrows.{arrows_below, ends_at, leaves_at};
 ghost use Rattle.picture_text.specs.Layout.{Fits};
 ghost use Rattle.picture_text.specs.Nodes.{node_text};
 ghost use Rattle.picture_text.specs.Positions.{position_in};

@@ -2,7 +2,8 @@
 
 ghost use Rattle.std.specs.Prelude.{◌≡◌, ◌++◌, ◌∷◌, [], OnOk, codes, string_bytes};
 ghost use Rattle.picture_text.specs.Nodes.{escaped, opening, closing};
-ghost use Rattle.picture_text.specs.Pieces.{bar_attributes, box_attributes, line_attributes, place_attributes};
+ghost use Rattle.picture_text.specs.Pieces.{bar_attributes, box_attributes};
+ghost use Rattle.picture_text.specs.Pieces.{line_attributes, place_attributes};
 ghost use Rattle.picture_text.specs.Pieces.{word};
 
 use crate::escapes::put_escaped;

@@ -3,7 +3,8 @@
 ghost use Rattle.std.specs.Prelude.{◌≡◌, ◌≤◌, ◌++◌, ◌∷◌, [], IfOk, OnOk, codes, length};
 ghost use Rattle.std.specs.Prelude.{string_bytes};
 ghost use Rattle.picture_text.specs.Frame.{IsDrawable, about_node, body_node, defs_node};
-ghost use Rattle.picture_text.specs.Frame.{description_words, first_patterns, ground_node, head_node};
+ghost use Rattle.picture_text.specs.Frame.{description_words, first_patterns};
+ghost use Rattle.picture_text.specs.Frame.{ground_node, head_node};
 ghost use Rattle.picture_text.specs.Frame.{last_patterns, style_node};
 ghost use Rattle.picture_text.specs.Frame.{marker_attributes, marker_node, markers_node};
 ghost use Rattle.picture_text.specs.Frame.{path_attributes, pattern_attributes};
@@ -13,6 +14,8 @@ ghost use Rattle.picture_text.specs.Layout.{Fits, layout_of};
 ghost use Rattle.picture_text.specs.Nodes.{escaped, node_text, opening};
 
 use crate::arrows::put_arrows;
+use crate::axis::{put_moments, put_numbers};
+use crate::cycles::put_cycles;
 use crate::elements::{Place, begin, begin_box, begin_look, end};
 use crate::escapes::put_escaped;
 use crate::lanes::put_lanes;
@@ -44,7 +47,10 @@ pub(crate) const STYLE: &str =
 .notify{stroke:#06c;stroke-width:2;marker-end:url(#a0)}\
 .interrupt{stroke:#c00;stroke-width:2;stroke-dasharray:2 2;marker-end:url(#a1)}\
 .handover{stroke:#080;stroke-width:1;stroke-dasharray:7 3;marker-end:url(#a2)}\
-.p0{fill:url(#p0);stroke:#000}.p1{fill:url(#p1);stroke:#000}.p2{fill:url(#p2);stroke:#000}.p3{fill:url(#p3);stroke:#000}.p4{fill:url(#p4);stroke:#000}.p5{fill:url(#p5);stroke:#000}.p6{fill:url(#p6);stroke:#000}.p7{fill:url(#p7);stroke:#000}";
+.p0{fill:url(#p0);stroke:#000}.p1{fill:url(#p1);stroke:#000}\
+.p2{fill:url(#p2);stroke:#000}.p3{fill:url(#p3);stroke:#000}\
+.p4{fill:url(#p4);stroke:#000}.p5{fill:url(#p5);stroke:#000}\
+.p6{fill:url(#p6);stroke:#000}.p7{fill:url(#p7);stroke:#000}";
 
 /// Writes the description.
 #[tactic(auto, unfolding(crate::specs::Frame::description_words))]
@@ -272,7 +278,7 @@ fn layout_of(picture: &Picture, strip_height: u64) -> Layout
     }
 }
 
-/// Writes lanes, strips and arrows.
+/// Writes all that is drawn.
 #[tactic(auto, unfolding(crate::specs::Frame::body_node))]
 fn put_body(
     alloc: Global,
@@ -286,25 +292,15 @@ fn put_body(
     ensures { OnOk result (string_bytes text.new ≡ string_bytes text.old
         ++ node_text (body_node naming.now layout picture.now)) }
 {
-    let positions = positions(alloc, &picture.lanes)?;
-    put_lanes(alloc, text, naming, layout, &picture.lanes)?;
-    put_strips(
-        alloc,
-        text,
-        naming,
-        layout,
-        &picture.strips,
-        &positions,
-        &picture.lanes,
-    )?;
-    put_arrows(
-        text,
-        naming,
-        layout,
-        &picture.arrows,
-        &positions,
-        &picture.lanes,
-    )
+    let lanes = &picture.lanes;
+    let map = positions(alloc, lanes)?;
+    put_numbers(text, layout)?;
+    put_moments(alloc, text, layout, &picture.moments)?;
+    put_lanes(alloc, text, naming, layout, lanes)?;
+    let strips = &picture.strips;
+    put_strips(alloc, text, naming, layout, strips, &map, lanes)?;
+    put_arrows(text, naming, layout, &picture.arrows, &map, lanes)?;
+    put_cycles(text, naming, layout, &picture.cycles, &map, lanes)
 }
 
 /// The text of a picture: one SVG 1.1 file, of at most 20,000 columns, 200 lanes, 200 strips and

@@ -278,13 +278,8 @@ fn put_reply(
         x: left,
         y: top + 10,
     };
-    put_cut_label(
-        text,
-        "label",
-        at,
-        room_in(limit.saturating_sub(left)),
-        &words,
-    )?;
+    let room = room_in(limit.saturating_sub(left));
+    put_cut_label(text, "label", at, room, &words)?;
     end(text, "g")
 }
 
@@ -326,7 +321,8 @@ pub(crate) fn put_replies(
     requires fits { Fits layout }
     requires top { top ≤ 400_000 }
     ensures { OnOk result (string_bytes text.new ≡ string_bytes text.old
-        ++ node_text (replies_below naming.now layout thread top replies.now (length replies.now))) }
+        ++ node_text (replies_below naming.now layout thread top replies.now
+        (length replies.now))) }
 {
     'replies: for number in 0..replies.len() {
         put_reply_at(alloc, text, naming, layout, thread, replies, number, top)?;

@@ -8,7 +8,7 @@ ghost use Rattle.picture_text.specs.Naming.{thread_node, thread_words};
 ghost use Rattle.picture_text.specs.Nodes.{escaped, node_text};
 ghost use Rattle.fat_monitor.specs.Names.{reply_name};
 
-use crate::escapes::put_escaped;
+use crate::escapes::{put_counted, put_escaped};
 use dump::put_call;
 use fast_path::Call;
 use fat_monitor::Reply;
@@ -37,7 +37,7 @@ pub(crate) fn put_thread(
 {
     match naming {
         Naming::Names(names) => put_escaped(text, names.name_of_thread(thread)),
-        Naming::Numbers => write!(text, "{}", thread.0),
+        Naming::Numbers => put_counted(text, "thread ", u64::from(thread.0)),
     }
 }
 
@@ -53,7 +53,7 @@ pub(crate) fn put_object(
 {
     match naming {
         Naming::Names(names) => put_escaped(text, names.name_of_object(object)),
-        Naming::Numbers => write!(text, "{}", object.0),
+        Naming::Numbers => put_counted(text, "object ", u64::from(object.0)),
     }
 }
 

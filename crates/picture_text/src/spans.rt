@@ -3,8 +3,10 @@
 ghost use Rattle.std.specs.Prelude.{◌≡◌, ◌≤◌, ◌++◌, OnOk, length, slice_get, string_bytes};
 ghost use Rattle.picture_text.specs.Layout.{Fits};
 ghost use Rattle.picture_text.specs.Nodes.{node_text};
-ghost use Rattle.picture_text.specs.Spans.{back_node, columns_node, doing_look, doing_node, doing_shape};
-ghost use Rattle.picture_text.specs.Spans.{end_from, flag_title, has_node, span_from, waits_node, wants_node};
+ghost use Rattle.picture_text.specs.Spans.{back_node, columns_node};
+ghost use Rattle.picture_text.specs.Spans.{doing_look, doing_node, doing_shape};
+ghost use Rattle.picture_text.specs.Spans.{end_from, flag_title, has_node};
+ghost use Rattle.picture_text.specs.Spans.{span_from, waits_node, wants_node};
 ghost use Rattle.picture_text.specs.Spans.{flag_mark, flag_node, idle_node, is_idle, span_node};
 ghost use Rattle.picture_text.specs.Spans.{span_title, spans_below, state_node, why_words};
 
@@ -315,19 +317,25 @@ fn put_flag(
     begin_box(text, "flag", corner, width, 3)?;
     put_flag_title(text, naming, layout, thread, stretch)?;
     end(text, "rect")?;
-    put_flag_mark(text, corner, width)
+    put_flag_mark(text, Place { x, y: top + 31 }, width)
 }
 
 /// Writes the mark of an interrupt, where there is room for it.
 #[tactic(auto, unfolding(crate::specs::Spans::flag_mark))]
 fn put_flag_mark(text: &mut String, at: Place, width: u64) -> Result<(), AllocError>
+    requires x { at.x ≤ 2_000_000 }
+    requires width { width ≤ 2_000_000 }
     ensures { OnOk result (string_bytes text.new
         ≡ string_bytes text.old ++ node_text (flag_mark at.x at.y width)) }
 {
     if width < 8 {
         return Ok(());
     }
-    begin_label(text, "mark", at)?;
+    let right = Place {
+        x: at.x + width - 8,
+        y: at.y,
+    };
+    begin_label(text, "mark", right)?;
     put_escaped(text, "!")?;
     end(text, "text")
 }

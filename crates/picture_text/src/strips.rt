@@ -9,7 +9,8 @@ ghost use Rattle.picture_text.specs.Nodes.{node_text};
 ghost use Rattle.picture_text.specs.Positions.{position_in, position_of};
 ghost use Rattle.picture_text.specs.Strips.{bar_node, bar_where, count_node, free_node, free_title};
 ghost use Rattle.picture_text.specs.Strips.{held_node, kind_words, legend_node, owned_node};
-ghost use Rattle.picture_text.specs.Strips.{owner_words, owns_title, strip_at, strip_below, strip_end};
+ghost use Rattle.picture_text.specs.Strips.{owner_words, owns_title};
+ghost use Rattle.picture_text.specs.Strips.{strip_at, strip_below, strip_end};
 ghost use Rattle.picture_text.specs.Strips.{strip_from, strip_node, strip_span, strips_below};
 ghost use Rattle.picture_text.specs.Strips.{word_node};
 
@@ -124,7 +125,8 @@ fn put_bar_where(
         → map_get nat_eq positions.now q ≡ position_in lanes.now (length lanes.now) q }
     requires lanes { length lanes.now ≤ 200 }
     ensures { OnOk result (string_bytes text.new ≡ string_bytes text.old
-        ++ node_text (bar_where naming.now layout number object thread count stretch (position_of lanes.now thread))) }
+        ++ node_text (bar_where naming.now layout number object thread count stretch
+        (position_of lanes.now thread))) }
 {
     match position_of(positions, lanes, thread) {
         Some(lane) => {
@@ -262,7 +264,8 @@ fn put_held(
         → map_get nat_eq positions.now q ≡ position_in lanes.now (length lanes.now) q }
     requires lanes { length lanes.now ≤ 200 }
     ensures { OnOk result (string_bytes text.new ≡ string_bytes text.old
-        ++ node_text (held_node naming.now layout lanes.now number object held.owner held.count stretch)) }
+        ++ node_text (held_node naming.now layout lanes.now number object
+        held.owner held.count stretch)) }
 {
     match held.owner {
         Some(thread) => {
@@ -375,7 +378,8 @@ fn put_strip_from(
         → map_get nat_eq positions.now q ≡ position_in lanes.now (length lanes.now) q }
     requires lanes { length lanes.now ≤ 200 }
     ensures { OnOk result (string_bytes text.new ≡ string_bytes text.old
-        ++ node_text (strip_from naming.now layout lanes.now number object from (slice_get spans.now index))) }
+        ++ node_text (strip_from naming.now layout lanes.now number object from
+        (slice_get spans.now index))) }
 {
     match spans.get(index) {
         Some(span) => {
@@ -421,7 +425,8 @@ fn put_strip_spans(
         → map_get nat_eq positions.now q ≡ position_in lanes.now (length lanes.now) q }
     requires lanes { length lanes.now ≤ 200 }
     ensures { OnOk result (string_bytes text.new ≡ string_bytes text.old
-        ++ node_text (strip_below naming.now layout lanes.now number object spans.now (length spans.now))) }
+        ++ node_text (strip_below naming.now layout lanes.now number object spans.now
+        (length spans.now))) }
 {
     let mut from = 0u64;
     'spans: for index in 0..spans.len() {

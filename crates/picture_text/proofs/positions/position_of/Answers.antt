@@ -1,5 +1,4 @@
-use Rattle.std.proofs.Common.{◌≡◌, ◌∙◌, length}
-use Rattle.picture_text.specs.Positions.{position_in}
+use Rattle.std.proofs.Common.{◌∙◌, length}
 use Rattle.picture_text.proofs.Stand.{positions_small}
 use Rattle.picture_text.proofs.positions.position_of.Goals as goal
 
