@@ -114,6 +114,14 @@ run_explored() {
     if [ "$status" = 0 ]; then judge well; else judge wrong "the programs that are explored"; fi
 }
 
+# The examples, drawn, and read by another reader of XML, where there is a Python to run it.
+run_drawn() {
+    command -v python3 >/dev/null || { echo "skipped: the drawn examples, since there is no python3"; return; }
+    status=0
+    python3 drawn.py "$program" >"$made/written" 2>"$made/told" || status=$?
+    if [ "$status" = 0 ]; then judge well; else judge wrong "the examples that are drawn"; fi
+}
+
 for program in ../crates/thinmon/out/thinmon ../crates/thinmon/out/thinmon.by-rattle; do
     [ -x "$program" ] || { echo "orders: ${program##*/} is not there: run rt ci first"; exit 1; }
     program=$(realpath "$program")
@@ -122,6 +130,7 @@ for program in ../crates/thinmon/out/thinmon ../crates/thinmon/out/thinmon.by-ra
     run_bytes
     run_full
     run_explored
+    run_drawn
 done
 echo "orders: $passed as wanted, $failed not"
 [ "$failed" = 0 ]

@@ -7,6 +7,7 @@ use super::pieces::{FullWriter, PiecesReader, Then};
 use super::programs::{ONE_ENTER, ONE_REPORT};
 use super::streams::{HISTORY, REPORT, SCRIPT};
 use command_line::Task;
+use drawing::{DrawFault, draw_moves, draw_script};
 use dump::dump_script;
 use explore_runs::{ExploreTextFault, explore_text};
 use history::{FileFault, ReaderSource, WriterSink, moves, replay, run};
@@ -28,7 +29,7 @@ struct Row {
     outcome: Result<&'static [u8], FileFault>,
 }
 
-const ROWS: [Row; 12] = [
+const ROWS: [Row; 14] = [
     Row {
         task: Task::Run,
         text: SCRIPT,
@@ -89,6 +90,16 @@ const ROWS: [Row; 12] = [
         text: b"world 1 1\nthread x\ngo x\n",
         outcome: Err(FileFault::BadLine(3)),
     },
+    Row {
+        task: Task::Draw,
+        text: b"world 4 4\ngo\n",
+        outcome: Err(FileFault::BadLine(2)),
+    },
+    Row {
+        task: Task::DrawMoves,
+        text: LOCKS_TWICE,
+        outcome: Err(FileFault::Broken(5)),
+    },
 ];
 
 /// Does a task on what the reader gives; or tells its fault, which is one of files.
@@ -116,6 +127,17 @@ fn do_task<R: Threads + Wait + Clock + Sync + Abort>(
             Err(ExploreTextFault::File(fault)) => Err(fault),
             Err(ExploreTextFault::TooManyStates(most)) => panic!(rt; "more than {most} states"),
         },
+        Task::Draw => fault_of_files(rt, draw_script(alloc, source, sink)),
+        Task::DrawMoves => fault_of_files(rt, draw_moves(alloc, source, sink)),
+    }
+}
+
+/// How a drawing ends that is small enough.
+fn fault_of_files(rt: &impl Abort, ending: Result<(), DrawFault>) -> Result<(), FileFault> {
+    match ending {
+        Ok(()) => Ok(()),
+        Err(DrawFault::File(fault)) => Err(fault),
+        Err(fault) => panic!(rt; "{fault}"),
     }
 }
 

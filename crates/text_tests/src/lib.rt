@@ -9,6 +9,8 @@ mod bad_lines;
 #[cfg(test)]
 mod checks;
 #[cfg(test)]
+mod drawings;
+#[cfg(test)]
 mod dumps;
 #[cfg(test)]
 mod ends;

@@ -18,7 +18,7 @@ pub(crate) fn words_of(alloc: Global, line: &str) -> Result<Vec<String>, AllocEr
 }
 
 /// A line of words, and the order that it is read as: its task and its file.
-const ORDERS: [(&str, Task, Option<&str>); 18] = [
+const ORDERS: [(&str, Task, Option<&str>); 22] = [
     ("run", Task::Run, None),
     ("run x.script", Task::Run, Some("x.script")),
     ("run -", Task::Run, Some("-")),
@@ -37,6 +37,10 @@ const ORDERS: [(&str, Task, Option<&str>); 18] = [
     ("live x.script", Task::Live, Some("x.script")),
     ("explore", Task::Explore, None),
     ("explore x.program", Task::Explore, Some("x.program")),
+    ("draw", Task::Draw, None),
+    ("draw x.script", Task::Draw, Some("x.script")),
+    ("draw --moves x.history", Task::DrawMoves, Some("x.history")),
+    ("draw draw --moves", Task::DrawMoves, Some("draw")),
 ];
 
 /// Whether a line of words is read as this order.
