@@ -41,17 +41,17 @@ class Names:
         self.threads, self.objects = threads, objects
 
     def thread(self, number):
-        return self.threads[number] if self.threads is not None else str(number)
+        return self.threads[number] if self.threads is not None else f"thread {number}"
 
     def object(self, number):
-        return self.objects[number] if self.objects is not None else str(number)
+        return self.objects[number] if self.objects is not None else f"object {number}"
 
     def call(self, move):
         words = [move["call"].lower()]
         if "object" in move:
-            words.append(self.object(move["object"]))
+            words.append(self.object(move["object"]).split()[-1])
         if "target" in move:
-            words.append(self.thread(move["target"]))
+            words.append(self.thread(move["target"]).split()[-1])
         if move["call"] == "Wait":
             words += [str(move["millis"]), str(move["nanos"])]
         return " ".join(words)

@@ -18,10 +18,10 @@ const SCRIPT_WORDS: [&[u8]; 4] = [
 
 /// And those of its history, in which a column is a move.
 const HISTORY_WORDS: [&[u8]; 4] = [
-    b"<title>0 is in no call, columns 1 to 1</title>",
-    b"<title>0 calls enter 0, column 2</title>",
-    b"<title>0 returns with Entered, column 4</title>",
-    b"<title>0 owns 0 x1, columns 3 to 4</title>",
+    b"<title>thread 0 is in no call, columns 1 to 1</title>",
+    b"<title>thread 0 calls enter 0, column 2</title>",
+    b"<title>thread 0 returns with Entered, column 4</title>",
+    b"<title>thread 0 owns object 0 x1, columns 3 to 4</title>",
 ];
 
 /// Whether some bytes have these in them.
