@@ -66,7 +66,8 @@ class Machine:
 
     def wakes(self, move):
         """Whom a notify takes out of the wait set, or an interrupt meets."""
-        call = self.acts.get(move.get("thread"), (None, None))[1]
+        act = self.acts.get(move.get("thread"), ("idle",))
+        call = act[1] if act[0] == "wants" else None
         if move["move"] == "Notify":
             return "wakes", [move["chosen"]] if move["chosen"] is not None else []
         if move["move"] == "NotifyAll":
@@ -183,7 +184,7 @@ def titles_of(names, columns):
                 reply = " ".join([move["reply"], *([move["cause"]] if "cause" in move else [])])
                 titles[f"{t} returns with {reply}, column {number}"] += 1
             elif move["move"] == "Time":
-                titles[f"{move['now']} ns, column {number}"] += 1
+                titles[f"{move['now']} ns"] += 1
         for thread in threads:
             acts[thread].append(machine.acts.get(thread))
             flags[thread].append((machine.acts.get(thread), machine.flags.get(thread, False)))
