@@ -1,15 +1,15 @@
 -- Columns that were played, and those that are left.
-use Rattle.std.proofs.Common.{◌≡◌, ℕ, zero, suc, ◌+◌, ◌<◌, ◌≤◌, ◌^◌, List, [], ◌∷◌, ◌++◌, length, length-append, map, refl, sym, ap, ◌∙◌, subst, append_assoc, append-nil, arith}
+use Rattle.std.proofs.Common.{◌≡◌, ℕ, suc, ◌+◌, ◌<◌, ◌≤◌, ◌^◌, List, [], ◌∷◌, ◌++◌, length, length-append, refl, sym, ap, ◌∙◌, subst, append_assoc, append-nil, arith}
 use Rattle.std.proofs.lemmas.List.{map-append, length-map}
 use Rattle.lock_word.specs.declared.ThreadId.{ThreadId}
 use Rattle.step_core.specs.declared.machine.Move.{Move}
-use Rattle.step_core.specs.Machine.{State, Steps, Run, opening}
+use Rattle.step_core.specs.Machine.{State, Run, opening}
 use Rattle.history_check.proofs.OneNext.{one_next}
 use Rattle.pictures.specs.declared.columns.Column.{Column}
 use Rattle.pictures.specs.declared.picture.Arrow.{Arrow}
 use Rattle.pictures.specs.declared.picture.Lane.{Lane}
 use Rattle.pictures.specs.declared.picture.Strip.{Strip}
-use Rattle.pictures.specs.Arrows.{arrows_of, Tells, Follow}
+use Rattle.pictures.specs.Arrows.{Tells, Follow}
 use Rattle.pictures.specs.Marks.{moves_in}
 use Rattle.pictures.specs.Spans.{covered, strip_covered, said_of, kept_of, IsMarked, AllMarked, IsMarkedStrip, AllMarkedStrips}
 use Rattle.pictures.specs.Pictures.{all_moves, IsLane, AreLanes, IsStrip, AreStrips, AreShort}

@@ -1,5 +1,5 @@
 -- Moves that were played, and those that are left.
-use Rattle.std.proofs.Common.{◌≡◌, ℕ, ◌+◌, List, [], ◌∷◌, ◌++◌, length, Option, Some, None, refl, sym, ap, ◌∙◌, subst, append_assoc, append-nil}
+use Rattle.std.proofs.Common.{◌≡◌, ℕ, List, [], ◌∷◌, ◌++◌, Option, Some, None, refl, sym, ap, ◌∙◌, subst, append_assoc, append-nil}
 use Rattle.lock_word.specs.declared.ThreadId.{ThreadId}
 use Rattle.step_core.specs.declared.machine.Move.{Move}
 use Rattle.step_core.specs.Machine.{State, Steps, Run}

@@ -1,5 +1,5 @@
 -- The calls, replies and moments of a list of columns, each at its column.
-use Rattle.std.specs.Prelude.{ℕ, ◌+◌, List, [], ◌∷◌, ◌++◌, ◌==◌, if◌then◌else◌, Bool, Option, Some, None}
+use Rattle.std.specs.Prelude.{ℕ, ◌+◌, List, [], ◌∷◌, ◌++◌, ◌==◌, if◌then◌else◌, Option, Some}
 use Rattle.std.specs.List.{flat_map}
 use Rattle.lock_word.specs.declared.ThreadId.{ThreadId}
 use Rattle.step_core.specs.declared.machine.Move.{Move}

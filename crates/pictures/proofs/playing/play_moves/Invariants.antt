@@ -1,4 +1,4 @@
-use Rattle.std.proofs.Common.{◌≡◌, ◌++◌, List, take, drop}
+use Rattle.std.proofs.Common.{take, drop}
 use Rattle.jls_check.specs.MachineState.{state}
 use Rattle.pictures.proofs.Follows.{IsPlayed}
 use Rattle.pictures.proofs.playing.play_moves.Given as goal
