@@ -2,7 +2,7 @@
 use Rattle.std.proofs.Common.{◌≡◌, ℕ, ◌+◌, ◌<◌, List, [], ◌∷◌, ◌++◌, length, take, get_or, refl, sym, ap, subst}
 use Rattle.step_core.specs.declared.machine.Move.{Move}
 use Rattle.step_core.specs.declared.steps.Request.{Request}
-use Rattle.step_core.specs.Machine.{State, Run, Steps}
+use Rattle.step_core.specs.Machine.{State, Run}
 use Rattle.step_core.specs.Shown.{shown}
 use Rattle.step_core.specs.World.{WorldState}
 use Rattle.pictures.specs.declared.columns.Column.{Column}

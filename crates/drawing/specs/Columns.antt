@@ -1,5 +1,5 @@
 -- The columns of a script, one for each step or relayout, and of a history, one for each move.
-use Rattle.std.specs.Prelude.{◌≡◌, ℕ, List, [], ◌∷◌, Bool, Option, Some, None, map as list_map}
+use Rattle.std.specs.Prelude.{◌≡◌, List, [], ◌∷◌, Bool, Some, None, map as list_map}
 use Rattle.step_core.specs.declared.machine.Move.{Move}
 use Rattle.step_core.specs.declared.steps.Request.{Request}
 use Rattle.step_core.specs.Machine.{Run}
