@@ -6,34 +6,36 @@ use drawing::{DrawFault, draw_moves, draw_script};
 use history::{FileFault, ReaderSource, WriterSink};
 use std::alloc::Global;
 use std::process::Abort;
+use std::str;
 use std::test::Fail;
 
 /// Words that the picture of the script has to have, for what its thread does.
-const SCRIPT_WORDS: [&[u8]; 4] = [
-    b"<title>x is in no call, columns 1 to 1</title>",
-    b"<title>x calls enter a, column 2</title>",
-    b"<title>x returns with Entered, column 4</title>",
-    b"<title>a is free, columns 1 to 3</title>",
+const SCRIPT_WORDS: [&str; 4] = [
+    "<title>x is in no call, columns 1 to 1</title>",
+    "<title>x calls enter a, column 2</title>",
+    "<title>x returns with Entered, column 4</title>",
+    "<title>a is free, columns 1 to 3</title>",
 ];
 
 /// And those of its history, in which a column is a move.
-const HISTORY_WORDS: [&[u8]; 4] = [
-    b"<title>thread 0 is in no call, columns 1 to 1</title>",
-    b"<title>thread 0 calls enter 0, column 2</title>",
-    b"<title>thread 0 returns with Entered, column 4</title>",
-    b"<title>thread 0 owns object 0 x1, columns 3 to 4</title>",
+const HISTORY_WORDS: [&str; 4] = [
+    "<title>thread 0 is in no call, columns 1 to 1</title>",
+    "<title>thread 0 calls enter 0, column 2</title>",
+    "<title>thread 0 returns with Entered, column 4</title>",
+    "<title>thread 0 owns object 0 x1, columns 3 to 4</title>",
 ];
 
-/// Whether some bytes have these in them.
-fn has(bytes: &[u8], wanted: &[u8]) -> bool {
-    bytes.windows(wanted.len()).any(|window| window == wanted)
-}
-
 /// Whether bytes are the text of one element with these words in it.
-fn is_picture(bytes: &[u8], words: &[&[u8]]) -> bool {
-    bytes.starts_with(b"<svg ")
-        && bytes.ends_with(b"</svg>\n")
-        && words.iter().all(|wanted| has(bytes, wanted))
+fn is_picture(bytes: &[u8], words: &[&str]) -> bool {
+    let Ok(text) = str::from_utf8(bytes) else {
+        return false;
+    };
+    for wanted in words {
+        if !text.contains(*wanted) {
+            return false;
+        }
+    }
+    text.starts_with("<svg ") && text.ends_with("</svg>\n")
 }
 
 /// Whether a script is drawn. Where it is not, memory was refused, and nothing was written; or the
