@@ -39,7 +39,8 @@ NamesBy plan (Names names) = names.now ≡ plan.names
 NamesBy plan Numbers = ⊥
 
 -- The picture of the columns that lead to a world, with the cycles of owners there.
-pub record IsPlayedDrawing (naming : Naming) (objects : ℕ) (world : WorldState) (columns : List Column) (text : List ℕ) : Type 0 where
+pub record IsPlayedDrawing (naming : Naming) (objects : ℕ) (world : WorldState) (columns : List Column)
+    (text : List ℕ) : Type 0 where
   pub picture : Picture
   pub is_picture : IsPicture objects columns picture
   pub drawn : Picture

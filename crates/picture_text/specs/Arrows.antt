@@ -38,7 +38,8 @@ ends_at l a b = if nat_lt b a then lane_top l b + 32 else lane_top l b + 14
 
 unfoldable pub arrow_node : Naming → Layout → Arrow → ℕ → ℕ → Node
 arrow_node naming l arrow a b =
-    line (arrow_look arrow.kind) (middle_at l arrow.from_column) (leaves_at l a b) (middle_at l arrow.to_column) (ends_at l a b)
+    line (arrow_look arrow.kind) (middle_at l arrow.from_column) (leaves_at l a b)
+    (middle_at l arrow.to_column) (ends_at l a b)
     (arrow_title naming l arrow)
 
 -- nothing where one of the two has no lane

@@ -1,5 +1,6 @@
 -- The numbers of columns and the moments, above the lanes; the cycles of owners, below the strips.
-use Rattle.std.specs.Prelude.{ℕ, zero, suc, ◌+◌, ◌-◌, ◌*◌, ◌%◌, ◌==◌, ◌++◌, List, [], ◌∷◌, Option, None, Some, codes, decimal, length}
+use Rattle.std.specs.Prelude.{ℕ, zero, suc, ◌+◌, ◌-◌, ◌*◌, ◌%◌, ◌==◌, ◌++◌, List, [], ◌∷◌, Option, None, Some}
+use Rattle.std.specs.Prelude.{codes, decimal, length}
 use Rattle.std.specs.Prelude.{slice_get, nat_le, if◌then◌else◌}
 use Rattle.std.specs.Prelude.{Vec}
 use Rattle.std.specs.declared.alloc.Global.{Global}
@@ -48,7 +49,8 @@ unfoldable pub moment_node : Layout → ℕ → MomentMark → Node
 moment_node l limit mark = group (codes "moment") (in_turn (
     title (Words (moment_words mark))
     ∷ tick_node (x_at l mark.column) 24 (x_at l mark.column) 38
-    ∷ cut_label (codes "label") (x_at l mark.column + 2) 34 (room_in (limit - x_at l mark.column)) (moment_words mark) ∷ []))
+    ∷ cut_label (codes "label") (x_at l mark.column + 2) 34 (room_in (limit - x_at l mark.column))
+    (moment_words mark) ∷ []))
 
 abbrev pub moment_in : Layout → ℕ → Option MomentMark → Node
 moment_in l limit None = Nothing

@@ -23,7 +23,8 @@ description_words = DESCRIPTION.now
 
 unfoldable pub root_attributes : ℕ → ℕ → List Attribute
 root_attributes width height =
-    word (codes "xmlns") (codes "http://www.w3.org/2000/svg") ∷ word (codes "version") (codes "1.1") ∷ number (codes "width") width
+    word (codes "xmlns") (codes "http://www.w3.org/2000/svg") ∷ word (codes "version") (codes "1.1")
+    ∷ number (codes "width") width
     ∷ number (codes "height") height ∷ record { name = codes "viewBox"; value = Row (0 ∷ 0 ∷ width ∷ height ∷ []) } ∷ []
 
 unfoldable pub path_attributes : List ℕ → List ℕ → List Attribute
@@ -37,7 +38,8 @@ pattern_attributes n =
 
 unfoldable pub pattern_node : ℕ → List ℕ → Node
 pattern_node n path =
-    Element (codes "pattern") (pattern_attributes n) (Element (codes "path") (path_attributes (codes "hatch") path) Nothing)
+    Element (codes "pattern") (pattern_attributes n)
+    (Element (codes "path") (path_attributes (codes "hatch") path) Nothing)
 
 -- the head of an arrow, in a box of 10 by 10
 unfoldable pub marker_attributes : ℕ → List Attribute

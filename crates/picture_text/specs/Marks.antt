@@ -26,13 +26,15 @@ call_limit l (Some mark) = x_at l mark.column
 
 unfoldable pub call_title : Naming → Layout → ThreadId → CallMark → Node
 call_title naming l t mark = title (in_turn (
-    thread_node naming t ∷ Words (codes " calls ") ∷ Words (call_text naming mark.call) ∷ column_node l mark.column ∷ []))
+    thread_node naming t ∷ Words (codes " calls ") ∷ Words (call_text naming mark.call)
+    ∷ column_node l mark.column ∷ []))
 
 unfoldable pub call_node : Naming → Layout → ThreadId → ℕ → ℕ → CallMark → Node
 call_node naming l t top limit mark = group (codes "call") (in_turn (
     call_title naming l t mark
     ∷ tick_node (x_at l mark.column) (top + 2) (x_at l mark.column) (top + 14)
-    ∷ cut_label (codes "label") (x_at l mark.column + 2) (top + 10) (room_in (limit - x_at l mark.column)) (call_text naming mark.call)
+    ∷ cut_label (codes "label") (x_at l mark.column + 2) (top + 10) (room_in (limit - x_at l mark.column))
+    (call_text naming mark.call)
     ∷ []))
 
 abbrev pub call_in : Naming → Layout → ThreadId → ℕ → ℕ → Option CallMark → Node
@@ -60,7 +62,8 @@ reply_words (reply.Refused c) = cause_name c
 reply_words r = reply_name r
 
 abbrev pub cross_lines : ℕ → ℕ → Node
-cross_lines x y = Then (line (codes "cross") x y (x + 8) (y + 8) Nothing) (line (codes "cross") x (y + 8) (x + 8) y Nothing)
+cross_lines x y =
+    Then (line (codes "cross") x y (x + 8) (y + 8) Nothing) (line (codes "cross") x (y + 8) (x + 8) y Nothing)
 
 unfoldable pub cross_node : Reply → ℕ → ℕ → Node
 cross_node r x y = if is_refused r then cross_lines x y else Nothing
@@ -75,7 +78,8 @@ reply_limit l (Some mark) = x_at l mark.column
 
 unfoldable pub reply_title : Naming → Layout → ThreadId → ReplyMark → Node
 reply_title naming l t mark = title (in_turn (
-    thread_node naming t ∷ Words (codes " returns with ") ∷ Words (reply_name mark.reply) ∷ column_node l mark.column ∷ []))
+    thread_node naming t ∷ Words (codes " returns with ") ∷ Words (reply_name mark.reply)
+    ∷ column_node l mark.column ∷ []))
 
 unfoldable pub reply_node : Naming → Layout → ThreadId → ℕ → ℕ → ReplyMark → Node
 reply_node naming l t top limit mark = group (codes "reply") (in_turn (

@@ -1,5 +1,6 @@
 -- At which position the lane of a thread stands.
-use Rattle.std.specs.Prelude.{ℕ, zero, suc, ◌==◌, Bool, false, List, length, Option, None, Some, slice_get, if◌then◌else◌}
+use Rattle.std.specs.Prelude.{ℕ, zero, suc, ◌==◌, Bool, false, List, length, Option, None, Some, slice_get}
+use Rattle.std.specs.Prelude.{if◌then◌else◌}
 use Rattle.lock_word.specs.declared.ThreadId.{ThreadId}
 use Rattle.pictures.specs.declared.picture.Lane.{Lane}
 

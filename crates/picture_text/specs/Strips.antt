@@ -1,5 +1,6 @@
 -- Who owns the objects: a strip for each object, and a bar in the lane of each owner.
-use Rattle.std.specs.Prelude.{ℕ, zero, suc, ◌+◌, ◌-◌, ◌*◌, ◌/◌, ◌%◌, ◌++◌, List, [], ◌∷◌, Option, None, Some, codes, decimal, length}
+use Rattle.std.specs.Prelude.{ℕ, zero, suc, ◌+◌, ◌-◌, ◌*◌, ◌/◌, ◌%◌, ◌++◌, List, [], ◌∷◌, Option, None, Some}
+use Rattle.std.specs.Prelude.{codes, decimal, length}
 use Rattle.std.specs.Prelude.{min, slice_get, nat_lt, nat_le, if◌then◌else◌}
 use Rattle.lock_word.specs.declared.ObjectId.{ObjectId}
 use Rattle.lock_word.specs.declared.ThreadId.{ThreadId}
@@ -25,7 +26,8 @@ pattern_of n = n % 8
 
 unfoldable pub owns_title : Naming → Layout → ObjectId → ThreadId → ℕ → Stretch → Node
 owns_title naming l o t count s = title (in_turn (
-    thread_node naming t ∷ Words (codes " owns ") ∷ object_node naming o ∷ Words (codes " x") ∷ Figure count ∷ columns_node l s ∷ []))
+    thread_node naming t ∷ Words (codes " owns ") ∷ object_node naming o ∷ Words (codes " x")
+    ∷ Figure count ∷ columns_node l s ∷ []))
 
 -- how many times an object is locked, where there is room for it
 unfoldable pub count_node : ℕ → ℕ → ℕ → ℕ → Node
@@ -51,7 +53,8 @@ owner_words naming t count = thread_words naming t ++ (codes " x" ++ decimal cou
 unfoldable pub owned_node : Naming → Layout → ℕ → ObjectId → ThreadId → ℕ → Stretch → Node
 owned_node naming l n o t count s = in_turn (
     bar (pattern_of n) (x_at l s.from) (strip_top l n) (width_of l s) 8 (owns_title naming l o t count s)
-    ∷ cut_label (codes "label") (x_at l s.from + 2) (strip_top l n + 18) (room_in (width_of l s)) (owner_words naming t count) ∷ [])
+    ∷ cut_label (codes "label") (x_at l s.from + 2) (strip_top l n + 18) (room_in (width_of l s))
+    (owner_words naming t count) ∷ [])
 
 unfoldable pub free_title : Naming → Layout → ObjectId → Stretch → Node
 free_title naming l o s = title (in_turn (object_node naming o ∷ Words (codes " is free") ∷ columns_node l s ∷ []))
@@ -76,7 +79,8 @@ kind_words bits =
 unfoldable pub word_node : Layout → ℕ → Option Word → Stretch → Node
 word_node l n None s = Nothing
 word_node l n (Some w) s =
-    cut_label (codes "word") (x_at l s.from + 2) (strip_top l n + 30) (room_in (width_of l s)) (word_text w.0 ++ kind_words w.0)
+    cut_label (codes "word") (x_at l s.from + 2) (strip_top l n + 30) (room_in (width_of l s))
+    (word_text w.0 ++ kind_words w.0)
 
 unfoldable pub strip_span : Naming → Layout → List Lane → ℕ → ObjectId → StripSpan → Stretch → Node
 strip_span naming l lanes n o span s =

@@ -55,7 +55,8 @@ arrows_of us n s m = []
 abbrev pub Tells : List ThreadId → ℕ → State → List Move → State → List Arrow → Type 0
 Tells us n s [] s' arrows = (s' ≡ s) × (arrows ≡ [])
 Tells us n s (m ∷ ms) s' arrows =
-    (mid : State) × (rest : List Arrow) × Steps s m mid × Tells us n mid ms s' rest × (arrows ≡ arrows_of us n s m ++ rest)
+    (mid : State) × (rest : List Arrow) × Steps s m mid × Tells us n mid ms s' rest
+    × (arrows ≡ arrows_of us n s m ++ rest)
 
 -- The columns, of which the first has number n, lead from s through these states, each behind its column, and have
 -- these arrows.
@@ -64,7 +65,8 @@ Follow us n s [] [] arrows = arrows ≡ []
 Follow us n s [] (t ∷ ts) arrows = ⊥
 Follow us n s (c ∷ cs) [] arrows = ⊥
 Follow us n s (c ∷ cs) (t ∷ ts) arrows =
-    (here rest : List Arrow) × Tells us n s (moves_in c) t here × Follow us (n + 1) t cs ts rest × (arrows ≡ here ++ rest)
+    (here rest : List Arrow) × Tells us n s (moves_in c) t here × Follow us (n + 1) t cs ts rest
+    × (arrows ≡ here ++ rest)
 
 -- the arrow from the owner that was last, if it is another one, to the one that owns from column n on
 abbrev pub hand_over : Option LastOwner → ℕ → Option ThreadId → List Arrow
