@@ -1,4 +1,2 @@
-pub mod Rows
-pub mod Threads
 pub mod Reports
 pub mod Dumps

@@ -20,7 +20,7 @@ use Rattle.step_core.specs.Machine.{Thread}
 use Rattle.step_core.specs.Cycles.{AreCycles}
 use Rattle.step_core.specs.World.{WorldState}
 use Rattle.step_core.specs.Shown.{shown}
-use Rattle.dump.specs.Threads.{AreLiveThreads}
+use Rattle.owner_cycles.specs.Threads.{AreLiveThreads}
 
 abbrev pub thread_name : NameLists → ThreadId → List ℕ
 thread_name names t = name_at names.threads t.0

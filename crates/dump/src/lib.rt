@@ -4,11 +4,8 @@
 #![tactic(auto)]
 
 mod dumping;
-mod owners;
 mod reports;
-mod rows;
-mod waits;
 
 pub use dumping::dump_script;
-pub use owners::cycles;
+pub use owner_cycles::{cycles, cycles_along};
 pub use reports::{put_call, put_cycle, report};

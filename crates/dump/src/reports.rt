@@ -7,10 +7,9 @@ ghost use Rattle.script_text.specs.Lines.{call_words};
 ghost use Rattle.dump.specs.Reports.{IsDump, act_text, cycle_text, cycles_text, deadline_text};
 ghost use Rattle.dump.specs.Reports.{flag_text, line_in, named_call, why_text};
 
-use crate::owners::cycles_among;
-use crate::waits::live_threads;
 use history::Names;
 use lock_word::{Memory, ThreadId};
+use owner_cycles::{cycles_among, live_threads};
 use std::alloc::{AllocError, Global};
 use std::fmt::Write;
 use step_core::{Call, Doing, Why, World};

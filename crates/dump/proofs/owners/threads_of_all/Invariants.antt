@@ -1,6 +1,0 @@
-use Rattle.std.proofs.Common.{◌≡◌, map, take, vec_items}
-use Rattle.dump.specs.Threads.{thread_at_position}
-use Rattle.dump.proofs.owners.threads_of_all.Given as goal
-
-abbrev pub invariant-lists : goal.invariant-lists
-invariant-lists l = map vec_items l.all.items ≡ map (map (thread_at_position l.threads)) (map vec_items (take l.positions-index l.lists))

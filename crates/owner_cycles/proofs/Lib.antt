@@ -1,0 +1,6 @@
+pub mod Walks
+pub mod Marks
+pub mod RowWalks
+pub mod Parts
+pub mod Positions
+pub mod Berths
