@@ -1,107 +1,51 @@
 -- What was visited, and what a search has found in the end.
 use native.Mathlib.Omega.{arith}
 use Rattle.std.proofs.Common.{◌*◌}
-use Rattle.std.proofs.Common.{◌≡◌, ◌⊎◌, inl, inr, ◌∙◌, subst, sym, ap, refl, ℕ, zero, suc, ◌+◌, ◌<◌, ◌≤◌, nat_lt, List, [], ◌∷◌, ◌++◌, length, Option, Some, None, Vec, Bool, true, false, length-append}
+use Rattle.std.proofs.Common.{◌≡◌, ◌⊎◌, inl, inr, ◌∙◌, subst, sym, ap, refl, ℕ, zero, suc, ◌+◌, ◌<◌, ◌≤◌, List, [], ◌∷◌, ◌++◌, length, Option, Some, None, Vec, Bool, true, false, length-append}
 use Rattle.std.specs.Global.{Global}
 use Rattle.std.proofs.Common.{get_or, ◌-◌, append_assoc}
 use Rattle.std.specs.Prelude.{reverse}
 use Rattle.std.proofs.lemmas.List.{reverse-append}
 use Rattle.std.proofs.lemmas.Option.{slice_get-get_or}
 use Rattle.std.specs.Option.{unwrap_or}
-use Rattle.std.specs.Prelude.{slice_get, slice_index_or, if◌then◌else◌}
-use Rattle.std.proofs.lemmas.Bool.{cases_lt, ltb-true}
-use Rattle.std.proofs.lemmas.List.{get_or_append_left, get_or-append-add}
+use Rattle.std.specs.Prelude.{slice_index_or, if◌then◌else◌}
+use Rattle.std.proofs.lemmas.Bool.{cases_lt}
+use Rattle.std.proofs.lemmas.List.{get_or_append_left}
 use Rattle.std.proofs.Math.Seq.{get_or-append_seam}
 use Rattle.explore.specs.declared.programs.Program.{Program}
 use Rattle.explore.specs.declared.programs.Choice.{Choice}
 use Rattle.explore.specs.declared.programs.Choice.TheVariants as choice
 use Rattle.explore.specs.declared.found.Node.{Node}
-use Rattle.explore.specs.States.{ProgramState, after, after_step, step_at, step_of_thread, played, played_from, opening}
-use Rattle.explore.specs.Found.{witness_at, witnesses, witnesses_from, grown, IsAt, IsFound, IsEnd, AreEnds, AreStates, AreParents, FindsAll, HasMore, node_at}
+use Rattle.explore.specs.States.{ProgramState, after, played, played_from, opening}
+use Rattle.explore.specs.Found.{witness_at, witnesses, witnesses_from, grown, IsAt, IsEnd, AreEnds, AreStates, AreParents, FindsAll, HasMore, node_at}
 use Rattle.explore.specs.Codes.{code_of}
-use Rattle.explore.specs.Searches.{IsSearch, StaysIn, IsClosed, IsVisited, AreFoundFrom, AllFoundFrom, NoneChanges, Changes}
-use Rattle.explore.specs.Found.{choice_at, choices_for, choices_below, all_choices, made_among, steps_before}
+use Rattle.explore.specs.Searches.{IsSearch, IsNear, StaysIn, IsClosed, IsVisited, AreFoundFrom, AllFoundFrom, NoneChanges, Changes, behind}
+use Rattle.explore.specs.Found.{choices_for, choices_below, all_choices, made_among, steps_before}
+use Rattle.explore.proofs.Choosing.{all_found, is_end}
 use Rattle.explore.proofs.Searching.{stays_more, witness_before, witness_last}
-use Rattle.explore.proofs.Trying.{stays_still, stays_then, found_stays, at_stays}
-
--- ---- every choice that can be made is among all that are tried
-
--- a list has this choice at some position
-abbrev Has : List Choice → Choice → Type 0
-Has cs c = (i : ℕ) × (i < length cs) × (choice_at cs i ≡ c)
-
-has_left : (xs ys : List Choice) (c : Choice) → Has xs c → Has (xs ++ ys) c
-has_left xs ys c h =
-    let e = length-append xs ys in let lt = h.1 in
-    (h.0, omega (arith, e, lt), get_or_append_left xs ys (choice.Begin 0) h.0 lt ∙ h.2)
-
-has_right : (xs ys : List Choice) (c : Choice) → Has ys c → Has (xs ++ ys) c
-has_right xs ys c h =
-    let e = length-append xs ys in let lt = h.1 in
-    (length xs + h.0, omega (arith, e, lt), get_or-append-add xs ys h.0 (choice.Begin 0) ∙ h.2)
-
-has_below : (n k : ℕ) (c : Choice) → k < n → Has (choices_for k) c → Has (choices_below n) c
-has_below zero k c lt h = absurd (omega (arith, lt))
-has_below (suc n) k c lt h = by (cases_lt k n) (λ below. has_below n k c below h)
-  where
-    by : (k < n) ⊎ (n ≤ k) → (k < n → Has (choices_below n) c) → Has (choices_below n ++ choices_for n) c
-    by (inl below) rest = has_left (choices_below n) (choices_for n) c (rest below)
-    by (inr past) rest =
-        let here : k ≡ n = omega (arith, lt, past) in
-        has_right (choices_below n) (choices_for n) c (subst (λ (m : ℕ). Has (choices_for m) c) here h)
-
--- a choice of a thread that the program has not means no step
-within : (p : Program) (c : Choice) (k : ℕ) (o : Option ℕ) (s r : ProgramState)
-    → after_step s c (step_of_thread p c k o) ≡ Some r → k < length p.starts.items
-within p c k None s r e = absurd (cc)
-within p c k (Some n) s r e = by (nat_lt k (length p.starts.items)) refl e
-  where
-    by : (b : Bool) → nat_lt k (length p.starts.items) ≡ b → after_step s c (if b then step_at p c n else None) ≡ Some r → k < length p.starts.items
-    by true h g = ltb-true k (length p.starts.items) h
-    by false h g = absurd (cc)
-
-pub every_choice : (p : Program) (s r : ProgramState) (c : Choice) → after p s c ≡ Some r → Has (all_choices p) c
-every_choice p s r (choice.Begin k) e =
-    has_left (choices_below (length p.starts.items)) _ _ (has_below _ k _ (within p (choice.Begin k) k (slice_get s.nexts k) s r e) (0, omega arith, refl))
-every_choice p s r (choice.Go k) e =
-    has_left (choices_below (length p.starts.items)) _ _ (has_below _ k _ (within p (choice.Go k) k (slice_get s.nexts k) s r e) (1, omega arith, refl))
-every_choice p s r (choice.Expire k) e =
-    has_left (choices_below (length p.starts.items)) _ _ (has_below _ k _ (within p (choice.Expire k) k (slice_get s.nexts k) s r e) (2, omega arith, refl))
-every_choice p s r (choice.Spurious k) e =
-    has_left (choices_below (length p.starts.items)) _ _ (has_below _ k _ (within p (choice.Spurious k) k (slice_get s.nexts k) s r e) (3, omega arith, refl))
-every_choice p s r choice.Tick e = has_right (choices_below (length p.starts.items)) _ _ (0, omega arith, refl)
-
-pub all_found : (p : Program) (ws : List (List Choice)) (s : ProgramState)
-    → AreFoundFrom p ws s (all_choices p) (length (all_choices p)) → AllFoundFrom p ws s
-all_found p ws s h = λ c r e.
-    let i = every_choice p s r c e in
-    h i.0 r i.1 (subst (λ (x : Choice). after p s x ≡ Some r) (sym i.2) e)
-
-pub is_end : (p : Program) (s : ProgramState) → NoneChanges p s (all_choices p) (length (all_choices p)) → IsEnd p s
-is_end p s h = λ c t e.
-    let i = every_choice p s t c e in
-    h i.0 t i.1 (subst (λ (x : Choice). after p s x ≡ Some t) (sym i.2) e)
+use Rattle.explore.proofs.Trying.{stays_still, stays_then, behind_stays, found_stays, at_stays}
 
 -- ---- visited
 
 pub closed_next : (p : Program) (a b : List (List Choice)) (n : ℕ) (s : ProgramState)
-    → IsClosed p a n → StaysIn a b → n < length a → IsAt p a n s → AllFoundFrom p b s → IsClosed p b (n + 1)
+    → IsClosed p a n → StaysIn a b → n < length a → IsAt p a n s → AllFoundFrom p b (behind b n) s → IsClosed p b (n + 1)
 closed_next p a b n s closed stays lt here all = λ k r below leads c t made. pick k r below leads c t made (cases_lt k n)
   where
     pick : (k : ℕ) (r : ProgramState) → k < n + 1 → IsAt p b k r → (c : Choice) (t : ProgramState) → after p r c ≡ Some t
-        → (k < n) ⊎ (n ≤ k) → IsFound p b t
+        → (k < n) ⊎ (n ≤ k) → IsNear p b t (behind b k)
     pick k r below leads c t made (inl before) =
         let old : IsAt p a k r = rw (sym (stays.same k (omega (arith, before, lt)))) leads in
-        found_stays p a b t stays (closed k r before old c t made)
+        subst (λ (d : ℕ). IsNear p b t d) (behind_stays a b k stays (omega (arith, before, lt))) (found_stays p a b (behind a k) t stays (closed k r before old c t made))
     pick k r below leads c t made (inr past) =
         let same : k ≡ n = omega (arith, below, past) in
         let now : IsAt p b n s = at_stays p a b n s stays lt here in
         let one : s ≡ r = ap (λ (o : Option ProgramState). unwrap_or o r) (sym now ∙ subst (λ (m : ℕ). IsAt p b m r) same leads) in
-        all c t (subst (λ (x : ProgramState). after p x c ≡ Some t) (sym one) made)
+        subst (λ (m : ℕ). IsNear p b t (behind b m)) (sym same) (all c t (subst (λ (x : ProgramState). after p x c ≡ Some t) (sym one) made))
 
 pub closed_stays : (p : Program) (a b : List (List Choice)) (n : ℕ) → IsClosed p a n → StaysIn a b → n ≤ length a → IsClosed p b n
 closed_stays p a b n closed stays le = λ k r below leads c t made.
-    found_stays p a b t stays (closed k r below (rw (sym (stays.same k (omega (arith, below, le)))) leads) c t made)
+    subst (λ (d : ℕ). IsNear p b t d) (behind_stays a b k stays (omega (arith, below, le)))
+    (found_stays p a b (behind a k) t stays (closed k r below (rw (sym (stays.same k (omega (arith, below, le)))) leads) c t made))
 
 -- a state that is no end leaves the ends that there were
 pub ends_stay : (p : Program) (a b : List (List Choice)) (n : ℕ) (ends : List ℕ) (s : ProgramState)
@@ -190,6 +134,13 @@ popped p keys ws queue rest n s h e = record {
   queued = λ j r leads.
       let here : IsAt p ws (n + suc j) r = h.queued (suc j) r (rw e leads) in
       subst (λ (m : ℕ). IsAt p ws m r) (omega arith) here;
+  rising = h.rising;
+  near = λ k lt.
+      let l = ap (λ (q : List ProgramState). length q) e in let w = h.waiting in
+      let one : n + 1 - 1 ≡ n = omega arith in
+      let a = h.near k lt in
+      let b = h.rising (n - 1) n (omega arith) (omega (arith, l, w)) in
+      subst (λ (j : ℕ). length (witness_at ws k) ≤ length (witness_at ws j) + 1) (sym one) (omega (arith, a, b));
 }
 
 pub first_here : (p : Program) (keys : List (Vec ℕ Global)) (ws : List (List Choice)) (queue rest : List ProgramState) (n : ℕ) (s : ProgramState)
@@ -229,7 +180,7 @@ length_below (suc n) =
     omega (arith, h, l)
 
 -- at most 64 threads have four choices each, and the clock has one
-few_choices : (p : Program) → length (all_choices p) ≤ 257
+pub few_choices : (p : Program) → length (all_choices p) ≤ 257
 few_choices p =
     let h = length_below (length p.starts.items) in let l = length-append (choices_below (length p.starts.items)) (choice.Tick ∷ []) in
     let t = p.threads_fit in
@@ -238,7 +189,7 @@ few_choices p =
 -- one state more was visited
 pub visited_next : (p : Program) (keys keys' : List (Vec ℕ Global)) (ws ws' : List (List Choice)) (queue rest queue' : List ProgramState) (ends ends' : List ℕ) (steps made n : ℕ) (s : ProgramState) (cs : List Choice) (end : Bool)
     → IsVisited p keys ws queue ends steps n → queue ≡ s ∷ rest → cs ≡ all_choices p
-    → IsSearch p keys' ws' queue' (n + 1) → StaysIn ws ws' → AreFoundFrom p ws' s cs (length cs)
+    → IsSearch p keys' ws' queue' (n + 1) → StaysIn ws ws' → AreFoundFrom p ws' (behind ws' n) s cs (length cs)
     → (end ≡ true → NoneChanges p s cs (length cs))
     → (end ≡ false → (c : Choice) × Changes p s c)
     → made ≡ made_among p s cs (length cs) → made ≤ length cs
@@ -250,7 +201,7 @@ visited_next p keys keys' ws ws' queue rest queue' ends ends' steps made n s cs 
     record {
       search = search;
       closed = closed_next p ws ws' n s v.closed stays lt here
-          (all_found p ws' s (subst (λ (xs : List Choice). AreFoundFrom p ws' s xs (length xs)) all found));
+          (all_found p ws' (behind ws' n) s (subst (λ (xs : List Choice). AreFoundFrom p ws' (behind ws' n) s xs (length xs)) all found));
       noted = by end none some noted lt here;
       counted = steps_next p ws ws' n s steps made stays lt here v.counted
           (counted ∙ ap (λ (xs : List Choice). made_among p s xs (length xs)) all);
@@ -274,16 +225,24 @@ none_leads p [] s e = absurd (cc)
 none_leads p (c ∷ cs) s e = absurd (cc)
 
 complete_from : (p : Program) (ws : List (List Choice)) (n : ℕ) → IsClosed p ws n → n ≡ length ws
-    → (cs : List Choice) (o s : ProgramState) → IsFound p ws o → played_from p cs (Some o) ≡ Some s → IsFound p ws s
-complete_from p ws n closed all [] o s f e =
-    subst (λ (x : ProgramState). IsFound p ws x) (ap (λ (x : Option ProgramState). unwrap_or x s) e) f
-complete_from p ws n closed all (c ∷ cs) o s f e =
-    by (after p o c) refl e (λ r found g. complete_from p ws n closed all cs r s found g)
+    → (cs : List Choice) (o s : ProgramState) (d : ℕ) → IsNear p ws o d → played_from p cs (Some o) ≡ Some s → IsNear p ws s (d + length cs)
+complete_from p ws n closed all [] o s d f e =
+    let same : o ≡ s = ap (λ (x : Option ProgramState). unwrap_or x s) e in
+    let near = f.3 in
+    (f.0, f.1, subst (λ (x : ProgramState). IsAt p ws f.0 x) same f.2, omega (arith, near))
+complete_from p ws n closed all (c ∷ cs) o s d f e =
+    by (after p o c) refl e (λ r near g. complete_from p ws n closed all cs r s (d + 1) near g)
   where
+    longer : (a b : ℕ) (r : ProgramState) → a ≤ b → IsNear p ws r a → IsNear p ws r b
+    longer a b r le x = (let near = x.3 in (x.0, x.1, x.2, omega (arith, near, le)))
+
     by : (x : Option ProgramState) → after p o c ≡ x → played_from p cs x ≡ Some s
-        → ((r : ProgramState) → IsFound p ws r → played_from p cs (Some r) ≡ Some s → IsFound p ws s) → IsFound p ws s
+        → ((r : ProgramState) → IsNear p ws r (d + 1) → played_from p cs (Some r) ≡ Some s → IsNear p ws s (d + 1 + length cs)) → IsNear p ws s (d + length (c ∷ cs))
     by None h g rest = absurd (none_leads p cs s g)
-    by (Some r) h g rest = (let lt = f.1 in rest r (closed f.0 o (omega (arith, lt, all)) f.2 c r h) g)
+    by (Some r) h g rest =
+        let lt = f.1 in let near = f.3 in
+        longer (d + 1 + length cs) (d + length (c ∷ cs)) s (omega arith)
+        (rest r (longer (behind ws f.0) (d + 1) r (omega (arith, near)) (closed f.0 o (omega (arith, lt, all)) f.2 c r h)) g)
 
 first_stays : (ws : List (List Choice)) (ns : List Node) → StaysIn ws (witnesses_from ws ns)
 first_stays ws [] = stays_still ws
@@ -329,13 +288,31 @@ finds_all p keys ns ends steps n v =
     let all : n ≡ length ws = omega (arith, w) in
     let first = first_stays ([] ∷ []) ns in
     let x = first.more in
+    let begin : IsNear p ws (opening p) 0 =
+    (0, omega (arith, x), ap (λ (c : List Choice). played p c) (first.same 0 (omega arith)), ap_le (ap (λ (c : List Choice). length c) (first.same 0 (omega arith)))) in
+    let states = are_states p keys ws [] n v.search in
     record {
-      states = are_states p keys ws [] n v.search;
-      complete = λ cs s e. complete_from p ws n v.closed all cs (opening p) s
-          (0, omega (arith, x), ap (λ (c : List Choice). played p c) (first.same 0 (omega arith))) e;
+      states = states;
+      complete = λ cs s e. (let f = complete_from p ws n v.closed all cs (opening p) s 0 begin e in (f.0, f.1, f.2));
+      shortest = λ k cs s lt at e.
+          let f = complete_from p ws n v.closed all cs (opening p) s 0 begin e in
+          let near = f.3 in
+          let same = one_number f.0 k s states f.1 f.2 lt at in
+          subst (λ (j : ℕ). length (witness_at ws j) ≤ length cs) same (omega (arith, near));
       ends = subst (λ (m : ℕ). AreEnds p ws m ends) all v.noted;
       steps = v.counted ∙ ap (λ (m : ℕ). steps_before p ws m) all;
     }
+  where
+    ap_le : {m : ℕ} → m ≡ 0 → m ≤ 0
+    ap_le e = omega (arith, e)
+
+    one_number : (j k : ℕ) (s : ProgramState) → AreStates p (witnesses ns) → j < length (witnesses ns) → IsAt p (witnesses ns) j s → k < length (witnesses ns) → IsAt p (witnesses ns) k s → j ≡ k
+    one_number j k s states a b c d = by (cases_lt j k) (cases_lt k j)
+      where
+        by : (j < k) ⊎ (k ≤ j) → (k < j) ⊎ (j ≤ k) → j ≡ k
+        by (inl lt) other = absurd (states.distinct j k s lt c b d)
+        by (inr le) (inl lt) = absurd (states.distinct k j s lt a d b)
+        by (inr le) (inr ge) = omega (arith, le, ge)
 
 -- ---- the way back from a state
 

@@ -3,3 +3,5 @@ pub mod Searching
 pub mod Trying
 pub mod Finding
 pub mod StateCodes
+pub mod Sifting
+pub mod Choosing

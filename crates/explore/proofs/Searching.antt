@@ -2,7 +2,7 @@
 use native.Mathlib.Omega.{arith}
 use Rattle.std.proofs.lemmas.Bool.{cases_lt}
 use Rattle.std.proofs.lemmas.Slice.Eq.{bytes_eq-Decides}
-use Rattle.std.proofs.Common.{◌≡◌, ◌⊎◌, inl, inr, subst, ◌∙◌, ℕ, ◌+◌, ◌<◌, ◌≤◌, List, [], ◌∷◌, ◌++◌, length, Option, Some, Vec, refl, sym, ap, length-append}
+use Rattle.std.proofs.Common.{◌≡◌, ◌⊎◌, inl, inr, subst, ◌∙◌, ℕ, ◌+◌, ◌-◌, ◌<◌, ◌≤◌, List, [], ◌∷◌, ◌++◌, length, Option, Some, Vec, refl, sym, ap, length-append}
 use Rattle.std.proofs.lemmas.List.{get_or_append_left}
 use Rattle.std.specs.Option.{unwrap_or}
 use Rattle.std.specs.List.{list_any}
@@ -75,19 +75,66 @@ known_last p keys ws key x s e leads sound coded = record {
   keyed = (key, subst (λ (n : ℕ). slice_get (keys ++ key ∷ []) n ≡ Some key) e (get_last keys key), coded);
 }
 
+-- this witness may go last: none is longer, and it is longer by one choice than that of the state that was popped last
+pub record IsLast (ws : List (List Choice)) (popped : ℕ) (x : List Choice) : Type 0 where
+  pub longest : (k : ℕ) → k < length ws → length (witness_at ws k) ≤ length x
+  pub there : (k : ℕ) → k < length ws → popped - 1 < length ws
+  pub short : length x ≤ length (witness_at (ws ++ x ∷ []) (popped - 1)) + 1
+
+-- a choice behind the witness of that state
+pub choice_last : (p : Program) (keys : List (Vec ℕ Global)) (ws : List (List Choice)) (queue : List ProgramState) (at : ℕ) (c : Choice)
+    → IsSearch p keys ws queue (at + 1) → IsLast ws (at + 1) (witness_at ws at ++ c ∷ [])
+choice_last p keys ws queue at c h =
+    let w = h.waiting in
+    let one : at + 1 - 1 ≡ at = omega arith in
+    let l = length-append (witness_at ws at) (c ∷ []) in
+    let there : at < length ws = omega (arith, w) in
+    record {
+      longest = λ k lt. (let n = subst (λ (j : ℕ). length (witness_at ws k) ≤ length (witness_at ws j) + 1) one (h.near k lt) in omega (arith, n, l));
+      there = λ k lt. omega (arith, there);
+      short = rw (one, witness_before ws (witness_at ws at ++ c ∷ []) at there) (omega (arith, l));
+    }
+
 -- a state that was not among those that were found
 pub search_more : (p : Program) (keys : List (Vec ℕ Global)) (ws : List (List Choice)) (queue : List ProgramState) (popped : ℕ) (key : Vec ℕ Global) (x : List Choice) (made : ProgramState)
     → IsSearch p keys ws queue popped → played p x ≡ Some made → IsCoded made → key.items ≡ code_of made
     → ((j : ℕ) (y : Vec ℕ Global) → slice_get keys j ≡ Some y → y.items ≡ key.items → ⊥)
+    → IsLast ws popped x
     → IsSearch p (keys ++ key ∷ []) (ws ++ x ∷ []) (queue ++ made ∷ []) popped
-search_more p keys ws queue popped key x made h leads sound coded fresh = record {
+search_more p keys ws queue popped key x made h leads sound coded fresh last = record {
   counted = let a = length-append keys (key ∷ []) in let b = length-append ws (x ∷ []) in let e = h.counted in omega (arith, a, b, e);
   waiting = let a = length-append queue (made ∷ []) in let b = length-append ws (x ∷ []) in let e = h.waiting in omega (arith, a, b, e);
   known = λ k lt. known_at k lt (cases_lt k (length ws));
   distinct = λ j k y z lt a b e. apart_at j k y z lt a b e (cases_lt k (length keys));
   queued = λ j s e. queued_at j s e (cases_lt j (length queue));
+  rising = λ j k le lt. rises j k le lt (cases_lt k (length ws)) (cases_lt j (length ws));
+  near = λ k lt. near_at k lt (cases_lt k (length ws));
 }
   where
+    rises : (j k : ℕ) → j ≤ k → k < length (ws ++ x ∷ []) → (k < length ws) ⊎ (length ws ≤ k) → (j < length ws) ⊎ (length ws ≤ j)
+        → length (witness_at (ws ++ x ∷ []) j) ≤ length (witness_at (ws ++ x ∷ []) k)
+    rises j k le lt (inl below) first =
+        rw (witness_before ws x k below, witness_before ws x j (omega (arith, le, below))) (h.rising j k le below)
+    rises j k le lt (inr past) (inl first) =
+        let b = length-append ws (x ∷ []) in
+        let here : k ≡ length ws = omega (arith, b, lt, past) in
+        rw (here, witness_last ws x, witness_before ws x j first) (last.longest j first)
+    rises j k le lt (inr past) (inr after) =
+        let b = length-append ws (x ∷ []) in
+        let same : j ≡ k = omega (arith, b, lt, past, after, le) in
+        rw same (omega arith)
+
+    near_at : (k : ℕ) → k < length (ws ++ x ∷ []) → (k < length ws) ⊎ (length ws ≤ k)
+        → length (witness_at (ws ++ x ∷ []) k) ≤ length (witness_at (ws ++ x ∷ []) (popped - 1)) + 1
+    near_at k lt (inl below) = rw (witness_before ws x k below) (old_near (last.there k below) k below)
+      where
+        old_near : popped - 1 < length ws → (k : ℕ) → k < length ws → length (witness_at ws k) ≤ length (witness_at (ws ++ x ∷ []) (popped - 1)) + 1
+        old_near there k below = rw (witness_before ws x (popped - 1) there) (h.near k below)
+    near_at k lt (inr past) =
+        let b = length-append ws (x ∷ []) in
+        let here : k ≡ length ws = omega (arith, b, lt, past) in
+        rw (here, witness_last ws x) last.short
+
     known_at : (k : ℕ) → k < length (ws ++ x ∷ []) → (k < length ws) ⊎ (length ws ≤ k)
         → (s : ProgramState) × IsKnown p (keys ++ key ∷ []) (ws ++ x ∷ []) k s
     known_at k lt (inl below) = let r = h.known k below in (r.0, known_stays p keys ws key x k r.0 below r.1)
@@ -167,7 +214,13 @@ first_found p key s e sound coded = record {
     known = λ k lt. absurd (omega (arith, lt));
     distinct = λ j k y z lt a b e. absurd (cc);
     queued = λ j r leads. absurd (cc);
-  }) (ap Some (sym e)) sound coded (λ j y a e. absurd (cc));
+    rising = λ j k le lt. absurd (omega (arith, lt));
+    near = λ k lt. absurd (omega (arith, lt));
+  }) (ap Some (sym e)) sound coded (λ j y a e. absurd (cc)) (record {
+    longest = λ k lt. absurd (omega (arith, lt));
+    there = λ k lt. absurd (omega (arith, lt));
+    short = omega arith;
+  });
   closed = λ k r lt leads. absurd (omega (arith, lt));
   noted = record {
     each = λ i lt. absurd (omega (arith, lt));

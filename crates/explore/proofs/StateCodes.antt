@@ -1,17 +1,22 @@
 -- A code is of one state.
 use native.Mathlib.Omega.{arith}
-use Rattle.std.proofs.Common.{◌≡◌, ◌∙◌, sym, ap, refl, ℕ, ◌<◌, ◌^◌, nat_lt, suc, Bool, true, false, if◌then◌else◌, List, [], ◌∷◌, ◌++◌, length, take, drop, get_or, Option, Some, None}
+use Rattle.std.proofs.Common.{◌≡◌, ◌∙◌, sym, ap, refl, ℕ, ◌<◌, ◌^◌, nat_lt, suc, Bool, true, false, if◌then◌else◌, List, [], ◌∷◌, ◌++◌, length, take, drop, get_or, ◌+◌, subst, Option, Some, None}
 use Rattle.std.proofs.Common.{append_assoc, append-nil}
 use Rattle.std.specs.Prelude.{map}
 use Rattle.std.specs.Int.{w64, to_le_bytes, from_le_bytes}
 use Rattle.std.proofs.lemmas.Nat.{from_le_bytes-to_le_bytes_8}
 use Rattle.std.proofs.lemmas.Bool.{ltb-true}
+use Rattle.std.proofs.lemmas.List.{map-append, take_more}
+use Rattle.fat_monitor.specs.declared.actions.Cause.{Cause}
+use Rattle.fat_monitor.specs.declared.actions.Cause.TheVariants as cause
 use Rattle.fat_monitor.specs.declared.actions.Reply.{Reply}
+use Rattle.fat_monitor.specs.declared.actions.Reply.TheVariants as reply
+use Rattle.fat_monitor.specs.Names.{cause_number}
 use Rattle.fat_monitor.specs.Numbers.{reply_number}
 use Rattle.step_core.specs.World.{WorldState}
 use Rattle.step_core.specs.Numbers.{numbers_of, IsNumbered}
 use Rattle.explore.specs.States.{ProgramState}
-use Rattle.explore.specs.Codes.{answer_number, state_numbers, packed_number, packed, code_of, AreSmall, IsCoded}
+use Rattle.explore.specs.Codes.{answer_number, front_numbers, state_numbers, packed_number, packed, code_of, AreSmall, IsCoded}
 
 abbrev first : List ℕ → ℕ
 first [] = 0
@@ -28,6 +33,66 @@ small_all (x ∷ xs) h = (h 0, small_all xs (λ k. h (suc k)))
 pub packed_more : (xs : List ℕ) (n : ℕ) → packed (xs ++ n ∷ []) ≡ packed xs ++ packed_number n
 packed_more [] n = append-nil (packed_number n)
 packed_more (x ∷ xs) n = ap (λ (ys : List ℕ). packed_number x ++ ys) (packed_more xs n) ∙ sym (append_assoc (packed_number x) (packed xs) (packed_number n))
+
+pub packed_append : (xs ys : List ℕ) → packed (xs ++ ys) ≡ packed xs ++ packed ys
+packed_append [] ys = refl
+packed_append (x ∷ xs) ys =
+    ap (λ (zs : List ℕ). packed_number x ++ zs) (packed_append xs ys) ∙ sym (append_assoc (packed_number x) (packed xs) (packed ys))
+
+small_append : (xs ys : List ℕ) → AreSmall xs → AreSmall ys → AreSmall (xs ++ ys)
+small_append [] ys h g = g
+small_append (x ∷ xs) ys h g = (h.0, small_append xs ys h.1 g)
+
+cause_small : (c : Cause) → cause_number c + 1 < 2 ^ 64
+cause_small cause.NoMonitor = omega arith
+cause_small cause.Memory = omega arith
+cause_small cause.TooDeep = omega arith
+cause_small cause.StillOwner = omega arith
+cause_small cause.NoThread = omega arith
+
+reply_small : (r : Reply) → reply_number r + 1 < 2 ^ 64
+reply_small reply.Entered = omega arith
+reply_small reply.Exited = omega arith
+reply_small reply.WaitOver = omega arith
+reply_small reply.Interrupted = omega arith
+reply_small reply.Notified = omega arith
+reply_small reply.Yes = omega arith
+reply_small reply.No = omega arith
+reply_small reply.Done = omega arith
+reply_small reply.Ended = omega arith
+reply_small reply.IllegalMonitorState = omega arith
+reply_small reply.IllegalArgument = omega arith
+reply_small (reply.Refused c) = cause_small c
+
+answer_small : (o : Option Reply) → answer_number o < 2 ^ 64
+answer_small None = omega arith
+answer_small (Some r) = reply_small r
+
+small_answers : (os : List (Option Reply)) → AreSmall (map answer_number os)
+small_answers [] = tt
+small_answers (o ∷ os) = (answer_small o, small_answers os)
+
+-- one answer more
+pub answers_more : (old mid new : List ℕ) (os : List (Option Reply)) (i : ℕ) (o : Option Reply) → i < length os
+    → mid ≡ old ++ packed (map answer_number (take i os)) → new ≡ mid ++ packed_number (answer_number (get_or os i o))
+    → new ≡ old ++ packed (map answer_number (take (i + 1) os))
+answers_more old mid new os i o lt e f =
+    let one : map answer_number (take (i + 1) os) ≡ map answer_number (take i os) ++ answer_number (get_or os i o) ∷ [] =
+    ap (map answer_number) (take_more os i o lt) ∙ map-append answer_number (take i os) (get_or os i o ∷ []) in
+    f ∙ ap (λ (b : List ℕ). b ++ packed_number (answer_number (get_or os i o))) e
+    ∙ append_assoc old (packed (map answer_number (take i os))) (packed_number (answer_number (get_or os i o)))
+    ∙ ap (λ (b : List ℕ). old ++ b) (sym (packed_more (map answer_number (take i os)) (answer_number (get_or os i o))))
+    ∙ ap (λ (ns : List ℕ). old ++ packed ns) (sym one)
+
+front_append : (s : ProgramState) → front_numbers s ++ map answer_number s.replies ≡ state_numbers s
+front_append s = append_assoc (numbers_of s.world) (s.told ∷ length s.nexts ∷ s.nexts) (map answer_number s.replies)
+
+-- the numbers of a state but its answers, and these behind them
+pub code_parts : (s : ProgramState) → packed (front_numbers s) ++ packed (map answer_number s.replies) ≡ code_of s
+code_parts s = sym (packed_append (front_numbers s) (map answer_number s.replies)) ∙ ap packed (front_append s)
+
+pub small_parts : (s : ProgramState) → AreSmall (front_numbers s) → AreSmall (state_numbers s)
+small_parts s h = subst AreSmall (front_append s) (small_append (front_numbers s) (map answer_number s.replies) h (small_answers s.replies))
 
 -- ---- numbers packed one behind the other
 

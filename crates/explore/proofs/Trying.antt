@@ -7,10 +7,10 @@ use Rattle.std.specs.Prelude.{◌==◌}
 use Rattle.explore.specs.declared.programs.Program.{Program}
 use Rattle.explore.specs.declared.programs.Choice.{Choice}
 use Rattle.explore.specs.States.{ProgramState, after, played, played_from, opening}
-use Rattle.explore.specs.Found.{IsAt, IsFound, AreStates}
-use Rattle.explore.specs.Searches.{StaysIn, AreFoundFrom, NoneChanges, Changes, IsTried, HasNumber, changes, is_made}
-use Rattle.explore.specs.declared.search.Tried.{Tried}
-use Rattle.explore.specs.declared.search.Tried.TheVariants as tried
+use Rattle.explore.specs.Found.{IsAt, AreStates, witness_at}
+use Rattle.explore.specs.Searches.{StaysIn, AreFoundFrom, IsNear, NoneChanges, Changes, IsTried, HasNumber, behind, changes, is_made}
+use Rattle.explore.specs.declared.tried.Tried.{Tried}
+use Rattle.explore.specs.declared.tried.Tried.TheVariants as tried
 use Rattle.std.specs.Prelude.{suc, is_some}
 use Rattle.explore.specs.Found.{choice_at, made_among}
 
@@ -34,21 +34,24 @@ stays_then a b c h g = record {
   same = λ k lt. let x = h.more in g.same k (omega (arith, x, lt)) ∙ h.same k lt;
 }
 
-pub found_stays : (p : Program) (a b : List (List Choice)) (s : ProgramState) → StaysIn a b → IsFound p a s → IsFound p b s
-found_stays p a b s h f =
+pub found_stays : (p : Program) (a b : List (List Choice)) (d : ℕ) (s : ProgramState) → StaysIn a b → IsNear p a s d → IsNear p b s d
+found_stays p a b d s h f =
     let x = h.more in let lt = f.1 in
-    (f.0, omega (arith, x, lt), rw (h.same f.0 lt) f.2)
+    (f.0, omega (arith, x, lt), rw (h.same f.0 lt) f.2, rw (h.same f.0 lt) f.3)
+
+pub behind_stays : (a b : List (List Choice)) (k : ℕ) → StaysIn a b → k < length a → behind a k ≡ behind b k
+behind_stays a b k h lt = ap (λ (cs : List Choice). length cs + 1) (sym (h.same k lt))
 
 pub at_stays : (p : Program) (a b : List (List Choice)) (k : ℕ) (s : ProgramState) → StaysIn a b → k < length a → IsAt p a k s → IsAt p b k s
 at_stays p a b k s h lt e = rw (h.same k lt) e
 
 -- one choice more was tried
-pub found_next : (p : Program) (ws ws' : List (List Choice)) (s : ProgramState) (cs : List Choice) (n : ℕ) (c : Choice) (x : Tried)
-    → AreFoundFrom p ws s cs n → StaysIn ws ws' → choice_at cs n ≡ c → IsTried p ws' s c x → AreFoundFrom p ws' s cs (n + 1)
-found_next p ws ws' s cs n c x found stays e tried = λ i r lt leads. pick i r lt leads (cases_lt i n)
+pub found_next : (p : Program) (ws ws' : List (List Choice)) (d : ℕ) (s : ProgramState) (cs : List Choice) (n : ℕ) (c : Choice) (x : Tried)
+    → AreFoundFrom p ws d s cs n → StaysIn ws ws' → choice_at cs n ≡ c → IsTried p ws' d s c x → AreFoundFrom p ws' d s cs (n + 1)
+found_next p ws ws' d s cs n c x found stays e tried = λ i r lt leads. pick i r lt leads (cases_lt i n)
   where
-    pick : (i : ℕ) (r : ProgramState) → i < n + 1 → after p s (choice_at cs i) ≡ Some r → (i < n) ⊎ (n ≤ i) → IsFound p ws' r
-    pick i r lt leads (inl below) = found_stays p ws ws' r stays (found i r below leads)
+    pick : (i : ℕ) (r : ProgramState) → i < n + 1 → after p s (choice_at cs i) ≡ Some r → (i < n) ⊎ (n ≤ i) → IsNear p ws' r d
+    pick i r lt leads (inl below) = found_stays p ws ws' d r stays (found i r below leads)
     pick i r lt leads (inr past) =
         let here : i ≡ n = omega (arith, lt, past) in
         let there : choice_at cs i ≡ c = ap (λ (k : ℕ). choice_at cs k) here ∙ e in
@@ -71,25 +74,25 @@ taken true a x y e h g = e ∙ ap Some (sym g)
 taken false a x y e h g = absurd (cc)
 
 -- where a choice changes the state it is no end any more
-pub end_next : (p : Program) (ws : List (List Choice)) (s : ProgramState) (cs : List Choice) (n : ℕ) (c : Choice) (x : Tried) (ends led : Bool)
-    → (ends ≡ true → NoneChanges p s cs n) → choice_at cs n ≡ c → IsTried p ws s c x → led ≡ changes x
+pub end_next : (p : Program) (ws : List (List Choice)) (d : ℕ) (s : ProgramState) (cs : List Choice) (n : ℕ) (c : Choice) (x : Tried) (ends led : Bool)
+    → (ends ≡ true → NoneChanges p s cs n) → choice_at cs n ≡ c → IsTried p ws d s c x → led ≡ changes x
     → (ends && not led) ≡ true → NoneChanges p s cs (n + 1)
-end_next p ws s cs n c x true false before e tried is h = none_next p s cs n c (before refl) e (tried.stays (sym is))
-end_next p ws s cs n c x true true before e tried is h = absurd (cc)
-end_next p ws s cs n c x false led before e tried is h = absurd (cc)
+end_next p ws d s cs n c x true false before e tried is h = none_next p s cs n c (before refl) e (tried.stays (sym is))
+end_next p ws d s cs n c x true true before e tried is h = absurd (cc)
+end_next p ws d s cs n c x false led before e tried is h = absurd (cc)
 
-pub open_next : (p : Program) (ws : List (List Choice)) (s : ProgramState) (c : Choice) (x : Tried) (ends led : Bool)
-    → (ends ≡ false → (d : Choice) × Changes p s d) → IsTried p ws s c x → led ≡ changes x
+pub open_next : (p : Program) (ws : List (List Choice)) (d : ℕ) (s : ProgramState) (c : Choice) (x : Tried) (ends led : Bool)
+    → (ends ≡ false → (d : Choice) × Changes p s d) → IsTried p ws d s c x → led ≡ changes x
     → (ends && not led) ≡ false → (d : Choice) × Changes p s d
-open_next p ws s c x false led before tried is h = before refl
-open_next p ws s c x true true before tried is h = (c, tried.leads (sym is))
-open_next p ws s c x true false before tried is h = absurd (cc)
+open_next p ws d s c x false led before tried is h = before refl
+open_next p ws d s c x true true before tried is h = (c, tried.leads (sym is))
+open_next p ws d s c x true false before tried is h = absurd (cc)
 
 -- a choice that can be made is counted
-pub made_next : (p : Program) (ws : List (List Choice)) (s : ProgramState) (cs : List Choice) (n m : ℕ) (c : Choice) (x : Tried) (k : ℕ)
-    → m ≡ made_among p s cs n → choice_at cs n ≡ c → IsTried p ws s c x → k ≡ (if is_made x then 1 else 0)
+pub made_next : (p : Program) (ws : List (List Choice)) (d : ℕ) (s : ProgramState) (cs : List Choice) (n m : ℕ) (c : Choice) (x : Tried) (k : ℕ)
+    → m ≡ made_among p s cs n → choice_at cs n ≡ c → IsTried p ws d s c x → k ≡ (if is_made x then 1 else 0)
     → m + k ≡ made_among p s cs (n + 1)
-made_next p ws s cs n m c x k before e tried is =
+made_next p ws d s cs n m c x k before e tried is =
     let one : n + 1 ≡ suc n = omega arith in
     rw (one, before, e, tried.made, is) refl
 
@@ -99,8 +102,8 @@ few_next tried.Stays m k n le is = omega (arith, le, is)
 few_next tried.Leads m k n le is = omega (arith, le, is)
 
 -- a choice that cannot be made
-pub tried_none : (p : Program) (ws : List (List Choice)) (s : ProgramState) (c : Choice) → after p s c ≡ None → IsTried p ws s c tried.Refused
-tried_none p ws s c h = record {
+pub tried_none : (p : Program) (ws : List (List Choice)) (d : ℕ) (s : ProgramState) (c : Choice) → after p s c ≡ None → IsTried p ws d s c tried.Refused
+tried_none p ws d s c h = record {
   found = λ t e. absurd (cc);
   leads = λ e. absurd (cc);
   stays = λ _ t e. absurd (cc);
@@ -117,10 +120,10 @@ same_number p ws j k s states a b = by (cases_lt j k) (cases_lt k j)
     by (inr le) (inr ge) = omega (arith, le, ge)
 
 -- a choice that leads to the state with a number changes the state, but where the two have one number
-pub tried_some : (p : Program) (ws : List (List Choice)) (s t : ProgramState) (c : Choice) (at k : ℕ) (x : Tried) → AreStates p ws
-    → after p s c ≡ Some t → HasNumber p ws at s → HasNumber p ws k t → x ≡ (if k == at then tried.Stays else tried.Leads) → IsTried p ws s c x
-tried_some p ws s t c at k x states e here there said = record {
-  found = λ r h. (k, there.0, there.1 ∙ sym e ∙ h);
+pub tried_some : (p : Program) (ws : List (List Choice)) (d : ℕ) (s t : ProgramState) (c : Choice) (at k : ℕ) (x : Tried) → AreStates p ws
+    → after p s c ≡ Some t → HasNumber p ws at s → HasNumber p ws k t → length (witness_at ws k) ≤ d → x ≡ (if k == at then tried.Stays else tried.Leads) → IsTried p ws d s c x
+tried_some p ws d s t c at k x states e here there near said = record {
+  found = λ r h. (k, there.0, there.1 ∙ sym e ∙ h, near);
   leads = λ said_so. (t, e, λ same. other said_so (same_number p ws k at s states (there.0, subst (λ (x : ProgramState). IsAt p ws k x) same there.1) here));
   stays = λ said_no r h. sym (back r h) ∙ one (equal said_no);
   made = ap (λ (o : Option ProgramState). is_some o) e ∙ sym (some_made (k == at) said);
@@ -150,20 +153,7 @@ tried_some p ws s t c at k x states e here there said = record {
     one : k ≡ at → t ≡ s
     one same = ap (λ (o : Option ProgramState). unwrap_or o s) (sym there.1 ∙ subst (λ (m : ℕ). IsAt p ws m s) (sym same) here.1)
 
--- what cannot be made is made by no list of choices that goes on from there
-pub none_goes_on : (p : Program) (cs ds : List Choice) (c : Choice) (s : ProgramState)
-    → played p cs ≡ Some s → after p s c ≡ None → played p (cs ++ c ∷ ds) ≡ None
-none_goes_on p cs ds c s e h = from_none cs (Some (opening p)) e
-  where
-    stuck : (xs : List Choice) → played_from p xs None ≡ None
-    stuck [] = refl
-    stuck (x ∷ xs) = refl
-
-    from_none : (xs : List Choice) (o : Option ProgramState) → played_from p xs o ≡ Some s → played_from p (xs ++ c ∷ ds) o ≡ None
-    from_none [] o g = rw g (rw h (stuck ds))
-    from_none (x ∷ xs) (Some r) g = from_none xs (after p r x) g
-    from_none (x ∷ xs) None g = absurd (cc)
-
+-- where a choice cannot be made it leads nowhere
 pub not_taken : (can : Bool) (a : Option ProgramState) (x : ProgramState) → a ≡ (if can then Some x else None)
     → can ≡ false → a ≡ None
 not_taken false a x e h = e

@@ -11,6 +11,10 @@ abbrev pub answer_number : Option Reply → ℕ
 answer_number None = 0
 answer_number (Some r) = reply_number r + 1
 
+-- the numbers of the world, of the clock and of where the threads stand
+abbrev pub front_numbers : ProgramState → List ℕ
+front_numbers s = numbers_of s.world ++ (s.told ∷ length s.nexts ∷ s.nexts)
+
 -- the numbers of the world, of the clock and of the threads
 abbrev pub state_numbers : ProgramState → List ℕ
 state_numbers s = numbers_of s.world ++ (s.told ∷ length s.nexts ∷ (s.nexts ++ map answer_number s.replies))

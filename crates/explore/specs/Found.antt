@@ -102,6 +102,9 @@ pub record FindsAll (p : Program) (f : FoundStates) : Type 0 where
   pub states : AreStates p f.witnesses
   -- whatever choices lead to is found
   pub complete : (cs : List Choice) (s : ProgramState) → played p cs ≡ Some s → IsFound p f.witnesses s
+  -- and each witness is as short as any list of choices that leads there
+  pub shortest : (k : ℕ) (cs : List Choice) (s : ProgramState) → k < length f.witnesses → IsAt p f.witnesses k s
+      → played p cs ≡ Some s → length (witness_at f.witnesses k) ≤ length cs
   -- and the ends are those that no choice changes
   pub ends : AreEnds p f.witnesses (length f.witnesses) f.ends
   -- and the steps are counted, each state with each choice that can be made there

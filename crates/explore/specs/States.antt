@@ -123,6 +123,19 @@ after_step s c None = None
 abbrev pub after : Program → ProgramState → Choice → Option ProgramState
 after p s c = after_step s c (step_for p s c)
 
+-- what an accepted step did
+abbrev pub did_in : Result Did Fault → Option Did
+did_in (Ok d) = Some d
+did_in (Err f) = None
+
+abbrev pub did_by : WorldState → Option Step → Option Did
+did_by w None = None
+did_by w (Some x) = did_in (step_of true w x).answer
+
+-- What the step of a choice does; None where it cannot be made.
+abbrev pub did_of : Program → ProgramState → Choice → Option Did
+did_of p s c = did_by s.world (step_for p s c)
+
 -- the state behind a list of choices; None where one of them cannot be made
 abbrev pub played_from : Program → List Choice → Option ProgramState → Option ProgramState
 played_from p [] s = s

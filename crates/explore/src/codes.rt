@@ -1,12 +1,11 @@
 //! The bytes that stand for a state.
 
-ghost use Rattle.std.specs.Prelude.{◌≡◌, ◌++◌, length, map, if◌then◌else◌, OnOk, IfOk};
+ghost use Rattle.std.specs.Prelude.{◌≡◌, ◌++◌, length, map, if◌then◌else◌, OnOk};
 ghost use Rattle.explore.specs.States.{ProgramState};
 ghost use Rattle.explore.specs.Codes.{AreSmall, IsCoded, answer_number, code_of, packed, packed_number};
 
 use fat_monitor::{Reply, numbers_tell_replies_apart};
 use lock_word::Memory;
-use std::alloc::Global;
 use step_core::numbers_tell_worlds_apart;
 
 /// Two states with one code are the same state.
@@ -27,17 +26,18 @@ pub(crate) fn push_positions(positions: &[usize], numbers: &mut Vec<u64>) -> Res
     Ok(())
 }
 
-/// Puts the number of each reply, 0 where there is none, behind the numbers that are there.
-pub(crate) fn push_answers(answers: &[Option<Reply>], numbers: &mut Vec<u64>) -> Result<(), Memory>
-    ensures { OnOk result (numbers.new.items
-        ≡ numbers.old.items ++ map answer_number answers.now) }
+/// Puts the number of each reply, 0 where there is none, as bytes behind those that are there.
+pub(crate) fn push_answers(answers: &[Option<Reply>], bytes: &mut Vec<u8>) -> Result<(), Memory>
+    ensures bytes { OnOk result (bytes.new.items
+        ≡ bytes.old.items ++ packed (map answer_number answers.now)) }
 {
     'answers: for answer in answers {
-        numbers.push(answer_number(*answer))?;
+        push_number(answer_number(*answer), bytes)?;
     }
     Ok(())
 }
 
+#[inline(always)]
 fn answer_number(answer: Option<Reply>) -> u64
     ensures { result ≡ answer_number answer }
 {
@@ -47,18 +47,20 @@ fn answer_number(answer: Option<Reply>) -> u64
     }
 }
 
-/// The numbers as bytes: most are small, and have one byte.
-pub(crate) fn packed(alloc: Global, numbers: &[u64]) -> Result<Vec<u8>, Memory>
-    ensures bytes { IfOk result (λ bytes. bytes.items ≡ packed numbers.now) }
+/// Writes the numbers as bytes, in place of those that are there: most numbers are small, and have
+/// one byte.
+pub(crate) fn put_packed(numbers: &[u64], bytes: &mut Vec<u8>) -> Result<(), Memory>
+    ensures bytes { OnOk result (bytes.new.items ≡ packed numbers.now) }
     ensures small { OnOk result (AreSmall numbers.now) }
 {
-    let mut bytes = Vec::with_capacity(alloc, numbers.len())?;
+    bytes.clear();
     'numbers: for number in numbers {
-        push_number(*number, &mut bytes)?;
+        push_number(*number, bytes)?;
     }
-    Ok(bytes)
+    Ok(())
 }
 
+#[inline(always)]
 fn push_number(number: u64, bytes: &mut Vec<u8>) -> Result<(), Memory>
     ensures { OnOk result (bytes.new.items ≡ bytes.old.items ++ packed_number number) }
 {

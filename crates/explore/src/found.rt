@@ -1,7 +1,7 @@
 //! What a search finds.
 
 ghost use Rattle.std.specs.Prelude.{◌≡◌, ◌<◌, length, IfOk};
-ghost use Rattle.explore.specs.Found.{witness_at};
+ghost use Rattle.explore.specs.Found.{AreParents, witness_at, witnesses};
 
 use crate::programs::Choice;
 use lock_word::Memory;
@@ -70,16 +70,29 @@ impl Found {
         requires { state < length self.now.witnesses }
         ensures { IfOk result (λ cs. cs.items ≡ witness_at self.now.witnesses state) }
     {
-        let mut choices = Vec::new(alloc);
-        let mut at = state;
-        'back: while at > 0 {
-            let node = self.nodes[at as usize - 1];
-            choices.push(node.choice)?;
-            at = node.parent;
-        }
-        choices.reverse();
-        Ok(choices)
+        choices_to(alloc, &self.nodes, state)
     }
+}
+
+/// The choices that lead to a state, where the others were found so.
+pub(crate) fn choices_to(
+    alloc: Global,
+    nodes: &Vec<Node>,
+    state: u32,
+) -> Result<Vec<Choice>, Memory>
+    requires parents { AreParents nodes.now.items }
+    requires there { state < length (witnesses nodes.now.items) }
+    ensures { IfOk result (λ cs. cs.items ≡ witness_at (witnesses nodes.now.items) state) }
+{
+    let mut choices = Vec::new(alloc);
+    let mut at = state;
+    'back: while at > 0 {
+        let node = nodes[at as usize - 1];
+        choices.push(node.choice)?;
+        at = node.parent;
+    }
+    choices.reverse();
+    Ok(choices)
 }
 
 /// Why a search tells nothing.

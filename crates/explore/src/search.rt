@@ -1,37 +1,34 @@
 //! The search: states are visited in the order in which they were found.
 
 ghost use Rattle.std.specs.Prelude.{◌≡◌, ◌+◌, ◌<◌, ◌≤◌, ◌++◌, ◌∷◌, [], length, true, false, Some, None};
-ghost use Rattle.std.specs.Prelude.{IfErr, IfOk, OnOk};
+ghost use Rattle.std.specs.Prelude.{IfErr, IfOk, IfSome, OnOk};
 ghost use Rattle.explore.specs.declared.programs.Choice.{Choice};
 ghost use Rattle.explore.specs.States.{ProgramState, after, played, opening};
-ghost use Rattle.explore.specs.declared.search.Tried.TheVariants as tried;
 ghost use Rattle.explore.specs.Found.{witnesses, witness_at, IsAt, IsFound, FindsAll, IsReason, AreParents};
 ghost use Rattle.explore.specs.Found.{all_choices, made_among};
-ghost use Rattle.std.specs.Prelude.{◌==◌};
 ghost use Rattle.explore.specs.Searches.{
   IsSearch,
   StaysIn,
-  AllFoundFrom,
-  AreFoundFrom,
-  NoneChanges,
-  Changes,
   HasNumber,
+  IsExpanded,
+  IsSifted,
   IsTried,
   IsVisited,
-  changes,
-  is_made,
+  behind,
 };
 ghost use Rattle.std.specs.Prelude.{if◌then◌else◌};
 
+use crate::choices::{choices_of, note_choice, note_end};
 use crate::codes::codes_tell_states_apart;
-use crate::found::{ExploreFault, Found, Node};
+use crate::found::{ExploreFault, Found, Node, choices_to};
 use crate::programs::{Choice, Program};
-use crate::states::State;
+use crate::states::{State, copy_of, play};
+use crate::tried::{Expanded, Tried, tried_from};
+use crate::watching::{Nobody, Watch};
 use indexmap::IndexSet;
 use lock_word::Memory;
 use std::alloc::Global;
 use std::collections::VecDeque;
-use std::mem;
 
 /// A search that goes on: the states that were found, and those that are still to be visited.
 #[derive(Drop)]
@@ -39,49 +36,16 @@ struct Search {
     codes: IndexSet<Vec<u8>>,
     nodes: Vec<Node>,
     queue: VecDeque<State>,
+    // The numbers and bytes of the code that was made last: the next one takes their room.
+    numbers: Vec<u64>,
+    bytes: Vec<u8>,
     ghost parents: { AreParents nodes.items },
-}
-
-/// What came of a choice that was tried in a state.
-#[derive(Clone, Copy)]
-pub enum Tried {
-    /// It cannot be made there.
-    Refused,
-    /// It leads to the same state.
-    Stays,
-    /// It leads to another state.
-    Leads,
-}
-
-impl Tried {
-    /// Whether the choice changes the state.
-    fn changes(self) -> bool
-        ensures { result ≡ changes self }
-    {
-        matches!(self, Tried::Leads)
-    }
-
-    /// How many steps it is: one, where the choice can be made.
-    fn steps(self) -> u64
-        ensures { result ≡ (if is_made self then 1 else 0) }
-    {
-        match self {
-            Tried::Refused => 0,
-            Tried::Stays | Tried::Leads => 1,
-        }
-    }
-}
-
-/// What came of all choices in a state: whether none changes it, and how many can be made.
-#[derive(Clone, Copy)]
-struct Expanded {
-    is_end: bool,
-    made: u64,
 }
 
 impl Search {
     /// Takes in the state that a choice led to, behind the state with a number; answers the number
     /// that it has. One that was found before is let go.
+    #[inline(always)]
     fn add(
         &mut self,
         alloc: Global,
@@ -101,48 +65,83 @@ impl Search {
         ensures found { IfOk result (λ k.
             HasNumber program.now (witnesses self.new.nodes.items) k made) }
     {
-        codes_tell_states_apart();
-        let code = made.code(alloc)?;
-        let (number, is_new) = self.codes.insert_full(code)?;
+        let (number, is_new) = self.add_code(alloc, program, &made, parent, choice)?;
         if is_new {
-            self.nodes.push(Node { parent, choice })?;
             self.queue.push_back(made)?;
+        } else {
+            drop(made);
         }
         Ok(number)
     }
 
-    /// Tries a choice in a state, the one with a number. `next` is that state, and is so again.
+    /// Takes in the code of the state that a choice led to, behind the state with a number, and
+    /// where it is new how it was found; answers the number that it has, and whether it is new: the
+    /// state is to wait then.
+    #[inline(always)]
+    fn add_code(
+        &mut self,
+        alloc: Global,
+        program: &Program,
+        made: &State,
+        parent: u32,
+        choice: Choice,
+    ) -> Result<(usize, bool), Memory>
+        requires search { IsSearch program.now self.old.codes.keys (witnesses self.old.nodes.items)
+            self.old.queue.items (parent + 1) }
+        requires leads { played program.now
+            (witness_at (witnesses self.old.nodes.items) parent ++ choice ∷ []) ≡ Some made.now }
+        ensures search { IfOk result (λ r. IsSearch program.now self.new.codes.keys
+            (witnesses self.new.nodes.items)
+            (if r.1 then self.old.queue.items ++ made.now ∷ [] else self.old.queue.items)
+            (parent + 1)) }
+        ensures queue { OnOk result (self.new.queue.items ≡ self.old.queue.items) }
+        ensures stays { OnOk result (StaysIn (witnesses self.old.nodes.items)
+            (witnesses self.new.nodes.items)) }
+        ensures found { IfOk result (λ r.
+            HasNumber program.now (witnesses self.new.nodes.items) r.0 made.now) }
+    {
+        codes_tell_states_apart();
+        let code = made.code(alloc, &mut self.numbers, &mut self.bytes)?;
+        let (number, is_new) = self.codes.insert_full(code)?;
+        if is_new {
+            self.nodes.push(Node { parent, choice })?;
+        }
+        Ok((number, is_new))
+    }
+
+    /// Tries a choice in the state with a number, which is taken for it; it comes back where the
+    /// choice cannot be made there.
+    #[inline(always)]
     fn try_choice(
         &mut self,
         alloc: Global,
         program: &Program,
-        state: &State,
-        next: &mut State,
+        state: State,
         at: u32,
         choice: Choice,
-    ) -> Result<Tried, Memory>
+    ) -> Result<(Tried, Option<State>), Memory>
         requires search { IsSearch program.now self.old.codes.keys (witnesses self.old.nodes.items)
             self.old.queue.items (at + 1) }
-        requires here { IsAt program.now (witnesses self.old.nodes.items) at state.now }
-        requires next { next.old ≡ state.now }
+        requires here { IsAt program.now (witnesses self.old.nodes.items) at state }
         ensures search { OnOk result (IsSearch program.now self.new.codes.keys
             (witnesses self.new.nodes.items) self.new.queue.items (at + 1)) }
         ensures stays { OnOk result (StaysIn (witnesses self.old.nodes.items)
             (witnesses self.new.nodes.items)) }
-        ensures next { OnOk result (next.new ≡ state.now) }
-        ensures tried { IfOk result (IsTried program.now (witnesses self.new.nodes.items) state.now
-            choice) }
+        ensures back { IfOk result (λ r. IfSome r.1 (λ s. s ≡ state)) }
+        ensures tried { IfOk result (λ r.
+            IsTried program.now (witnesses self.new.nodes.items)
+            (behind (witnesses self.new.nodes.items) at) state choice r.0) }
     {
+        let mut next = state;
         if !next.make(program, choice)? {
-            return Ok(Tried::Refused);
+            return Ok((Tried::Refused, Some(next)));
         }
-        let made = mem::replace(next, state.clone()?);
-        let number = self.add(alloc, program, made, at, choice)?;
-        Ok(tried_from(at, number))
+        let number = self.add(alloc, program, next, at, choice)?;
+        Ok((tried_from(at, number), None))
     }
 
-    /// Tries every choice in a state, the one with a number.
-    fn expand(
+    /// Tries choices in copies of a state, the one with a number.
+    fn expand_copies(
         &mut self,
         alloc: Global,
         program: &Program,
@@ -157,25 +156,157 @@ impl Search {
             (witnesses self.new.nodes.items) self.new.queue.items (at + 1)) }
         ensures stays { OnOk result (StaysIn (witnesses self.old.nodes.items)
             (witnesses self.new.nodes.items)) }
-        ensures found { OnOk result (AreFoundFrom program.now (witnesses self.new.nodes.items)
-            state.now choices.now (length choices.now)) }
-        ensures end { IfOk result (λ x. x.is_end ≡ true
-            → NoneChanges program.now state.now choices.now (length choices.now)) }
-        ensures open { IfOk result (λ x. x.is_end ≡ false
-            → (c : Choice) × Changes program.now state.now c) }
-        ensures made { IfOk result (λ x.
-            x.made ≡ made_among program.now state.now choices.now (length choices.now)) }
-        ensures few { IfOk result (λ x. x.made ≤ length choices.now) }
+        ensures expanded { IfOk result (λ x. IsExpanded program.now
+            (witnesses self.new.nodes.items) (behind (witnesses self.new.nodes.items) at) state.now
+            choices.now x.is_end x.made) }
     {
         let mut is_end = true;
         let mut made = 0;
-        let mut next = state.clone()?;
+        let mut spare = None;
         'choosing: for choice in choices {
-            let tried = self.try_choice(alloc, program, state, &mut next, at, *choice)?;
+            let next = copy_of(spare, state)?;
+            let (tried, back) = self.try_choice(alloc, program, next, at, *choice)?;
+            spare = back;
             is_end &= !tried.changes();
             made += tried.steps();
         }
         Ok(Expanded { is_end, made })
+    }
+
+    /// Tries every choice in a state, the one with a number, which is taken for the last choice
+    /// that may be made. `possible` is for those that may, and what is there is let go.
+    #[inline(always)]
+    fn expand(
+        &mut self,
+        alloc: Global,
+        program: &Program,
+        choices: &[Choice],
+        possible: &mut Vec<Choice>,
+        state: State,
+        at: u32,
+    ) -> Result<Expanded, Memory>
+        requires search { IsSearch program.now self.old.codes.keys (witnesses self.old.nodes.items)
+            self.old.queue.items (at + 1) }
+        requires here { IsAt program.now (witnesses self.old.nodes.items) at state }
+        requires few { length choices.now ≤ 257 }
+        ensures search { OnOk result (IsSearch program.now self.new.codes.keys
+            (witnesses self.new.nodes.items) self.new.queue.items (at + 1)) }
+        ensures stays { OnOk result (StaysIn (witnesses self.old.nodes.items)
+            (witnesses self.new.nodes.items)) }
+        ensures expanded { IfOk result (λ x. IsExpanded program.now
+            (witnesses self.new.nodes.items) (behind (witnesses self.new.nodes.items) at) state
+            choices.now x.is_end x.made) }
+    {
+        let mut state = state;
+        self.sift(alloc, program, choices, possible, &mut state, at)?;
+        match possible.pop() {
+            None => Ok(Expanded {
+                is_end: true,
+                made: 0,
+            }),
+            Some(last) => {
+                let expanded = self.expand_all(alloc, program, possible, last, state, at)?;
+                Ok(expanded)
+            }
+        }
+    }
+
+    /// Tries choices in copies of a state, the one with a number, and a last one in the state
+    /// itself.
+    #[inline(always)]
+    fn expand_all(
+        &mut self,
+        alloc: Global,
+        program: &Program,
+        front: &[Choice],
+        last: Choice,
+        state: State,
+        at: u32,
+    ) -> Result<Expanded, Memory>
+        requires search { IsSearch program.now self.old.codes.keys (witnesses self.old.nodes.items)
+            self.old.queue.items (at + 1) }
+        requires here { IsAt program.now (witnesses self.old.nodes.items) at state }
+        requires few { length front.now ≤ 257 }
+        ensures search { OnOk result (IsSearch program.now self.new.codes.keys
+            (witnesses self.new.nodes.items) self.new.queue.items (at + 1)) }
+        ensures stays { OnOk result (StaysIn (witnesses self.old.nodes.items)
+            (witnesses self.new.nodes.items)) }
+        ensures expanded { IfOk result (λ x. IsExpanded program.now
+            (witnesses self.new.nodes.items) (behind (witnesses self.new.nodes.items) at) state
+            (front.now ++ last ∷ []) x.is_end x.made) }
+    {
+        let copied = self.expand_copies(alloc, program, front, &state, at)?;
+        let (tried, _) = self.try_choice(alloc, program, state, at, last)?;
+        Ok(Expanded {
+            is_end: copied.is_end & !tried.changes(),
+            made: copied.made + tried.steps(),
+        })
+    }
+
+    /// Lists the choices that may be made in a state, the one with a number, in place of those that
+    /// are there: those that are left out cannot.
+    fn sift(
+        &self,
+        alloc: Global,
+        program: &Program,
+        choices: &[Choice],
+        possible: &mut Vec<Choice>,
+        state: &mut State,
+        at: u32,
+    ) -> Result<(), Memory>
+        requires within { at < length (witnesses self.now.nodes.items) }
+        requires here { IsAt program.now (witnesses self.now.nodes.items) at state.old }
+        ensures same { OnOk result (state.new ≡ state.old) }
+        ensures sifted { OnOk result (IsSifted program.now state.old choices.now
+            (length choices.now) possible.new.items) }
+    {
+        possible.clear();
+        'sifting: for choice in choices {
+            let may = self.may_make(alloc, program, state, at, *choice)?;
+            note_choice(possible, may, *choice)?;
+        }
+        Ok(())
+    }
+
+    /// Whether a choice may be made in a state, the one with a number. Where it seems that it
+    /// cannot, that is tried in the state itself, which stays as it is where the guess was right,
+    /// and else is played again.
+    fn may_make(
+        &self,
+        alloc: Global,
+        program: &Program,
+        state: &mut State,
+        at: u32,
+        choice: Choice,
+    ) -> Result<bool, Memory>
+        requires within { at < length (witnesses self.now.nodes.items) }
+        requires here { IsAt program.now (witnesses self.now.nodes.items) at state.old }
+        ensures same { OnOk result (state.new ≡ state.old) }
+        ensures no { IfOk result (λ may. may ≡ false
+            → after program.now state.old choice ≡ None) }
+    {
+        if state.seems_open(program, choice) {
+            return Ok(true);
+        }
+        if !state.make(program, choice)? {
+            return Ok(false);
+        }
+        *state = self.played_again(alloc, program, at)?;
+        Ok(true)
+    }
+
+    /// The state with a number, played from where the program begins.
+    fn played_again(&self, alloc: Global, program: &Program, at: u32) -> Result<State, Memory>
+        requires within { at < length (witnesses self.now.nodes.items) }
+        requires there { (s : ProgramState)
+            × IsAt program.now (witnesses self.now.nodes.items) at s }
+        ensures { IfOk result (IsAt program.now (witnesses self.now.nodes.items) at) }
+    {
+        let choices = choices_to(alloc, &self.nodes, at)?;
+        match play(alloc, program, &choices)? {
+            Some(state) => Ok(state),
+            None => unreachable!(),
+        }
     }
 
     /// A search that has found where the program begins, and visited nothing.
@@ -186,12 +317,17 @@ impl Search {
         let first = State::open(alloc, program)?;
         let mut codes = IndexSet::new(alloc);
         let mut queue = VecDeque::new(alloc);
-        codes.insert_full(first.code(alloc)?)?;
+        let mut numbers = Vec::new(alloc);
+        let mut bytes = Vec::new(alloc);
+        let code = first.code(alloc, &mut numbers, &mut bytes)?;
         queue.push_back(first)?;
+        codes.insert_full(code)?;
         Ok(Search {
             codes,
             nodes: Vec::new(alloc),
             queue,
+            numbers,
+            bytes,
         })
     }
 
@@ -202,6 +338,7 @@ impl Search {
         alloc: Global,
         program: &Program,
         choices: &[Choice],
+        possible: &mut Vec<Choice>,
         ends: &mut Vec<u32>,
         steps: &mut u64,
         at: u32,
@@ -217,10 +354,16 @@ impl Search {
         let Some(state) = self.queue.pop_front() else {
             return Ok(false);
         };
-        let expanded = self.expand(alloc, program, choices, &state, at)?;
+        let expanded = self.expand(alloc, program, choices, possible, state, at)?;
         note_end(ends, expanded.is_end, at)?;
         *steps += expanded.made;
         Ok(true)
+    }
+
+    /// Tells a watch how far the search has come.
+    #[inline(always)]
+    fn tell<W: Watch>(&self, watch: &mut W) {
+        watch.tell(self.nodes.len().saturating_add(1), self.queue.len());
     }
 
     /// Whether more states were found than this.
@@ -246,12 +389,51 @@ pub fn explore(alloc: Global, program: &Program, most: u32) -> Result<Found, Exp
     ensures few { IfOk result (λ f. length f.witnesses ≤ most) }
     ensures reason { IfErr result (IsReason program.now most) }
 {
+    explore_watched(alloc, program, most, &mut Nobody)
+}
+
+/// The same as [`explore`], and a watch is told how far it has come.
+pub fn explore_watched<W: Watch>(
+    alloc: Global,
+    program: &Program,
+    most: u32,
+    watch: &mut W,
+) -> Result<Found, ExploreFault>
+    ensures all { IfOk result (FindsAll program.now) }
+    ensures few { IfOk result (λ f. length f.witnesses ≤ most) }
+    ensures reason { IfErr result (IsReason program.now most) }
+{
+    let found = find_all(alloc, program, most, watch);
+    watch.end();
+    found
+}
+
+/// Visits each state that is found, and tells a watch of it.
+fn find_all<W: Watch>(
+    alloc: Global,
+    program: &Program,
+    most: u32,
+    watch: &mut W,
+) -> Result<Found, ExploreFault>
+    ensures all { IfOk result (FindsAll program.now) }
+    ensures few { IfOk result (λ f. length f.witnesses ≤ most) }
+    ensures reason { IfErr result (IsReason program.now most) }
+{
     let choices = choices_of(alloc, program)?;
     let mut search = Search::open(alloc, program)?;
+    let mut possible = Vec::new(alloc);
     let mut ends = Vec::new(alloc);
     let mut steps = 0;
     'visiting: for at in 0..most {
-        if !search.visit(alloc, program, &choices, &mut ends, &mut steps, at)? {
+        if !search.visit(
+            alloc,
+            program,
+            &choices,
+            &mut possible,
+            &mut ends,
+            &mut steps,
+            at,
+        )? {
             return Ok(Found {
                 nodes: search.nodes,
                 ends,
@@ -261,6 +443,7 @@ pub fn explore(alloc: Global, program: &Program, most: u32) -> Result<Found, Exp
         if search.is_over(most) {
             return Err(ExploreFault::TooManyStates);
         }
+        search.tell(watch);
     }
     if !search.is_done() {
         return Err(ExploreFault::TooManyStates);
@@ -270,42 +453,4 @@ pub fn explore(alloc: Global, program: &Program, most: u32) -> Result<Found, Exp
         ends,
         steps,
     })
-}
-
-/// What came of a choice in the state with a number, where it leads to the one with another.
-fn tried_from(at: u32, number: usize) -> Tried
-    ensures { result ≡ (if number == at then tried.Stays else tried.Leads) }
-{
-    if number == at as usize {
-        Tried::Stays
-    } else {
-        Tried::Leads
-    }
-}
-
-/// Notes the number of a state that is an end.
-fn note_end(ends: &mut Vec<u32>, is_end: bool, at: u32) -> Result<(), Memory>
-    ensures { OnOk result (ends.new.items
-        ≡ (if is_end then ends.old.items ++ at ∷ [] else ends.old.items)) }
-{
-    if is_end {
-        ends.push(at)?;
-    }
-    Ok(())
-}
-
-/// All that may be chosen in a program.
-fn choices_of(alloc: Global, program: &Program) -> Result<Vec<Choice>, Memory>
-    ensures { IfOk result (λ v. v.items ≡ all_choices program.now) }
-{
-    let mut choices = Vec::new(alloc);
-    'threads: for thread in 0..program.starts.len() {
-        let thread = thread as u8;
-        choices.push(Choice::Begin { thread })?;
-        choices.push(Choice::Go { thread })?;
-        choices.push(Choice::Expire { thread })?;
-        choices.push(Choice::Spurious { thread })?;
-    }
-    choices.push(Choice::Tick)?;
-    Ok(choices)
 }

@@ -3,18 +3,21 @@
 ghost use Rattle.std.specs.Prelude.{◌≡◌, ◌≤◌, IfOk, OnErr, OnOk, length, Some, None};
 ghost use Rattle.std.specs.Prelude.{if◌then◌else◌, false, replicate, ◌<◌, IfSome};
 ghost use Rattle.explore.specs.declared.programs.Choice.TheVariants as Choice;
-ghost use Rattle.explore.specs.States.{opening, after, played, step_at, step_for, end_of};
+ghost use Rattle.std.specs.Prelude.{is_some};
+ghost use Rattle.explore.specs.States.{opening, after, did_of, played, played_from};
+ghost use Rattle.explore.specs.States.{step_at, step_for, end_of};
 ghost use Rattle.explore.specs.States.{moved, replied, chosen};
-ghost use Rattle.explore.specs.Codes.{code_of, IsCoded};
+ghost use Rattle.explore.specs.Codes.{code_of, front_numbers, IsCoded};
+ghost use Rattle.step_core.specs.Numbers.{IsNumbered};
 ghost use Rattle.explore.specs.Wants.{wants_memory};
 
-use crate::codes::{packed, push_answers, push_positions};
+use crate::codes::{push_answers, push_positions, put_packed};
 use crate::programs::{Choice, Program};
 use fat_monitor::Reply;
 use lock_word::{Memory, ThreadId};
 use std::alloc::{AllocError, Global};
 use std::marker::Model;
-use step_core::{Atomic, Cause, Did, Step, World};
+use step_core::{Atomic, Cause, Did, Doing, Step, World};
 
 /// A state of a program: its world, how far each thread and the clock have come, and the replies.
 #[derive(Drop)]
@@ -47,25 +50,10 @@ impl State {
     pub fn open(alloc: Global, program: &Program) -> Result<State, Memory>
         ensures { IfOk result (λ s. s ≡ opening program.now) }
     {
-        let mut world = World::new(
-            alloc,
-            &program.lows,
-            program.monitors,
-            program.indices,
-            program.split,
-        )?;
-        'attaching: for thread in 0..program.starts.len() {
-            let thread = ThreadId(thread as u32);
-            match world.step(Step::Attach { thread }) {
-                Ok(_) => {}
-                Err(_) => return Err(Memory),
-            }
-        }
-        let mut nexts = Vec::new(alloc);
-        nexts.extend_from_slice(&program.starts)?;
+        let nexts = Vec::from_slice(alloc, &program.starts)?;
         let replies = no_replies(alloc, program.calls.len())?;
         Ok(State {
-            world,
+            world: first_world(alloc, program)?,
             nexts,
             replies,
             told: 0,
@@ -86,17 +74,33 @@ impl State {
         &self.replies
     }
 
-    /// The bytes that stand for the state, and for no other.
-    pub(crate) fn code(&self, alloc: Global) -> Result<Vec<u8>, Memory>
+    /// The bytes that stand for the state, and for no other. The numbers and bytes of another code
+    /// may be there: they are taken for their room, and let go.
+    #[tactic(auto, using(crate::proofs::StateCodes::code_parts, crate::proofs::StateCodes::small_parts))]
+    pub(crate) fn code(
+        &self,
+        alloc: Global,
+        numbers: &mut Vec<u64>,
+        bytes: &mut Vec<u8>,
+    ) -> Result<Vec<u8>, Memory>
         ensures code { IfOk result (λ code. code.items ≡ code_of self.now) }
         ensures coded { OnOk result (IsCoded self.now) }
     {
-        let mut numbers = Vec::new(alloc);
-        self.world.push_numbers(&mut numbers)?;
+        self.put_numbers(numbers)?;
+        put_packed(numbers, bytes)?;
+        push_answers(&self.replies, bytes)?;
+        Ok(Vec::from_slice(alloc, bytes)?)
+    }
+
+    /// Writes the numbers of the state but those of the replies, in place of those that are there.
+    fn put_numbers(&self, numbers: &mut Vec<u64>) -> Result<(), Memory>
+        ensures written { OnOk result (numbers.new.items ≡ front_numbers self.now) }
+        ensures numbered { OnOk result (IsNumbered self.now.world) }
+    {
+        numbers.clear();
+        self.world.push_numbers(numbers)?;
         numbers.extend_from_slice(&[self.told as u64, self.nexts.len() as u64])?;
-        push_positions(&self.nexts, &mut numbers)?;
-        push_answers(&self.replies, &mut numbers)?;
-        packed(alloc, &numbers)
+        push_positions(&self.nexts, numbers)
     }
 
     /// Makes a choice. False: it cannot be made here, and nothing changes. On want of memory the
@@ -106,17 +110,85 @@ impl State {
             ≡ (if yes then Some self.new else None)) }
         ensures kept { IfOk result (λ yes. yes ≡ false → self.new ≡ self.old) }
     {
+        let did = self.make_and_tell(program, choice)?;
+        Ok(did.is_some())
+    }
+
+    /// Makes a choice, and tells what its step did. None: it cannot be made here, and nothing
+    /// changes. On want of memory the state is not to be used any more.
+    #[inline(always)]
+    pub fn make_and_tell(
+        &mut self,
+        program: &Program,
+        choice: Choice,
+    ) -> Result<Option<Did>, Memory>
+        ensures made { IfOk result (λ did. after program.now self.old choice
+            ≡ (if is_some did then Some self.new else None)) }
+        ensures kept { IfOk result (λ did. is_some did ≡ false → self.new ≡ self.old) }
+        ensures told { IfOk result (λ did. did ≡ did_of program.now self.old choice) }
+    {
         let Some(step) = self.step_for(program, choice) else {
-            return Ok(false);
+            return Ok(None);
         };
         let Ok(did) = self.world.step(step) else {
-            return Ok(false);
+            return Ok(None);
         };
         if wants_memory(&did) {
             return Err(Memory);
         }
         self.note(choice, did.reply);
+        Ok(Some(did))
+    }
+
+    /// Makes choices one behind the other, up to the first that cannot be made. False: there is one.
+    fn play_on(&mut self, program: &Program, choices: &[Choice]) -> Result<bool, Memory>
+        ensures { IfOk result (λ all. played_from program.now choices.now (Some self.old)
+            ≡ (if all then Some self.new else None)) }
+    {
+        'playing: for choice in choices {
+            if !self.make(program, *choice)? {
+                return Ok(false);
+            }
+        }
         Ok(true)
+    }
+
+    /// A guess that costs little: whether it looks as if a choice can be made here.
+    pub(crate) fn seems_open(&self, program: &Program, choice: Choice) -> bool {
+        match choice {
+            Choice::Begin { thread } => {
+                matches!(self.doing(thread), Some(Doing::Idle)) && self.has_calls(program, thread)
+            }
+            Choice::Go { thread } => matches!(
+                self.doing(thread),
+                Some(Doing::Wants(_) | Doing::Back { .. } | Doing::Has(_))
+            ),
+            Choice::Expire { thread } => match self.doing(thread) {
+                Some(
+                    Doing::Waits {
+                        deadline: Some(deadline),
+                        ..
+                    },
+                ) => deadline <= u128::from(self.world.now()),
+                _ => false,
+            },
+            Choice::Spurious { thread } => {
+                program.spurious && matches!(self.doing(thread), Some(Doing::Waits { .. }))
+            }
+            Choice::Tick => self.told < program.moments.len(),
+        }
+    }
+
+    fn doing(&self, thread: u8) -> Option<Doing> {
+        self.world.doing(ThreadId(u32::from(thread)))
+    }
+
+    /// Whether a thread has a call left to begin.
+    fn has_calls(&self, program: &Program, thread: u8) -> bool {
+        match self.nexts.get(usize::from(thread)) {
+            Some(next) => *next < end_of(program, thread),
+            None => false,
+        }
     }
 
     /// Notes that a choice was made, and the reply of its thread's call, if it has one.
@@ -202,23 +274,36 @@ pub fn play(alloc: Global, program: &Program, choices: &[Choice]) -> Result<Opti
     ensures { IfOk result (λ s. s ≡ played program.now choices.now) }
 {
     let mut state = State::open(alloc, program)?;
-    'playing: for choice in choices {
-        if !state.make(program, *choice)? {
-            return Ok(None);
+    let all = state.play_on(program, choices)?;
+    Ok(all.then_some(state))
+}
+
+/// The world in which a program begins: each of its threads is attached.
+fn first_world(alloc: Global, program: &Program) -> Result<World, Memory>
+    ensures { IfOk result (λ w. w ≡ (opening program.now).world) }
+{
+    let mut world = World::new(
+        alloc,
+        &program.lows,
+        program.monitors,
+        program.indices,
+        program.split,
+    )?;
+    'attaching: for thread in 0..program.starts.len() {
+        let thread = ThreadId(thread as u32);
+        match world.step(Step::Attach { thread }) {
+            Ok(_) => {}
+            Err(_) => return Err(Memory),
         }
     }
-    Ok(Some(state))
+    Ok(world)
 }
 
 /// No reply yet, to this many calls.
 fn no_replies(alloc: Global, count: usize) -> Result<Vec<Option<Reply>>, Memory>
     ensures { IfOk result (λ v. v.items ≡ replicate count None) }
 {
-    let mut replies = Vec::with_capacity(alloc, count)?;
-    'calls: for _call in 0..count {
-        replies.push(None)?;
-    }
-    Ok(replies)
+    Ok(vec![in alloc; None; count]?)
 }
 
 /// Where the calls of a thread end.
@@ -261,11 +346,26 @@ impl Clone for State {
     ghost is_clone = { λ state copy. copy ≡ state };
 
     fn clone(&self) -> Result<State, AllocError> {
+        // The world comes last: a want of memory before leaves none to give back.
+        let nexts = Vec::from_slice(*self.nexts.allocator(), &self.nexts)?;
+        let replies = Vec::from_slice(*self.replies.allocator(), &self.replies)?;
         Ok(State {
             world: self.world.clone()?,
-            nexts: Vec::from_slice(*self.nexts.allocator(), &self.nexts)?,
-            replies: Vec::from_slice(*self.replies.allocator(), &self.replies)?,
+            nexts,
+            replies,
             told: self.told,
         })
+    }
+}
+
+/// A copy of a state: the one that is spare, or else a new one.
+#[inline(always)]
+pub(crate) fn copy_of(spare: Option<State>, state: &State) -> Result<State, Memory>
+    requires { IfSome spare (λ s. s ≡ state.now) }
+    ensures { IfOk result (λ s. s ≡ state.now) }
+{
+    match spare {
+        Some(copy) => Ok(copy),
+        None => Ok(state.clone()?),
     }
 }

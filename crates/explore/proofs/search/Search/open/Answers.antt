@@ -6,4 +6,4 @@ returns c =
     let keys = rw c.new-codes.ensures.empty at c.in_ok-insert_full.ensures.keys in
     let queue = rw c.new-queue.ensures.items at c.in_ok-push_back.ensures.items in
     rw (keys, queue, c.new.ensures.items)
-    (first_found c.args.program.now c.in_ok-code.field-0 c.in_ok-first.first c.in_ok-first.ensures c.in_ok-code.ensures.coded c.in_ok-code.ensures.code)
+    (first_found c.args.program.now c.in_ok-code.code c.in_ok-first.first c.in_ok-first.ensures c.in_ok-code.ensures.coded c.in_ok-code.ensures.code)

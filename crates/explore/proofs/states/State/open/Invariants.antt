@@ -1,6 +1,0 @@
-use Rattle.std.proofs.Common.{◌≡◌}
-use Rattle.explore.specs.States.{attached}
-use Rattle.explore.proofs.states.State.open.Given as goal
-
-abbrev pub invariant-attaching : goal.invariant-attaching
-invariant-attaching l = l.world ≡ attached l.initial.world l.thread

@@ -1,0 +1,50 @@
+//! What may be chosen in a program, and what a search notes of choices and ends.
+
+ghost use Rattle.std.specs.Prelude.{◌≡◌, ◌++◌, ◌∷◌, [], IfOk, OnOk, if◌then◌else◌};
+ghost use Rattle.explore.specs.Found.{all_choices};
+
+use crate::programs::{Choice, Program};
+use lock_word::Memory;
+use std::alloc::Global;
+
+/// Notes the number of a state that is an end.
+pub(crate) fn note_end(ends: &mut Vec<u32>, is_end: bool, at: u32) -> Result<(), Memory>
+    ensures { OnOk result (ends.new.items
+        ≡ (if is_end then ends.old.items ++ at ∷ [] else ends.old.items)) }
+{
+    if is_end {
+        ends.push(at)?;
+    }
+    Ok(())
+}
+
+/// Notes a choice that may be made.
+pub(crate) fn note_choice(
+    possible: &mut Vec<Choice>,
+    may: bool,
+    choice: Choice,
+) -> Result<(), Memory>
+    ensures { OnOk result (possible.new.items
+        ≡ (if may then possible.old.items ++ choice ∷ [] else possible.old.items)) }
+{
+    if may {
+        possible.push(choice)?;
+    }
+    Ok(())
+}
+
+/// All that may be chosen in a program.
+pub(crate) fn choices_of(alloc: Global, program: &Program) -> Result<Vec<Choice>, Memory>
+    ensures { IfOk result (λ v. v.items ≡ all_choices program.now) }
+{
+    let mut choices = Vec::new(alloc);
+    'threads: for thread in 0..program.starts.len() {
+        let thread = thread as u8;
+        choices.push(Choice::Begin { thread })?;
+        choices.push(Choice::Go { thread })?;
+        choices.push(Choice::Expire { thread })?;
+        choices.push(Choice::Spurious { thread })?;
+    }
+    choices.push(Choice::Tick)?;
+    Ok(choices)
+}
