@@ -1,2 +1,10 @@
 pub mod Texts
 pub mod Choices
+pub mod Attaching
+pub mod Leading
+pub mod Naming
+pub mod Requests
+pub mod Rereading
+pub mod LinesRead
+pub mod Drafted
+pub mod NamesListed

@@ -1,5 +1,5 @@
 -- The texts of ends.
-use Rattle.std.proofs.Common.{◌≡◌, ◌⊎◌, inl, inr, ◌∙◌, subst, sym, ap, ℕ, ◌+◌, ◌<◌, ◌≤◌, List, [], ◌∷◌, ◌++◌, length, map, string_bytes, get_or, arith}
+use Rattle.std.proofs.Common.{◌≡◌, ◌⊎◌, inl, inr, ◌∙◌, subst, sym, ap, ℕ, ◌+◌, ◌<◌, ◌≤◌, List, [], ◌∷◌, ◌++◌, length, map, string_bytes, get_or, arith, append_assoc}
 use Rattle.std.specs.Prelude.{String}
 use Rattle.std.specs.declared.alloc.Global.{Global}
 use Rattle.std.proofs.lemmas.Bool.{cases_lt}
@@ -38,3 +38,8 @@ texts_more names p f texts t n long each new i lt = by (cases_lt i n)
         ap (λ (k : ℕ). text_at (map string_bytes texts ++ string_bytes t ∷ []) k) here
         ∙ get_or-append_seam (map string_bytes texts) (string_bytes t) [] [] in
         rw (whole, e) (subst (λ (k : ℕ). EndsAs names p f k (string_bytes t)) (sym at) new)
+
+-- the parts of an outcome, one behind the other
+pub part_joined : (old first second third a b c d text witness : List ℕ) → first ≡ old ++ (a ++ b ++ c ++ d ++ 10 ∷ []) → second ≡ first ++ text → third ≡ second ++ witness
+    → third ≡ old ++ (a ++ b ++ c ++ d ++ 10 ∷ (text ++ witness))
+part_joined old first second third a b c d text witness e f g = rw (g, f, e) (simp append_assoc)

@@ -1,5 +1,7 @@
 pub mod Scripts
+pub mod Steps
 pub mod Outcomes
 pub mod Reports
 pub mod Runs
 pub mod Faults
+pub mod Replays

@@ -2,13 +2,18 @@
 use Rattle.std.specs.Prelude.{◌≡◌, ℕ, zero, suc, ◌+◌, ◌<◌, Bool, false, not, ◌||◌, if◌then◌else◌, List, [], ◌∷◌, ◌++◌, length}
 use Rattle.std.specs.Prelude.{codes, decimal, slice_index_or}
 use Rattle.std.specs.Str.{bytes_eq}
+use Rattle.step_core.specs.declared.machine.Move.{Move}
+use Rattle.history.specs.Histories.{moves_text, objects_text}
 use Rattle.history.specs.NameLists.{NameLists}
 use Rattle.explore.specs.declared.programs.Program.{Program}
 use Rattle.explore.specs.declared.programs.Choice.{Choice}
 use Rattle.explore.specs.Found.{FoundStates, IsAt, witness_at}
 use Rattle.explore.specs.States.{ProgramState}
 use Rattle.explore_runs.specs.Outcomes.{IsOutcome}
+use Rattle.explore_runs.specs.declared.reports.WitnessForm.{WitnessForm}
+use Rattle.explore_runs.specs.declared.reports.WitnessForm.TheVariants as form
 use Rattle.explore_runs.specs.Scripts.{script_length, script_of}
+use Rattle.explore_runs.specs.Steps.{script_moves}
 
 -- the end with a number among the ends, and the text of one
 abbrev pub end_at : FoundStates → ℕ → ℕ
@@ -53,29 +58,45 @@ outcomes_among texts (suc n) = outcomes_among texts n + (if is_first texts n the
 abbrev pub script_part : NameLists → Program → List Choice → List ℕ
 script_part names p cs = codes "script " ++ decimal (script_length p cs) ++ 10 ∷ script_of names p cs
 
--- an outcome: its number, how many states end so, what has come of threads and objects, and how it comes to that
-abbrev pub outcome_part : NameLists → Program → List Choice → ℕ → ℕ → List ℕ → List ℕ
-outcome_part names p cs number ends text =
-    codes "outcome " ++ decimal number ++ codes " ends " ++ decimal ends ++ 10 ∷ (text ++ script_part names p cs)
+-- the history of some moves, among so many objects, behind a line that says how many lines it has
+abbrev pub history_text : ℕ → List Move → List ℕ
+history_text objects ms =
+    codes "history " ++ decimal (1 + length ms) ++ 10 ∷ (objects_text objects ++ moves_text ms)
 
--- each outcome stands where it comes first, with the script of the first state that ends so
-abbrev pub part_at : NameLists → Program → FoundStates → List (List ℕ) → ℕ → List ℕ
-part_at names p f texts i =
+-- the history of the moves that this script hands out
+abbrev pub history_part : Program → List Choice → List ℕ
+history_part p cs = history_text (length p.lows.items) (script_moves p cs)
+
+-- how it comes to a state, in this form
+abbrev pub witness_part : WitnessForm → NameLists → Program → List Choice → List ℕ
+witness_part form.Script names p cs = script_part names p cs
+witness_part form.History names p cs = history_part p cs
+
+-- an outcome: its number, how many states end so, what has come of threads and objects, and how it comes to that
+abbrev pub outcome_part : WitnessForm → NameLists → Program → List Choice → ℕ → ℕ → List ℕ → List ℕ
+outcome_part form names p cs number ends text =
+    codes "outcome " ++ decimal number ++ codes " ends " ++ decimal ends ++ 10 ∷ (text ++ witness_part form names p cs)
+
+-- each outcome stands where it comes first, with the script or history of the first state that ends so
+abbrev pub part_at : WitnessForm → NameLists → Program → FoundStates → List (List ℕ) → ℕ → List ℕ
+part_at form names p f texts i =
     if is_first texts i
-    then outcome_part names p (witness_at f.witnesses (end_at f i)) (outcomes_among texts i + 1) (times texts i)
+    then outcome_part form names p (witness_at f.witnesses (end_at f i)) (outcomes_among texts i + 1) (times texts i)
     (text_at texts i)
     else []
 
-abbrev pub outcome_parts : NameLists → Program → FoundStates → List (List ℕ) → ℕ → List ℕ
-outcome_parts names p f texts zero = []
-outcome_parts names p f texts (suc n) = outcome_parts names p f texts n ++ part_at names p f texts n
+abbrev pub outcome_parts : WitnessForm → NameLists → Program → FoundStates → List (List ℕ) → ℕ → List ℕ
+outcome_parts form names p f texts zero = []
+outcome_parts form names p f texts (suc n) =
+    outcome_parts form names p f texts n ++ part_at form names p f texts n
 
 -- how many states and steps there are
 abbrev pub counts_part : ℕ → ℕ → List ℕ
 counts_part states steps = codes "states " ++ decimal states ++ codes " steps " ++ decimal steps ++ 10 ∷ []
 
 -- A line that counts states and steps, and then each outcome once, in the order in which it was found.
-pub record IsReport (names : NameLists) (p : Program) (f : FoundStates) (text : List ℕ) : Type 0 where
+pub record IsReport (form : WitnessForm) (names : NameLists) (p : Program) (f : FoundStates)
+    (text : List ℕ) : Type 0 where
   pub texts : List (List ℕ)
   pub outcomes : AreOutcomes names p f texts
-  pub says : text ≡ counts_part (length f.witnesses) f.steps ++ outcome_parts names p f texts (length f.ends)
+  pub says : text ≡ counts_part (length f.witnesses) f.steps ++ outcome_parts form names p f texts (length f.ends)

@@ -6,27 +6,44 @@ ghost use Rattle.explore.specs.States.{ProgramState};
 ghost use Rattle.std.specs.Prelude.{if◌then◌else◌};
 ghost use Rattle.explore_runs.specs.Outcomes.{IsOutcome};
 ghost use Rattle.explore_runs.specs.Reports.{AreOutcomes, IsReport, counts_part, end_at, is_first};
-ghost use Rattle.explore_runs.specs.Reports.{outcome_part, outcome_parts, script_part, text_at, times};
+ghost use Rattle.explore_runs.specs.Reports.{history_part, outcome_part, outcome_parts};
+ghost use Rattle.explore_runs.specs.Reports.{script_part, text_at, times, witness_part};
+ghost use Rattle.explore.specs.States.{played};
+ghost use Rattle.std.specs.Prelude.{Some, codes, decimal};
 
+use crate::histories::{moves_of, put_history};
 use crate::outcomes::outcome_of;
 use crate::scripts::put_script;
 use explore::{Choice, Found, Program, play};
 use lock_word::Memory;
 use program_text::NamedProgram;
-use std::alloc::{AllocError, Global};
-use std::fmt::Write;
+use std::alloc::Global;
+
+/// What stands behind an outcome: how it comes to that.
+#[derive(Clone, Copy, PartialEq, Eq, Debug)]
+pub enum WitnessForm {
+    /// The script that leads there.
+    Script,
+    /// The history of the moves that this script hands out.
+    History,
+}
 
 /// The report of a program of which all states were found: how many states and steps there are, and
-/// then each outcome, with how many states end so and the script that leads to the first of them.
-pub fn report_of(alloc: Global, named: &NamedProgram, found: &Found) -> Result<String, Memory>
+/// then each outcome, with how many states end so, and how it comes to the first of them.
+pub fn report_of(
+    alloc: Global,
+    named: &NamedProgram,
+    found: &Found,
+    form: WitnessForm,
+) -> Result<Vec<u8>, Memory>
     requires { FindsAll named.now.program found.now }
     ensures { IfOk result (λ text.
-        IsReport named.now.names named.now.program found.now (string_bytes text)) }
+        IsReport form named.now.names named.now.program found.now text.items) }
 {
     let texts = texts_of(alloc, named, found)?;
-    let mut report = String::new(alloc);
-    put_counts(&mut report, found.states(), found.steps())?;
-    put_outcomes(alloc, &mut report, named, found, &texts)?;
+    let mut report = Vec::new(alloc);
+    put_counts(alloc, &mut report, found.states(), found.steps())?;
+    put_outcomes(alloc, &mut report, named, found, form, &texts)?;
     Ok(report)
 }
 
@@ -64,31 +81,33 @@ fn text_of(
 }
 
 /// Writes how many states and steps there are.
-fn put_counts(report: &mut String, states: usize, steps: u64) -> Result<(), AllocError>
-    ensures { OnOk result (string_bytes report.new
-        ≡ string_bytes report.old ++ counts_part states steps) }
+fn put_counts(alloc: Global, report: &mut Vec<u8>, states: usize, steps: u64) -> Result<(), Memory>
+    ensures { OnOk result (report.new.items ≡ report.old.items ++ counts_part states steps) }
 {
-    writeln!(report, "states {states} steps {steps}")
+    let line = format!(in alloc; "states {states} steps {steps}\n")?;
+    report.extend_from_slice(line.as_bytes())?;
+    Ok(())
 }
 
 /// Writes each outcome where it comes first.
 fn put_outcomes(
     alloc: Global,
-    report: &mut String,
+    report: &mut Vec<u8>,
     named: &NamedProgram,
     found: &Found,
+    form: WitnessForm,
     texts: &[String],
 ) -> Result<(), Memory>
     requires all { FindsAll named.now.program found.now }
     requires texts { length texts.now ≡ length found.now.ends }
-    ensures { OnOk result (string_bytes report.new ≡ string_bytes report.old
-        ++ outcome_parts named.now.names named.now.program found.now (map string_bytes texts.now)
+    ensures { OnOk result (report.new.items ≡ report.old.items ++ outcome_parts form
+        named.now.names named.now.program found.now (map string_bytes texts.now)
         (length found.now.ends)) }
 {
     let mut number = 1;
     'ends: for at in 0..texts.len() {
         if is_first(texts, at) {
-            put_part(alloc, report, named, found, texts, at, number)?;
+            put_part(alloc, report, named, found, form, texts, at, number)?;
             number += 1;
         }
     }
@@ -98,9 +117,10 @@ fn put_outcomes(
 /// Writes the outcome that comes first at a position, with its number.
 fn put_part(
     alloc: Global,
-    report: &mut String,
+    report: &mut Vec<u8>,
     named: &NamedProgram,
     found: &Found,
+    form: WitnessForm,
     texts: &[String],
     at: usize,
     number: usize,
@@ -108,16 +128,55 @@ fn put_part(
     requires all { FindsAll named.now.program found.now }
     requires texts { length texts.now ≡ length found.now.ends }
     requires at { at < length texts.now }
-    ensures { OnOk result (string_bytes report.new ≡ string_bytes report.old
-        ++ outcome_part named.now.names named.now.program
+    ensures { OnOk result (report.new.items ≡ report.old.items ++ outcome_part form
+        named.now.names named.now.program
         (witness_at found.now.witnesses (end_at found.now at)) number
         (times (map string_bytes texts.now) at) (text_at (map string_bytes texts.now) at)) }
 {
-    let ends = times(texts, at);
-    writeln!(report, "outcome {number} ends {ends}")?;
-    report.push_str(texts[at].as_str())?;
+    put_head(alloc, report, number, times(texts, at))?;
+    put_text(report, texts, at)?;
     let choices = found.witness(alloc, end_in(&named.program, found, at))?;
-    put_script_part(alloc, report, named, &choices)
+    put_witness(alloc, report, named, form, &choices)?;
+    Ok(())
+}
+
+/// Writes the number of an outcome, and how many ends have it.
+fn put_head(alloc: Global, report: &mut Vec<u8>, number: usize, ends: usize) -> Result<(), Memory>
+    ensures { OnOk result (report.new.items ≡ report.old.items ++ (codes "outcome "
+        ++ decimal number ++ codes " ends " ++ decimal ends ++ 10 ∷ [])) }
+{
+    let line = format!(in alloc; "outcome {number} ends {ends}\n")?;
+    report.extend_from_slice(line.as_bytes())?;
+    Ok(())
+}
+
+/// Writes the text at a position.
+#[tactic(auto, using(crate::proofs::Texts::text_there))]
+fn put_text(report: &mut Vec<u8>, texts: &[String], at: usize) -> Result<(), Memory>
+    requires { at < length texts.now }
+    ensures { OnOk result (report.new.items
+        ≡ report.old.items ++ text_at (map string_bytes texts.now) at) }
+{
+    report.extend_from_slice(texts[at].as_bytes())?;
+    Ok(())
+}
+
+/// Writes how it comes to the state that some choices lead to.
+fn put_witness(
+    alloc: Global,
+    report: &mut Vec<u8>,
+    named: &NamedProgram,
+    form: WitnessForm,
+    choices: &[Choice],
+) -> Result<(), Memory>
+    requires { (s : ProgramState) × (played named.now.program choices.now ≡ Some s) }
+    ensures { OnOk result (report.new.items ≡ report.old.items
+        ++ witness_part form named.now.names named.now.program choices.now) }
+{
+    match form {
+        WitnessForm::Script => put_script_part(alloc, report, named, choices),
+        WitnessForm::History => put_history_part(alloc, report, &named.program, choices),
+    }
 }
 
 /// The state that is an end with this number among the ends.
@@ -133,18 +192,37 @@ fn end_in(program: &Program, found: &Found, at: usize) -> u32
 /// Writes the script that makes some choices, behind a line that says how many lines it has.
 fn put_script_part(
     alloc: Global,
-    report: &mut String,
+    report: &mut Vec<u8>,
     named: &NamedProgram,
     choices: &[Choice],
 ) -> Result<(), Memory>
-    ensures { OnOk result (string_bytes report.new ≡ string_bytes report.old
+    ensures { OnOk result (report.new.items ≡ report.old.items
         ++ script_part named.now.names named.now.program choices.now) }
 {
     let program = &named.program;
     let lines = 1 + program.lows.len() + program.starts.len() + choices.len();
-    writeln!(report, "script {lines}")?;
-    put_script(alloc, report, &named.names, program, choices)?;
+    let mut script = format!(in alloc; "script {lines}\n")?;
+    put_script(alloc, &mut script, &named.names, program, choices)?;
+    report.extend_from_slice(script.as_bytes())?;
     Ok(())
+}
+
+/// Writes the history of some choices that can be made, behind a line that says how many lines it
+/// has.
+fn put_history_part(
+    alloc: Global,
+    report: &mut Vec<u8>,
+    program: &Program,
+    choices: &[Choice],
+) -> Result<(), Memory>
+    requires { (s : ProgramState) × (played program.now choices.now ≡ Some s) }
+    ensures { OnOk result (report.new.items
+        ≡ report.old.items ++ history_part program.now choices.now) }
+{
+    match moves_of(alloc, program, choices)? {
+        Some(moves) => put_history(alloc, report, program.lows.len() as u16, &moves),
+        None => unreachable!(),
+    }
 }
 
 /// Whether no text before this one is the same.

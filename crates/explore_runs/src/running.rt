@@ -1,6 +1,6 @@
 //! Exploring a program: from a reader's bytes to a writer's report.
 
-ghost use Rattle.std.specs.Prelude.{◌≡◌, ◌<◌, ◌≤◌, ◌⊎◌, ℕ, List, length, string_bytes, take};
+ghost use Rattle.std.specs.Prelude.{◌≡◌, ◌<◌, ◌≤◌, ◌⊎◌, ℕ, List, length, take};
 ghost use Rattle.std.specs.Prelude.{IsErrOf, IfSome, OnOk, IfErr, IfOk, Err};
 ghost use Rattle.std.specs.Io.KnownBytes.{Keeps, Appends};
 ghost use Rattle.text_streams.specs.declared.faults.FileFault.TheVariants.{BadLine, BadMove};
@@ -13,29 +13,32 @@ ghost use Rattle.explore_runs.specs.Faults.{IsExploreReason};
 ghost use Rattle.explore_runs.specs.Runs.{IsReportOfText};
 
 use crate::faults::ExploreTextFault;
-use crate::reports::report_of;
-use explore::{ExploreFault, explore};
+use crate::reports::{WitnessForm, report_of};
+use explore::{ExploreFault, Watch, explore_watched};
 use history::read_all;
 use program_text::read_program;
 use script_text::MOST_BYTES;
 use std::alloc::Global;
 use text_streams::{FileFault, Sink, Source, write_out};
 
-/// Reads a program to its end, explores it, and writes the report of its outcomes. Where it has
-/// more states than `most`, nothing is written.
+/// Reads a program to its end, explores it, and writes the report of its outcomes, with what stands
+/// behind each in this form. Where it has more states than `most`, nothing is written. A watch is
+/// told how far the exploration has come, and that it is over, before anything is written.
 ///
 /// The whole program is read and explored before the first byte is written.
-pub fn explore_text<S: Source, W: Sink>(
+pub fn explore_text<S: Source, W: Sink, A: Watch>(
     alloc: Global,
     source: &mut S,
     sink: &mut W,
     most: u32,
+    form: WitnessForm,
+    watch: &mut A,
 ) -> Result<(), ExploreTextFault>
     requires { S.given source.old ≡ 0 }
     // At Ok, neither end has failed in the call, the bytes were the text of a program within the
     // limit of scripts, and the whole report was written.
     ensures written { OnOk result ((text : List ℕ)
-        × IfSome (S.left source.old) (λ input. IsReportOfText input most text)
+        × IfSome (S.left source.old) (λ input. IsReportOfText input most form text)
         × Appends (W.holds sink.old) (W.holds sink.new) text) }
     ensures read_whole { OnOk result (S.has_failed source.new → S.has_failed source.old) }
     ensures written_whole { OnOk result (W.has_failed sink.new → W.has_failed sink.old) }
@@ -51,7 +54,7 @@ pub fn explore_text<S: Source, W: Sink>(
         → S.has_failed source.new ⊎ MOST_BYTES < S.given source.new }
     ensures write { IsErrOf result (File WriteFault) → W.has_failed sink.new }
     ensures cut { IsErrOf result (File WriteFault) → (text : List ℕ)
-        × IfSome (S.left source.old) (λ input. IsReportOfText input most text)
+        × IfSome (S.left source.old) (λ input. IsReportOfText input most form text)
         × (n : ℕ) × Appends (W.holds sink.old) (W.holds sink.new) (take n text) }
     ensures unwritten { IfErr result (λ fault.
         (fault ≡ File WriteFault) ⊎ Keeps (W.holds sink.old) (W.holds sink.new)) }
@@ -64,22 +67,28 @@ pub fn explore_text<S: Source, W: Sink>(
         ⊎ result ≡ Err (File (Broken line))) → ⊥ }
 {
     let bytes = read_all(alloc, source)?;
-    let text = explore_in(alloc, &bytes, most)?;
-    write_out(sink, text.as_bytes())?;
+    let text = explore_in(alloc, &bytes, most, form, watch)?;
+    write_out(sink, &text)?;
     Ok(())
 }
 
 /// The report of the program that some bytes are the text of.
-fn explore_in(alloc: Global, bytes: &[u8], most: u32) -> Result<String, ExploreTextFault>
-    ensures report { IfOk result (λ text. IsReportOfText bytes.now most (string_bytes text)) }
+fn explore_in<A: Watch>(
+    alloc: Global,
+    bytes: &[u8],
+    most: u32,
+    form: WitnessForm,
+    watch: &mut A,
+) -> Result<Vec<u8>, ExploreTextFault>
+    ensures report { IfOk result (λ text. IsReportOfText bytes.now most form text.items) }
     ensures fault { IfErr result (IsExploreReason bytes.now most) }
 {
     let named = read_program(alloc, bytes)?;
-    let found = match explore(alloc, &named.program, most) {
+    let found = match explore_watched(alloc, &named.program, most, watch) {
         Ok(found) => found,
         Err(ExploreFault::Memory) => return Err(ExploreTextFault::File(FileFault::Memory)),
         Err(ExploreFault::TooManyStates) => return Err(ExploreTextFault::TooManyStates(most)),
     };
-    let text = report_of(alloc, &named, &found)?;
+    let text = report_of(alloc, &named, &found, form)?;
     Ok(text)
 }

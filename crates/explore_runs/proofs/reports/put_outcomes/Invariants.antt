@@ -6,6 +6,6 @@ abbrev pub invariant-ends : goal.invariant-ends
 invariant-ends l = record {
   number : l.number ≡ outcomes_among (map string_bytes l.texts) l.at + 1;
   few : l.number ≤ l.at + 1;
-  lines : string_bytes l.report
-      ≡ string_bytes l.fn.report ++ outcome_parts l.named.names l.named.program l.found (map string_bytes l.texts) l.at;
+  lines : l.report.items
+      ≡ l.fn.report.items ++ outcome_parts l.form l.named.names l.named.program l.found (map string_bytes l.texts) l.at;
 }

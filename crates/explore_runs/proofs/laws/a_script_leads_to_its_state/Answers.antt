@@ -1,0 +1,13 @@
+use Rattle.explore_runs.proofs.Drafted.{are_named}
+use Rattle.explore_runs.proofs.Leading.{script_leads}
+use Rattle.explore_runs.proofs.Rereading.{replays}
+use Rattle.explore_runs.proofs.laws.a_script_leads_to_its_state.Goals as goal
+
+pub returns-clause-played : goal.returns-clause-played
+returns-clause-played c = λ names p cs s named few leads. replays names p cs s named few leads
+
+pub returns-clause-steps : goal.returns-clause-steps
+returns-clause-steps c = λ p cs s leads. script_leads p cs s leads
+
+pub returns-clause-named : goal.returns-clause-named
+returns-clause-named c = λ bytes named is. are_named bytes named is
