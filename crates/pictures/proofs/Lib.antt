@@ -1,4 +1,10 @@
 pub mod Nexts
+pub mod Zips
 pub mod MoreColumns
+pub mod Runs
 pub mod Follows
+pub mod Lives
+pub mod Touches
+pub mod Made
+pub mod LateLanes
 pub mod Films

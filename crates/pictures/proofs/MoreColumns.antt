@@ -1,45 +1,57 @@
 -- Spans with a column more.
-use Rattle.std.proofs.Common.{◌≡◌, ℕ, zero, suc, ◌+◌, ◌<◌, List, [], ◌∷◌, ◌++◌, length, drop, get_or, Option, refl, sym, ap, ◌∙◌, arith, append_assoc, append-nil, length-append}
-use Rattle.pictures.proofs.Nexts.{drop_next}
-use Rattle.std.specs.List.{flat_map}
-use Rattle.std.proofs.lemmas.Grind.{flat_map-append}
+use Rattle.std.proofs.Common.{◌≡◌, ℕ, zero, suc, ◌+◌, ◌-◌, ◌<◌, ◌≤◌, List, [], ◌∷◌, ◌++◌, length, take, drop, get_or, Option, refl, sym, ap, ◌∙◌, subst, arith, append_assoc, length-append, length-take}
+use Rattle.std.proofs.Math.ListN.{set}
+use Rattle.std.proofs.lemmas.List.{take_more_set}
+use Rattle.pictures.proofs.Nexts.{drop_next, same_next, take_next}
+use Rattle.std.specs.Prelude.{Vec}
+use Rattle.std.specs.declared.alloc.Global.{Global}
+use Rattle.lock_word.specs.declared.Word.{Word}
 use Rattle.step_core.specs.Machine.{State}
-use Rattle.pictures.specs.declared.picture.Lane.{Lane}
 use Rattle.pictures.specs.declared.picture.Strip.{Strip}
 use Rattle.pictures.specs.declared.picture.StripSpan.{StripSpan}
 use Rattle.pictures.specs.declared.arrows.LastOwner.{LastOwner}
 use Rattle.pictures.specs.declared.picture.Arrow.{Arrow}
 use Rattle.pictures.specs.Arrows.{hand_over, hand_overs, last_after}
-use Rattle.pictures.specs.Spans.{repeated, IsMarked, AllMarked, IsMarkedStrip, AllMarkedStrips, strip_covered}
+use Rattle.pictures.specs.Spans.{repeated, IsMarkedStrip, AllMarkedStrips, strip_covered, word_in}
 
 pub repeated_more : {A : Type 0} (n : ℕ) (x : A) → repeated (suc n) x ≡ repeated n x ++ x ∷ []
 repeated_more zero x = refl
 repeated_more (suc n) x = ap (λ l. x ∷ l) (repeated_more n x)
 
--- what the last element stands for has one more at its end
-pub last_longer : {X A : Type 0} (f : X → List A) (init : List X) (last longer : X) (x : A) → f longer ≡ f last ++ x ∷ []
-    → flat_map f (init ++ longer ∷ []) ≡ flat_map f (init ++ last ∷ []) ++ x ∷ []
-last_longer f init last longer x e =
-    flat_map-append f init (longer ∷ []) ∙ ap (λ l. flat_map f init ++ l) (append-nil (f longer) ∙ e)
-    ∙ sym (append_assoc (flat_map f init) (f last) (x ∷ []))
-    ∙ ap (λ l. l ++ x ∷ []) (ap (λ l. flat_map f init ++ l) (sym (append-nil (f last))) ∙ sym (flat_map-append f init (last ∷ [])))
+pub repeated_sum : {A : Type 0} (n k : ℕ) (x : A) → repeated (n + k) x ≡ repeated n x ++ repeated k x
+repeated_sum zero k x =
+    let e : 0 + k ≡ k = omega arith in
+    ap (λ i. repeated i x) e
+repeated_sum (suc n) k x =
+    let e : suc n + k ≡ suc (n + k) = omega arith in
+    ap (λ i. repeated i x) e ∙ ap (λ l. x ∷ l) (repeated_sum n k x)
 
--- one more element, which stands for one
-pub one_more : {X A : Type 0} (f : X → List A) (init : List X) (new : X) (x : A) → f new ≡ x ∷ []
-    → flat_map f (init ++ new ∷ []) ≡ flat_map f init ++ x ∷ []
-one_more f init new x e = flat_map-append f init (new ∷ []) ∙ ap (λ l. flat_map f init ++ l) (append-nil (f new) ∙ e)
+-- there are none where all are there
+pub repeated_none : {A : Type 0} (n k : ℕ) (x : A) → n ≤ k → repeated (n - k) x ≡ []
+repeated_none n k x all =
+    let e : n - k ≡ 0 = omega (arith, all) in
+    ap (λ i. repeated i x) e
 
-pub AllMarked-more : (s : State) (ls ms : List Lane) (l m : Lane) → AllMarked s ls ms → IsMarked s l m → AllMarked s (ls ++ l ∷ []) (ms ++ m ∷ [])
-AllMarked-more s [] [] l m p q = (q, tt)
-AllMarked-more s [] (n ∷ ms) l m p q = absurd p
-AllMarked-more s (k ∷ ls) [] l m p q = absurd p
-AllMarked-more s (k ∷ ls) (n ∷ ms) l m p q = (p.0, AllMarked-more s ls ms l m p.1 q)
+pub AllMarkedStrips-more : (s : State) (words : List (Vec Word Global)) (n i k : ℕ) (ls ms : List Strip) (l m : Strip)
+    → AllMarkedStrips s words n i ls ms → k ≡ i + length ms → IsMarkedStrip s (word_in words n k) l m
+    → AllMarkedStrips s words n i (ls ++ l ∷ []) (ms ++ m ∷ [])
+AllMarkedStrips-more s words n i k [] [] l m p e q =
+    let same : k ≡ i = omega (arith, e) in
+    (subst (λ x. IsMarkedStrip s (word_in words n x) l m) same q, tt)
+AllMarkedStrips-more s words n i k [] (j ∷ ms) l m p e q = absurd p
+AllMarkedStrips-more s words n i k (j ∷ ls) [] l m p e q = absurd p
+AllMarkedStrips-more s words n i k (j ∷ ls) (h ∷ ms) l m p e q =
+    (p.0, AllMarkedStrips-more s words n (i + 1) k ls ms l m p.1 (omega (arith, e)) q)
 
-pub AllMarkedStrips-more : (s : State) (ls ms : List Strip) (l m : Strip) → AllMarkedStrips s ls ms → IsMarkedStrip s l m → AllMarkedStrips s (ls ++ l ∷ []) (ms ++ m ∷ [])
-AllMarkedStrips-more s [] [] l m p q = (q, tt)
-AllMarkedStrips-more s [] (n ∷ ms) l m p q = absurd p
-AllMarkedStrips-more s (k ∷ ls) [] l m p q = absurd p
-AllMarkedStrips-more s (k ∷ ls) (n ∷ ms) l m p q = (p.0, AllMarkedStrips-more s ls ms l m p.1 q)
+-- one more strip of a list is written, where those from it on are still as they were
+pub strips_written : (s : State) (words : List (Vec Word Global)) (n : ℕ) (xs ys : List Strip) (i : ℕ) (d y : Strip)
+    → i < length xs → i < length ys → drop i ys ≡ drop i xs
+    → AllMarkedStrips s words n 0 (take i xs) (take i ys) → IsMarkedStrip s (word_in words n i) (get_or ys i d) y
+    → AllMarkedStrips s words n 0 (take (i + 1) xs) (take (i + 1) (set ys i y))
+strips_written s words n xs ys i d y here there e p q =
+    let at : i ≡ 0 + length (take i ys) = omega (arith, there, length-take i ys) in
+    rw (take_next xs i d here, take_more_set ys i y there)
+    (AllMarkedStrips-more s words n 0 i (take i xs) (take i ys) (get_or xs i d) y p at (subst (λ x. IsMarkedStrip s (word_in words n i) x y) (same_next xs ys i d here there e).0 q))
 
 -- ---- the columns of a strip that are left
 

@@ -1,14 +1,16 @@
--- The calls, replies and moments of a list of columns, each at its column.
-use Rattle.std.specs.Prelude.{ℕ, ◌+◌, List, [], ◌∷◌, ◌++◌, ◌==◌, if◌then◌else◌, Option, Some}
+-- The calls, replies, moments and refusals of a list of columns, each at its column.
+use Rattle.std.specs.Prelude.{ℕ, ◌+◌, List, [], ◌∷◌, ◌++◌, ◌==◌, if◌then◌else◌, Option, Some, None}
 use Rattle.std.specs.List.{flat_map}
 use Rattle.lock_word.specs.declared.ThreadId.{ThreadId}
 use Rattle.step_core.specs.declared.machine.Move.{Move}
 use Rattle.step_core.specs.declared.machine.Move.TheVariants as move
 use Rattle.step_core.specs.Step.{moves_made}
 use Rattle.pictures.specs.declared.columns.Column.{Column}
+use Rattle.pictures.specs.declared.columns.Refusal.{Refusal}
 use Rattle.pictures.specs.declared.picture.CallMark.{CallMark}
 use Rattle.pictures.specs.declared.picture.ReplyMark.{ReplyMark}
 use Rattle.pictures.specs.declared.picture.MomentMark.{MomentMark}
+use Rattle.pictures.specs.declared.picture.RefusalMark.{RefusalMark}
 
 -- the moves of a column
 abbrev pub moves_in : Column → List Move
@@ -26,6 +28,11 @@ reply_mark t n m = []
 abbrev pub moment_mark : ℕ → Option Move → List MomentMark
 moment_mark n (Some (move.Time now)) = record { column = n; now = now } ∷ []
 moment_mark n m = []
+
+-- what is refused, if something is
+abbrev pub refusal_mark : ℕ → Option Refusal → List RefusalMark
+refusal_mark n None = []
+refusal_mark n (Some r) = record { column = n; refusal = r } ∷ []
 
 -- the same of each move of a column
 abbrev pub call_marks_in : ThreadId → ℕ → List (Option Move) → List CallMark
@@ -49,3 +56,7 @@ reply_marks t n (c ∷ cs) = reply_marks_in t n c.moves ++ reply_marks t (n + 1)
 abbrev pub moment_marks : ℕ → List Column → List MomentMark
 moment_marks n [] = []
 moment_marks n (c ∷ cs) = moment_marks_in n c.moves ++ moment_marks (n + 1) cs
+
+abbrev pub refusal_marks : ℕ → List Column → List RefusalMark
+refusal_marks n [] = []
+refusal_marks n (c ∷ cs) = refusal_mark n c.refusal ++ refusal_marks (n + 1) cs

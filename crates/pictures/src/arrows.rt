@@ -88,7 +88,7 @@ fn put_arrows_of_call(
 }
 
 /// The call that a thread has made and that has no answer yet.
-fn call_in(live: Option<Live>) -> Option<Call>
+pub(crate) fn call_in(live: Option<Live>) -> Option<Call>
     ensures { result ≡ call_in (option_map thread_of live) }
 {
     match live?.act {
@@ -134,7 +134,7 @@ fn put_arrow_to_waiter(
 }
 
 /// Whether a thread is in the wait set of an object.
-fn is_waiting(machine: &Machine, thread: ThreadId, object: ObjectId) -> bool
+pub(crate) fn is_waiting(machine: &Machine, thread: ThreadId, object: ObjectId) -> bool
     ensures { result ≡ is_waiting ((state machine.now).thread thread) object }
 {
     match machine.live(thread) {

@@ -5,7 +5,9 @@
 
 mod arrows;
 mod columns;
+mod cycles;
 mod faults;
+mod late;
 mod marks;
 mod order;
 mod picture;
@@ -13,10 +15,12 @@ mod picturing;
 mod playing;
 mod same;
 mod spans;
+mod touched;
 
-pub use columns::Column;
+pub use columns::{Column, Refusal};
 pub use faults::PictureFault;
 pub use picture::{
-    Arrow, ArrowKind, CallMark, Lane, MomentMark, Picture, ReplyMark, Span, Strip, StripSpan,
+    Arrow, ArrowKind, CallMark, Lane, MomentMark, Picture, RefusalMark, ReplyMark, Span, Strip,
+    StripSpan,
 };
-pub use picturing::{MOST_COLUMNS, MOST_LANES, picture_of};
+pub use picturing::{MOST_COLUMNS, MOST_LANES, drawn_objects, picture_of};

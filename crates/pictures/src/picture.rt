@@ -1,5 +1,6 @@
 //! A picture: lanes, strips, arrows and marks.
 
+use crate::columns::Refusal;
 use fast_path::Call;
 use fat_monitor::Reply;
 use jls_check::{Held, Live};
@@ -87,6 +88,13 @@ pub struct MomentMark {
     pub now: u64,
 }
 
+/// What is refused, at its column, from 0.
+#[derive(Clone, Copy)]
+pub struct RefusalMark {
+    pub column: u32,
+    pub refusal: Refusal,
+}
+
 /// A history as a picture. A column shows the state behind its moves.
 #[derive(Drop)]
 pub struct Picture {
@@ -94,7 +102,8 @@ pub struct Picture {
     pub first: u32,
     /// How many columns there are.
     pub columns: u32,
-    /// One for each thread that is live in some column, by rising number.
+    /// One for each thread that is live before the first column or in some column, by rising
+    /// number.
     pub lanes: Vec<Lane>,
     /// One for each object that is drawn, by rising number.
     pub strips: Vec<Strip>,
@@ -102,6 +111,8 @@ pub struct Picture {
     pub arrows: Vec<Arrow>,
     /// In the order of columns.
     pub moments: Vec<MomentMark>,
+    /// In the order of columns.
+    pub refusals: Vec<RefusalMark>,
     /// The cycles of owners in the last column, each from its lowest thread on.
     pub cycles: Vec<Vec<ThreadId>>,
 }

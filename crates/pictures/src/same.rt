@@ -1,4 +1,4 @@
-//! Whether two threads do the same.
+//! Whether two threads do the same, and whether two header words are the same.
 //!
 //! The `==` of a derive says nothing of the values to a proof, so these say it case by case.
 
@@ -7,6 +7,7 @@ ghost use Rattle.std.specs.Prelude.{◌≡◌, true};
 use fast_path::Call;
 use fat_monitor::{Cause, Reply, Why};
 use jls_check::Live;
+use lock_word::Word;
 use step_core::Doing;
 
 /// Whether two threads, or the absence of them, are the same.
@@ -120,6 +121,17 @@ fn are_same_causes(one: Cause, other: Cause) -> bool
         | (Cause::TooDeep, Cause::TooDeep)
         | (Cause::StillOwner, Cause::StillOwner)
         | (Cause::NoThread, Cause::NoThread) => true,
+        _ => false,
+    }
+}
+
+/// Whether two header words, or the absence of them, are the same.
+pub(crate) fn are_same_words(one: Option<Word>, other: Option<Word>) -> bool
+    ensures { result ≡ true → one ≡ other }
+{
+    match (one, other) {
+        (Some(one), Some(other)) => one.0 == other.0,
+        (None, None) => true,
         _ => false,
     }
 }

@@ -1,110 +1,98 @@
-//! Spans: one more column of a lane or a strip.
+//! Spans: more columns of a lane or a strip.
 
-ghost use Rattle.std.specs.Prelude.{◌≡◌, ◌++◌, ◌∷◌, [], OnOk, IfOk, IfSome};
+ghost use Rattle.std.specs.Prelude.{◌≡◌, ◌++◌, ◌∷◌, [], OnOk, IfSome};
 ghost use Rattle.jls_check.specs.MachineState.{state};
-ghost use Rattle.pictures.specs.Spans.{AllMarked, AllMarkedStrips, IsMarked, IsMarkedStrip, covered};
-ghost use Rattle.pictures.specs.Spans.{repeated, strip_covered};
+ghost use Rattle.pictures.specs.Spans.{AllMarkedStrips, IsMarkedStrip, covered};
+ghost use Rattle.pictures.specs.Spans.{repeated, strip_covered, strip_words, word_in};
 
-use crate::picture::{Lane, Span, Strip, StripSpan};
-use crate::same::are_same;
+use crate::picture::{Span, Strip, StripSpan};
+use crate::same::{are_same, are_same_words};
 use jls_check::{Held, Live, Machine};
-use lock_word::Memory;
-use std::alloc::{AllocError, Global};
+use lock_word::Word;
+use std::alloc::AllocError;
 
-/// The lanes with one more column, in which each thread is as the machine says.
-pub(crate) fn mark_lanes(
-    alloc: Global,
-    lanes: Vec<Lane>,
-    machine: &Machine,
-) -> Result<Vec<Lane>, Memory>
-    ensures { IfOk result (λ marked. AllMarked (state machine.now) lanes.items marked.items) }
-{
-    let mut marked = Vec::new(alloc);
-    'lanes: for lane in lanes {
-        marked.push(mark_lane(lane, machine)?)?;
-    }
-    Ok(marked)
-}
-
-fn mark_lane(lane: Lane, machine: &Machine) -> Result<Lane, AllocError>
-    ensures { IfOk result (λ marked. IsMarked (state machine.now) lane marked) }
-{
-    let live = machine.live(lane.thread);
-    let mut spans = lane.spans;
-    put_span(&mut spans, live)?;
-    Ok(Lane {
-        thread: lane.thread,
-        spans,
-        calls: lane.calls,
-        replies: lane.replies,
-    })
-}
-
-/// Adds a column that says this of a thread.
-fn put_span(spans: &mut Vec<Span>, live: Option<Live>) -> Result<(), AllocError>
-    ensures { OnOk result (covered spans.new.items ≡ covered spans.old.items ++ live ∷ []) }
+/// Adds so many columns that say this of a thread.
+pub(crate) fn put_columns(
+    spans: &mut Vec<Span>,
+    live: Option<Live>,
+    columns: u32,
+) -> Result<(), AllocError>
+    ensures { OnOk result (covered spans.new.items
+        ≡ covered spans.old.items ++ repeated columns live) }
 {
     if let Some(last) = spans.pop() {
-        if let Some(longer) = longer(last, live) {
+        if let Some(longer) = longer(last, live, columns) {
             spans.push(longer)?;
             return Ok(());
         }
         spans.push(last)?;
     }
-    spans.push(Span { columns: 1, live })?;
+    spans.push(Span { columns, live })?;
     Ok(())
 }
 
-/// The span with one more column, if it says this already.
-#[tactic(auto, using(crate::proofs::MoreColumns::repeated_more))]
-fn longer(span: Span, live: Option<Live>) -> Option<Span>
+/// The span with so many more columns, if it says this already.
+#[tactic(auto, using(crate::proofs::MoreColumns::repeated_sum))]
+fn longer(span: Span, live: Option<Live>, columns: u32) -> Option<Span>
     ensures { IfSome result (λ longer. repeated longer.columns longer.live
-        ≡ repeated span.columns span.live ++ live ∷ []) }
+        ≡ repeated span.columns span.live ++ repeated columns live) }
 {
-    if !are_same(span.live, live) || span.columns == u32::MAX {
+    if !are_same(span.live, live) {
         return None;
     }
     Some(Span {
-        columns: span.columns + 1,
+        columns: span.columns.checked_add(columns)?,
         live,
     })
 }
 
-/// The strips with one more column, in which each object is as the machine says.
+/// Gives each strip one more column, which has this number, in which its object is as the machine
+/// says, and has the word that is told of it.
 pub(crate) fn mark_strips(
-    alloc: Global,
-    strips: Vec<Strip>,
+    strips: &mut [Strip],
     machine: &Machine,
-) -> Result<Vec<Strip>, Memory>
-    ensures { IfOk result (λ marked.
-        AllMarkedStrips (state machine.now) strips.items marked.items) }
+    words: &[Vec<Word>],
+    column: u32,
+) -> Result<(), AllocError>
+    ensures { OnOk result
+        (AllMarkedStrips (state machine.now) words.now column 0 strips.old strips.new) }
 {
-    let mut marked = Vec::new(alloc);
-    'strips: for strip in strips {
-        marked.push(mark_strip(strip, machine)?)?;
+    'strips: for (position, strip) in strips.iter_mut().enumerate() {
+        mark_strip(strip, machine, word_in(words, column, position))?;
     }
-    Ok(marked)
+    Ok(())
 }
 
-fn mark_strip(strip: Strip, machine: &Machine) -> Result<Strip, AllocError>
-    ensures { IfOk result (λ marked. IsMarkedStrip (state machine.now) strip marked) }
+/// The word behind a column of the strip at a position, if it is told.
+fn word_in(words: &[Vec<Word>], column: u32, strip: usize) -> Option<Word>
+    ensures { result ≡ word_in words.now column strip }
+{
+    match words.get(column as usize) {
+        Some(row) => row.get(strip).copied(),
+        None => None,
+    }
+}
+
+fn mark_strip(strip: &mut Strip, machine: &Machine, word: Option<Word>) -> Result<(), AllocError>
+    ensures { OnOk result (IsMarkedStrip (state machine.now) word strip.old strip.new) }
 {
     let held = machine.held(strip.object);
-    let mut spans = strip.spans;
-    put_strip_span(&mut spans, held)?;
-    Ok(Strip {
-        object: strip.object,
-        spans,
-    })
+    put_strip_span(&mut strip.spans, held, word)
 }
 
 /// Adds a column that says this of an object.
-fn put_strip_span(spans: &mut Vec<StripSpan>, held: Held) -> Result<(), AllocError>
-    ensures { OnOk result
+fn put_strip_span(
+    spans: &mut Vec<StripSpan>,
+    held: Held,
+    word: Option<Word>,
+) -> Result<(), AllocError>
+    ensures held { OnOk result
         (strip_covered spans.new.items ≡ strip_covered spans.old.items ++ held ∷ []) }
+    ensures words { OnOk result
+        (strip_words spans.new.items ≡ strip_words spans.old.items ++ word ∷ []) }
 {
     if let Some(last) = spans.pop() {
-        if let Some(longer) = longer_strip(last, held) {
+        if let Some(longer) = longer_strip(last, held, word) {
             spans.push(longer)?;
             return Ok(());
         }
@@ -113,23 +101,25 @@ fn put_strip_span(spans: &mut Vec<StripSpan>, held: Held) -> Result<(), AllocErr
     spans.push(StripSpan {
         columns: 1,
         held,
-        word: None,
+        word,
     })?;
     Ok(())
 }
 
 /// The span with one more column, if it says this already.
 #[tactic(auto, using(crate::proofs::MoreColumns::repeated_more))]
-fn longer_strip(span: StripSpan, held: Held) -> Option<StripSpan>
-    ensures { IfSome result (λ longer. repeated longer.columns longer.held
+fn longer_strip(span: StripSpan, held: Held, word: Option<Word>) -> Option<StripSpan>
+    ensures held { IfSome result (λ longer. repeated longer.columns longer.held
         ≡ repeated span.columns span.held ++ held ∷ []) }
+    ensures words { IfSome result (λ longer. repeated longer.columns longer.word
+        ≡ repeated span.columns span.word ++ word ∷ []) }
 {
-    if span.held != held || span.columns == u32::MAX {
+    if span.held != held || !are_same_words(span.word, word) || span.columns == u32::MAX {
         return None;
     }
     Some(StripSpan {
         columns: span.columns + 1,
         held,
-        word: span.word,
+        word,
     })
 }

@@ -1,9 +1,6 @@
-use Rattle.std.proofs.Common.{◌≡◌, ◌++◌, drop}
-use Rattle.pictures.specs.Marks.{call_marks}
+use Rattle.std.proofs.Common.{◌≡◌, take}
+use Rattle.pictures.specs.Made.{own_calls}
 use Rattle.pictures.proofs.marks.calls_of.Given as goal
 
-abbrev pub invariant-columns : goal.invariant-columns
-invariant-columns l = record {
-  counted : l.number ≡ l.column-index;
-  marks : l.calls.items ++ call_marks l.fn.thread l.number (drop l.column-index l.columns) ≡ call_marks l.fn.thread 0 l.columns;
-}
+abbrev pub invariant-made : goal.invariant-made
+invariant-made l = l.calls.items ≡ own_calls l.thread (take l.one-index l.made)

@@ -1,7 +1,7 @@
 use Rattle.std.proofs.Common.{◌≡◌, ◌++◌, take}
 use Rattle.std.specs.List.{flat_map}
-use Rattle.pictures.specs.Marks.{reply_mark}
+use Rattle.pictures.specs.Made.{reply_made}
 use Rattle.pictures.proofs.marks.put_replies.Given as goal
 
 abbrev pub invariant-moves : goal.invariant-moves
-invariant-moves l = l.replies.items ≡ l.fn.replies.items ++ flat_map (reply_mark l.thread l.column) (take l.made-index l.moves)
+invariant-moves l = l.made.items ≡ l.fn.made.items ++ flat_map (reply_made l.column) (take l.one-index l.moves)

@@ -5,5 +5,5 @@ use Rattle.pictures.proofs.picturing.film_of.Given as goal
 
 abbrev pub invariant-columns : goal.invariant-columns
 invariant-columns l = record {
-  filming : IsFilming l.threads l.drawn l.fn.objects l.columns (take l.column-index l.columns) (drop l.column-index l.columns) l.number (state l.machine) l.lanes.items l.strips.items l.arrows.items;
+  filming : IsFilming l.threads l.drawn l.words (state l.initial.machine) l.columns (take l.column-index l.columns) (drop l.column-index l.columns) l.number (state l.machine) l.lanes.items l.strips.items l.arrows.items;
 }

@@ -1,0 +1,8 @@
+use Rattle.std.proofs.Common.{rules}
+use Rattle.pictures.proofs.cycles.next_of.Goals as goal
+
+pub returns-then-owner-thread : goal.returns-then-owner-thread
+returns-then-owner-thread c = search rules
+
+pub returns-else-owner-thread : goal.returns-else-owner-thread
+returns-else-owner-thread c = search rules
