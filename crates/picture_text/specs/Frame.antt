@@ -12,6 +12,7 @@ use Rattle.picture_text.specs.Arrows.{arrows_below}
 use Rattle.picture_text.specs.Axis.{cycles_below, moments_below, numbers_below}
 use Rattle.picture_text.specs.Lanes.{lanes_below}
 use Rattle.picture_text.specs.Layout.{bottom_of, layout_of, right_of}
+use Rattle.picture_text.specs.Refusals.{refusals_below}
 use Rattle.picture_text.specs.Strips.{strips_below}
 
 -- the style of the picture, and what it shows
@@ -90,10 +91,16 @@ abbrev pub strip_height_of : Naming → ℕ
 strip_height_of (Names names) = 40
 strip_height_of Numbers = 28
 
+-- what stands above the lanes
+unfoldable pub above_node : Naming → Layout → Picture → Node
+above_node naming l p = in_turn (
+    numbers_below l l.columns ∷ moments_below l p.moments.items (length p.moments.items)
+    ∷ refusals_below naming l p.refusals.items (length p.refusals.items) ∷ [])
+
 -- arrows lie in front of strips and bars, and the numbers of columns behind all
 unfoldable pub body_node : Naming → Layout → Picture → Node
 body_node naming l p = in_turn (
-    numbers_below l l.columns ∷ moments_below l p.moments.items (length p.moments.items)
+    above_node naming l p
     ∷ lanes_below naming l p.lanes.items (length p.lanes.items)
     ∷ strips_below naming l p.lanes.items p.strips.items (length p.strips.items)
     ∷ arrows_below naming l p.lanes.items p.arrows.items (length p.arrows.items)

@@ -5,6 +5,7 @@ pub mod Layout
 pub mod Naming
 pub mod Spans
 pub mod Marks
+pub mod Refusals
 pub mod Positions
 pub mod Lanes
 pub mod Strips

@@ -76,15 +76,27 @@ kind_words bits =
     if nat_le 0x8000_0000 bits then codes " fat " ++ decimal ((bits - 0x8000_0000) / 256)
     else (if nat_lt bits 256 then codes " free" else codes " thin")
 
-unfoldable pub word_node : Layout → ℕ → Option Word → Stretch → Node
-word_node l n None s = Nothing
-word_node l n (Some w) s =
-    cut_label (codes "word") (x_at l s.from + 2) (strip_top l n + 30) (room_in (width_of l s))
-    (word_text w.0 ++ kind_words w.0)
+abbrev pub word_words : Word → List ℕ
+word_words w = word_text w.0 ++ kind_words w.0
+
+unfoldable pub word_title : Naming → Layout → ObjectId → Word → Stretch → Node
+word_title naming l o w s = title (in_turn (
+    object_node naming o ∷ Words (codes " has word ") ∷ Words (word_words w) ∷ columns_node l s ∷ []))
+
+-- a header word, below the owner
+unfoldable pub word_node : Naming → Layout → ℕ → ObjectId → Word → Stretch → Node
+word_node naming l n o w s = group (codes "header") (in_turn (
+    word_title naming l o w s
+    ∷ cut_label (codes "word") (x_at l s.from + 2) (strip_top l n + 30) (room_in (width_of l s)) (word_words w)
+    ∷ []))
+
+abbrev pub word_where : Naming → Layout → ℕ → ObjectId → Option Word → Stretch → Node
+word_where naming l n o None s = Nothing
+word_where naming l n o (Some w) s = word_node naming l n o w s
 
 unfoldable pub strip_span : Naming → Layout → List Lane → ℕ → ObjectId → StripSpan → Stretch → Node
 strip_span naming l lanes n o span s =
-    Then (held_node naming l lanes n o span.held.owner span.held.count s) (word_node l n span.word s)
+    Then (held_node naming l lanes n o span.held.owner span.held.count s) (word_where naming l n o span.word s)
 
 -- where a span ends that begins there
 unfoldable pub strip_end : Layout → ℕ → Option StripSpan → ℕ

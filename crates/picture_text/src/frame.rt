@@ -2,7 +2,8 @@
 
 ghost use Rattle.std.specs.Prelude.{◌≡◌, ◌≤◌, ◌++◌, ◌∷◌, [], IfOk, OnOk, codes, length};
 ghost use Rattle.std.specs.Prelude.{string_bytes};
-ghost use Rattle.picture_text.specs.Frame.{IsDrawable, about_node, body_node, defs_node};
+ghost use Rattle.picture_text.specs.Frame.{IsDrawable, about_node, above_node, body_node};
+ghost use Rattle.picture_text.specs.Frame.{defs_node};
 ghost use Rattle.picture_text.specs.Frame.{description_words, first_patterns};
 ghost use Rattle.picture_text.specs.Frame.{ground_node, head_node};
 ghost use Rattle.picture_text.specs.Frame.{last_patterns, style_node};
@@ -22,6 +23,7 @@ use crate::lanes::put_lanes;
 use crate::layout::{Layout, unit_of};
 use crate::naming::Naming;
 use crate::positions::positions;
+use crate::refusals::put_refusals;
 use crate::strips::put_strips;
 use lock_word::Memory;
 use pictures::Picture;
@@ -278,6 +280,24 @@ fn layout_of(picture: &Picture, strip_height: u64) -> Layout
     }
 }
 
+/// Writes what stands above the lanes.
+#[tactic(auto, unfolding(crate::specs::Frame::above_node))]
+fn put_above(
+    alloc: Global,
+    text: &mut String,
+    naming: &Naming<'_>,
+    layout: Layout,
+    picture: &Picture,
+) -> Result<(), AllocError>
+    requires { Fits layout }
+    ensures { OnOk result (string_bytes text.new ≡ string_bytes text.old
+        ++ node_text (above_node naming.now layout picture.now)) }
+{
+    put_numbers(text, layout)?;
+    put_moments(alloc, text, layout, &picture.moments)?;
+    put_refusals(alloc, text, naming, layout, &picture.refusals)
+}
+
 /// Writes all that is drawn.
 #[tactic(auto, unfolding(crate::specs::Frame::body_node))]
 fn put_body(
@@ -294,8 +314,7 @@ fn put_body(
 {
     let lanes = &picture.lanes;
     let map = positions(alloc, lanes)?;
-    put_numbers(text, layout)?;
-    put_moments(alloc, text, layout, &picture.moments)?;
+    put_above(alloc, text, naming, layout, picture)?;
     put_lanes(alloc, text, naming, layout, lanes)?;
     let strips = &picture.strips;
     put_strips(alloc, text, naming, layout, strips, &map, lanes)?;

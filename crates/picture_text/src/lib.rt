@@ -6,6 +6,7 @@
 
 mod arrows;
 mod axis;
+mod bars;
 mod cycles;
 mod elements;
 mod escapes;
@@ -16,8 +17,10 @@ mod layout;
 mod marks;
 mod naming;
 mod positions;
+mod refusals;
 mod spans;
 mod strips;
+mod words;
 
 pub use frame::picture_text;
 pub use naming::Naming;

@@ -24,7 +24,7 @@ use std::fmt::Write;
 
 /// Writes the number of a column.
 #[tactic(auto, unfolding(crate::specs::Marks::column_node))]
-fn put_column(text: &mut String, layout: Layout, column: u32) -> Result<(), AllocError>
+pub(crate) fn put_column(text: &mut String, layout: Layout, column: u32) -> Result<(), AllocError>
     requires { Fits layout }
     ensures { OnOk result (string_bytes text.new
         ≡ string_bytes text.old ++ node_text (column_node layout column)) }
@@ -186,6 +186,16 @@ fn put_cross(text: &mut String, reply: Reply, corner: Place) -> Result<(), Alloc
     if !is_refused(reply) {
         return Ok(());
     }
+    put_cross_lines(text, corner)
+}
+
+/// Writes a cross.
+pub(crate) fn put_cross_lines(text: &mut String, corner: Place) -> Result<(), AllocError>
+    requires x { corner.x ≤ 2_000_000 }
+    requires y { corner.y ≤ 2_000_000 }
+    ensures { OnOk result (string_bytes text.new ≡ string_bytes text.old
+        ++ node_text (cross_lines corner.x corner.y)) }
+{
     let Place { x, y } = corner;
     let (right, bottom) = (x + 8, y + 8);
     begin_line(

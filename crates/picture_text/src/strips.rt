@@ -1,142 +1,30 @@
-//! Who owns the objects: a strip for each object, and a bar in the lane of each owner.
+//! Who owns the objects: a strip for each object.
 
 ghost use Rattle.std.specs.Prelude.{◌≡◌, ◌≤◌, ◌<◌, ℕ, ◌++◌, IfOk, OnOk, length, nat_eq, slice_get};
 ghost use Rattle.std.specs.Prelude.{string_bytes};
 ghost use Rattle.std.specs.HashMap.{get as map_get};
-ghost use Rattle.lock_word.specs.Names.{word_text};
 ghost use Rattle.picture_text.specs.Layout.{Fits};
 ghost use Rattle.picture_text.specs.Nodes.{node_text};
-ghost use Rattle.picture_text.specs.Positions.{position_in, position_of};
-ghost use Rattle.picture_text.specs.Strips.{bar_node, bar_where, count_node, free_node, free_title};
-ghost use Rattle.picture_text.specs.Strips.{held_node, kind_words, legend_node, owned_node};
-ghost use Rattle.picture_text.specs.Strips.{owner_words, owns_title};
-ghost use Rattle.picture_text.specs.Strips.{strip_at, strip_below, strip_end};
-ghost use Rattle.picture_text.specs.Strips.{strip_from, strip_node, strip_span, strips_below};
-ghost use Rattle.picture_text.specs.Strips.{word_node};
+ghost use Rattle.picture_text.specs.Positions.{position_in};
+ghost use Rattle.picture_text.specs.Strips.{free_node, free_title, held_node, legend_node};
+ghost use Rattle.picture_text.specs.Strips.{owned_node, owner_words, strip_at, strip_below};
+ghost use Rattle.picture_text.specs.Strips.{strip_end, strip_from, strip_node, strip_span};
+ghost use Rattle.picture_text.specs.Strips.{strips_below};
 
-use crate::elements::{Place, begin, begin_bar, begin_group, begin_label, begin_line, end};
-use crate::escapes::{put_counted, put_escaped};
+use crate::bars::{put_bar_where, put_owns_title};
+use crate::elements::{Place, begin, begin_bar, begin_group, begin_line, end};
+use crate::escapes::put_escaped;
 use crate::labels::{put_cut_label, room_in};
 use crate::layout::{Layout, Stretch};
-use crate::naming::{Naming, object_words, put_object, put_thread, thread_words};
-use crate::positions::position_of;
+use crate::naming::{Naming, object_words, put_object, thread_words};
 use crate::spans::put_columns;
+use crate::words::put_word_where;
 use jls_check::Held;
-use lock_word::{ObjectId, ThreadId, Word};
+use lock_word::{ObjectId, ThreadId};
 use pictures::{Lane, Strip, StripSpan};
 use std::alloc::{AllocError, Global};
 use std::collections::HashMap;
 use std::fmt::Write;
-
-/// Writes who owns an object in some columns.
-#[tactic(auto, unfolding(crate::specs::Strips::owns_title))]
-fn put_owns_title(
-    text: &mut String,
-    naming: &Naming<'_>,
-    layout: Layout,
-    object: ObjectId,
-    thread: ThreadId,
-    count: u16,
-    stretch: Stretch,
-) -> Result<(), AllocError>
-    requires fits { Fits layout }
-    requires from { stretch.from ≤ 20_000 }
-    requires to { stretch.to ≤ 20_000 }
-    ensures { OnOk result (string_bytes text.new ≡ string_bytes text.old
-        ++ node_text (owns_title naming.now layout object thread count stretch)) }
-{
-    begin(text, "title")?;
-    put_thread(text, naming, thread)?;
-    put_escaped(text, " owns ")?;
-    put_object(text, naming, object)?;
-    put_counted(text, " x", u64::from(count))?;
-    put_columns(text, layout, stretch)?;
-    end(text, "title")
-}
-
-/// Writes how many times an object is locked, where there is room for it.
-#[tactic(auto, unfolding(crate::specs::Strips::count_node))]
-fn put_count(text: &mut String, at: Place, width: u64, count: u16) -> Result<(), AllocError>
-    ensures { OnOk result (string_bytes text.new ≡ string_bytes text.old
-        ++ node_text (count_node at.x at.y width count)) }
-{
-    if width < 20 {
-        return Ok(());
-    }
-    begin_label(text, "count", at)?;
-    write!(text, "{count}")?;
-    end(text, "text")
-}
-
-/// Writes the bar of an owner in the lane at a position.
-#[tactic(auto, unfolding(crate::specs::Strips::bar_node))]
-fn put_bar(
-    text: &mut String,
-    naming: &Naming<'_>,
-    layout: Layout,
-    number: u64,
-    object: ObjectId,
-    thread: ThreadId,
-    count: u16,
-    stretch: Stretch,
-    lane: u64,
-) -> Result<(), AllocError>
-    requires fits { Fits layout }
-    requires number { number < 200 }
-    requires from { stretch.from ≤ 20_000 }
-    requires to { stretch.to ≤ 20_000 }
-    requires lane { lane < 200 }
-    ensures { OnOk result (string_bytes text.new ≡ string_bytes text.old
-        ++ node_text (bar_node naming.now layout number object thread count stretch lane)) }
-{
-    let x = layout.x_at(stretch.from);
-    let width = layout.width_of(stretch);
-    let top = layout.lane_top(lane);
-    let y = top + 40 + 8 * number;
-    begin_bar(text, number % 8, Place { x, y }, width, 7)?;
-    put_owns_title(text, naming, layout, object, thread, count, stretch)?;
-    end(text, "rect")?;
-    let at = Place {
-        x: x + 2,
-        y: top + 46 + 8 * number,
-    };
-    put_count(text, at, width, count)
-}
-
-/// Writes the bar of an owner, if it has a lane.
-#[tactic(auto, unfolding(crate::specs::Strips::bar_where))]
-fn put_bar_where(
-    text: &mut String,
-    naming: &Naming<'_>,
-    layout: Layout,
-    number: u64,
-    object: ObjectId,
-    thread: ThreadId,
-    count: u16,
-    stretch: Stretch,
-    positions: &HashMap<u32, u64>,
-    lanes: &[Lane],
-) -> Result<(), AllocError>
-    requires fits { Fits layout }
-    requires number { number < 200 }
-    requires from { stretch.from ≤ 20_000 }
-    requires to { stretch.to ≤ 20_000 }
-    requires map { (q : ℕ)
-        → map_get nat_eq positions.now q ≡ position_in lanes.now (length lanes.now) q }
-    requires lanes { length lanes.now ≤ 200 }
-    ensures { OnOk result (string_bytes text.new ≡ string_bytes text.old
-        ++ node_text (bar_where naming.now layout number object thread count stretch
-        (position_of lanes.now thread))) }
-{
-    match position_of(positions, lanes, thread) {
-        Some(lane) => {
-            put_bar(
-                text, naming, layout, number, object, thread, count, stretch, lane,
-            )
-        }
-        None => Ok(()),
-    }
-}
 
 /// The owner of an object, and how many times it has locked it. Nothing in it is escaped.
 fn owner_words(
@@ -281,51 +169,6 @@ fn put_held(
     }
 }
 
-/// A header word, and what it shows whatever its split.
-fn word_words(alloc: Global, word: Word) -> Result<String, AllocError>
-    ensures { IfOk result (λ words. string_bytes words
-        ≡ word_text word.0 ++ kind_words word.0) }
-{
-    let mut words = String::new(alloc);
-    write!(words, "{word}")?;
-    let bits = word.0;
-    if bits >= 0x8000_0000 {
-        write!(words, " fat {}", (bits - 0x8000_0000) / 256)?;
-        return Ok(words);
-    }
-    words.push_str(if bits < 256 { " free" } else { " thin" })?;
-    Ok(words)
-}
-
-/// Writes a header word, if there is one.
-#[tactic(auto, unfolding(crate::specs::Strips::word_node))]
-fn put_word(
-    alloc: Global,
-    text: &mut String,
-    layout: Layout,
-    number: u64,
-    word: Option<Word>,
-    stretch: Stretch,
-) -> Result<(), AllocError>
-    requires fits { Fits layout }
-    requires number { number < 200 }
-    requires from { stretch.from ≤ 20_000 }
-    requires to { stretch.to ≤ 20_000 }
-    ensures { OnOk result (string_bytes text.new ≡ string_bytes text.old
-        ++ node_text (word_node layout number word stretch)) }
-{
-    match word {
-        Some(word) => {
-            let words = word_words(alloc, word)?;
-            let x = layout.x_at(stretch.from) + 2;
-            let y = layout.strip_top(number) + 30;
-            let room = room_in(layout.width_of(stretch));
-            put_cut_label(text, "word", Place { x, y }, room, &words)
-        }
-        None => Ok(()),
-    }
-}
-
 /// Writes what is said of an object in some columns.
 #[tactic(auto, unfolding(crate::specs::Strips::strip_span))]
 fn put_strip_span(
@@ -353,7 +196,9 @@ fn put_strip_span(
     put_held(
         alloc, text, naming, layout, number, object, span.held, stretch, positions, lanes,
     )?;
-    put_word(alloc, text, layout, number, span.word, stretch)
+    put_word_where(
+        alloc, text, naming, layout, number, object, span.word, stretch,
+    )
 }
 
 /// Writes the span with a number, which begins at this column.
