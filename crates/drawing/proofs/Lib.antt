@@ -1,2 +1,3 @@
 pub mod ColumnLists
+pub mod Words
 pub mod Handed

@@ -1,3 +1,4 @@
+pub mod Windows
 pub mod Columns
 pub mod Faults
 pub mod Drawings

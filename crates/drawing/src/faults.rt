@@ -18,6 +18,9 @@ pub enum DrawFault {
     /// There are more threads, or more objects, than [`MOST_LANES`](pictures::MOST_LANES).
     #[error("too many lanes: more than 200")]
     TooManyLanes,
+    /// The window begins with this column, and the last one stands in front of it.
+    #[error("no such column: {0}")]
+    NoSuchColumn(u32),
 }
 
 impl From<FileFault> for DrawFault {

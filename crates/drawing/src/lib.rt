@@ -7,6 +7,9 @@
 mod columns;
 mod drawings;
 mod faults;
+mod playing;
+mod windows;
 
 pub use drawings::{draw_moves, draw_script};
 pub use faults::DrawFault;
+pub use windows::Window;
