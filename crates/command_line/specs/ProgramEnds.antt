@@ -13,7 +13,8 @@ use Rattle.explore_runs.specs.declared.faults.ExploreTextFault.TheVariants as ex
 use Rattle.live_runs.specs.Faults.{out_of_memory}
 use Rattle.live_runs.specs.declared.faults.RunFault.TheVariants.{File}
 use Rattle.command_line.specs.declared.ends.TaskFault.{TaskFault}
-use Rattle.command_line.specs.declared.ends.TaskFault.TheVariants.{Run, TooManyStates, TooManyColumns, TooManyLanes}
+use Rattle.command_line.specs.declared.ends.TaskFault.TheVariants.{Run, TooManyStates, TooManyColumns}
+use Rattle.command_line.specs.declared.ends.TaskFault.TheVariants.{TooManyLanes, NoSuchColumn}
 use Rattle.drawing.specs.declared.faults.DrawFault.{DrawFault}
 use Rattle.drawing.specs.declared.faults.DrawFault.TheVariants as drawing
 use Rattle.command_line.specs.declared.ends.ProgramEnd.{ProgramEnd}
@@ -29,6 +30,7 @@ abbrev pub fault_of_drawing : DrawFault → TaskFault
 fault_of_drawing (drawing.File fault) = Run (File fault)
 fault_of_drawing drawing.TooManyColumns = TooManyColumns
 fault_of_drawing drawing.TooManyLanes = TooManyLanes
+fault_of_drawing (drawing.NoSuchColumn n) = NoSuchColumn n
 
 -- the exit status
 abbrev pub status_of : ProgramEnd → ℕ

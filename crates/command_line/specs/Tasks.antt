@@ -8,15 +8,17 @@ use Rattle.history.specs.Plans.{IsPlanOf}
 use Rattle.history.specs.Reports.{IsReportOf}
 use Rattle.history.specs.declared.plans.Plan.{Plan}
 use Rattle.dump.specs.Dumps.{IsDumpOf}
+use Rattle.explore_runs.specs.Faults.{HasTooMany}
 use Rattle.explore_runs.specs.Runs.{IsReportOfText}
 use Rattle.live_runs.specs.Runs.{IsTextOfRun}
 use Rattle.drawing.specs.Drawings.{IsHistoryDrawing, IsScriptDrawing}
 use Rattle.command_line.specs.declared.orders.Task.{Task}
 use Rattle.command_line.specs.declared.orders.Task.TheVariants.{Run, Moves, Check, Dump, Live, Explore, Draw, DrawMoves}
 
--- the most states of a program that is explored
-abbrev pub most_states : ℕ
-most_states = 10000000
+-- the program has more states than the order lets it have, and this is how many those are
+abbrev pub HasTooManyStates : Task → List ℕ → ℕ → Type 0
+HasTooManyStates (Explore x) input n = HasTooMany input x.most n
+HasTooManyStates task input n = ⊥
 
 -- Of the bytes that were left before and after, how many were given, and those that are held before and
 -- after: a script was read, and a report written; or its history; or a history was read whose moves are a
@@ -37,9 +39,9 @@ IsDone Dump left rest given held holds =
     (text : List ℕ) × IfSome left (λ input. IsDumpOf input text) × Appends held holds text
 IsDone Live left rest given held holds =
     (text : List ℕ) × IfSome left (λ input. IsTextOfRun input text) × Appends held holds text
-IsDone Explore left rest given held holds =
-    (text : List ℕ) × IfSome left (λ input. IsReportOfText input most_states text) × Appends held holds text
-IsDone Draw left rest given held holds =
-    (text : List ℕ) × IfSome left (λ input. IsScriptDrawing input text) × Appends held holds text
-IsDone DrawMoves left rest given held holds =
-    (text : List ℕ) × IfSome left (λ input. IsHistoryDrawing input text) × Appends held holds text
+IsDone (Explore x) left rest given held holds =
+    (text : List ℕ) × IfSome left (λ input. IsReportOfText input x.most x.witness text) × Appends held holds text
+IsDone (Draw window) left rest given held holds =
+    (text : List ℕ) × IfSome left (λ input. IsScriptDrawing window input text) × Appends held holds text
+IsDone (DrawMoves window) left rest given held holds =
+    (text : List ℕ) × IfSome left (λ input. IsHistoryDrawing window input text) × Appends held holds text

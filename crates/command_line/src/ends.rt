@@ -27,6 +27,9 @@ pub enum TaskFault {
     /// A picture has more lanes than 200: more threads, or more objects.
     #[error("too many lanes: more than 200")]
     TooManyLanes,
+    /// What is to be drawn has no column with this number.
+    #[error("no such column: {0}")]
+    NoSuchColumn(u32),
 }
 
 impl From<RunFault> for TaskFault {
@@ -77,6 +80,7 @@ impl From<DrawFault> for TaskFault {
             DrawFault::File(fault) => TaskFault::Run(RunFault::File(fault)),
             DrawFault::TooManyColumns => TaskFault::TooManyColumns,
             DrawFault::TooManyLanes => TaskFault::TooManyLanes,
+            DrawFault::NoSuchColumn(column) => TaskFault::NoSuchColumn(column),
         }
     }
 }

@@ -5,8 +5,9 @@
 
 mod ends;
 mod orders;
+mod progress;
 mod serving;
 
 pub use ends::{FaultLine, ProgramEnd, TaskFault, end_for};
-pub use orders::{Order, Task, read_words};
+pub use orders::{Exploration, Order, Task, read_words};
 pub use serving::{serve, serve_words};

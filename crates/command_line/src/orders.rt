@@ -8,15 +8,23 @@ ghost use Rattle.clap.specs.Simple.{app_of, subcommand_rows_of, with_subcommand}
 ghost use Rattle.clap.specs.Faults.{fault_of};
 ghost use Rattle.clap.specs.Kinds.{FailsBy};
 ghost use Rattle.clap.specs.declared.builder.command.Command.TheViews.{out-Command};
+ghost use Rattle.std.specs.Option.{option_and_then};
 ghost use Rattle.command_line.specs.Orders.{bare_program, file_rule, file_words, is_set, order_in};
-ghost use Rattle.command_line.specs.Orders.{drawing_with, moves_rule, moves_words, order_of, program_words};
-ghost use Rattle.command_line.specs.Orders.{task_of};
+ghost use Rattle.command_line.specs.Orders.{count_in, count_of, count_rule, drawing_with, draw_words};
+ghost use Rattle.command_line.specs.Orders.{explore_words, exploring_with, moves_rule, moves_words, order_of};
+ghost use Rattle.command_line.specs.Orders.{program_words, task_of};
 
+use clap::builder::ValueParser;
 use clap::{Arg, ArgAction, ArgMatches, Command, Error};
+use drawing::Window;
+use explore_runs::WitnessForm;
 use std::alloc::{AllocError, Global};
 
 /// The version that `--version` tells.
 const VERSION: &str = "0.1.0";
+
+/// The most states of a program that is explored, where the words tell no other number.
+const MOST_STATES: u32 = 10_000_000;
 
 /// What the program is to do.
 #[derive(Clone, Copy, PartialEq, Eq, Debug)]
@@ -32,11 +40,20 @@ pub enum Task {
     /// Run a live script on threads of the system, and write what came of it.
     Live,
     /// Explore a program, and write every outcome of it.
-    Explore,
-    /// Draw a script.
-    Draw,
-    /// Draw a history.
-    DrawMoves,
+    Explore(Exploration),
+    /// Draw these columns of a script.
+    Draw(Window),
+    /// Draw these columns of a history.
+    DrawMoves(Window),
+}
+
+/// How a program is explored.
+#[derive(Clone, Copy, PartialEq, Eq, Debug)]
+pub struct Exploration {
+    /// The most states that are explored.
+    pub most: u32,
+    /// What is written behind each outcome.
+    pub witness: WitnessForm,
 }
 
 /// What the program is to do, and with what.
@@ -84,8 +101,11 @@ fn order_of<'a>(name: &str, matches: &ArgMatches<'a>) -> Order<'a>
         ≡ (order_of name.now (rows_of (found_of matches.now))).1 }
 {
     let moves = is_set(matches.get_str("moves"));
+    let states = count_in(matches.get_str("states"));
+    let from = count_in(matches.get_str("from"));
+    let to = count_in(matches.get_str("to"));
     Order {
-        task: task_of(name, moves),
+        task: task_of(name, moves, states, from, to),
         file: matches.get_str("file"),
     }
 }
@@ -100,9 +120,26 @@ fn is_set(value: Option<&str>) -> bool
     }
 }
 
-/// The task of a subcommand, with `--moves` or without.
-fn task_of(name: &str, moves: bool) -> Task
-    ensures { result ≡ task_of name.now moves }
+/// The number that was given.
+fn count_in(value: Option<&str>) -> Option<u32>
+    ensures { result ≡ count_in (option_map (λ text. text.now) value.entry) }
+{
+    match value {
+        Some(text) => count_of(text),
+        None => None,
+    }
+}
+
+/// The number that a text writes in decimal digits, with a plus in front or without.
+fn count_of(text: &str) -> Option<u32>
+    ensures { result ≡ count_of text.now }
+{
+    text.parse().ok()
+}
+
+/// The task of a subcommand, with `--moves` or without, and with these numbers.
+fn task_of(name: &str, moves: bool, states: Option<u32>, from: Option<u32>, to: Option<u32>) -> Task
+    ensures { result ≡ task_of name.now moves states from to }
 {
     if name == "check" {
         Task::Check
@@ -111,9 +148,9 @@ fn task_of(name: &str, moves: bool) -> Task
     } else if name == "live" {
         Task::Live
     } else if name == "explore" {
-        Task::Explore
+        exploring_with(moves, states)
     } else if name == "draw" {
-        drawing_with(moves)
+        drawing_with(moves, from, to)
     } else if moves {
         Task::Moves
     } else {
@@ -121,11 +158,33 @@ fn task_of(name: &str, moves: bool) -> Task
     }
 }
 
-/// What is drawn, with `--moves` or without.
-fn drawing_with(moves: bool) -> Task
-    ensures { result ≡ drawing_with moves }
+/// What is explored, with `--moves` or without, and of how many states at most.
+fn exploring_with(moves: bool, states: Option<u32>) -> Task
+    ensures { result ≡ exploring_with moves states }
 {
-    if moves { Task::DrawMoves } else { Task::Draw }
+    Task::Explore(Exploration {
+        most: states.unwrap_or(MOST_STATES),
+        witness: if moves {
+            WitnessForm::History
+        } else {
+            WitnessForm::Script
+        },
+    })
+}
+
+/// What is drawn, with `--moves` or without, and of which columns.
+fn drawing_with(moves: bool, from: Option<u32>, to: Option<u32>) -> Task
+    ensures { result ≡ drawing_with moves from to }
+{
+    let window = Window {
+        first: from.unwrap_or(1),
+        last: to,
+    };
+    if moves {
+        Task::DrawMoves(window)
+    } else {
+        Task::Draw(window)
+    }
 }
 
 /// The program, with its subcommands.
@@ -162,21 +221,8 @@ fn program<'a>(alloc: Global) -> Result<Command<'a>, AllocError>
         "Runs the threads of a live script on threads of the system, and prints their replies",
         "The live script; standard input where it is left out",
     )?;
-    let with_explore = with_file_command(
-        alloc,
-        with_live,
-        "explore",
-        "Explores every interleaving of a program and prints each outcome with a script for it",
-        "The program; standard input where it is left out",
-    )?;
-    with_moves_command(
-        alloc,
-        with_explore,
-        "draw",
-        "Draws what the threads of a script do, and who owns its objects, as SVG",
-        "Draws a history of moves and no script",
-        "The script or the history; standard input where it is left out",
-    )
+    let with_explore = with_explore_command(alloc, with_live)?;
+    with_draw_command(alloc, with_explore)
 }
 
 /// The program without its subcommands.
@@ -257,6 +303,73 @@ fn with_file_command<'a>(
 {
     let command = file_command(alloc, name, about, help)?;
     program.subcommand(command)
+}
+
+/// The subcommand that explores.
+fn explore_command<'a>(alloc: Global) -> Result<Command<'a>, AllocError>
+    ensures words { IfOk result (λ command. app_of command ≡ explore_words) }
+    ensures local { IfOk result (λ command. (out-Command command).has_globals ≡ false) }
+{
+    Command::new(alloc, "explore")
+        .about("Explores every interleaving of a program and prints each outcome with a way there")
+        .arg(count(
+            alloc,
+            "states",
+            "The most states; 10000000 where it is left out",
+        ))?
+        .arg(moves(alloc, "Prints a history for each outcome and no script"))?
+        .arg(file(alloc, "The program; standard input where it is left out"))
+}
+
+/// A program with the subcommand that explores more.
+fn with_explore_command<'a>(alloc: Global, program: Command<'a>) -> Result<Command<'a>, AllocError>
+    requires { (out-Command program).has_globals ≡ false }
+    ensures words { IfOk result (λ with.
+        app_of with ≡ with_subcommand (app_of program.entry) explore_words.top) }
+    ensures local { IfOk result (λ with. (out-Command with).has_globals ≡ false) }
+{
+    let command = explore_command(alloc)?;
+    program.subcommand(command)
+}
+
+/// The subcommand that draws.
+fn draw_command<'a>(alloc: Global) -> Result<Command<'a>, AllocError>
+    ensures words { IfOk result (λ command. app_of command ≡ draw_words) }
+    ensures local { IfOk result (λ command. (out-Command command).has_globals ≡ false) }
+{
+    Command::new(alloc, "draw")
+        .about("Draws what the threads of a script do, and who owns its objects, as SVG")
+        .arg(count(alloc, "from", "The first column that is drawn, from 1"))?
+        .arg(count(alloc, "to", "The last column that is drawn"))?
+        .arg(moves(alloc, "Draws a history of moves and no script"))?
+        .arg(file(
+            alloc,
+            "The script or the history; standard input where it is left out",
+        ))
+}
+
+/// A program with the subcommand that draws more.
+fn with_draw_command<'a>(alloc: Global, program: Command<'a>) -> Result<Command<'a>, AllocError>
+    requires { (out-Command program).has_globals ≡ false }
+    ensures words { IfOk result (λ with.
+        app_of with ≡ with_subcommand (app_of program.entry) draw_words.top) }
+    ensures local { IfOk result (λ with. (out-Command with).has_globals ≡ false) }
+{
+    let command = draw_command(alloc)?;
+    program.subcommand(command)
+}
+
+/// An option that tells a number, from 1 on.
+fn count<'a>(alloc: Global, id: &'a str, help: &'a str) -> Arg<'a>
+    ensures rule { rule_of result ≡ count_rule id.now }
+    ensures local { result.global ≡ false }
+{
+    Arg::new(alloc, id)
+        .long(id)
+        .value_name("N")
+        .action(ArgAction::Set)
+        .value_parser(ValueParser::Unsigned(1, 4_294_967_295))
+        .help(help)
 }
 
 /// The flag that orders the moves.

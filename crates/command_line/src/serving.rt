@@ -8,11 +8,11 @@ ghost use Rattle.command_line.specs.Orders.{program_words};
 ghost use Rattle.command_line.specs.declared.ends.ProgramEnd.{ProgramEnd};
 ghost use Rattle.command_line.specs.ProgramEnds.{EndsFor, end_for, status_of};
 ghost use Rattle.command_line.specs.declared.ends.TaskFault.TheVariants.{TooManyStates};
-ghost use Rattle.command_line.specs.Tasks.{IsDone, most_states};
-ghost use Rattle.explore_runs.specs.Faults.{HasTooMany};
+ghost use Rattle.command_line.specs.Tasks.{HasTooManyStates, IsDone};
 
 use crate::ends::{FaultLine, ProgramEnd, TaskFault, end_for};
-use crate::orders::{Order, Task, read_words};
+use crate::orders::{Exploration, Order, Task, read_words};
+use crate::progress::Progress;
 use drawing::{draw_moves, draw_script};
 use dump::dump_script;
 use explore_runs::explore_text;
@@ -25,18 +25,16 @@ use std::thread::Threads;
 use std::time::Clock;
 use std::{env, fs, io};
 
-/// The most states of a program that is explored.
-const MOST_STATES: u32 = 10_000_000;
-
-/// Does what the words of the command line order, and answers the exit status.
-pub fn serve<R>(rt: &R) -> ExitCode
+/// Does what the words of the command line order, and answers the exit status. Where standard error
+/// is a terminal, it is told there how far an exploration has come.
+pub fn serve<R>(rt: &R, is_terminal: bool) -> ExitCode
 where
     R: Env + Files + Input + Print + Eprint + AllocGlobal + Threads + Wait + Clock + Sync,
     // The status is one that an end of the program has.
     ensures { (end : ProgramEnd) × (exit_status result ≡ status_of end) }
 {
     let end = match words_behind_name(rt) {
-        Ok(words) => serve_words(rt, &words),
+        Ok(words) => serve_words(rt, &words, is_terminal),
         Err(error) => refuse_words(rt, &error),
     };
     ExitCode::from(end.status())
@@ -50,14 +48,14 @@ fn words_behind_name<R: Env + AllocGlobal>(rt: &R) -> io::Result<Vec<String>> {
 
 /// Does what the words behind the program's name order, and tells how that ended. A fault is told
 /// in one line on standard error.
-pub fn serve_words<R>(rt: &R, words: &[String]) -> ProgramEnd
+pub fn serve_words<R>(rt: &R, words: &[String], is_terminal: bool) -> ProgramEnd
 where
     R: Files + Input + Print + Eprint + AllocGlobal + Threads + Wait + Clock + Sync,
     // Words that are an order end as an order does, and others by what is wrong with them.
     ensures { EndsFor (fault_of program_words (map string_bytes words.now)) result }
 {
     match read_words(rt.alloc(), words) {
-        Ok(order) => match carry_out(rt, order) {
+        Ok(order) => match carry_out(rt, order, is_terminal) {
             Ok(()) => ProgramEnd::Done,
             Err(fault) => tell_fault(rt, fault),
         },
@@ -94,19 +92,20 @@ fn answer(rt: &(impl Print + Eprint), error: &clap::Error) -> ProgramEnd
 }
 
 /// Carries an order out on its file, or on standard input.
-fn carry_out<R>(rt: &R, order: Order<'_>) -> Result<(), TaskFault>
+fn carry_out<R>(rt: &R, order: Order<'_>, is_terminal: bool) -> Result<(), TaskFault>
 where
-    R: Files + Input + Print + AllocGlobal + Threads + Wait + Clock + Sync,
+    R: Files + Input + Print + Eprint + AllocGlobal + Threads + Wait + Clock + Sync,
 {
     let mut sink = WriterSink::new(io::writer(rt));
     match order.file {
         Some(path) => {
             let file = fs::open(rt, path).map_err(|error| fault_of_opening(&error))?;
-            do_task(rt, order.task, &mut ReaderSource::new(file), &mut sink)
+            let mut source = ReaderSource::new(file);
+            do_task(rt, order.task, is_terminal, &mut source, &mut sink)
         }
         None => {
             let mut source = ReaderSource::new(rt.reader());
-            do_task(rt, order.task, &mut source, &mut sink)
+            do_task(rt, order.task, is_terminal, &mut source, &mut sink)
         }
     }
 }
@@ -115,17 +114,18 @@ where
 fn do_task<R, S: Source, W: Sink>(
     rt: &R,
     task: Task,
+    is_terminal: bool,
     source: &mut S,
     sink: &mut W,
 ) -> Result<(), TaskFault>
 where
-    R: AllocGlobal + Threads + Wait + Clock + Sync,
+    R: AllocGlobal + Eprint + Threads + Wait + Clock + Sync,
     requires { S.given source.old ≡ 0 }
     ensures done { OnOk result (IsDone task (S.left source.old) (S.left source.new)
         (S.given source.new) (W.holds sink.old) (W.holds sink.new)) }
     // Too many states are told only of a program that has more than its limit.
     ensures many { (n : ℕ) → result ≡ Err (TooManyStates n)
-        → IfSome (S.left source.old) (λ input. HasTooMany input most_states n) }
+        → IfSome (S.left source.old) (λ input. HasTooManyStates task input n) }
 {
     let alloc = rt.alloc();
     match task {
@@ -134,9 +134,13 @@ where
         Task::Check => replay(alloc, source, sink)?,
         Task::Dump => dump_script(alloc, source, sink)?,
         Task::Live => run_live(rt, alloc, source, sink)?,
-        Task::Explore => explore_text(alloc, source, sink, MOST_STATES)?,
-        Task::Draw => draw_script(alloc, source, sink)?,
-        Task::DrawMoves => draw_moves(alloc, source, sink)?,
+        Task::Explore(exploration) => {
+            let Exploration { most, witness } = exploration;
+            let mut progress = Progress::new(rt, is_terminal);
+            explore_text(alloc, source, sink, most, witness, &mut progress)?;
+        }
+        Task::Draw(window) => draw_script(alloc, window, source, sink)?,
+        Task::DrawMoves(window) => draw_moves(alloc, window, source, sink)?,
     }
     Ok(())
 }

@@ -7,8 +7,9 @@
 #![tactic(auto)]
 
 use command_line::serve;
+use std::io::IsTerminal;
 use std::process::ExitCode;
 
 fn main(rt: HostRuntime) -> ExitCode {
-    serve(&rt)
+    serve(&rt, rt.stderr().is_terminal())
 }
