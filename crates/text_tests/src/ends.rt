@@ -4,12 +4,12 @@
 use super::checks::LOCKS_TWICE;
 use super::memory::{CYCLE, CYCLE_DUMP, LIVE, LIVE_TEXT};
 use super::pieces::{FullWriter, PiecesReader, Then};
-use super::programs::{ONE_ENTER, ONE_REPORT};
+use super::programs::{ONE_ENTER, ONE_HISTORY, ONE_REPORT};
 use super::streams::{HISTORY, REPORT, SCRIPT};
-use command_line::Task;
-use drawing::{DrawFault, draw_moves, draw_script};
+use drawing::{DrawFault, Window, draw_moves, draw_script};
 use dump::dump_script;
-use explore_runs::{ExploreTextFault, explore_text};
+use explore::Nobody;
+use explore_runs::{ExploreTextFault, WitnessForm, explore_text};
 use history::{FileFault, ReaderSource, WriterSink, moves, replay, run};
 use live_runs::{RunFault, run_live};
 use std::alloc::Global;
@@ -21,6 +21,25 @@ use std::time::Clock;
 /// No program here has more states.
 const MOST_STATES: u32 = 100;
 
+/// All columns.
+const WHOLE: Window = Window {
+    first: 1,
+    last: None,
+};
+
+/// What is done with a text.
+#[derive(Clone, Copy)]
+enum Task {
+    Run,
+    Moves,
+    Check,
+    Dump,
+    Live,
+    Explore(WitnessForm),
+    Draw,
+    DrawMoves,
+}
+
 /// What a task comes to that has read this text: what it writes, or its fault.
 #[derive(Clone, Copy)]
 struct Row {
@@ -29,7 +48,7 @@ struct Row {
     outcome: Result<&'static [u8], FileFault>,
 }
 
-const ROWS: [Row; 14] = [
+const ROWS: [Row; 15] = [
     Row {
         task: Task::Run,
         text: SCRIPT,
@@ -56,9 +75,14 @@ const ROWS: [Row; 14] = [
         outcome: Ok(LIVE_TEXT),
     },
     Row {
-        task: Task::Explore,
+        task: Task::Explore(WitnessForm::Script),
         text: ONE_ENTER,
         outcome: Ok(ONE_REPORT),
+    },
+    Row {
+        task: Task::Explore(WitnessForm::History),
+        text: ONE_ENTER,
+        outcome: Ok(ONE_HISTORY),
     },
     Row {
         task: Task::Run,
@@ -86,7 +110,7 @@ const ROWS: [Row; 14] = [
         outcome: Err(FileFault::BadLine(2)),
     },
     Row {
-        task: Task::Explore,
+        task: Task::Explore(WitnessForm::Script),
         text: b"world 1 1\nthread x\ngo x\n",
         outcome: Err(FileFault::BadLine(3)),
     },
@@ -122,13 +146,20 @@ fn do_task<R: Threads + Wait + Clock + Sync + Abort>(
             Err(RunFault::File(fault)) => Err(fault),
             Err(RunFault::Torn) => panic!(rt; "torn"),
         },
-        Task::Explore => match explore_text(alloc, source, sink, MOST_STATES) {
+        Task::Explore(witness) => match explore_text(
+            alloc,
+            source,
+            sink,
+            MOST_STATES,
+            witness,
+            &mut Nobody,
+        ) {
             Ok(()) => Ok(()),
             Err(ExploreTextFault::File(fault)) => Err(fault),
             Err(ExploreTextFault::TooManyStates(most)) => panic!(rt; "more than {most} states"),
         },
-        Task::Draw => fault_of_files(rt, draw_script(alloc, source, sink)),
-        Task::DrawMoves => fault_of_files(rt, draw_moves(alloc, source, sink)),
+        Task::Draw => fault_of_files(rt, draw_script(alloc, WHOLE, source, sink)),
+        Task::DrawMoves => fault_of_files(rt, draw_moves(alloc, WHOLE, source, sink))
     }
 }
 

@@ -1,7 +1,7 @@
 //! Tests of what reads and writes texts: the moves of histories (`moves`), their checks (`checks`),
-//! dumps (`dumps`), the words of the command line (`words`), the lines of a script (`lines`) and
-//! its first bad one (`bad_lines`), and programs that are explored (`programs`); readers and writers
-//! that fail (`streams`, `histories`) or do not (`ends`), and want of memory (`memory`).
+//! dumps (`dumps`), the lines of a script (`lines`) and its first bad one (`bad_lines`), programs
+//! that are explored (`programs`), and pictures (`drawings`); readers and writers that fail
+//! (`streams`, `histories`) or do not (`ends`), and want of memory (`memory`).
 #![tactic(auto)]
 
 #[cfg(test)]
@@ -28,5 +28,3 @@ mod pieces;
 mod programs;
 #[cfg(test)]
 mod streams;
-#[cfg(test)]
-mod words;

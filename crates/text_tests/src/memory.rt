@@ -2,8 +2,6 @@
 //! or want of memory, and the same succeeds when it is tried again.
 
 use super::streams::{HISTORY, REPORT, SCRIPT};
-use super::words::words_of;
-use command_line::{Order, ProgramEnd, Task, TaskFault, end_for, read_words};
 use dump::{cycles, dump_script, report};
 use history::{
     FileFault, Names, ReaderSource, WriterSink, moves, play, play_text, print_script, read_script,
@@ -276,35 +274,6 @@ fn prints(rt: &impl Abort, alloc: Global) -> bool {
 #[test]
 fn a_refused_print_succeeds_when_tried_again(rt: HostRuntime) {
     assert!(rt; prints(&rt, rt.alloc()) || prints(&rt, rt.alloc()));
-}
-
-/// The order of the words `run --moves f`.
-const MOVES_OF_F: Order<'static> = Order {
-    task: Task::Moves,
-    file: Some("f"),
-};
-
-const FAILED: ProgramEnd = ProgramEnd::Failed(TaskFault::Run(RunFault::File(FileFault::Memory)));
-
-fn reads(rt: &impl Abort, alloc: Global, words: &[String]) -> bool {
-    let outcome = read_words(alloc, words);
-    let is_right = match &outcome {
-        Ok(order) => *order == MOVES_OF_F,
-        Err(error) => end_for(error) == FAILED,
-    };
-    assert!(rt; is_right);
-    outcome.is_ok()
-}
-
-#[test]
-fn refused_words_are_read_when_tried_again(rt: HostRuntime) -> Result<(), Fail> {
-    let line = "run --moves f";
-    let words = match words_of(rt.alloc(), line) {
-        Ok(words) => words,
-        Err(_) => words_of(rt.alloc(), line)?,
-    };
-    assert!(rt; reads(&rt, rt.alloc(), &words) || reads(&rt, rt.alloc(), &words));
-    Ok(())
 }
 
 /// The move with the most members.

@@ -1,7 +1,8 @@
 //! Programs that are explored: the first bad line of a text, how many states are asked for, and want
 //! of memory.
 
-use explore_runs::{ExploreTextFault, explore_text};
+use explore::Nobody;
+use explore_runs::{ExploreTextFault, WitnessForm, explore_text};
 use history::{FileFault, ReaderSource, WriterSink};
 use program_text::read_program;
 use std::alloc::Global;
@@ -127,29 +128,58 @@ go x
 go x
 ";
 
+/// The same with the history of that script.
+pub(crate) const ONE_HISTORY: &[u8] = b"states 7 steps 6
+outcome 1 ends 1
+thread x Entered Exited
+object a owner - holds 0 waiting -
+history 8
+{\"objects\":1}
+{\"move\":\"Attach\",\"thread\":0}
+{\"call\":\"Enter\",\"move\":\"Call\",\"object\":0,\"thread\":0}
+{\"move\":\"Lock\",\"thread\":0}
+{\"move\":\"Return\",\"reply\":\"Entered\",\"thread\":0}
+{\"call\":\"Exit\",\"move\":\"Call\",\"object\":0,\"thread\":0}
+{\"move\":\"Unlock\",\"thread\":0}
+{\"move\":\"Return\",\"reply\":\"Exited\",\"thread\":0}
+";
+
 /// Whether the program ends so where this many states are asked for, and this is written.
-fn ends_so(alloc: Global, most: u32, ending: Result<(), ExploreTextFault>, text: &[u8]) -> bool {
+fn ends_so(
+    alloc: Global,
+    most: u32,
+    witness: WitnessForm,
+    ending: Result<(), ExploreTextFault>,
+    text: &[u8],
+) -> bool {
     let mut sink = WriterSink::new(Vec::new(alloc));
-    let outcome = explore_text(alloc, &mut ReaderSource::new(ONE_ENTER), &mut sink, most);
+    let mut source = ReaderSource::new(ONE_ENTER);
+    let outcome = explore_text(alloc, &mut source, &mut sink, most, witness, &mut Nobody);
     outcome == ending && sink.into_inner().as_slice() == text
 }
 
 #[test]
 fn states_that_are_enough_and_one_less(rt: HostRuntime) {
-    assert!(rt; ends_so(rt.alloc(), 7, Ok(()), ONE_REPORT));
     let few = Err(ExploreTextFault::TooManyStates(6));
-    assert!(rt; ends_so(rt.alloc(), 6, few, b""));
+    for (witness, report) in [
+        (WitnessForm::Script, ONE_REPORT),
+        (WitnessForm::History, ONE_HISTORY),
+    ] {
+        assert!(rt; ends_so(rt.alloc(), 7, witness, Ok(()), report));
+        assert!(rt; ends_so(rt.alloc(), 6, witness, few, b""));
+    }
 }
 
 /// Whether a program is explored. Where it is not, memory was refused, and nothing was written; or
 /// the writer was refused some, which has a front of the report.
-fn explores(rt: &impl Abort, alloc: Global) -> bool {
+fn explores(rt: &impl Abort, alloc: Global, witness: WitnessForm, report: &[u8]) -> bool {
     let mut sink = WriterSink::new(Vec::new(alloc));
-    let outcome = explore_text(alloc, &mut ReaderSource::new(ONE_ENTER), &mut sink, 7);
+    let mut source = ReaderSource::new(ONE_ENTER);
+    let outcome = explore_text(alloc, &mut source, &mut sink, 7, witness, &mut Nobody);
     let bytes = sink.into_inner();
     let is_right = match outcome {
-        Ok(()) => bytes.as_slice() == ONE_REPORT,
-        Err(ExploreTextFault::File(FileFault::Write)) => ONE_REPORT.starts_with(bytes.as_slice()),
+        Ok(()) => bytes.as_slice() == report,
+        Err(ExploreTextFault::File(FileFault::Write)) => report.starts_with(bytes.as_slice()),
         Err(fault) => { fault == ExploreTextFault::File(FileFault::Memory) && bytes.is_empty() }
     };
     assert!(rt; is_right);
@@ -158,5 +188,14 @@ fn explores(rt: &impl Abort, alloc: Global) -> bool {
 
 #[test]
 fn a_refused_exploration_succeeds_when_tried_again(rt: HostRuntime) {
-    assert!(rt; explores(&rt, rt.alloc()) || explores(&rt, rt.alloc()));
+    let (rt, alloc) = (&rt, rt.alloc());
+    let form = WitnessForm::Script;
+    assert!(rt; explores(rt, alloc, form, ONE_REPORT) || explores(rt, alloc, form, ONE_REPORT));
+}
+
+#[test]
+fn a_refused_exploration_with_histories_succeeds_when_tried_again(rt: HostRuntime) {
+    let (rt, alloc) = (&rt, rt.alloc());
+    let form = WitnessForm::History;
+    assert!(rt; explores(rt, alloc, form, ONE_HISTORY) || explores(rt, alloc, form, ONE_HISTORY));
 }

@@ -2,7 +2,6 @@
 
 use super::memory::tells_moves;
 use super::pieces::{FullWriter, PiecesReader, Then};
-use super::words::assert_told;
 use history::{FileFault, ReaderSource, WriterSink, run};
 use std::alloc::Global;
 use std::io;
@@ -109,5 +108,9 @@ const FAULTS: [(FileFault, &str); 6] = [
 
 #[test]
 fn texts_of_faults(rt: HostRuntime) -> Result<(), Fail> {
-    assert_told(&rt, rt.alloc(), &FAULTS)
+    for (fault, text) in FAULTS {
+        let told = format!(in rt.alloc(); "{fault}")?;
+        assert!(rt; told.as_str() == text, "{told}");
+    }
+    Ok(())
 }
