@@ -5,3 +5,4 @@ pub mod Stepping
 pub mod Reporting
 pub mod DigitText
 pub mod PlanSoFar
+pub mod WaitSets

@@ -1,4 +1,5 @@
-use Rattle.std.proofs.Common.{string_bytes, codes, [], ◌∷◌}
+use Rattle.std.proofs.Common.{string_bytes, codes, [], ◌∷◌, arith}
+use Rattle.std.proofs.lemmas.Grind.{common_steps}
 use Rattle.fat_monitor.specs.Names.{reply_name}
 use Rattle.history.proofs.DigitText.{pushed_three}
 use Rattle.history.proofs.words.put_reply.Goals as goal
@@ -17,3 +18,6 @@ pub returns-in-IllegalArgument : goal.returns-in-IllegalArgument
 returns-in-IllegalArgument c =
     pushed_three c.push_str-in-IllegalArgument.result (string_bytes c.args.report.now) _ (codes " = ") (reply_name c.args.reply) (10 ∷ []) (string_bytes c.push_str-in-IllegalArgument.new.self) (rw c.in-IllegalArgument.is)
     c.push_str-in-IllegalArgument.ensures.bytes
+
+pub returns-in-Exited : goal.returns-in-Exited
+returns-in-Exited c = grind (arith, common_steps)
