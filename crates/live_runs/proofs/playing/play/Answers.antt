@@ -1,4 +1,4 @@
-use Rattle.std.proofs.Common.{ap, arith, length, sym, ◌∙◌}
+use Rattle.std.proofs.Common.{ap, arith, length, sym, ◌∙◌, rules}
 use Rattle.std.proofs.lemmas.Grind.{common_steps}
 use Rattle.std.proofs.lemmas.List.{length-map}
 use Rattle.header_words.specs.Passes.{new_passes}
@@ -27,3 +27,6 @@ drive_all-requires-clause-calls g c κs within = calls_are c.in_ok-works.works.i
 
 pub open-requires-clause-some : goal.open-requires-clause-some
 open-requires-clause-some g c = grind (arith, common_steps)
+
+pub drive_all-requires-clause-lows : goal.drive_all-requires-clause-lows
+drive_all-requires-clause-lows g c κs within = search rules
