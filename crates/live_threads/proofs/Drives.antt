@@ -4,7 +4,7 @@ use Rattle.std.specs.List.{All}
 use mathlib.Core.List.{reverse-cons}
 use Rattle.std.proofs.Common.{refl, sym, ap, ◌∙◌, subst, arith, take, drop, get_or}
 use Rattle.std.proofs.Math.Seq.{take-suc}
-use Rattle.std.proofs.lemmas.List.{take-append-drop, length-take-le, map-append, append-nil, append_assoc, reverse-append, length-map}
+use Rattle.std.proofs.lemmas.List.{take-append-drop, length-take-le, length_push, map-append, append-nil, append_assoc, reverse-append, length-map}
 use Rattle.std.proofs.lemmas.List.Elements.{All-nil, All-cons, All-head, All-tail}
 use Rattle.fat_monitor.specs.declared.actions.Reply.{Reply}
 use Rattle.fast_path.specs.Calls.{subject_of}
@@ -71,6 +71,10 @@ last_kept P all rest None h e = tt
 pub rest_kept : {X : Type 0} (P : X → Type 0) (all rest : List X) (o : Option X) → All P all → all ≡ rest ++ option_to_list o → All P rest
 rest_kept P all rest (Some x) h e = all_front P rest x (subst (All P) e h)
 rest_kept P all rest None h e = subst (All P) (e ∙ append-nil rest) h
+
+-- a row that has one more at its end
+pub longer_by_one : {X : Type 0} (all rest : List X) (x : X) → all ≡ rest ++ x ∷ [] → length all ≡ length rest + 1
+longer_by_one all rest x e = ap length e ∙ length_push rest x
 
 -- a row that is moved over from the end of another
 pub moved_back : {X Y : Type 0} (f : X → Y) (all rest : List X) (x : X) (before : List Y) → all ≡ rest ++ x ∷ []
