@@ -57,6 +57,9 @@ same_numbers (p ∷ ps) = ap (λ (ns : List ℕ). p.holding.words.index ∷ ns) 
 pub lacks_none : (count : ℕ) (ps : List PassState) → HasEach count (numbers_of ps) → LacksOne count (map words_of ps) → ⊥
 lacks_none count ps each lacks = lacks.3 (subst (λ (ns : List ℕ). Contains ns lacks.0) (sym (same_numbers ps)) (each.1 lacks.0 lacks.1 lacks.2))
 
+pub all_there : (count parts : ℕ) (ps rs : List PassState) → rs ≡ ps → HasEach count (numbers_of ps) → parts ≡ count → length rs ≡ parts
+all_there count parts ps rs same each is = ap (λ (xs : List PassState). length xs) same ∙ (sym (length-map ps (λ (p : PassState). p.holding.words.index)) ∙ (each.0 ∙ sym is))
+
 pub both_ok : {X E : Type 0} (P Q R : X → Type 0) (r : Result X E) → IfOk r P → IfOk r Q → ((x : X) → P x → Q x → R x) → IfOk r R
 both_ok P Q R (Ok x) p q to = to x p q
 both_ok P Q R (Err e) p q to = tt

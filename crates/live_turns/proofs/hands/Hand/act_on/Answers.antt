@@ -1,12 +1,26 @@
 use Rattle.std.specs.Prelude.{◌≡◌}
 use Rattle.std.proofs.Common.{refl, ◌∙◌, ap, sym, subst}
 use Rattle.fast_path.specs.declared.calls.Operation.{Operation}
+use Rattle.fast_path.specs.declared.calls.Operation.TheVariants as op
 use Rattle.step_core.specs.Go.{action_on}
 use Rattle.live_book.specs.Log.{thread_numbered}
 use Rattle.live_turns.specs.Asked.{IsActionNoted}
 use Rattle.live_turns.specs.Ways.{Holding}
+use Rattle.live_turns.proofs.Asking.{on_names_bound}
 use Rattle.live_turns.proofs.AtDesk.{acted_on, acted_late}
 use Rattle.live_turns.proofs.hands.Hand.act_on.Goals as goal
+
+pub note_action-requires-clause-named : goal.note_action-requires-clause-named
+note_action-requires-clause-named g c =
+    rw c.deref_mut.ensures.value (on_names_bound c.args.desk.now.value.book.fats op.Enter c.args.monitor c.args.call.object.0 c.requires.binds)
+
+pub note_action-requires-in-Exit-clause-named : goal.note_action-requires-in-Exit-clause-named
+note_action-requires-in-Exit-clause-named g c =
+    rw c.deref_mut-in-Exit.ensures.value (on_names_bound c.args.desk.now.value.book.fats op.Exit c.args.monitor c.args.call.object.0 c.requires.binds)
+
+pub note_action_apart-requires-clause-named : goal.note_action_apart-requires-clause-named
+note_action_apart-requires-clause-named g c =
+    rw (c.action_on-action.ensures, c.deref_mut-in_default.ensures.value) (on_names_bound c.args.desk.now.value.book.fats c.args.call.operation c.args.monitor c.args.call.object.0 c.requires.binds)
 
 pub returns-in-Enter-clause-acting : goal.returns-in-Enter-clause-acting
 returns-in-Enter-clause-acting g c =

@@ -14,6 +14,18 @@ use Rattle.live_turns.proofs.Refusing.{full_behind}
 use Rattle.live_turns.proofs.Visits.{visit_same, same_visit}
 use Rattle.live_turns.proofs.turns.Turns.inflate_and_act.Goals as goal
 
+pub publish-requires-clause-bound : goal.publish-requires-clause-bound
+publish-requires-clause-bound g c =
+    binds_bound (bindings c.args.desk.now.value.book) (bindings c.bind.new.desk.value.book) c.args.call.object c.in-Ok.receipt.monitor c.in-Ok.ensures.noted.bound (ap (λ (b : Receipt). b.monitor) c.in-Ok.ensures.noted.receipt)
+
+pub act_on-requires : goal.act_on-requires
+act_on-requires g c =
+    let value : c.monitor-monitor.result ≡ c.in-Ok.receipt.monitor = c.monitor-monitor.ensures.value in
+    record {
+      binds = rw value (binds_bound (bindings c.args.desk.now.value.book) (bindings c.bind.new.desk.value.book) c.args.call.object c.in-Ok.receipt.monitor c.in-Ok.ensures.noted.bound
+          (ap (λ (b : Receipt). b.monitor) c.in-Ok.ensures.noted.receipt));
+    }
+
 pub returns-in-Ok-clause-covers : goal.returns-in-Ok-clause-covers
 returns-in-Ok-clause-covers g c =
     let xs = bindings c.args.desk.now.value.book in

@@ -1,9 +1,9 @@
-use Rattle.std.proofs.lemmas.Grind.{common_steps}
 use Rattle.std.specs.Prelude.{◌≡◌, ◌<◌, ◌+◌}
 use Rattle.std.proofs.Common.{refl, arith}
 use Rattle.header_words.specs.Passes.{depth_at}
 use Rattle.live_turns.specs.Ways.{Holding}
 use Rattle.live_turns.proofs.Words.{nest_depth, release_depth, unnest_depth, nest_way, release_way, unnest_way}
+use Rattle.live_turns.proofs.Visits.{event_visit}
 use Rattle.live_turns.proofs.turns.Turns.store.Goals as goal
 
 pub nest-requires-clause-some : goal.nest-requires-clause-some
@@ -49,10 +49,10 @@ returns-in-Exit-Thin-clause-went g c =
     rw (← c.hand.view_is) (unnest_way c.args.call c.args.old c.args.new c.in-Exit-Thin.index-1 c.in-Exit-Thin.count-1 _ p q c.in-Exit-Thin.is-0 c.in-Exit-Thin.is-1 c.requires.fits (rw (← c.hand.view_is) at c.requires.calls) c.unnest.ensures refl)
 
 pub returns-in-Enter-default-clause-visit : goal.returns-in-Enter-default-clause-visit
-returns-in-Enter-default-clause-visit g c = grind (arith, common_steps)
+returns-in-Enter-default-clause-visit g c = rw (← c.hand.view_is) (event_visit c.args.call.object.0 _ _ c.hand.inside.words c.nest.new.pass c.nest.ensures).1
 
 pub returns-in-Exit-Free-clause-visit : goal.returns-in-Exit-Free-clause-visit
-returns-in-Exit-Free-clause-visit g c = grind (arith, common_steps)
+returns-in-Exit-Free-clause-visit g c = rw (← c.hand.view_is) (event_visit c.args.call.object.0 _ _ c.hand.inside.words c.release.new.pass c.release.ensures).1
 
 pub returns-in-Exit-Thin-clause-visit : goal.returns-in-Exit-Thin-clause-visit
-returns-in-Exit-Thin-clause-visit g c = grind (arith, common_steps)
+returns-in-Exit-Thin-clause-visit g c = rw (← c.hand.view_is) (event_visit c.args.call.object.0 _ _ c.hand.inside.words c.unnest.new.pass c.unnest.ensures).1
