@@ -12,3 +12,4 @@ pub mod Signed
 pub mod BadLaws
 pub mod Beginnings
 pub mod Coming
+pub mod Fronts

@@ -12,3 +12,6 @@ returns-then-eq c =
       text = rw (decimal_digit 0 (omega arith)) (ap (λ (bs : List ℕ). codes "wait " ++ bs) (c.in_ok-object.ensures ∙ ap (λ (bs : List ℕ). c.in_ok-object.object ++ 32 ∷ bs) last));
       fits = (right, omega arith, omega arith);
     }
+
+pub returns : goal.returns
+returns c = search rules

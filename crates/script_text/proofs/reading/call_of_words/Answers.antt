@@ -1,5 +1,6 @@
 use Rattle.std.proofs.Common.{◌≡◌, ℕ, ◌<◌, List, [], ◌∷◌, length, None, map, sym, refl, arith, Bor}
 use Rattle.std.proofs.lemmas.List.{length-map}
+use Rattle.std.proofs.lemmas.Grind.{common_steps}
 use Rattle.script_text.specs.Lines.{call_from}
 use Rattle.script_text.proofs.reading.call_of_words.Goals as goal
 
@@ -23,3 +24,6 @@ returns-in-len3 c = sym (three_words (map (λ (word : Bor (List ℕ)). word.now)
 
 pub returns-in-len5-up : goal.returns-in-len5-up
 returns-in-len5-up c = sym (many_words (map (λ (word : Bor (List ℕ)). word.now) c.args.words.now) (simp length-map (omega arith)))
+
+pub returns-in-len1 : goal.returns-in-len1
+returns-in-len1 c = grind (arith, common_steps)

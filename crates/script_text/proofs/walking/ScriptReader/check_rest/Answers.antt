@@ -1,4 +1,4 @@
-use Rattle.std.proofs.Common.{◌≡◌, List, ℕ, ◌∷◌, [], ◌++◌, true, refl, sym, subst}
+use Rattle.std.proofs.Common.{◌≡◌, List, ℕ, ◌∷◌, [], ◌++◌, true, refl, sym, subst, rules}
 use Rattle.std.proofs.lemmas.Result.{err_from_is_err_and}
 use Rattle.script_text.specs.declared.lines.Line.{Line}
 use Rattle.script_text.specs.declared.lines.Line.TheVariants.{Step}
@@ -50,3 +50,6 @@ returns-in_default-2 g c = record {
       let here = subst (HasCome bytes is.came names) (sym (c.in_default.ensures.none refl)) is.come in
       no_next_line bytes is.came names c.next.new.self c.in_ok-line.field-0 (c.in_ok-line.ensures.told bytes is.came here) c.in_default-2.is;
 }
+
+pub lines-init : goal.lines-init
+lines-init g c = search rules
