@@ -6,3 +6,4 @@ pub mod Clauses
 pub mod Lists
 pub mod CodeOfGo
 pub mod Numbers
+pub mod Putting
