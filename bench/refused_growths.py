@@ -42,8 +42,15 @@ TESTS = {
     "live_tests": {
         "threads::memory": ["what_was_refused_comes_back_and_succeeds_again"],
     },
+    "order_tests": {
+        "memory": ["refused_words_are_read_when_tried_again"],
+    },
     "text_tests": {
         "bad_lines": ["a_bad_line_is_told_whichever_request_is_refused"],
+        "drawings": [
+            "a_refused_drawing_succeeds_when_tried_again",
+            "a_refused_drawing_of_moves_succeeds_when_tried_again",
+        ],
         "memory": [
             "a_refused_run_succeeds_when_tried_again",
             "a_refused_history_succeeds_when_tried_again",
@@ -53,12 +60,14 @@ TESTS = {
             "a_refused_check_of_a_crowd_succeeds_when_tried_again",
             "a_refused_live_run_succeeds_when_tried_again",
             "a_refused_print_succeeds_when_tried_again",
-            "refused_words_are_read_when_tried_again",
             "a_refused_line_is_written_when_tried_again",
             "a_refused_play_succeeds_when_tried_again",
             "a_refused_play_of_a_text_succeeds_when_tried_again",
         ],
-        "programs": ["a_refused_exploration_succeeds_when_tried_again"],
+        "programs": [
+            "a_refused_exploration_succeeds_when_tried_again",
+            "a_refused_exploration_with_histories_succeeds_when_tried_again",
+        ],
     },
 }
 

@@ -2,7 +2,8 @@
 # Builds the library for C, and builds and runs the clients over it, as C, as C++ and from Rust: the core
 # (client), what it refuses (refused), and the live service (live). It needs no rights, and says what it
 # skips where a compiler is missing. `run.sh time` prints what a step of the core costs, and a pair of calls
-# of the live service. `run.sh gate`, which the merge run calls, does the same as `run.sh` alone.
+# of the live service. `run.sh gate FOLDER`, which the merge run calls, does the same as `run.sh` alone, over
+# the library that stands in a copy of the crates in that folder.
 # `run.sh compile` compares the header with the exports and compiles the clients, and no more.
 set -euo pipefail
 cd "$(dirname "$0")/.."
@@ -33,14 +34,19 @@ if [ "${1:-}" = compile ]; then
     echo "the clients compile"
     exit
 fi
-(cd crates/nadkhoy_c && rt lib)
-archive=crates/nadkhoy_c/out/libnadkhoy_c.a
+root=.
+if [ "${1:-}" = gate ]; then
+    root=${2:?gate wants the folder of a copy}
+else
+    (cd crates/nadkhoy_c && rt lib)
+fi
+archive=$root/crates/nadkhoy_c/out/libnadkhoy_c.a
 
 if has "${CC:-cc}"; then
     for client in "${clients[@]}"; do
         "${CC:-cc}" -std=c11 "${strict[@]}" clients/$client.c "$archive" "$kit/c/liblibc_c.a" \
             "${host[@]}" -o "$made/$client"
-        timeout 120 "$made/$client" "$@"
+        timeout 120 "$made/$client" "${@:1:1}"
     done
 fi
 if has "${CXX:-c++}"; then

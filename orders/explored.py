@@ -7,6 +7,8 @@ The programs are those of `crates/explored_programs/data/classic.programs`, and 
 `bench/explored.py`, which was written from the rules and not from the code. Of each program are compared how
 many states and steps it has, its outcomes with how many ends have each, and how long the script of each is: no
 other leads there with fewer steps. Each script is then played by `thinmon run`, and has to come to that outcome.
+With `--moves` the same outcomes have to be told, each with the history that `thinmon run --moves` writes of its
+script, and `thinmon check` has to find the moves of that history a run.
 """
 import pathlib
 import subprocess
@@ -123,14 +125,14 @@ def explore(program):
     return len(seen), steps, outcomes
 
 
-def parts_of(report):
-    """The counts of a report, and its outcomes: how many ends, the lines, and the script of each."""
+def parts_of(report, form):
+    """The counts of a report, and its outcomes: how many ends, the lines, and the script or history of each."""
     lines = report.split("\n")
     counts, parts, at = lines[0], [], 1
     while lines[at]:
         head, at = lines[at].split(), at + 1
         told = []
-        while not lines[at].startswith("script "):
+        while not lines[at].startswith(f"{form} "):
             told.append(lines[at])
             at += 1
         count = int(lines[at].split()[1])
@@ -157,9 +159,26 @@ def played(thinmon, script):
     return replies, objects
 
 
+def written(words, lines):
+    """What a program writes that reads these lines."""
+    return subprocess.run(words, input="".join(line + "\n" for line in lines), text=True, capture_output=True,
+                          check=True).stdout
+
+
+def compare_histories(thinmon, text, counts, parts):
+    """The same outcomes with histories: those of the scripts, and each a run."""
+    done = subprocess.run([thinmon, "explore", "--moves"], input=text, text=True, capture_output=True, check=True)
+    again, histories = parts_of(done.stdout, "history")
+    assert again == counts, again
+    assert [part[:3] for part in histories] == [part[:3] for part in parts], "other outcomes with histories"
+    for (_, _, _, script), (_, _, _, history) in zip(parts, histories):
+        assert written([thinmon, "run", "--moves"], script) == "".join(line + "\n" for line in history)
+        assert written([thinmon, "check"], history) == f"run of {len(history) - 1} moves\n"
+
+
 def compare(thinmon, program, text):
     done = subprocess.run([thinmon, "explore"], input=text, text=True, capture_output=True, check=True)
-    counts, parts = parts_of(done.stdout)
+    counts, parts = parts_of(done.stdout, "script")
     states, steps, outcomes = explore(program)
     assert counts == f"states {states} steps {steps}", counts
     assert [number for number, _, _, _ in parts] == list(range(1, len(outcomes) + 1))
@@ -173,6 +192,7 @@ def compare(thinmon, program, text):
             if words[0] == "thread":
                 assert words[2:2 + len(replies[words[1]])] == replies[words[1]], line
         assert objects == [line for line in told if line.startswith("object ")], objects
+    compare_histories(thinmon, text, counts, parts)
 
 
 def main():

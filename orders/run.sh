@@ -114,12 +114,42 @@ run_explored() {
     if [ "$status" = 0 ]; then judge well; else judge wrong "the programs that are explored"; fi
 }
 
+# Progress of an exploration, at a terminal and elsewhere, where there is a Python that has one.
+run_progress() {
+    command -v python3 >/dev/null || { echo "skipped: progress, since there is no python3"; return; }
+    status=0
+    python3 progress.py "$program" >"$made/written" 2>"$made/told" || status=$?
+    if [ "$status" = 0 ]; then judge well; else judge wrong "progress"; fi
+}
+
 # The examples, drawn, and read by another reader of XML, where there is a Python to run it.
 run_drawn() {
     command -v python3 >/dev/null || { echo "skipped: the drawn examples, since there is no python3"; return; }
     status=0
     python3 drawn.py "$program" >"$made/written" 2>"$made/told" || status=$?
     if [ "$status" = 0 ]; then judge well; else judge wrong "the examples that are drawn"; fi
+}
+
+# The pictures of the examples are, byte for byte, those that were recorded, and docs/pictures has three of them.
+run_pictures() {
+    local script name drawn=$made/pictures
+    mkdir -p "$drawn"
+    for script in ../crates/played_examples/data/*.script; do
+        name=$(basename "$script" .script)
+        "$program" draw "$script" >"$drawn/$name.svg" 2>"$made/told" || true
+    done
+    if (cd "$drawn" && LC_ALL=C sha256sum -- *.svg) | diff - pictures.sums >"$made/written" 2>"$made/told"; then
+        judge well
+    else
+        judge wrong "the recorded pictures"
+    fi
+    for name in ../docs/pictures/*.svg; do
+        if cmp "$name" "$drawn/$(basename "$name")" >"$made/written" 2>"$made/told"; then
+            judge well
+        else
+            judge wrong "the picture $name"
+        fi
+    done
 }
 
 for program in ../crates/thinmon/out/thinmon ../crates/thinmon/out/thinmon.by-rattle; do
@@ -130,7 +160,9 @@ for program in ../crates/thinmon/out/thinmon ../crates/thinmon/out/thinmon.by-ra
     run_bytes
     run_full
     run_explored
+    run_progress
     run_drawn
+    run_pictures
 done
 echo "orders: $passed as wanted, $failed not"
 [ "$failed" = 0 ]

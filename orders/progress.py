@@ -1,0 +1,97 @@
+#!/usr/bin/env python3
+"""Whether `thinmon explore` tells how far it has come where standard error is a terminal, and only there.
+
+python3 orders/progress.py THINMON
+
+The program is large enough for an exploration of some seconds. It is explored with standard error at a pseudo-terminal,
+and the same with a pipe, where nothing is to be told; the report is to be the same. On a machine that is done within a
+second there may be nothing to tell, and only the reports are looked at.
+"""
+import os
+import pty
+import re
+import subprocess
+import sys
+import threading
+import time
+
+PROGRAM = "world 8 8\nobject a A5\n" + "".join(
+    f"thread {name}\ncall enter a\ncall wait a 0 0\ncall exit a\n" for name in "wxyz"
+) + "thread v\n" + "call enter a\ncall notifyall a\ncall exit a\n" * 2
+# By bench/explored.py.
+STATES = 293_535
+TOLD = re.compile(r"\rthinmon: (\d+) states, (\d+) to visit, (\d+) a second\x1b\[K")
+GONE = "\r\x1b[K"
+
+
+def read_all(end, parts):
+    """What comes from the other end of a terminal, until nobody has it open."""
+    while True:
+        try:
+            part = os.read(end, 65536)
+        except OSError:
+            return
+        if not part:
+            return
+        parts.append(part)
+
+
+def explore(program, told):
+    """Explores the program, with this as standard error."""
+    return subprocess.run(
+        [program, "explore"], input=PROGRAM.encode(), stdout=subprocess.PIPE, stderr=told, check=True, timeout=300
+    )
+
+
+def at_a_terminal(program):
+    """The report, what was told, and how many seconds it took."""
+    master, slave = pty.openpty()
+    parts = []
+    reader = threading.Thread(target=read_all, args=(master, parts), daemon=True)
+    reader.start()
+    began = time.monotonic()
+    try:
+        report = explore(program, slave).stdout
+    finally:
+        seconds = time.monotonic() - began
+        os.close(slave)
+        reader.join(10)
+        os.close(master)
+    return report, b"".join(parts).decode(), seconds
+
+
+def has_terminals():
+    try:
+        ends = pty.openpty()
+    except OSError:
+        return False
+    for end in ends:
+        os.close(end)
+    return True
+
+
+def main(program):
+    plain = explore(program, subprocess.PIPE)
+    assert plain.stderr == b"", plain.stderr
+    states = int(plain.stdout.split()[1])
+    assert states == STATES, states
+    if not has_terminals():
+        print("skipped: progress at a terminal, since there is none to be had")
+        return
+    report, told, seconds = at_a_terminal(program)
+    assert plain.stdout == report
+    lines = list(TOLD.finditer(told))
+    assert told == "".join(line.group(0) for line in lines) + (GONE if lines else ""), told
+    found = [int(line.group(1)) for line in lines]
+    assert found == sorted(set(found)) and all(0 < number <= states for number in found), found
+    assert all(0 < int(line.group(2)) <= int(line.group(1)) for line in lines), told
+    # One line a second, of as many states as were found by then.
+    assert len(lines) <= seconds + 1, (len(lines), seconds)
+    assert lines or seconds < 10, seconds
+    for number, line in enumerate(lines, 1):
+        assert int(line.group(3)) <= int(line.group(1)) // number, line.group(0)
+    print(f"{states} states, {len(lines)} lines of progress")
+
+
+if __name__ == "__main__":
+    main(sys.argv[1])
