@@ -15,7 +15,7 @@ use Rattle.history.specs.declared.plans.Plan.{Plan}
 use Rattle.history_check.specs.Histories.{IsFaultOf, IsRunFrom}
 use Rattle.pictures.specs.declared.columns.Column.{Column}
 use Rattle.pictures.specs.declared.picture.Picture.{Picture}
-use Rattle.pictures.specs.Pictures.{HasTooManyCycles, HasTooManyLanes, IsPicture}
+use Rattle.pictures.specs.Pictures.{HasTooManyCycles, HasTooManyLanes, IsPicture, IsWithin}
 use Rattle.picture_text.specs.declared.naming.Naming.{Naming}
 use Rattle.picture_text.specs.declared.naming.Naming.TheVariants.{Names, Numbers}
 use Rattle.picture_text.specs.Frame.{svg_text}
@@ -49,12 +49,13 @@ abbrev pub NamesBy : Plan → Naming → Type 0
 NamesBy plan (Names names) = names.now ≡ plan.names
 NamesBy plan Numbers = ⊥
 
--- The picture of columns behind which are these worlds, and others are in front of them: with the header words there,
--- and the cycles of owners of the last world.
+-- The picture of columns behind which are these worlds, and others are in front of them: within the limits of
+-- pictures, with the header words there, and the cycles of owners of the last world.
 pub record IsPlayedDrawing (naming : Naming) (objects : ℕ) (played : Played) (worlds : List WorldState)
     (text : List ℕ) : Type 0 where
   pub picture : Picture
   pub is_picture : IsPicture objects played.front.items played.columns.items played.words.items picture
+  pub limits : IsWithin picture
   pub worded : AreWorded worlds picture.strips.items
   pub cycles : AreCycles (shown played.world) (map vec_items picture.cycles.items)
   pub exact : text ≡ svg_text naming picture
@@ -121,7 +122,7 @@ IsScriptReason window bytes fault = ScriptHasReason window bytes fault
 
 -- ---- histories
 
--- a column for each move in the window, and the picture of the columns
+-- a column for each move in the window, and the picture of the columns, within the limits of pictures
 pub record IsMovesDrawing (objects : ℕ) (moves : List Move) (window : Window) (text : List ℕ) : Type 0 where
   pub within : IsBeyond window (length moves) → ⊥
   pub picture : Picture
@@ -129,6 +130,7 @@ pub record IsMovesDrawing (objects : ℕ) (moves : List Move) (window : Window) 
   pub no_words : words ≡ []
   pub is_picture : IsPicture objects (columns_of (front_of window moves)) (columns_of (part_of window moves)) words
       picture
+  pub limits : IsWithin picture
   pub exact : text ≡ svg_text Numbers picture
 
 -- why moves have no picture

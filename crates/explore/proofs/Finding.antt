@@ -2,7 +2,7 @@
 use native.Mathlib.Omega.{arith}
 use Rattle.std.proofs.Common.{◌*◌}
 use Rattle.std.proofs.Common.{◌≡◌, ◌⊎◌, inl, inr, ◌∙◌, subst, sym, ap, refl, ℕ, zero, suc, ◌+◌, ◌<◌, ◌≤◌, List, [], ◌∷◌, ◌++◌, length, Option, Some, None, Vec, Bool, true, false, length-append}
-use Rattle.std.specs.Global.{Global}
+use Rattle.explore.specs.declared.codes.Code.{Code}
 use Rattle.std.proofs.Common.{get_or, ◌-◌, append_assoc}
 use Rattle.std.specs.Prelude.{reverse}
 use Rattle.std.proofs.lemmas.List.{reverse-append}
@@ -16,6 +16,7 @@ use Rattle.explore.specs.declared.programs.Program.{Program}
 use Rattle.explore.specs.declared.programs.Choice.{Choice}
 use Rattle.explore.specs.declared.programs.Choice.TheVariants as choice
 use Rattle.explore.specs.declared.found.Node.{Node}
+use Rattle.step_core.specs.Sound.{IsSound}
 use Rattle.explore.specs.States.{ProgramState, after, played, played_from, opening}
 use Rattle.explore.specs.Found.{witness_at, witnesses, witnesses_from, grown, IsAt, IsEnd, AreEnds, AreStates, AreParents, FindsAll, HasMore, node_at}
 use Rattle.explore.specs.Codes.{code_of}
@@ -124,7 +125,7 @@ ends_more p a b n ends s h stays lt here is = record {
         (length ends, omega (arith, l), get_or-append_seam ends n [] 0 ∙ sym same)
 
 -- the first of those that wait is taken
-pub popped : (p : Program) (keys : List (Vec ℕ Global)) (ws : List (List Choice)) (queue rest : List ProgramState) (n : ℕ) (s : ProgramState)
+pub popped : (p : Program) (keys : List Code) (ws : List (List Choice)) (queue rest : List ProgramState) (n : ℕ) (s : ProgramState)
     → IsSearch p keys ws queue n → queue ≡ s ∷ rest → IsSearch p keys ws rest (n + 1)
 popped p keys ws queue rest n s h e = record {
   counted = h.counted;
@@ -143,13 +144,13 @@ popped p keys ws queue rest n s h e = record {
       subst (λ (j : ℕ). length (witness_at ws k) ≤ length (witness_at ws j) + 1) (sym one) (omega (arith, a, b));
 }
 
-pub first_here : (p : Program) (keys : List (Vec ℕ Global)) (ws : List (List Choice)) (queue rest : List ProgramState) (n : ℕ) (s : ProgramState)
+pub first_here : (p : Program) (keys : List Code) (ws : List (List Choice)) (queue rest : List ProgramState) (n : ℕ) (s : ProgramState)
     → IsSearch p keys ws queue n → queue ≡ s ∷ rest → IsAt p ws n s
 first_here p keys ws queue rest n s h e =
     let here : IsAt p ws (n + 0) s = h.queued 0 s (rw e refl) in
     subst (λ (m : ℕ). IsAt p ws m s) (omega arith) here
 
-first_within : (p : Program) (keys : List (Vec ℕ Global)) (ws : List (List Choice)) (queue rest : List ProgramState) (n : ℕ) (s : ProgramState)
+first_within : (p : Program) (keys : List Code) (ws : List (List Choice)) (queue rest : List ProgramState) (n : ℕ) (s : ProgramState)
     → IsSearch p keys ws queue n → queue ≡ s ∷ rest → n < length ws
 first_within p keys ws queue rest n s h e =
     let l = ap (λ (q : List ProgramState). length q) e in let w = h.waiting in omega (arith, l, w)
@@ -187,7 +188,7 @@ few_choices p =
     omega (arith, h, l, t)
 
 -- one state more was visited
-pub visited_next : (p : Program) (keys keys' : List (Vec ℕ Global)) (ws ws' : List (List Choice)) (queue rest queue' : List ProgramState) (ends ends' : List ℕ) (steps made n : ℕ) (s : ProgramState) (cs : List Choice) (end : Bool)
+pub visited_next : (p : Program) (keys keys' : List Code) (ws ws' : List (List Choice)) (queue rest queue' : List ProgramState) (ends ends' : List ℕ) (steps made n : ℕ) (s : ProgramState) (cs : List Choice) (end : Bool)
     → IsVisited p keys ws queue ends steps n → queue ≡ s ∷ rest → cs ≡ all_choices p
     → IsSearch p keys' ws' queue' (n + 1) → StaysIn ws ws' → AreFoundFrom p ws' (behind ws' n) s cs (length cs)
     → (end ≡ true → NoneChanges p s cs (length cs))
@@ -249,7 +250,7 @@ first_stays ws [] = stays_still ws
 first_stays ws (n ∷ ns) = stays_then ws (grown ws n) (witnesses_from (grown ws n) ns) (stays_more ws _) (first_stays (grown ws n) ns)
 
 -- what is known are states, no two the same
-pub are_states : (p : Program) (keys : List (Vec ℕ Global)) (ws : List (List Choice)) (queue : List ProgramState) (n : ℕ)
+pub are_states : (p : Program) (keys : List Code) (ws : List (List Choice)) (queue : List ProgramState) (n : ℕ)
     → IsSearch p keys ws queue n → AreStates p ws
 are_states p keys ws queue n h = record {
   sound = λ k lt. (let r = h.known k lt in (r.0, r.1.leads));
@@ -263,24 +264,24 @@ are_states p keys ws queue n h = record {
 }
 
 -- more states were found than were visited, while some wait
-pub has_more : (p : Program) (keys : List (Vec ℕ Global)) (ns : List Node) (queue : List ProgramState) (ends : List ℕ) (steps n : ℕ)
+pub has_more : (p : Program) (keys : List Code) (ns : List Node) (queue : List ProgramState) (ends : List ℕ) (steps n : ℕ)
     → IsVisited p keys (witnesses ns) queue ends steps n → 0 < length queue → HasMore p n
 has_more p keys ns queue ends steps n v some =
     let w = v.search.waiting in
     (witnesses ns, omega (arith, w, some), are_states p keys (witnesses ns) queue n v.search)
 
 -- more states were found than were asked for
-pub over : (p : Program) (keys : List (Vec ℕ Global)) (ns : List Node) (queue : List ProgramState) (ends : List ℕ) (steps n most : ℕ)
+pub over : (p : Program) (keys : List Code) (ns : List Node) (queue : List ProgramState) (ends : List ℕ) (steps n most : ℕ)
     → IsVisited p keys (witnesses ns) queue ends steps n → most < length (witnesses ns) → HasMore p most
 over p keys ns queue ends steps n most v more = (witnesses ns, more, are_states p keys (witnesses ns) queue n v.search)
 
 -- and no more, once no state waits to be visited
-pub few : (p : Program) (keys : List (Vec ℕ Global)) (ns : List Node) (ends : List ℕ) (steps n most : ℕ)
+pub few : (p : Program) (keys : List Code) (ns : List Node) (ends : List ℕ) (steps n most : ℕ)
     → IsVisited p keys (witnesses ns) [] ends steps n → n ≤ most → length (witnesses ns) ≤ most
 few p keys ns ends steps n most v le = let w = v.search.waiting in omega (arith, w, le)
 
 -- all is found once no state waits to be visited
-pub finds_all : (p : Program) (keys : List (Vec ℕ Global)) (ns : List Node) (ends : List ℕ) (steps n : ℕ)
+pub finds_all : (p : Program) (keys : List Code) (ns : List Node) (ends : List ℕ) (steps n : ℕ)
     → IsVisited p keys (witnesses ns) [] ends steps n → FindsAll p (record { witnesses = witnesses ns; ends = ends; steps = steps })
 finds_all p keys ns ends steps n v =
     let ws : List (List Choice) = witnesses ns in
@@ -396,6 +397,14 @@ walked ns at node cs all parents some within e h =
     )
 
 -- the state that was popped last has a number
-pub within_search : (p : Program) (keys : List (Vec ℕ Global)) (ws : List (List Choice)) (queue : List ProgramState) (at : ℕ)
+pub within_search : (p : Program) (keys : List Code) (ws : List (List Choice)) (queue : List ProgramState) (at : ℕ)
     → IsSearch p keys ws queue (at + 1) → at < length ws
 within_search p keys ws queue at h = let w = h.waiting in omega (arith, w)
+
+-- and its world is sound
+pub sound_here : (p : Program) (keys : List Code) (ws : List (List Choice)) (queue : List ProgramState) (at : ℕ) (s : ProgramState)
+    → IsSearch p keys ws queue (at + 1) → IsAt p ws at s → IsSound s.world
+sound_here p keys ws queue at s h here =
+    let r = h.known at (within_search p keys ws queue at h) in
+    let same : r.0 ≡ s = ap (λ (o : Option ProgramState). unwrap_or o s) (sym r.1.leads ∙ here) in
+    subst (λ (t : ProgramState). IsSound t.world) same r.1.coded.numbered.sound

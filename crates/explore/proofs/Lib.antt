@@ -5,3 +5,4 @@ pub mod Finding
 pub mod StateCodes
 pub mod Sifting
 pub mod Choosing
+pub mod Closed

@@ -9,7 +9,7 @@ use Rattle.std.specs.List.{list_any}
 use Rattle.std.specs.Prelude.{zero, suc, Bool, false, not, ◌||◌, if◌then◌else◌}
 use Rattle.indexmap.specs.IndexSet.{insert_key}
 use Rattle.std.specs.Prelude.{slice_get, nat_eq, true}
-use Rattle.std.specs.Global.{Global}
+use Rattle.explore.specs.declared.codes.Code.{Code}
 use Rattle.std.specs.Cmp.Lexicographic.{pointwise}
 use Rattle.std.proofs.Math.Seq.{get_or-append_seam}
 use Rattle.std.proofs.lemmas.Option.{slice_get-get_or, slice_get_within, get_or_from_slice_get}
@@ -58,7 +58,7 @@ stays_more ws x = record {
   same = λ k h. witness_before ws x k h;
 }
 
-known_stays : (p : Program) (keys : List (Vec ℕ Global)) (ws : List (List Choice)) (key : Vec ℕ Global) (x : List Choice) (k : ℕ) (s : ProgramState)
+known_stays : (p : Program) (keys : List Code) (ws : List (List Choice)) (key : Code) (x : List Choice) (k : ℕ) (s : ProgramState)
     → k < length ws → IsKnown p keys ws k s → IsKnown p (keys ++ key ∷ []) (ws ++ x ∷ []) k s
 known_stays p keys ws key x k s lt h = record {
   leads = rw (witness_before ws x k lt) h.leads;
@@ -66,8 +66,8 @@ known_stays p keys ws key x k s lt h = record {
   keyed = (h.keyed.0, get_before keys key k h.keyed.0 h.keyed.1, h.keyed.2);
 }
 
-known_last : (p : Program) (keys : List (Vec ℕ Global)) (ws : List (List Choice)) (key : Vec ℕ Global) (x : List Choice) (s : ProgramState)
-    → length keys ≡ length ws → played p x ≡ Some s → IsCoded s → key.items ≡ code_of s
+known_last : (p : Program) (keys : List Code) (ws : List (List Choice)) (key : Code) (x : List Choice) (s : ProgramState)
+    → length keys ≡ length ws → played p x ≡ Some s → IsCoded s → key.bytes.items ≡ code_of s
     → IsKnown p (keys ++ key ∷ []) (ws ++ x ∷ []) (length ws) s
 known_last p keys ws key x s e leads sound coded = record {
   leads = rw (witness_last ws x) leads;
@@ -82,7 +82,7 @@ pub record IsLast (ws : List (List Choice)) (popped : ℕ) (x : List Choice) : T
   pub short : length x ≤ length (witness_at (ws ++ x ∷ []) (popped - 1)) + 1
 
 -- a choice behind the witness of that state
-pub choice_last : (p : Program) (keys : List (Vec ℕ Global)) (ws : List (List Choice)) (queue : List ProgramState) (at : ℕ) (c : Choice)
+pub choice_last : (p : Program) (keys : List Code) (ws : List (List Choice)) (queue : List ProgramState) (at : ℕ) (c : Choice)
     → IsSearch p keys ws queue (at + 1) → IsLast ws (at + 1) (witness_at ws at ++ c ∷ [])
 choice_last p keys ws queue at c h =
     let w = h.waiting in
@@ -96,9 +96,9 @@ choice_last p keys ws queue at c h =
     }
 
 -- a state that was not among those that were found
-pub search_more : (p : Program) (keys : List (Vec ℕ Global)) (ws : List (List Choice)) (queue : List ProgramState) (popped : ℕ) (key : Vec ℕ Global) (x : List Choice) (made : ProgramState)
-    → IsSearch p keys ws queue popped → played p x ≡ Some made → IsCoded made → key.items ≡ code_of made
-    → ((j : ℕ) (y : Vec ℕ Global) → slice_get keys j ≡ Some y → y.items ≡ key.items → ⊥)
+pub search_more : (p : Program) (keys : List Code) (ws : List (List Choice)) (queue : List ProgramState) (popped : ℕ) (key : Code) (x : List Choice) (made : ProgramState)
+    → IsSearch p keys ws queue popped → played p x ≡ Some made → IsCoded made → key.bytes.items ≡ code_of made
+    → ((j : ℕ) (y : Code) → slice_get keys j ≡ Some y → y.bytes.items ≡ key.bytes.items → ⊥)
     → IsLast ws popped x
     → IsSearch p (keys ++ key ∷ []) (ws ++ x ∷ []) (queue ++ made ∷ []) popped
 search_more p keys ws queue popped key x made h leads sound coded fresh last = record {
@@ -143,16 +143,16 @@ search_more p keys ws queue popped key x made h leads sound coded fresh last = r
         let e : length ws ≡ k = omega (arith, b, lt, past) in
         subst (λ (n : ℕ). (s : ProgramState) × IsKnown p (keys ++ key ∷ []) (ws ++ x ∷ []) n s) e (made, known_last p keys ws key x made h.counted leads sound coded)
 
-    apart_at : (j k : ℕ) (y z : Vec ℕ Global) → j < k → slice_get (keys ++ key ∷ []) j ≡ Some y → slice_get (keys ++ key ∷ []) k ≡ Some z
-        → y.items ≡ z.items → (k < length keys) ⊎ (length keys ≤ k) → ⊥
+    apart_at : (j k : ℕ) (y z : Code) → j < k → slice_get (keys ++ key ∷ []) j ≡ Some y → slice_get (keys ++ key ∷ []) k ≡ Some z
+        → y.bytes.items ≡ z.bytes.items → (k < length keys) ⊎ (length keys ≤ k) → ⊥
     apart_at j k y z lt a b e (inl below) = h.distinct j k y z lt (get_old keys key j y (omega (arith, lt, below)) a) (get_old keys key k z below b) e
     apart_at j k y z lt a b e (inr past) =
         let within = slice_get_within (keys ++ key ∷ []) k z b in
         let l = length-append keys (key ∷ []) in
         let here : length keys ≡ k = omega (arith, l, within, past) in
         let last : slice_get (keys ++ key ∷ []) (length keys) ≡ Some z = subst (λ (n : ℕ). slice_get (keys ++ key ∷ []) n ≡ Some z) (sym here) b in
-        let same : key ≡ z = ap (λ (o : Option (Vec ℕ Global)). unwrap_or o key) (sym (get_last keys key) ∙ last) in
-        fresh j y (get_old keys key j y (omega (arith, lt, here)) a) (e ∙ ap (λ (v : Vec ℕ Global). v.items) (sym same))
+        let same : key ≡ z = ap (λ (o : Option Code). unwrap_or o key) (sym (get_last keys key) ∙ last) in
+        fresh j y (get_old keys key j y (omega (arith, lt, here)) a) (e ∙ ap (λ (v : Code). v.bytes.items) (sym same))
 
     queued_at : (j : ℕ) (s : ProgramState) → slice_get (queue ++ made ∷ []) j ≡ Some s → (j < length queue) ⊎ (length queue ≤ j)
         → IsAt p (ws ++ x ∷ []) (popped + j) s
@@ -171,24 +171,24 @@ search_more p keys ws queue popped key x made h leads sound coded fresh last = r
         subst (λ (n : ℕ). IsAt p (ws ++ x ∷ []) n s) there (rw (witness_last ws x) (leads ∙ ap Some same))
 
 -- a state has the number of its key
-pub number_of : (p : Program) (keys : List (Vec ℕ Global)) (ws : List (List Choice)) (queue : List ProgramState) (popped k : ℕ) (code key : Vec ℕ Global) (made : ProgramState)
-    → IsSearch p keys ws queue popped → ((s t : ProgramState) → IsCoded s → IsCoded t → code_of s ≡ code_of t → s ≡ t) → IsCoded made → code.items ≡ code_of made
-    → slice_get keys k ≡ Some key → pointwise nat_eq code.items key.items ≡ true → HasNumber p ws k made
+pub number_of : (p : Program) (keys : List Code) (ws : List (List Choice)) (queue : List ProgramState) (popped k : ℕ) (code key : Code) (made : ProgramState)
+    → IsSearch p keys ws queue popped → ((s t : ProgramState) → IsCoded s → IsCoded t → code_of s ≡ code_of t → s ≡ t) → IsCoded made → code.bytes.items ≡ code_of made
+    → slice_get keys k ≡ Some key → pointwise nat_eq code.bytes.items key.bytes.items ≡ true → HasNumber p ws k made
 number_of p keys ws queue popped k code key made h apart sound coded there same =
     let lt = slice_get_within keys k key there in
     let w = h.counted in
     let below : k < length ws = omega (arith, w, lt) in
     let r = h.known k below in
-    let one : key ≡ r.1.keyed.0 = ap (λ (o : Option (Vec ℕ Global)). unwrap_or o key) (sym there ∙ r.1.keyed.1) in
-    let items : code.items ≡ key.items = (bytes_eq-Decides code.items key.items).0 same in
-    let codes : code_of made ≡ code_of r.0 = sym coded ∙ items ∙ ap (λ (v : Vec ℕ Global). v.items) one ∙ r.1.keyed.2 in
+    let one : key ≡ r.1.keyed.0 = ap (λ (o : Option Code). unwrap_or o key) (sym there ∙ r.1.keyed.1) in
+    let items : code.bytes.items ≡ key.bytes.items = (bytes_eq-Decides code.bytes.items key.bytes.items).0 same in
+    let codes : code_of made ≡ code_of r.0 = sym coded ∙ items ∙ ap (λ (v : Code). v.bytes.items) one ∙ r.1.keyed.2 in
     (below, r.1.leads ∙ ap Some (apart r.0 made r.1.coded sound (sym codes)))
 
 -- a key that was not there goes last, and one that was there changes nothing
-abbrev pub is_same : Vec ℕ Global → Vec ℕ Global → Bool
-is_same x y = pointwise nat_eq x.items y.items
+abbrev pub is_same : Code → Code → Bool
+is_same x y = pointwise nat_eq x.bytes.items y.bytes.items
 
-pub key_added : (ks ks' : List (Vec ℕ Global)) (k : Vec ℕ Global) (b : Bool)
+pub key_added : (ks ks' : List Code) (k : Code) (b : Bool)
     → b ≡ not (list_any (is_same k) ks) → b ≡ true → ks' ≡ insert_key is_same ks k → ks' ≡ ks ++ k ∷ []
 key_added ks ks' k b e t h = by (list_any (is_same k) ks) (sym e ∙ t) h
   where
@@ -196,7 +196,7 @@ key_added ks ks' k b e t h = by (list_any (is_same k) ks) (sym e ∙ t) h
     by true n g = absurd (cc)
     by false n g = g
 
-pub key_there : (ks ks' : List (Vec ℕ Global)) (k : Vec ℕ Global) (b : Bool)
+pub key_there : (ks ks' : List Code) (k : Code) (b : Bool)
     → b ≡ not (list_any (is_same k) ks) → b ≡ false → ks' ≡ insert_key is_same ks k → ks' ≡ ks
 key_there ks ks' k b e t h = by (list_any (is_same k) ks) (sym e ∙ t) h
   where
@@ -205,7 +205,7 @@ key_there ks ks' k b e t h = by (list_any (is_same k) ks) (sym e ∙ t) h
     by false n g = absurd (cc)
 
 -- where a program begins
-pub first_found : (p : Program) (key : Vec ℕ Global) (s : ProgramState) → s ≡ opening p → IsCoded s → key.items ≡ code_of s
+pub first_found : (p : Program) (key : Code) (s : ProgramState) → s ≡ opening p → IsCoded s → key.bytes.items ≡ code_of s
     → IsVisited p (key ∷ []) ([] ∷ []) (s ∷ []) [] 0 0
 first_found p key s e sound coded = record {
   search = search_more p [] [] [] 0 key [] s (record {
@@ -232,12 +232,12 @@ first_found p key s e sound coded = record {
 }
 
 -- a key that no key is the same as
-pub fresh_key : (ks : List (Vec ℕ Global)) (k : Vec ℕ Global) → list_any (is_same k) ks ≡ false
-    → (j : ℕ) (y : Vec ℕ Global) → slice_get ks j ≡ Some y → y.items ≡ k.items → ⊥
+pub fresh_key : (ks : List Code) (k : Code) → list_any (is_same k) ks ≡ false
+    → (j : ℕ) (y : Code) → slice_get ks j ≡ Some y → y.bytes.items ≡ k.bytes.items → ⊥
 fresh_key [] k none j y h e = absurd (cc)
 fresh_key (x ∷ ks) k none zero y h e =
-    let same : x ≡ y = ap (λ (o : Option (Vec ℕ Global)). unwrap_or o x) h in
-    let yes : is_same k x ≡ true = (bytes_eq-Decides k.items x.items).1 (sym (ap (λ (v : Vec ℕ Global). v.items) same ∙ e)) in
+    let same : x ≡ y = ap (λ (o : Option Code). unwrap_or o x) h in
+    let yes : is_same k x ≡ true = (bytes_eq-Decides k.bytes.items x.bytes.items).1 (sym (ap (λ (v : Code). v.bytes.items) same ∙ e)) in
     absurd (grind (arith, yes, none))
 fresh_key (x ∷ ks) k none (suc j) y h e = fresh_key ks k (rest_false (is_same k x) (list_any (is_same k) ks) none) j y h e
   where
@@ -245,7 +245,7 @@ fresh_key (x ∷ ks) k none (suc j) y h e = fresh_key ks k (rest_false (is_same 
     rest_false true b g = absurd (cc)
     rest_false false b g = g
 
-pub was_absent : (ks : List (Vec ℕ Global)) (k : Vec ℕ Global) (b : Bool)
+pub was_absent : (ks : List Code) (k : Code) (b : Bool)
     → b ≡ not (list_any (is_same k) ks) → b ≡ true → list_any (is_same k) ks ≡ false
 was_absent ks k b e t = by (list_any (is_same k) ks) (sym e ∙ t)
   where

@@ -1,10 +1,10 @@
 -- A code is of one state.
 use native.Mathlib.Omega.{arith}
 use Rattle.std.proofs.Common.{◌≡◌, ◌∙◌, sym, ap, refl, ℕ, ◌<◌, ◌^◌, nat_lt, suc, Bool, true, false, if◌then◌else◌, List, [], ◌∷◌, ◌++◌, length, take, drop, get_or, ◌+◌, subst, Option, Some, None}
-use Rattle.std.proofs.Common.{append_assoc, append-nil}
+use Rattle.std.proofs.Common.{append_assoc, append-nil, ◌≤◌}
 use Rattle.std.specs.Prelude.{map}
-use Rattle.std.specs.Int.{w64, to_le_bytes, from_le_bytes}
-use Rattle.std.proofs.lemmas.Nat.{from_le_bytes-to_le_bytes_8}
+use Rattle.std.specs.Int.{w32, w64, to_le_bytes, from_le_bytes}
+use Rattle.std.proofs.lemmas.Nat.{from_le_bytes-to_le_bytes_4, from_le_bytes-to_le_bytes_8}
 use Rattle.std.proofs.lemmas.Bool.{ltb-true}
 use Rattle.std.proofs.lemmas.List.{map-append, take_more}
 use Rattle.fat_monitor.specs.declared.actions.Cause.{Cause}
@@ -16,7 +16,7 @@ use Rattle.fat_monitor.specs.Numbers.{reply_number}
 use Rattle.step_core.specs.World.{WorldState}
 use Rattle.step_core.specs.Numbers.{numbers_of, IsNumbered}
 use Rattle.explore.specs.States.{ProgramState}
-use Rattle.explore.specs.Codes.{answer_number, front_numbers, state_numbers, packed_number, packed, code_of, AreSmall, IsCoded}
+use Rattle.explore.specs.Codes.{answer_number, front_numbers, state_numbers, packed_long, packed_number, packed, code_of, AreSmall, IsCoded}
 
 abbrev first : List ℕ → ℕ
 first [] = 0
@@ -103,22 +103,55 @@ bytes_apart x y a b hx hy e =
       ap (λ (ns : List ℕ). drop 8 ns) e,
     )
 
-number_apart : (x y : ℕ) (a b : List ℕ) → x < 2 ^ 64 → y < 2 ^ 64 → packed_number x ++ a ≡ packed_number y ++ b → (x ≡ y) × (a ≡ b)
-number_apart x y a b hx hy e = by (nat_lt x 255) (nat_lt y 255) refl refl e
+short_apart : (x y : ℕ) (a b : List ℕ) → x < 2 ^ 32 → y < 2 ^ 32 → to_le_bytes w32 x ++ a ≡ to_le_bytes w32 y ++ b → (x ≡ y) × (a ≡ b)
+short_apart x y a b hx hy e =
+    let l : to_le_bytes w32 x ≡ to_le_bytes w32 y = ap (λ (ns : List ℕ). take 4 ns) e in (
+      sym (from_le_bytes-to_le_bytes_4 x hx) ∙ ap (λ (ns : List ℕ). from_le_bytes w32 ns) l ∙ from_le_bytes-to_le_bytes_4 y hy,
+      ap (λ (ns : List ℕ). drop 4 ns) e,
+    )
+
+below_short : (n : ℕ) → nat_lt n 4294967296 ≡ true → n < 2 ^ 32
+below_short n h = let lt = ltb-true n 4294967296 h in omega (arith, lt)
+
+long_apart : (x y : ℕ) (a b : List ℕ) → x < 2 ^ 64 → y < 2 ^ 64 → packed_long x ++ a ≡ packed_long y ++ b → (x ≡ y) × (a ≡ b)
+long_apart x y a b hx hy e = by (nat_lt x 4294967296) (nat_lt y 4294967296) refl refl e
   where
-    by : (p q : Bool) → nat_lt x 255 ≡ p → nat_lt y 255 ≡ q
-        → (if p then x ∷ [] else 255 ∷ to_le_bytes w64 x) ++ a ≡ (if q then y ∷ [] else 255 ∷ to_le_bytes w64 y) ++ b → (x ≡ y) × (a ≡ b)
-    by true true hp hq g = (ap first g, ap rest g)
-    by true false hp hq g = absurd (let lt = ltb-true x 255 hp in let f : x ≡ 255 = ap first g in omega (arith, lt, f))
-    by false true hp hq g = absurd (let lt = ltb-true y 255 hq in let f : 255 ≡ y = ap first g in omega (arith, lt, f))
+    by : (p q : Bool) → nat_lt x 4294967296 ≡ p → nat_lt y 4294967296 ≡ q
+        → (if p then 254 ∷ to_le_bytes w32 x else 255 ∷ to_le_bytes w64 x) ++ a
+        ≡ (if q then 254 ∷ to_le_bytes w32 y else 255 ∷ to_le_bytes w64 y) ++ b → (x ≡ y) × (a ≡ b)
+    by true true hp hq g = short_apart x y a b (below_short x hp) (below_short y hq) (ap rest g)
+    by true false hp hq g = absurd (let f : 254 ≡ 255 = ap first g in omega (arith, f))
+    by false true hp hq g = absurd (let f : 255 ≡ 254 = ap first g in omega (arith, f))
     by false false hp hq g = bytes_apart x y a b hx hy (ap rest g)
 
-none_packed : (y : ℕ) (b : List ℕ) → [] ≡ packed_number y ++ b → ⊥
-none_packed y b e = by (nat_lt y 255) e
+-- a long number begins with a byte that no small one is
+long_first : (y : ℕ) (b : List ℕ) → 254 ≤ first (packed_long y ++ b)
+long_first y b = by (nat_lt y 4294967296)
   where
-    by : (q : Bool) → [] ≡ (if q then y ∷ [] else 255 ∷ to_le_bytes w64 y) ++ b → ⊥
+    by : (q : Bool) → 254 ≤ first ((if q then 254 ∷ to_le_bytes w32 y else 255 ∷ to_le_bytes w64 y) ++ b)
+    by true = omega arith
+    by false = omega arith
+
+number_apart : (x y : ℕ) (a b : List ℕ) → x < 2 ^ 64 → y < 2 ^ 64 → packed_number x ++ a ≡ packed_number y ++ b → (x ≡ y) × (a ≡ b)
+number_apart x y a b hx hy e = by (nat_lt x 254) (nat_lt y 254) refl refl e
+  where
+    by : (p q : Bool) → nat_lt x 254 ≡ p → nat_lt y 254 ≡ q
+        → (if p then x ∷ [] else packed_long x) ++ a ≡ (if q then y ∷ [] else packed_long y) ++ b → (x ≡ y) × (a ≡ b)
+    by true true hp hq g = (ap first g, ap rest g)
+    by true false hp hq g = absurd (let lt = ltb-true x 254 hp in let f : x ≡ first (packed_long y ++ b) = ap first g in let l = long_first y b in omega (arith, lt, f, l))
+    by false true hp hq g = absurd (let lt = ltb-true y 254 hq in let f : first (packed_long x ++ a) ≡ y = ap first g in let l = long_first x a in omega (arith, lt, f, l))
+    by false false hp hq g = long_apart x y a b hx hy g
+
+none_packed : (y : ℕ) (b : List ℕ) → [] ≡ packed_number y ++ b → ⊥
+none_packed y b e = by (nat_lt y 254) e
+  where
+    long : (q : Bool) → [] ≡ (if q then 254 ∷ to_le_bytes w32 y else 255 ∷ to_le_bytes w64 y) ++ b → ⊥
+    long true g = absurd (let l = ap (λ (ns : List ℕ). length ns) g in omega (arith, l))
+    long false g = absurd (let l = ap (λ (ns : List ℕ). length ns) g in omega (arith, l))
+
+    by : (q : Bool) → [] ≡ (if q then y ∷ [] else packed_long y) ++ b → ⊥
     by true g = absurd (let l = ap (λ (ns : List ℕ). length ns) g in omega (arith, l))
-    by false g = absurd (let l = ap (λ (ns : List ℕ). length ns) g in omega (arith, l))
+    by false g = long (nat_lt y 4294967296) g
 
 packed_apart : (xs ys : List ℕ) → AreSmall xs → AreSmall ys → packed xs ≡ packed ys → xs ≡ ys
 packed_apart [] [] hx hy e = refl

@@ -1,6 +1,6 @@
 -- The bytes that stand for a state.
 use Rattle.std.specs.Prelude.{ℕ, ◌+◌, ◌<◌, ◌^◌, nat_lt, if◌then◌else◌, List, [], ◌∷◌, ◌++◌, length, map, Option, Some, None}
-use Rattle.std.specs.Int.{w64, to_le_bytes}
+use Rattle.std.specs.Int.{w32, w64, to_le_bytes}
 use Rattle.fat_monitor.specs.declared.actions.Reply.{Reply}
 use Rattle.fat_monitor.specs.Numbers.{reply_number}
 use Rattle.step_core.specs.Numbers.{numbers_of, IsNumbered}
@@ -19,9 +19,13 @@ front_numbers s = numbers_of s.world ++ (s.told ∷ length s.nexts ∷ s.nexts)
 abbrev pub state_numbers : ProgramState → List ℕ
 state_numbers s = numbers_of s.world ++ (s.told ∷ length s.nexts ∷ (s.nexts ++ map answer_number s.replies))
 
--- one byte for a small number, and nine for each other: 255, and the number with its low byte first
+-- the bytes of a number that is not small, low byte first: four behind 254 where they suffice, and else eight
+abbrev pub packed_long : ℕ → List ℕ
+packed_long n = if nat_lt n 4294967296 then 254 ∷ to_le_bytes w32 n else 255 ∷ to_le_bytes w64 n
+
+-- a small number is one byte
 abbrev pub packed_number : ℕ → List ℕ
-packed_number n = if nat_lt n 255 then n ∷ [] else 255 ∷ to_le_bytes w64 n
+packed_number n = if nat_lt n 254 then n ∷ [] else packed_long n
 
 abbrev pub packed : List ℕ → List ℕ
 packed [] = []

@@ -1,5 +1,6 @@
 pub mod States
 pub mod Wants
+pub mod Allowed
 pub mod Found
 pub mod Codes
 pub mod Searches

@@ -1,7 +1,7 @@
 -- How far a search has come.
 use Rattle.std.specs.Prelude.{◌≡◌, ℕ, ◌+◌, ◌-◌, ◌*◌, ◌<◌, ◌≤◌, is_some}
-use Rattle.std.specs.Prelude.{Bool, true, false, List, length, slice_get, Some, Vec}
-use Rattle.std.specs.Global.{Global}
+use Rattle.std.specs.Prelude.{Bool, true, false, List, length, slice_get, Some}
+use Rattle.explore.specs.declared.codes.Code.{Code}
 use Rattle.explore.specs.declared.programs.Program.{Program}
 use Rattle.explore.specs.declared.programs.Choice.{Choice}
 use Rattle.explore.specs.States.{ProgramState, after}
@@ -12,7 +12,7 @@ use Rattle.explore.specs.Found.{IsAt, AreEnds, choice_at, made_among, steps_befo
 
 -- the codes of the states that were found, the choices that lead to each, and states that wait
 abbrev pub Keys : Type 0
-Keys = List (Vec ℕ Global)
+Keys = List Code
 
 abbrev pub Witnesses : Type 0
 Witnesses = List (List Choice)
@@ -22,7 +22,7 @@ States = List ProgramState
 
 -- the state with number k has this key
 abbrev pub HasKey : Keys → ℕ → ProgramState → Type 0
-HasKey keys k s = (key : Vec ℕ Global) × (slice_get keys k ≡ Some key) × (key.items ≡ code_of s)
+HasKey keys k s = (key : Code) × (slice_get keys k ≡ Some key) × (key.bytes.items ≡ code_of s)
 
 -- the state with number k is known: its witness leads to it, and its key stands at k
 pub record IsKnown (p : Program) (keys : Keys) (ws : Witnesses) (k : ℕ) (s : ProgramState) : Type 0 where
@@ -37,8 +37,8 @@ pub record IsSearch (p : Program) (keys : Keys) (ws : Witnesses) (queue : States
   pub counted : length keys ≡ length ws
   pub waiting : popped + length queue ≡ length ws
   pub known : (k : ℕ) → k < length ws → (s : ProgramState) × IsKnown p keys ws k s
-  pub distinct : (j k : ℕ) (x y : Vec ℕ Global) → j < k → slice_get keys j ≡ Some x → slice_get keys k ≡ Some y
-      → x.items ≡ y.items → ⊥
+  pub distinct : (j k : ℕ) (x y : Code) → j < k → slice_get keys j ≡ Some x → slice_get keys k ≡ Some y
+      → x.bytes.items ≡ y.bytes.items → ⊥
   pub queued : (j : ℕ) (s : ProgramState) → slice_get queue j ≡ Some s → IsAt p ws (popped + j) s
   pub rising : (j k : ℕ) → j ≤ k → k < length ws → length (witness_at ws j) ≤ length (witness_at ws k)
   pub near : (k : ℕ) → k < length ws → length (witness_at ws k) ≤ length (witness_at ws (popped - 1)) + 1

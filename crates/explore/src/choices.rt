@@ -1,9 +1,13 @@
 //! What may be chosen in a program, and what a search notes of choices and ends.
 
 ghost use Rattle.std.specs.Prelude.{◌≡◌, ◌++◌, ◌∷◌, [], IfOk, OnOk, if◌then◌else◌};
+ghost use Rattle.std.specs.Prelude.{length};
 ghost use Rattle.explore.specs.Found.{all_choices};
+ghost use Rattle.explore.specs.Searches.{IsSifted};
+ghost use Rattle.step_core.specs.Sound.{IsSound};
 
 use crate::programs::{Choice, Program};
+use crate::states::State;
 use lock_word::Memory;
 use std::alloc::Global;
 
@@ -18,8 +22,28 @@ pub(crate) fn note_end(ends: &mut Vec<u32>, is_end: bool, at: u32) -> Result<(),
     Ok(())
 }
 
+/// Lists the choices that may be made in a state, in place of those that are there: those that are
+/// left out cannot.
+pub(crate) fn sift(
+    program: &Program,
+    choices: &[Choice],
+    possible: &mut Vec<Choice>,
+    state: &State,
+) -> Result<(), Memory>
+    requires { IsSound state.now.world }
+    ensures { OnOk result (IsSifted program.now state.now choices.now (length choices.now)
+        possible.new.items) }
+{
+    possible.clear();
+    'sifting: for choice in choices {
+        let may = state.may_make(program, *choice);
+        note_choice(possible, may, *choice)?;
+    }
+    Ok(())
+}
+
 /// Notes a choice that may be made.
-pub(crate) fn note_choice(
+fn note_choice(
     possible: &mut Vec<Choice>,
     may: bool,
     choice: Choice,

@@ -6,7 +6,29 @@ ghost use Rattle.explore.specs.Codes.{AreSmall, IsCoded, answer_number, code_of,
 
 use fat_monitor::{Reply, numbers_tell_replies_apart};
 use lock_word::Memory;
+use std::hash::{Hash, Hasher};
 use step_core::numbers_tell_worlds_apart;
+
+/// The bytes that stand for a state, and for no other.
+#[derive(PartialEq, Eq, Drop)]
+pub(crate) struct Code {
+    pub(crate) bytes: Vec<u8>,
+}
+
+impl Hash for Code {
+    ghost use Rattle.std.specs.Prelude.{◌∷◌, []};
+    ghost use Rattle.std.specs.Cmp.Rules.{hashing};
+    ghost use Rattle.std.proofs.Common.{rules};
+
+    ghost hash_input = { λ code. code.bytes.items ∷ [] };
+
+    ghost respects_eq = { Prim.search (hashing, rules) };
+
+    /// All bytes at once: byte by byte it would take many times as long.
+    fn hash<H: Hasher>(&self, state: &mut H) {
+        state.write(&self.bytes);
+    }
+}
 
 /// Two states with one code are the same state.
 pub(crate) fn codes_tell_states_apart()
@@ -48,7 +70,7 @@ fn answer_number(answer: Option<Reply>) -> u64
 }
 
 /// Writes the numbers as bytes, in place of those that are there: most numbers are small, and have
-/// one byte.
+/// one byte; words and most moments have five.
 pub(crate) fn put_packed(numbers: &[u64], bytes: &mut Vec<u8>) -> Result<(), Memory>
     ensures bytes { OnOk result (bytes.new.items ≡ packed numbers.now) }
     ensures small { OnOk result (AreSmall numbers.now) }
@@ -64,8 +86,11 @@ pub(crate) fn put_packed(numbers: &[u64], bytes: &mut Vec<u8>) -> Result<(), Mem
 fn push_number(number: u64, bytes: &mut Vec<u8>) -> Result<(), Memory>
     ensures { OnOk result (bytes.new.items ≡ bytes.old.items ++ packed_number number) }
 {
-    if number < 255 {
+    if number < 254 {
         bytes.push(number as u8)?;
+    } else if number < 4_294_967_296 {
+        bytes.push(254)?;
+        bytes.extend_from_slice(&(number as u32).to_le_bytes())?;
     } else {
         bytes.push(255)?;
         bytes.extend_from_slice(&number.to_le_bytes())?;

@@ -11,18 +11,17 @@ ghost use Rattle.explore.specs.Searches.{
   StaysIn,
   HasNumber,
   IsExpanded,
-  IsSifted,
   IsTried,
   IsVisited,
   behind,
 };
 ghost use Rattle.std.specs.Prelude.{if◌then◌else◌};
 
-use crate::choices::{choices_of, note_choice, note_end};
-use crate::codes::codes_tell_states_apart;
-use crate::found::{ExploreFault, Found, Node, choices_to};
+use crate::choices::{choices_of, note_end, sift};
+use crate::codes::{Code, codes_tell_states_apart};
+use crate::found::{ExploreFault, Found, Node};
 use crate::programs::{Choice, Program};
-use crate::states::{State, copy_of, play};
+use crate::states::{State, copy_of};
 use crate::tried::{Expanded, Tried, tried_from};
 use crate::watching::{Nobody, Watch};
 use indexmap::IndexSet;
@@ -33,7 +32,7 @@ use std::collections::VecDeque;
 /// A search that goes on: the states that were found, and those that are still to be visited.
 #[derive(Drop)]
 struct Search {
-    codes: IndexSet<Vec<u8>>,
+    codes: IndexSet<Code>,
     nodes: Vec<Node>,
     queue: VecDeque<State>,
     // The numbers and bytes of the code that was made last: the next one takes their room.
@@ -197,8 +196,7 @@ impl Search {
             (witnesses self.new.nodes.items) (behind (witnesses self.new.nodes.items) at) state
             choices.now x.is_end x.made) }
     {
-        let mut state = state;
-        self.sift(alloc, program, choices, possible, &mut state, at)?;
+        sift(program, choices, possible, &state)?;
         match possible.pop() {
             None => Ok(Expanded {
                 is_end: true,
@@ -241,72 +239,6 @@ impl Search {
             is_end: copied.is_end & !tried.changes(),
             made: copied.made + tried.steps(),
         })
-    }
-
-    /// Lists the choices that may be made in a state, the one with a number, in place of those that
-    /// are there: those that are left out cannot.
-    fn sift(
-        &self,
-        alloc: Global,
-        program: &Program,
-        choices: &[Choice],
-        possible: &mut Vec<Choice>,
-        state: &mut State,
-        at: u32,
-    ) -> Result<(), Memory>
-        requires within { at < length (witnesses self.now.nodes.items) }
-        requires here { IsAt program.now (witnesses self.now.nodes.items) at state.old }
-        ensures same { OnOk result (state.new ≡ state.old) }
-        ensures sifted { OnOk result (IsSifted program.now state.old choices.now
-            (length choices.now) possible.new.items) }
-    {
-        possible.clear();
-        'sifting: for choice in choices {
-            let may = self.may_make(alloc, program, state, at, *choice)?;
-            note_choice(possible, may, *choice)?;
-        }
-        Ok(())
-    }
-
-    /// Whether a choice may be made in a state, the one with a number. Where it seems that it
-    /// cannot, that is tried in the state itself, which stays as it is where the guess was right,
-    /// and else is played again.
-    fn may_make(
-        &self,
-        alloc: Global,
-        program: &Program,
-        state: &mut State,
-        at: u32,
-        choice: Choice,
-    ) -> Result<bool, Memory>
-        requires within { at < length (witnesses self.now.nodes.items) }
-        requires here { IsAt program.now (witnesses self.now.nodes.items) at state.old }
-        ensures same { OnOk result (state.new ≡ state.old) }
-        ensures no { IfOk result (λ may. may ≡ false
-            → after program.now state.old choice ≡ None) }
-    {
-        if state.seems_open(program, choice) {
-            return Ok(true);
-        }
-        if !state.make(program, choice)? {
-            return Ok(false);
-        }
-        *state = self.played_again(alloc, program, at)?;
-        Ok(true)
-    }
-
-    /// The state with a number, played from where the program begins.
-    fn played_again(&self, alloc: Global, program: &Program, at: u32) -> Result<State, Memory>
-        requires within { at < length (witnesses self.now.nodes.items) }
-        requires there { (s : ProgramState)
-            × IsAt program.now (witnesses self.now.nodes.items) at s }
-        ensures { IfOk result (IsAt program.now (witnesses self.now.nodes.items) at) }
-    {
-        let choices = choices_to(alloc, &self.nodes, at)?;
-        match play(alloc, program, &choices)? {
-            Some(state) => Ok(state),
-            None => unreachable!(),
-        }
     }
 
     /// A search that has found where the program begins, and visited nothing.

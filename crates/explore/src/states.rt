@@ -10,8 +10,10 @@ ghost use Rattle.explore.specs.States.{moved, replied, chosen};
 ghost use Rattle.explore.specs.Codes.{code_of, front_numbers, IsCoded};
 ghost use Rattle.step_core.specs.Numbers.{IsNumbered};
 ghost use Rattle.explore.specs.Wants.{wants_memory};
+ghost use Rattle.explore.specs.Allowed.{allows, is_over};
+ghost use Rattle.step_core.specs.Sound.{IsSound};
 
-use crate::codes::{push_answers, push_positions, put_packed};
+use crate::codes::{Code, push_answers, push_positions, put_packed};
 use crate::programs::{Choice, Program};
 use fat_monitor::Reply;
 use lock_word::{Memory, ThreadId};
@@ -82,14 +84,16 @@ impl State {
         alloc: Global,
         numbers: &mut Vec<u64>,
         bytes: &mut Vec<u8>,
-    ) -> Result<Vec<u8>, Memory>
-        ensures code { IfOk result (λ code. code.items ≡ code_of self.now) }
+    ) -> Result<Code, Memory>
+        ensures code { IfOk result (λ code. code.bytes.items ≡ code_of self.now) }
         ensures coded { OnOk result (IsCoded self.now) }
     {
         self.put_numbers(numbers)?;
         put_packed(numbers, bytes)?;
         push_answers(&self.replies, bytes)?;
-        Ok(Vec::from_slice(alloc, bytes)?)
+        Ok(Code {
+            bytes: Vec::from_slice(alloc, bytes)?,
+        })
     }
 
     /// Writes the numbers of the state but those of the replies, in place of those that are there.
@@ -153,42 +157,17 @@ impl State {
         Ok(true)
     }
 
-    /// A guess that costs little: whether it looks as if a choice can be made here.
-    pub(crate) fn seems_open(&self, program: &Program, choice: Choice) -> bool {
-        match choice {
-            Choice::Begin { thread } => {
-                matches!(self.doing(thread), Some(Doing::Idle)) && self.has_calls(program, thread)
-            }
-            Choice::Go { thread } => matches!(
-                self.doing(thread),
-                Some(Doing::Wants(_) | Doing::Back { .. } | Doing::Has(_))
-            ),
-            Choice::Expire { thread } => match self.doing(thread) {
-                Some(
-                    Doing::Waits {
-                        deadline: Some(deadline),
-                        ..
-                    },
-                ) => deadline <= u128::from(self.world.now()),
-                _ => false,
-            },
-            Choice::Spurious { thread } => {
-                program.spurious && matches!(self.doing(thread), Some(Doing::Waits { .. }))
-            }
-            Choice::Tick => self.told < program.moments.len(),
+    /// Whether a choice may be made here, as far as what its thread is doing tells. Where this says
+    /// no it cannot be made; where it says yes, making it may show that it cannot.
+    pub(crate) fn may_make(&self, program: &Program, choice: Choice) -> bool
+        requires { IsSound self.now.world }
+        ensures { result ≡ false → after program.now self.now choice ≡ None }
+    {
+        if self.step_for(program, choice).is_none() {
+            return false;
         }
-    }
-
-    fn doing(&self, thread: u8) -> Option<Doing> {
-        self.world.doing(ThreadId(u32::from(thread)))
-    }
-
-    /// Whether a thread has a call left to begin.
-    fn has_calls(&self, program: &Program, thread: u8) -> bool {
-        match self.nexts.get(usize::from(thread)) {
-            Some(next) => *next < end_of(program, thread),
-            None => false,
-        }
+        let thread = ThreadId(chosen(choice) as u32);
+        allows(choice, self.world.doing(thread), self.world.now())
     }
 
     /// Notes that a choice was made, and the reply of its thread's call, if it has one.
@@ -313,6 +292,32 @@ fn end_of(program: &Program, thread: u8) -> usize
     match program.starts.get(usize::from(thread) + 1) {
         Some(end) => *end,
         None => program.calls.len(),
+    }
+}
+
+/// Whether a choice may be made while its thread does this, at this moment.
+fn allows(choice: Choice, doing: Option<Doing>, now: u64) -> bool
+    ensures { result ≡ allows choice doing now }
+{
+    match choice {
+        Choice::Begin { .. } => matches!(doing, Some(Doing::Idle)),
+        Choice::Go { .. } => matches!(doing, Some(Doing::Wants(_) | Doing::Has(_))),
+        Choice::Expire { .. } => match doing {
+            Some(Doing::Waits { deadline, .. }) => is_over(deadline, now),
+            _ => false,
+        },
+        Choice::Spurious { .. } => matches!(doing, Some(Doing::Waits { .. })),
+        Choice::Tick => true,
+    }
+}
+
+/// Whether a wait with this deadline is over; one without is not.
+fn is_over(deadline: Option<u128>, now: u64) -> bool
+    ensures { result ≡ is_over now deadline }
+{
+    match deadline {
+        Some(deadline) => deadline <= u128::from(now),
+        None => false,
     }
 }
 

@@ -23,6 +23,7 @@ returns-clause-drawing c =
       words = [];
       no_words = refl;
       is_picture = moves_picture _ _ _ c.args.window _ _ _ _ c.from.ensures (c.deref-3.ensures.value ∙ c.in_ok-front.ensures ∙ ap columns_of front) (c.deref-4.ensures.value ∙ c.in_ok-columns.ensures ∙ ap columns_of part) c.in_ok-picture.ensures.picture;
+      limits = c.in_ok-picture.ensures.within;
       exact = c.in_ok-text.ensures;
     }
 

@@ -19,6 +19,7 @@ returns-clause-drawing c =
     λ worlds have long. record {
       picture = c.in_ok-picture.picture;
       is_picture = is;
+      limits = c.in_ok-picture.ensures.within;
       worded = all_worded c.args.played.now.drawn.items worlds c.args.played.now.words.items is.states is.drawn c.in_ok-picture.picture.strips.items have
           (follow_length (threads_numbered is.threads) 0 is.start c.args.played.now.columns.items is.states is.told is.follow ∙ sym long) is.strips same;
       cycles = cycles_behind c.args.objects c.args.played.now.front.items c.args.played.now.columns.items c.args.played.now.words.items c.in_ok-picture.picture _ is c.requires.run;
