@@ -4,8 +4,8 @@
 python3 orders/progress.py THINMON
 
 The program is large enough for an exploration of some seconds. It is explored with standard error at a pseudo-terminal,
-and the same with a pipe, where nothing is to be told; the report is to be the same. On a machine that is done within a
-second there may be nothing to tell, and only the reports are looked at.
+and the same with a pipe, where nothing is to be told; the report is to be the same. At the terminal a line has to come
+for every other second at least, so there is at least one wherever the exploration takes two seconds or longer.
 """
 import os
 import pty
@@ -15,11 +15,17 @@ import sys
 import threading
 import time
 
-PROGRAM = "world 8 8\nobject a A5\n" + "".join(
-    f"thread {name}\ncall enter a\ncall wait a 0 0\ncall exit a\n" for name in "wxyz"
-) + "thread v\n" + "call enter a\ncall notifyall a\ncall exit a\n" * 2
-# By bench/explored.py.
-STATES = 293_535
+THREADS = 7
+# Each thread has an object of its own, and so 7 states: its enter begins, loads the word and exchanges it, and its exit
+# begins, loads the word and stores it. No thread meets another: each state of one comes beside each state of the others,
+# and the next step may be that of any thread that has one left. `bench/explored.py` finds as many states.
+PROGRAM = (
+    f"world 0 {THREADS}\n"
+    + "".join(f"object o{n} A5\n" for n in range(THREADS))
+    + "".join(f"thread t{n}\ncall enter o{n}\ncall exit o{n}\n" for n in range(THREADS))
+)
+STATES = 7**THREADS
+STEPS = THREADS * 6 * 7 ** (THREADS - 1)
 TOLD = re.compile(r"\rthinmon: (\d+) states, (\d+) to visit, (\d+) a second\x1b\[K")
 GONE = "\r\x1b[K"
 
@@ -73,8 +79,7 @@ def has_terminals():
 def main(program):
     plain = explore(program, subprocess.PIPE)
     assert plain.stderr == b"", plain.stderr
-    states = int(plain.stdout.split()[1])
-    assert states == STATES, states
+    assert plain.stdout.startswith(b"states %d steps %d\n" % (STATES, STEPS)), plain.stdout[:80]
     if not has_terminals():
         print("skipped: progress at a terminal, since there is none to be had")
         return
@@ -83,14 +88,14 @@ def main(program):
     lines = list(TOLD.finditer(told))
     assert told == "".join(line.group(0) for line in lines) + (GONE if lines else ""), told
     found = [int(line.group(1)) for line in lines]
-    assert found == sorted(set(found)) and all(0 < number <= states for number in found), found
+    assert found == sorted(set(found)) and all(0 < number <= STATES for number in found), found
     assert all(0 < int(line.group(2)) <= int(line.group(1)) for line in lines), told
-    # One line a second, of as many states as were found by then.
-    assert len(lines) <= seconds + 1, (len(lines), seconds)
-    assert lines or seconds < 10, seconds
+    # One line a second, of as many states as were found by then. A second may lack its line: the start and the report
+    # are timed here too, and the program looks at its clock only when 4,096 more states were found.
+    assert seconds // 2 <= len(lines) <= seconds + 1, (len(lines), seconds)
     for number, line in enumerate(lines, 1):
         assert int(line.group(3)) <= int(line.group(1)) // number, line.group(0)
-    print(f"{states} states, {len(lines)} lines of progress")
+    print(f"{STATES} states, {len(lines)} lines of progress")
 
 
 if __name__ == "__main__":

@@ -32,7 +32,7 @@ judge() {
     else
         failed=$((failed + 1))
         echo "orders: $2 of ${program##*/}: status $status"
-        cat "$made/written" "$made/told"
+        cut -c -1000 "$made/written" "$made/told"
     fi
 }
 
@@ -106,6 +106,48 @@ run_full() {
     fi
 }
 
+# A text so many times.
+times() {
+    seq "$2" | sed "s/.*/$1/"
+}
+
+# A live script with so many holds. With two it comes to 65,536 deeds, as many as the record has places.
+#
+# Three deeds come first: the interrupt, the bind of the wait, and the wait, which is interrupted at once. Each
+# call behind them is one. An enter needs three free places and keeps one of them for its exit. So the last enter
+# finds three, each holds one of the other two, and the exit has the one that was kept.
+record_script() {
+    printf '%s\n' 'world 1 1' 'object a A5' 'attach x'
+    printf 'begin x %s\n' 'interrupt x' 'enter a' 'wait a 0 0'
+    times 'begin x exit a\nbegin x enter a' 32765
+    times 'begin x holds a' "$1"
+    printf 'begin x exit a\n'
+}
+
+# What comes of it, with these words between the replies of two holds and that of the exit.
+record_text() {
+    printf 'thread x Done Entered Interrupted'
+    times ' Exited Entered' 32765 | tr -d '\n'
+    printf ' Yes Yes%s Exited\nobject a 800000A5\nactions 65536\n' "$1"
+}
+
+# A live run whose last deed takes the last place of the record, and one with a deed more: a third holds is told that
+# the record is full, and the owner can leave all the same.
+run_record() {
+    local holds full=
+    for holds in 2 3; do
+        record_script "$holds" >"$made/record.script"
+        record_text "$full" >"$made/wanted"
+        order "$made" /dev/null live record.script
+        if [ "$status" = 0 ] && cmp -s "$made/written" "$made/wanted" && [ ! -s "$made/told" ]; then
+            judge well
+        else
+            judge wrong "a live run with a full record and $holds holds"
+        fi
+        full=' fault/16/RecordFull'
+    done
+}
+
 # Programs that are explored, beside a second explorer, where there is a Python to run it.
 run_explored() {
     command -v python3 >/dev/null || { echo "skipped: the second explorer, since there is no python3"; return; }
@@ -159,6 +201,7 @@ for program in ../crates/thinmon/out/thinmon ../crates/thinmon/out/thinmon.by-ra
     run_words
     run_bytes
     run_full
+    run_record
     run_explored
     run_progress
     run_drawn

@@ -186,7 +186,8 @@ fn played_drawing(
         ..
     } = played;
     let picture = picture_in(alloc, objects, front, columns, words)?;
-    // Else memory was short at one of the two times that the steps were played.
+    // Where memory was short at one of the two plays alone, other objects may have strips than the
+    // first play found.
     if !are_drawn(alloc, &picture.strips, &played.drawn)? {
         return Err(DrawFault::File(FileFault::Memory));
     }
