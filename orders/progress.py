@@ -15,17 +15,20 @@ import sys
 import threading
 import time
 
-THREADS = 7
-# Each thread has an object of its own, and so 7 states: its enter begins, loads the word and exchanges it, and its exit
-# begins, loads the word and stores it. No thread meets another: each state of one comes beside each state of the others,
-# and the next step may be that of any thread that has one left. `bench/explored.py` finds as many states.
+# How many threads enter an object once and leave it, and how many enter it twice and leave it once.
+SHORT, LONG = 4, 2
+# Each thread has an object of its own. An enter or an exit has three steps: it begins, loads the word, and exchanges or
+# stores it. So a short thread has 7 states, and 6 steps between them, and a long one 10, and 9 steps. No thread meets
+# another: each state of one comes beside each state of the others, and the next step may be that of any thread that has
+# one left. `bench/explored.py` finds as many states.
+CALLS = ["call enter {0}\ncall exit {0}\n"] * SHORT + ["call enter {0}\ncall enter {0}\ncall exit {0}\n"] * LONG
 PROGRAM = (
-    f"world 0 {THREADS}\n"
-    + "".join(f"object o{n} A5\n" for n in range(THREADS))
-    + "".join(f"thread t{n}\ncall enter o{n}\ncall exit o{n}\n" for n in range(THREADS))
+    f"world 0 {len(CALLS)}\n"
+    + "".join(f"object o{n} A5\n" for n in range(len(CALLS)))
+    + "".join(f"thread t{n}\n" + calls.format(f"o{n}") for n, calls in enumerate(CALLS))
 )
-STATES = 7**THREADS
-STEPS = THREADS * 6 * 7 ** (THREADS - 1)
+STATES = 7**SHORT * 10**LONG
+STEPS = SHORT * 6 * 7 ** (SHORT - 1) * 10**LONG + LONG * 9 * 10 ** (LONG - 1) * 7**SHORT
 TOLD = re.compile(r"\rthinmon: (\d+) states, (\d+) to visit, (\d+) a second\x1b\[K")
 GONE = "\r\x1b[K"
 

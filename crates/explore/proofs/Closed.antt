@@ -1,14 +1,13 @@
 -- A choice that is not allowed by what its thread is doing cannot be made.
-use Rattle.std.proofs.Common.{◌≡◌, ◌∙◌, ap, sym, refl, subst, ℕ, Bool, true, false, if◌then◌else◌, nat_lt, length, Option, Some, None, Result, Ok, Err}
+use Rattle.std.proofs.Common.{◌≡◌, ap, refl, subst, ℕ, Bool, true, false, if◌then◌else◌, nat_lt, length, Option, Some, None, Err}
 use Rattle.std.specs.Prelude.{slice_get, not}
 use Rattle.std.specs.Option.{option_map, unwrap_or}
 use Rattle.lock_word.specs.declared.ThreadId.{ThreadId}
 use Rattle.lock_word.specs.declared.ObjectId.{ObjectId}
 use Rattle.fat_monitor.specs.FatState.{post_at, post_of}
-use Rattle.fat_monitor.specs.declared.actions.Action.TheVariants as action
 use Rattle.fat_monitor.specs.declared.actions.Post.{Post}
 use Rattle.fat_monitor.specs.declared.actions.Post.TheVariants.{Out, Entering, Waiting, Back, Granted}
-use Rattle.fat_monitor.specs.Acting.{Outcome, collect_outcome, expire_outcome, outcome_of, spurious_outcome}
+use Rattle.fat_monitor.specs.Acting.{collect_outcome, expire_outcome, spurious_outcome}
 use Rattle.fast_path.specs.declared.calls.Call.{Call}
 use Rattle.fast_path.specs.Calls.{object_of}
 use Rattle.thread_index.specs.Indices.{berth_of}
@@ -29,8 +28,8 @@ use Rattle.step_core.specs.World.{WorldState, place_at}
 use Rattle.explore.specs.declared.programs.Program.{Program}
 use Rattle.explore.specs.declared.programs.Choice.{Choice}
 use Rattle.explore.specs.declared.programs.Choice.TheVariants as choice
-use Rattle.explore.specs.Allowed.{allows, allows_live, is_over, may_begin, may_expire, may_go, may_wake}
-use Rattle.explore.specs.States.{ProgramState, after, after_answer, after_step, begin_of, call_below, chosen, step_at, step_for, step_of_thread, thread_of}
+use Rattle.explore.specs.Allowed.{allows, may_begin, may_expire, may_go, may_wake}
+use Rattle.explore.specs.States.{ProgramState, after, after_step, begin_of, call_below, chosen, step_at, step_of_thread, thread_of}
 
 -- what a thread of a world is doing
 abbrev pub doing_at : WorldState → ThreadId → Option Doing

@@ -1,7 +1,7 @@
 -- What was visited, and what a search has found in the end.
 use native.Mathlib.Omega.{arith}
 use Rattle.std.proofs.Common.{◌*◌}
-use Rattle.std.proofs.Common.{◌≡◌, ◌⊎◌, inl, inr, ◌∙◌, subst, sym, ap, refl, ℕ, zero, suc, ◌+◌, ◌<◌, ◌≤◌, List, [], ◌∷◌, ◌++◌, length, Option, Some, None, Vec, Bool, true, false, length-append}
+use Rattle.std.proofs.Common.{◌≡◌, ◌⊎◌, inl, inr, ◌∙◌, subst, sym, ap, refl, ℕ, zero, suc, ◌+◌, ◌<◌, ◌≤◌, List, [], ◌∷◌, ◌++◌, length, Option, Some, None, Bool, true, false, length-append}
 use Rattle.explore.specs.declared.codes.Code.{Code}
 use Rattle.std.proofs.Common.{get_or, ◌-◌, append_assoc}
 use Rattle.std.specs.Prelude.{reverse}

@@ -42,8 +42,8 @@ struct Search {
 }
 
 impl Search {
-    /// Takes in the state that a choice led to, behind the state with a number; answers the number
-    /// that it has. One that was found before is let go.
+    /// Takes in the state that a choice led to from the state `parent`, and answers its number. One
+    /// that was found before is let go.
     #[inline(always)]
     fn add(
         &mut self,
@@ -73,9 +73,8 @@ impl Search {
         Ok(number)
     }
 
-    /// Takes in the code of the state that a choice led to, behind the state with a number, and
-    /// where it is new how it was found; answers the number that it has, and whether it is new: the
-    /// state is to wait then.
+    /// Takes in the code of the state that a choice led to from the state `parent` and, where it is
+    /// new, how it was found. Answers its number, and whether it is new: the state is to wait then.
     #[inline(always)]
     fn add_code(
         &mut self,
@@ -108,8 +107,8 @@ impl Search {
         Ok((number, is_new))
     }
 
-    /// Tries a choice in the state with a number, which is taken for it; it comes back where the
-    /// choice cannot be made there.
+    /// Tries a choice in the state whose number is `at`. The state is used up, and comes back only
+    /// where the choice cannot be made there.
     #[inline(always)]
     fn try_choice(
         &mut self,
@@ -139,7 +138,7 @@ impl Search {
         Ok((tried_from(at, number), None))
     }
 
-    /// Tries choices in copies of a state, the one with a number.
+    /// Tries choices in copies of the state whose number is `at`.
     fn expand_copies(
         &mut self,
         alloc: Global,
@@ -172,8 +171,8 @@ impl Search {
         Ok(Expanded { is_end, made })
     }
 
-    /// Tries every choice in a state, the one with a number, which is taken for the last choice
-    /// that may be made. `possible` is for those that may, and what is there is let go.
+    /// Tries every choice in the state whose number is `at`: the last that may be made in the state
+    /// itself, and the others in copies. `possible` is room for those that may be made.
     #[inline(always)]
     fn expand(
         &mut self,
@@ -209,7 +208,7 @@ impl Search {
         }
     }
 
-    /// Tries choices in copies of a state, the one with a number, and a last one in the state
+    /// Tries choices in copies of the state whose number is `at`, and a last one in the state
     /// itself.
     #[inline(always)]
     fn expand_all(
@@ -263,8 +262,8 @@ impl Search {
         })
     }
 
-    /// Visits the next state, the one with a number, notes an end, and counts the choices that can
-    /// be made. False: there is none.
+    /// Visits the next state, whose number is `at`: notes it where it is an end, and counts the
+    /// choices that can be made. False: there is none.
     fn visit(
         &mut self,
         alloc: Global,

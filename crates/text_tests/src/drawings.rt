@@ -40,6 +40,22 @@ fn is_picture(bytes: &[u8], words: &[&str]) -> bool {
     text.starts_with("<svg ") && text.ends_with("</svg>\n")
 }
 
+/// Whether the picture of the script begins with these bytes, where memory is refused no more.
+fn script_begins_with(alloc: Global, front: &[u8]) -> bool {
+    let mut sink = WriterSink::new(Vec::new(alloc));
+    let mut source = ReaderSource::new(SCRIPT);
+    let outcome = draw_script(alloc, Window::whole(), &mut source, &mut sink);
+    outcome.is_ok() && sink.into_inner().as_slice().starts_with(front)
+}
+
+/// The same of the history.
+fn history_begins_with(alloc: Global, front: &[u8]) -> bool {
+    let mut sink = WriterSink::new(Vec::new(alloc));
+    let mut source = ReaderSource::new(HISTORY);
+    let outcome = draw_moves(alloc, Window::whole(), &mut source, &mut sink);
+    outcome.is_ok() && sink.into_inner().as_slice().starts_with(front)
+}
+
 /// Whether a script is drawn. Where it is not, memory was refused, and nothing was written; or the
 /// writer was refused some, which has a front of the picture.
 fn draws_script(rt: &impl Abort, alloc: Global) -> bool {
@@ -53,7 +69,7 @@ fn draws_script(rt: &impl Abort, alloc: Global) -> bool {
     let bytes = sink.into_inner();
     let is_right = match outcome {
         Ok(()) => is_picture(bytes.as_slice(), &SCRIPT_WORDS),
-        Err(DrawFault::File(FileFault::Write)) => b"<svg ".starts_with(front_of(bytes.as_slice())),
+        Err(DrawFault::File(FileFault::Write)) => script_begins_with(alloc, bytes.as_slice()),
         Err(fault) => fault == DrawFault::File(FileFault::Memory) && bytes.is_empty(),
     };
     assert!(rt; is_right);
@@ -72,17 +88,11 @@ fn draws_history(rt: &impl Abort, alloc: Global) -> bool {
     let bytes = sink.into_inner();
     let is_right = match outcome {
         Ok(()) => is_picture(bytes.as_slice(), &HISTORY_WORDS),
-        Err(DrawFault::File(FileFault::Write)) => b"<svg ".starts_with(front_of(bytes.as_slice())),
+        Err(DrawFault::File(FileFault::Write)) => history_begins_with(alloc, bytes.as_slice()),
         Err(fault) => fault == DrawFault::File(FileFault::Memory) && bytes.is_empty(),
     };
     assert!(rt; is_right);
     outcome.is_ok()
-}
-
-/// The first five bytes.
-fn front_of(bytes: &[u8]) -> &[u8] {
-    let (front, _) = bytes.split_at(bytes.len().min(5));
-    front
 }
 
 #[test]

@@ -1,4 +1,3 @@
-use Rattle.std.proofs.Common.{◌≡◌}
 use Rattle.explore.specs.Searches.{IsSifted}
 use Rattle.explore.proofs.choices.sift.Given as goal
 

@@ -1,4 +1,4 @@
-use Rattle.std.proofs.Common.{◌≡◌, ◌∙◌, sym}
+use Rattle.std.proofs.Common.{◌∙◌, sym}
 use Rattle.step_core.specs.Sound.{IsSound}
 use Rattle.explore.specs.States.{ProgramState}
 use Rattle.explore.proofs.Closed.{closed}
