@@ -6,3 +6,4 @@ pub mod StateCodes
 pub mod Sifting
 pub mod Choosing
 pub mod Closed
+pub mod Making
