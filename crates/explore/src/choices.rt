@@ -43,11 +43,7 @@ pub(crate) fn sift(
 }
 
 /// Notes a choice that may be made.
-fn note_choice(
-    possible: &mut Vec<Choice>,
-    may: bool,
-    choice: Choice,
-) -> Result<(), Memory>
+fn note_choice(possible: &mut Vec<Choice>, may: bool, choice: Choice) -> Result<(), Memory>
     ensures { OnOk result (possible.new.items
         ≡ (if may then possible.old.items ++ choice ∷ [] else possible.old.items)) }
 {
