@@ -7,3 +7,7 @@ pub mod Sifting
 pub mod Choosing
 pub mod Closed
 pub mod Making
+pub mod Busy
+pub mod Parts
+pub mod Serving
+pub mod Replying
