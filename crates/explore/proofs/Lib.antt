@@ -6,3 +6,8 @@ pub mod StateCodes
 pub mod Sifting
 pub mod Choosing
 pub mod Closed
+pub mod Making
+pub mod Busy
+pub mod Parts
+pub mod Serving
+pub mod Replying

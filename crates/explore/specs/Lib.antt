@@ -5,3 +5,4 @@ pub mod Found
 pub mod Codes
 pub mod Searches
 pub mod Starts
+pub mod Replies

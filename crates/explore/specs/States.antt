@@ -39,6 +39,10 @@ opening p = record {
   told = 0;
 }
 
+-- where the calls of a thread begin
+abbrev pub start_of : Program → ℕ → ℕ
+start_of p k = slice_index_or p.starts.items k 0
+
 -- where the calls of a thread end: at the beginning of the next thread's, or with the list
 abbrev pub end_of : Program → ℕ → ℕ
 end_of p k = slice_index_or p.starts.items (k + 1) (length p.calls.items)

@@ -5,6 +5,7 @@
 mod choices;
 mod codes;
 mod found;
+mod laws;
 mod programs;
 mod search;
 mod states;
@@ -12,6 +13,7 @@ mod tried;
 mod watching;
 
 pub use found::{ExploreFault, Found};
+pub use laws::a_play_has_the_replies_of_its_steps;
 pub use programs::{Choice, Program, are_in_order};
 pub use search::{explore, explore_watched};
 pub use states::{State, play};

@@ -1,9 +1,7 @@
 -- The steps of choices lead to the state of the choices.
 use native.Mathlib.Omega.{arith}
-use Rattle.std.proofs.Common.{◌≡◌, ◌∙◌, sym, ap, refl, subst, ℕ, zero, suc, ◌+◌, ◌<◌, ◌≤◌, Bool, true, List, [], ◌∷◌, ◌++◌, length, Option, Some, None, Result, Ok, Err, append_assoc, append-nil, drop}
-use Rattle.std.specs.Prelude.{false, if◌then◌else◌, nat_lt, slice_get, slice_set}
+use Rattle.std.proofs.Common.{◌≡◌, ◌∙◌, sym, ap, refl, subst, ℕ, zero, suc, ◌+◌, ◌<◌, ◌≤◌, true, List, [], ◌∷◌, ◌++◌, length, Option, Some, None, Result, append_assoc, append-nil, drop}
 use Rattle.std.specs.Option.{unwrap_or}
-use Rattle.fat_monitor.specs.declared.actions.Reply.{Reply}
 use Rattle.step_core.specs.declared.machine.Move.{Move}
 use Rattle.step_core.specs.declared.machine.Move.TheVariants as move
 use Rattle.step_core.specs.declared.steps.Did.{Did}
@@ -15,7 +13,8 @@ use Rattle.step_core.specs.Step.{AfterStep, moves_made, moves_of, step_of}
 use Rattle.step_core.specs.World.{WorldState}
 use Rattle.explore.specs.declared.programs.Program.{Program}
 use Rattle.explore.specs.declared.programs.Choice.{Choice}
-use Rattle.explore.specs.States.{ProgramState, after, after_answer, after_step, attached, chosen, did_by, did_in, did_of, moved, opening, played, played_from, replied, step_for, thread_of, with_reply}
+use Rattle.explore.specs.States.{ProgramState, after, attached, did_of, opening, played, played_from, thread_of}
+use Rattle.explore.proofs.Making.{IsMade, choice_made, did_made}
 use Rattle.explore_runs.specs.Steps.{AreAccepted, LeadTo, attaches, empty_world, granted, script_moves, script_steps, step_in, steps_from}
 use Rattle.explore_runs.proofs.Attaching.{attach_goes}
 
@@ -67,44 +66,6 @@ attach_moves p n lt =
     ∙ ap (λ (ms : List Move). moves_after (empty_world p) (granted (attaches n)) ++ (ms ++ [])) goes)
 
 -- ---- choices
-
-world_either : (s : ProgramState) (ns : List ℕ) (rs : List (Option Reply)) (b : Bool) → (if b then record s { nexts = ns; replies = rs } else s).world ≡ s.world
-world_either s ns rs true = refl
-world_either s ns rs false = refl
-
-world_noted : (s : ProgramState) (k : ℕ) (r : Reply) (o : Option ℕ) → (with_reply s k r o).world ≡ s.world
-world_noted s k r None = refl
-world_noted s k r (Some n) = world_either s (slice_set s.nexts k (n + 1)) (slice_set s.replies n (Some r)) (nat_lt n (length s.replies))
-
-world_replied : (s : ProgramState) (k : ℕ) (r : Option Reply) → (replied s k r).world ≡ s.world
-world_replied s k None = refl
-world_replied s k (Some r) = world_noted s k r (slice_get s.nexts k)
-
--- a choice that is made has a step, which is accepted
-pub record IsMade (p : Program) (s t : ProgramState) (c : Choice) : Type 0 where
-  pub made : Step
-  pub did : Did
-  pub is : step_for p s c ≡ Some made
-  pub answer : (step_of true s.world made).answer ≡ Ok did
-  pub world : (step_of true s.world made).after ≡ t.world
-
-choice_made : (p : Program) (s t : ProgramState) (c : Choice) → after p s c ≡ Some t → IsMade p s t c
-choice_made p s t c h = by (step_for p s c) refl h
-  where
-    by_answer : (x : Step) (a : Result Did Fault) (w : WorldState) → step_for p s c ≡ Some x → (step_of true s.world x).answer ≡ a
-        → (step_of true s.world x).after ≡ w → after_answer s c a w ≡ Some t → IsMade p s t c
-    by_answer x (Ok d) w is answer world g = record {
-      made = x;
-      did = d;
-      is = is;
-      answer = answer;
-      world = world ∙ sym (world_replied (moved s c w) (chosen c) d.reply) ∙ ap (λ (o : Option ProgramState). (unwrap_or o t).world) g;
-    }
-    by_answer x (Err f) w is answer world g = absurd (cc)
-
-    by : (o : Option Step) → step_for p s c ≡ o → after_step s c o ≡ Some t → IsMade p s t c
-    by None is g = absurd (cc)
-    by (Some x) is g = by_answer x (step_of true s.world x).answer (step_of true s.world x).after is refl refl g
 
 steps_made : (p : Program) (s t : ProgramState) (c : Choice) (cs : List Choice) (m : IsMade p s t c) → after p s c ≡ Some t
     → steps_from p (Some s) (c ∷ cs) ≡ m.made ∷ steps_from p (Some t) cs
@@ -161,8 +122,7 @@ pub moves_next : (p : Program) (s t : ProgramState) (c : Choice) (cs : List Choi
     → moves_after s.world (granted (steps_from p (Some s) (c ∷ cs))) ≡ moves_made d.moves ++ moves_after t.world (granted (steps_from p (Some t) cs))
 moves_next p s t c cs d h told =
     let m = choice_made p s t c h in
-    let same : m.did ≡ d =
-    ap (λ (o : Option Did). unwrap_or o d) (sym (told ∙ ap (λ (o : Option Step). did_by s.world o) m.is ∙ ap did_in m.answer)) in
+    let same : m.did ≡ d = ap (λ (o : Option Did). unwrap_or o d) (sym (told ∙ did_made p s t c m)) in
     ap (λ (xs : List Step). moves_after s.world (granted xs)) (steps_made p s t c cs m h)
     ∙ ap (λ (a : Result Did Fault). moves_of a ++ moves_after (step_of true s.world m.made).after (granted (steps_from p (Some t) cs))) m.answer
     ∙ ap (λ (e : Did). moves_made e.moves ++ moves_after (step_of true s.world m.made).after (granted (steps_from p (Some t) cs))) same

@@ -1,6 +1,6 @@
 -- The text of what the threads and objects of a program have come to.
 use Rattle.std.specs.Prelude.{◌≡◌, ℕ, zero, suc, ◌+◌, ◌-◌, Bool, true, false, List, [], ◌∷◌, ◌++◌, length, Option, Some, None}
-use Rattle.std.specs.Prelude.{codes, decimal, slice_get, slice_index_or}
+use Rattle.std.specs.Prelude.{codes, decimal, slice_get}
 use Rattle.std.specs.List.{flat_map, join_with_byte}
 use Rattle.lock_word.specs.declared.ObjectId.{ObjectId}
 use Rattle.lock_word.specs.declared.ThreadId.{ThreadId}
@@ -18,7 +18,7 @@ use Rattle.history.specs.NameLists.{NameLists, name_at}
 use Rattle.history.specs.Reports.{standing_text, threads_text, waiters_below}
 use Rattle.dump.specs.Reports.{cycle_text, named_call}
 use Rattle.explore.specs.declared.programs.Program.{Program}
-use Rattle.explore.specs.States.{ProgramState, end_of}
+use Rattle.explore.specs.States.{ProgramState, end_of, start_of}
 
 -- a reply is one word, behind a space
 abbrev pub reply_word : Reply → List ℕ
@@ -52,10 +52,6 @@ interrupt_text false = []
 abbrev pub doing_text : NameLists → Option Thread → List ℕ
 doing_text names None = []
 doing_text names (Some x) = stuck_text names x.act ++ interrupt_text x.flag
-
--- where the calls of a thread begin
-abbrev pub start_of : Program → ℕ → ℕ
-start_of p k = slice_index_or p.starts.items k 0
 
 -- the line of a thread: its replies in order, where it is stuck, and whether it is interrupted
 abbrev pub thread_line : NameLists → Program → ProgramState → ℕ → List ℕ

@@ -4,12 +4,12 @@ ghost use Rattle.std.specs.Prelude.{◌≡◌, ◌≤◌, ◌<◌, ◌+◌, ◌-
 ghost use Rattle.std.specs.Prelude.{vec_items, ℕ, List, codes, slice_get};
 ghost use Rattle.std.specs.List.{flat_map};
 ghost use Rattle.dump.specs.Reports.{cycle_text};
-ghost use Rattle.explore.specs.States.{end_of};
+ghost use Rattle.explore.specs.States.{end_of, start_of};
 ghost use Rattle.history.specs.NameLists.{name_at};
 ghost use Rattle.step_core.specs.Shown.{shown};
 ghost use Rattle.explore_runs.specs.Outcomes.{IsOutcome, doing_text, interrupt_text, object_line};
 ghost use Rattle.explore_runs.specs.Outcomes.{object_lines, replies_text, reply_text, reply_word};
-ghost use Rattle.explore_runs.specs.Outcomes.{start_of, stuck_text, thread_line, thread_lines};
+ghost use Rattle.explore_runs.specs.Outcomes.{stuck_text, thread_line, thread_lines};
 
 use dump::{cycles, put_call, put_cycle};
 use explore::{Program, State};
