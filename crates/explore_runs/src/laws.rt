@@ -12,9 +12,9 @@ ghost use Rattle.explore_runs.specs.Replays.{HasFewStrangers, IsNamed, Replays};
 ghost use Rattle.explore_runs.specs.Steps.{LeadTo, empty_world, replies_told, script_steps};
 
 /// The script of choices that lead to a state is a script, and whatever it is read as plays to the
-/// world of that state: each of its steps is accepted, with all memory granted. Its steps hand out
-/// to each thread the replies that the state has for the thread's calls. What is asked is that the
-/// names are those of the program, and that its calls name at most one thread that it has not.
+/// world of that state: each of its steps is accepted, with all memory granted, and they hand out
+/// to each thread the replies that the state has for its calls. What is asked is that the names
+/// are those of the program, and that its calls name at most one thread that it has not.
 pub fn a_script_leads_to_its_state()
     // The text, read as a script and played.
     ensures played { (names : NameLists) (p : Program) (cs : List Choice) (s : ProgramState)
