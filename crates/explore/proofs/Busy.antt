@@ -1,4 +1,4 @@
--- Which threads are in a call, from one world to the next.
+-- Which threads are busy, from one world to the next.
 use Rattle.std.proofs.Common.{◌≡◌, ◌∙◌, ◌⊎◌, inl, inr, sym, ap, refl, ℕ, zero, suc, ◌+◌, Bool, true, false, if◌then◌else◌, nat_lt, List, [], ◌∷◌, length, Option, Some, None, Result, Ok, Err}
 use Rattle.std.specs.Prelude.{slice_index_or, slice_set}
 use Rattle.std.proofs.lemmas.Bool.{cases_eq}
@@ -45,30 +45,30 @@ use Rattle.step_core.specs.declared.steps.Fault.TheVariants as fault
 abbrev Berths : Type 0
 Berths = List (Option ThreadId)
 
--- who stands at this place is in a call
-abbrev pub is_busy : Place → Bool
-is_busy Idle = false
-is_busy (InCall s) = true
-is_busy (Ending n) = true
-is_busy AtPost = true
+-- who stands at this place is busy: in a call
+abbrev pub is_busy_place : Place → Bool
+is_busy_place Idle = false
+is_busy_place (InCall s) = true
+is_busy_place (Ending n) = true
+is_busy_place AtPost = true
 
--- who has this berth, if it is one, is in a call
-abbrev pub is_busy_at : List Place → Option ℕ → Bool
-is_busy_at ps None = false
-is_busy_at ps (Some k) = is_busy (slice_index_or ps k Idle)
+-- who has this berth, if it is one, is busy
+abbrev pub is_busy_berth : List Place → Option ℕ → Bool
+is_busy_berth ps None = false
+is_busy_berth ps (Some k) = is_busy_place (slice_index_or ps k Idle)
 
--- a thread is in a call
-abbrev pub in_call : WorldState → ThreadId → Bool
-in_call w t = is_busy_at w.places (berth_of w.berths t)
+-- a thread is busy
+abbrev pub is_busy : WorldState → ThreadId → Bool
+is_busy w t = is_busy_berth w.places (berth_of w.berths t)
 
 -- A step of thread t left this world, with this reply, if any. Who is in a call then was in one before, but for t where
 -- it begins one. Where there is a reply, t was in a call, and is in none any more.
 pub record Leaves (w : WorldState) (t : ThreadId) (begins : Bool) (v : WorldState) (r : Option Reply) : Type 0 where
   pub one : IsOneToOne v.berths
-  pub began : (u : ThreadId) → in_call v u ≡ true → (in_call w u ≡ true) ⊎ ((begins ≡ true) × (u.0 ≡ t.0))
-  pub over : (a : Reply) → r ≡ Some a → (in_call w t ≡ true) × (in_call v t ≡ false)
+  pub began : (u : ThreadId) → is_busy v u ≡ true → (is_busy w u ≡ true) ⊎ ((begins ≡ true) × (u.0 ≡ t.0))
+  pub over : (a : Reply) → r ≡ Some a → (is_busy w t ≡ true) × (is_busy v t ≡ false)
 
--- the same of an answer; a refused step leaves nothing to ask
+-- the same of an answer; of a refused step nothing is said
 abbrev pub LeavesAs : WorldState → ThreadId → Bool → Result Did Fault → WorldState → Type 0
 LeavesAs w t begins (Ok d) v = Leaves w t begins v d.reply
 LeavesAs w t begins (Err f) v = Unit {0}
@@ -85,21 +85,22 @@ idle_set (q ∷ ps) (suc k) = idle_set ps k
 
 -- another thread stands where it stood
 other_stays : (bs : Berths) (ps : List Place) (t u : ThreadId) (k : ℕ) (q : Place) → berth_of bs t ≡ Some k → (u.0 ≡ t.0 → ⊥)
-    → is_busy_at (slice_set ps k q) (berth_of bs u) ≡ is_busy_at ps (berth_of bs u)
+    → is_busy_berth (slice_set ps k q) (berth_of bs u) ≡ is_busy_berth ps (berth_of bs u)
 other_stays bs ps t u k q at ne = by (berth_of bs u) refl
   where
-    by : (o : Option ℕ) → berth_of bs u ≡ o → is_busy_at (slice_set ps k q) o ≡ is_busy_at ps o
+    by : (o : Option ℕ) → berth_of bs u ≡ o → is_busy_berth (slice_set ps k q) o ≡ is_busy_berth ps o
     by None e = refl
-    by (Some j) e = ap is_busy (get_or-set_other ps k j q Idle (λ (same : j ≡ k). ne (berth_thread bs t u k at (e ∙ ap Some same))))
+    by (Some j) e = ap is_busy_place (get_or-set_other ps k j q Idle (λ (same : j ≡ k). ne (berth_thread bs t u k at (e ∙ ap Some same))))
 
-own_busy : (bs : Berths) (ps : List Place) (t u : ThreadId) (k : ℕ) → berth_of bs t ≡ Some k → is_busy (slice_index_or ps k Idle) ≡ true
-    → u.0 ≡ t.0 → is_busy_at ps (berth_of bs u) ≡ true
-own_busy bs ps t u k at busy same = ap (is_busy_at ps) (berth_same bs t u same ∙ at) ∙ busy
+own_busy : (bs : Berths) (ps : List Place) (t u : ThreadId) (k : ℕ) → berth_of bs t ≡ Some k → is_busy_place (slice_index_or ps k Idle) ≡ true
+    → u.0 ≡ t.0 → is_busy_berth ps (berth_of bs u) ≡ true
+own_busy bs ps t u k at busy same = ap (is_busy_berth ps) (berth_same bs t u same ∙ at) ∙ busy
 
 own_idle : (bs : Berths) (ps : List Place) (t : ThreadId) (k : ℕ) (q : Place) → berth_of bs t ≡ Some k → q ≡ Idle
-    → is_busy_at (slice_set ps k q) (berth_of bs t) ≡ false
+    → is_busy_berth (slice_set ps k q) (berth_of bs t) ≡ false
 own_idle bs ps t k q at idle =
-    ap (is_busy_at (slice_set ps k q)) at ∙ ap (λ (x : Place). is_busy (slice_index_or (slice_set ps k x) k Idle)) idle ∙ ap is_busy (idle_set ps k)
+    ap (is_busy_berth (slice_set ps k q)) at
+    ∙ ap (λ (x : Place). is_busy_place (slice_index_or (slice_set ps k x) k Idle)) idle ∙ ap is_busy_place (idle_set ps k)
 
 -- ---- steps that move nobody
 
@@ -150,30 +151,30 @@ abbrev Idles : AfterGo → Type 0
 Idles a = (r : Reply) → a.did.reply ≡ Some r → a.place ≡ Idle
 
 went : (w : WorldState) (t : ThreadId) (k : ℕ) (a : AfterGo) → IsOneToOne w.berths → berth_of w.berths t ≡ Some k
-    → is_busy (place_at w k) ≡ true → Idles a → Leaves w t false (with_go w k a) a.did.reply
+    → is_busy_place (place_at w k) ≡ true → Idles a → Leaves w t false (with_go w k a) a.did.reply
 went w t k a one at busy idles = record {
   one = one;
   began = λ u h. inl (by u h (cases_eq u.0 t.0));
   over = λ r e. (own_busy w.berths w.places t t k at busy refl, own_idle w.berths w.places t k a.place at (idles r e));
 }
   where
-    by : (u : ThreadId) → in_call (with_go w k a) u ≡ true → (u.0 ≡ t.0) ⊎ (u.0 ≡ t.0 → ⊥) → in_call w u ≡ true
+    by : (u : ThreadId) → is_busy (with_go w k a) u ≡ true → (u.0 ≡ t.0) ⊎ (u.0 ≡ t.0 → ⊥) → is_busy w u ≡ true
     by u h (inl same) = own_busy w.berths w.places t u k at busy same
     by u h (inr ne) = sym (other_stays w.berths w.places t u k a.place at ne) ∙ h
 
 -- a thread that has ended has no berth any more
 gone : (w : WorldState) (t : ThreadId) (k : ℕ) (f : FatState) → IsOneToOne w.berths → berth_of w.berths t ≡ Some k
-    → is_busy (place_at w k) ≡ true → Leaves w t false (world_ended w k f reply.Ended) (Some reply.Ended)
+    → is_busy_place (place_at w k) ≡ true → Leaves w t false (world_ended w k f reply.Ended) (Some reply.Ended)
 gone w t k f one at busy = record {
   one = IsOneToOne-given w.berths t k one at;
   began = λ u h. inl (by u h (cases_eq u.0 t.0));
-  over = λ r e. (own_busy w.berths w.places t t k at busy refl, ap (is_busy_at (slice_set w.places k Idle)) (berth_given_same w.berths t k one at));
+  over = λ r e. (own_busy w.berths w.places t t k at busy refl, ap (is_busy_berth (slice_set w.places k Idle)) (berth_given_same w.berths t k one at));
 }
   where
-    by : (u : ThreadId) → in_call (world_ended w k f reply.Ended) u ≡ true → (u.0 ≡ t.0) ⊎ (u.0 ≡ t.0 → ⊥) → in_call w u ≡ true
+    by : (u : ThreadId) → is_busy (world_ended w k f reply.Ended) u ≡ true → (u.0 ≡ t.0) ⊎ (u.0 ≡ t.0 → ⊥) → is_busy w u ≡ true
     by u h (inl same) = own_busy w.berths w.places t u k at busy same
     by u h (inr ne) =
-        sym (ap (is_busy_at (slice_set w.places k Idle)) (berth_given_other w.berths t u k at ne) ∙ other_stays w.berths w.places t u k Idle at ne) ∙ h
+        sym (ap (is_busy_berth (slice_set w.places k Idle)) (berth_given_other w.berths t u k at ne) ∙ other_stays w.berths w.places t u k Idle at ne) ∙ h
 
 -- ---- where a Go with a reply leaves its thread
 
@@ -238,7 +239,7 @@ look_idles w t n false = λ a e. absurd (cc)
 -- ---- each place of a Go
 
 module _ (w : WorldState) (t : ThreadId) (k : ℕ) (one : IsOneToOne w.berths) (at : berth_of w.berths t ≡ Some k)
-    (busy : is_busy (place_at w k) ≡ true) where
+    (busy : is_busy_place (place_at w k) ≡ true) where
   end_replies : (f : FatState) (r : Reply) → Leaves w t false (world_ended w k f r) (Some r)
   end_replies f reply.Ended = gone w t k f one at busy
   end_replies f r = went w t k (fats_changed w f Idle (return_alone atomic.Label t r)) one at busy (λ a e. refl)
@@ -268,10 +269,10 @@ module _ (w : WorldState) (t : ThreadId) (k : ℕ) (one : IsOneToOne w.berths) (
 go_at : (w : WorldState) (t : ThreadId) (k : ℕ) (q : Place) → IsOneToOne w.berths → berth_of w.berths t ≡ Some k → place_at w k ≡ q
     → LeavesBy w t false (after_go_at true w k t q)
 go_at w t k Idle one at stands = tt
-go_at w t k (InCall s) one at stands = went w t k (after_stage true w k t s) one at (ap is_busy stands) (stage_idles w k t s)
-go_at w t k (Ending n) one at stands = ending_leaves w t k one at (ap is_busy stands) n
+go_at w t k (InCall s) one at stands = went w t k (after_stage true w k t s) one at (ap is_busy_place stands) (stage_idles w k t s)
+go_at w t k (Ending n) one at stands = ending_leaves w t k one at (ap is_busy_place stands) n
 go_at w t k AtPost one at stands =
-    collect_leaves w t k one at (ap is_busy stands) (outcome_of w.fats t action.Collect).answer (outcome_of w.fats t action.Collect).after
+    collect_leaves w t k one at (ap is_busy_place stands) (outcome_of w.fats t action.Collect).answer (outcome_of w.fats t action.Collect).after
 
 pub go_leaves : (w : WorldState) (t : ThreadId) (b : Option ℕ) → IsOneToOne w.berths → berth_of w.berths t ≡ b
     → LeavesBy w t false (after_go true w t b)
@@ -288,8 +289,8 @@ begins w t k q one at = record {
   over = λ a e. absurd (cc);
 }
   where
-    by : (u : ThreadId) → is_busy_at (slice_set w.places k q) (berth_of w.berths u) ≡ true → (u.0 ≡ t.0) ⊎ (u.0 ≡ t.0 → ⊥)
-        → (in_call w u ≡ true) ⊎ ((true ≡ true) × (u.0 ≡ t.0))
+    by : (u : ThreadId) → is_busy_berth (slice_set w.places k q) (berth_of w.berths u) ≡ true → (u.0 ≡ t.0) ⊎ (u.0 ≡ t.0 → ⊥)
+        → (is_busy w u ≡ true) ⊎ ((true ≡ true) × (u.0 ≡ t.0))
     by u h (inl same) = inr (refl, same)
     by u h (inr ne) = inl (sym (other_stays w.berths w.places t u k q at ne) ∙ h)
 

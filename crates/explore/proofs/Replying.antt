@@ -18,7 +18,7 @@ use Rattle.explore.specs.declared.programs.Choice.{Choice}
 use Rattle.explore.specs.declared.programs.Choice.TheVariants as choice
 use Rattle.explore.specs.States.{ProgramState, after, attached, chosen, did_of, end_of, moved, opening, played, played_from, replied, start_of, thread_of, with_reply}
 use Rattle.explore.specs.Replies.{is_choice_of, replies_along, replies_of, reply_in, reply_to}
-use Rattle.explore.proofs.Busy.{idle_set, in_call, is_busy, is_busy_at}
+use Rattle.explore.proofs.Busy.{idle_set, is_busy, is_busy_berth, is_busy_place}
 use Rattle.explore.proofs.Making.{choice_made, did_made}
 use Rattle.explore.proofs.Parts.{ends_before, ends_within, part_none, part_other, part_own, there}
 use Rattle.explore.proofs.Serving.{IsReplied, IsServed, MayBe, choice_serves, next_of}
@@ -27,7 +27,7 @@ use Rattle.explore.proofs.Serving.{IsReplied, IsServed, MayBe, choice_serves, ne
 -- none of them has a reply.
 record IsOnItsWay (p : Program) (s : ProgramState) (k : ℕ) : Type 0 where
   from : start_of p k ≤ next_of s k
-  busy : in_call s.world (thread_of k) ≡ true → next_of s k < end_of p k
+  busy : is_busy s.world (thread_of k) ≡ true → next_of s k < end_of p k
   later : (i : ℕ) → next_of s k ≤ i → i < end_of p k → slice_index_or s.replies i None ≡ None
 
 -- what every state keeps that choices lead to
@@ -61,7 +61,7 @@ apart p j k n within there ne from lt = by (cases_lt j k)
 
 -- a thread is on its way still where another gets a reply, and where it gets one itself
 other_way : (p : Program) (s : ProgramState) (c : Choice) (v : WorldState) (k n : ℕ) (a : Reply) (j : ℕ) → IsOnItsWay p s j → (j ≡ k → ⊥)
-    → (n < start_of p j) ⊎ (end_of p j ≤ n) → (in_call v (thread_of j) ≡ true → next_of s j < end_of p j) → IsOnItsWay p (noted s c v k n a) j
+    → (n < start_of p j) ⊎ (end_of p j ≤ n) → (is_busy v (thread_of j) ≡ true → next_of s j < end_of p j) → IsOnItsWay p (noted s c v k n a) j
 other_way p s c v k n a j way ne out busy =
     let next : next_of (noted s c v k n a) j ≡ next_of s j = get_or-set_other s.nexts k j (n + 1) 0 ne in
     record {
@@ -78,7 +78,7 @@ other_way p s c v k n a j way ne out busy =
     by (inr more) from same le lt = omega (arith, more, same, lt)
 
 own_way : (p : Program) (s : ProgramState) (c : Choice) (v : WorldState) (k n : ℕ) (a : Reply) → IsOnItsWay p s k → k < length s.nexts
-    → n ≡ next_of s k → in_call v (thread_of k) ≡ false → IsOnItsWay p (noted s c v k n a) k
+    → n ≡ next_of s k → is_busy v (thread_of k) ≡ false → IsOnItsWay p (noted s c v k n a) k
 own_way p s c v k n a way within is free =
     let next : next_of (noted s c v k n a) k ≡ n + 1 = get_or-set_same s.nexts k (n + 1) 0 within in
     record {
@@ -240,7 +240,7 @@ same_everywhere zero k a = refl
 same_everywhere (suc n) zero a = refl
 same_everywhere (suc n) (suc k) a = same_everywhere n k a
 
--- nobody is in a call
+-- nobody is busy
 record IsFresh (w : WorldState) : Type 0 where
   one : IsOneToOne w.berths
   idle : (k : ℕ) → place_at w k ≡ Idle
@@ -270,12 +270,12 @@ fresh_opening p = fresh_attached (opening_world p.lows.items p.monitors p.indice
   idle = λ k. same_everywhere p.indices k Idle;
 })
 
-not_busy : (w : WorldState) (t : ThreadId) → IsFresh w → in_call w t ≡ false
+not_busy : (w : WorldState) (t : ThreadId) → IsFresh w → is_busy w t ≡ false
 not_busy w t fresh = by (berth_of w.berths t)
   where
-    by : (o : Option ℕ) → is_busy_at w.places o ≡ false
+    by : (o : Option ℕ) → is_busy_berth w.places o ≡ false
     by None = refl
-    by (Some k) = ap is_busy (fresh.idle k)
+    by (Some k) = ap is_busy_place (fresh.idle k)
 
 kept_opening : (p : Program) → IsKept p (opening p)
 kept_opening p = record {

@@ -1,4 +1,4 @@
--- What a choice leaves that is made: who is in a call, and whose call has a reply.
+-- What a choice leaves that is made: who is busy, and whose call has a reply.
 use Rattle.std.proofs.Common.{◌≡◌, ◌∙◌, ◌⊎◌, inl, inr, sym, ap, refl, subst, ℕ, ◌<◌, Bool, true, false, if◌then◌else◌, nat_lt, length, Option, Some, None, Result, Ok}
 use native.Mathlib.Omega.{arith}
 use Rattle.std.specs.Prelude.{slice_get, slice_index_or}
@@ -19,7 +19,7 @@ use Rattle.explore.specs.declared.programs.Choice.{Choice}
 use Rattle.explore.specs.declared.programs.Choice.TheVariants as choice
 use Rattle.explore.specs.States.{ProgramState, begin_of, call_below, chosen, end_of, step_at, thread_of, tick_of}
 use Rattle.explore.specs.Replies.{is_choice_of}
-use Rattle.explore.proofs.Busy.{Leaves, LeavesAs, LeavesBy, begin_leaves, go_leaves, in_call, tick_leaves, tick_told, wait_end_leaves}
+use Rattle.explore.proofs.Busy.{Leaves, LeavesAs, LeavesBy, begin_leaves, go_leaves, is_busy, tick_leaves, tick_told, wait_end_leaves}
 use Rattle.explore.proofs.Making.{IsMade, IsMeant, meant}
 
 -- where the next call of a thread stands
@@ -28,21 +28,21 @@ next_of s k = slice_index_or s.nexts k 0
 
 -- this thread is in a call, or has one to begin
 abbrev pub MayBe : Program → ProgramState → ℕ → Type 0
-MayBe p s k = (in_call s.world (thread_of k) ≡ true) ⊎ (next_of s k < end_of p k)
+MayBe p s k = (is_busy s.world (thread_of k) ≡ true) ⊎ (next_of s k < end_of p k)
 
 -- The choice left this world, and its thread, which was in a call, is in none any more.
 pub record IsReplied (p : Program) (s : ProgramState) (c : Choice) (v : WorldState) : Type 0 where
   pub own : is_choice_of (chosen c) c ≡ true
   pub within : chosen c < length p.starts.items
   pub has : slice_get s.nexts (chosen c) ≡ Some (next_of s (chosen c))
-  pub was : in_call s.world (thread_of (chosen c)) ≡ true
-  pub free : in_call v (thread_of (chosen c)) ≡ false
+  pub was : is_busy s.world (thread_of (chosen c)) ≡ true
+  pub free : is_busy v (thread_of (chosen c)) ≡ false
 
 -- The choice left this world, with this reply, if any. Who is in a call then was in one before, or had one to begin.
 -- Where there is a reply, it is that of the next call of the choice's thread.
 pub record IsServed (p : Program) (s : ProgramState) (c : Choice) (v : WorldState) (r : Option Reply) : Type 0 where
   pub one : IsOneToOne v.berths
-  pub began : (j : ℕ) → in_call v (thread_of j) ≡ true → MayBe p s j
+  pub began : (j : ℕ) → is_busy v (thread_of j) ≡ true → MayBe p s j
   pub over : (a : Reply) → r ≡ Some a → IsReplied p s c v
 
 -- the next call of a thread whose begin is meant stands before the end of its own
@@ -69,7 +69,7 @@ served p s c x v r begins leaves is within own = record {
       record { own = own; within = is.within; has = is.has ∙ ap Some (sym next); was = o.0; free = o.1 };
 }
   where
-    by : (j : ℕ) → (in_call s.world (thread_of j) ≡ true) ⊎ ((begins ≡ true) × (j ≡ chosen c)) → MayBe p s j
+    by : (j : ℕ) → (is_busy s.world (thread_of j) ≡ true) ⊎ ((begins ≡ true) × (j ≡ chosen c)) → MayBe p s j
     by j (inl before) = inl before
     by j (inr (began, same)) =
         let next = next_is s (chosen c) is.next is.has in
@@ -114,7 +114,7 @@ tick_serves p s (Some now) y d one h answer =
       over = λ a e. absurd (cc);
     }
   where
-    by : (j : ℕ) → (in_call s.world (thread_of j) ≡ true) ⊎ ((false ≡ true) × (j ≡ 0)) → MayBe p s j
+    by : (j : ℕ) → (is_busy s.world (thread_of j) ≡ true) ⊎ ((false ≡ true) × (j ≡ 0)) → MayBe p s j
     by j (inl before) = inl before
     by j (inr (began, same)) = absurd (let never = began in cc)
 

@@ -1,7 +1,13 @@
 -- The steps of choices lead to the state of the choices.
 use native.Mathlib.Omega.{arith}
-use Rattle.std.proofs.Common.{◌≡◌, ◌∙◌, sym, ap, refl, subst, ℕ, zero, suc, ◌+◌, ◌<◌, ◌≤◌, true, List, [], ◌∷◌, ◌++◌, length, Option, Some, None, Result, append_assoc, append-nil, drop}
-use Rattle.std.specs.Option.{unwrap_or}
+use Rattle.std.proofs.Common.{◌≡◌, ◌∙◌, sym, ap, refl, subst, ℕ, zero, suc, ◌+◌, ◌<◌, ◌≤◌, Bool, true, false, if◌then◌else◌, List, [], ◌∷◌, ◌++◌, length, Option, Some, None, Result, append_assoc, append-nil, drop}
+use Rattle.std.specs.Prelude.{◌==◌, slice_get}
+use Rattle.std.specs.Option.{option_to_list, unwrap_or}
+use Rattle.std.proofs.lemmas.Option.{same_Some}
+use Rattle.lock_word.specs.declared.ThreadId.{ThreadId}
+use Rattle.fat_monitor.specs.declared.actions.Reply.{Reply}
+use Rattle.fast_path.specs.declared.calls.Call.{Call}
+use Rattle.thread_index.specs.Indices.{berth_of, free_berth}
 use Rattle.step_core.specs.declared.machine.Move.{Move}
 use Rattle.step_core.specs.declared.machine.Move.TheVariants as move
 use Rattle.step_core.specs.declared.steps.Did.{Did}
@@ -9,13 +15,16 @@ use Rattle.step_core.specs.declared.steps.Fault.{Fault}
 use Rattle.step_core.specs.declared.steps.Step.{Step}
 use Rattle.step_core.specs.declared.steps.Step.TheVariants as step
 use Rattle.step_core.specs.Requests.{moves_after, world_after}
-use Rattle.step_core.specs.Step.{AfterStep, moves_made, moves_of, step_of}
+use Rattle.step_core.specs.Step.{AfterStep, after_attach, moves_made, moves_of, step_of}
 use Rattle.step_core.specs.World.{WorldState}
 use Rattle.explore.specs.declared.programs.Program.{Program}
 use Rattle.explore.specs.declared.programs.Choice.{Choice}
-use Rattle.explore.specs.States.{ProgramState, after, attached, did_of, opening, played, played_from, thread_of}
-use Rattle.explore.proofs.Making.{IsMade, choice_made, did_made}
-use Rattle.explore_runs.specs.Steps.{AreAccepted, LeadTo, attaches, empty_world, granted, script_moves, script_steps, step_in, steps_from}
+use Rattle.explore.specs.declared.programs.Choice.TheVariants as choice
+use Rattle.explore.specs.States.{ProgramState, after, attached, begin_of, call_below, did_by, did_in, did_of, opening, played, played_from, step_for, thread_of, tick_of}
+use Rattle.explore.specs.Replies.{is_choice_of, replies_along, replies_of, reply_in, reply_to}
+use Rattle.explore.proofs.Making.{IsMade, choice_made, did_made, meant}
+use Rattle.explore.proofs.Replying.{play_replies}
+use Rattle.explore_runs.specs.Steps.{AreAccepted, LeadTo, attaches, empty_world, granted, is_step_of, replies_told, reply_told, script_moves, script_steps, step_in, steps_from}
 use Rattle.explore_runs.proofs.Attaching.{attach_goes}
 
 -- ---- lists of steps
@@ -72,19 +81,19 @@ steps_made : (p : Program) (s t : ProgramState) (c : Choice) (cs : List Choice) 
 steps_made p s t c cs m h =
     ap (λ (o : Option Step). step_in o ++ steps_from p (after p s c) cs) m.is ∙ ap (λ (o : Option ProgramState). m.made ∷ steps_from p o cs) h
 
+none_goes : (p : Program) (cs : List Choice) (t : ProgramState) → played_from p cs None ≡ Some t → ⊥
+none_goes p [] t e = cc
+none_goes p (c ∷ cs) t e = cc
+
 from_leads : (p : Program) (cs : List Choice) (s t : ProgramState) → played_from p cs (Some s) ≡ Some t
     → AreAccepted s.world (steps_from p (Some s) cs) × (world_after s.world (granted (steps_from p (Some s) cs)) ≡ t.world)
 from_leads p [] s t h = (tt, ap (λ (o : Option ProgramState). (unwrap_or o t).world) h)
 from_leads p (c ∷ cs) s t h = by (after p s c) refl h (λ r g. from_leads p cs r t g)
   where
-    none_goes : (cs : List Choice) → played_from p cs None ≡ Some t → ⊥
-    none_goes [] e = cc
-    none_goes (d ∷ ds) e = cc
-
     by : (o : Option ProgramState) → after p s c ≡ o → played_from p cs o ≡ Some t
         → ((r : ProgramState) → played_from p cs (Some r) ≡ Some t → AreAccepted r.world (steps_from p (Some r) cs) × (world_after r.world (granted (steps_from p (Some r) cs)) ≡ t.world))
         → AreAccepted s.world (steps_from p (Some s) (c ∷ cs)) × (world_after s.world (granted (steps_from p (Some s) (c ∷ cs))) ≡ t.world)
-    by None is g goes = absurd (none_goes cs g)
+    by None is g goes = absurd (none_goes p cs t g)
     by (Some r) is g goes =
         let m = choice_made p s r c is in
         let rest = goes r g in
@@ -139,3 +148,106 @@ pub moves_last : (p : Program) (s : ProgramState) (cs : List Choice) (i : ℕ) (
     → ms ++ moves_after s.world (granted (steps_from p (Some s) (drop i cs))) ≡ ms
 moves_last p s cs i ms le =
     ap (λ (ds : List Choice). ms ++ moves_after s.world (granted (steps_from p (Some s) ds))) (none_left cs i le) ∙ append-nil ms
+
+-- ---- replies
+
+replies_append : (w : WorldState) (xs ys : List Step) (t : ThreadId)
+    → replies_told w (xs ++ ys) t ≡ replies_told w xs t ++ replies_told (world_after w (granted xs)) ys t
+replies_append w [] ys t = refl
+replies_append w (x ∷ xs) ys t =
+    let v : WorldState = (step_of true w x).after in
+    let these : List Reply = reply_told t x (step_of true w x).answer in
+    ap (λ (rs : List Reply). these ++ rs) (replies_append v xs ys t)
+    ∙ sym (append_assoc these (replies_told v xs t) (replies_told (world_after v (granted xs)) ys t))
+
+-- an attach hands out no reply
+attach_silent : (w : WorldState) (u : ThreadId) (b free : Option ℕ) → reply_in (did_in (after_attach true w u b free).answer) ≡ None
+attach_silent w u (Some k) free = refl
+attach_silent w u None None = refl
+attach_silent w u None (Some k) = refl
+
+silent_told : (t : ThreadId) (x : Step) (a : Result Did Fault) → reply_in (did_in a) ≡ None → reply_told t x a ≡ []
+silent_told t x a h = ap (λ (r : Option Reply). if is_step_of t x then option_to_list r else []) h ∙ by (is_step_of t x)
+  where
+    by : (b : Bool) → (if b then option_to_list {X = Reply} None else []) ≡ []
+    by true = refl
+    by false = refl
+
+attaches_silent : (w : WorldState) (n : ℕ) (t : ThreadId) → replies_told w (attaches n) t ≡ []
+attaches_silent w zero t = refl
+attaches_silent w (suc n) t =
+    let x : Step = step.Attach (thread_of n) in
+    let v : WorldState = world_after w (granted (attaches n)) in
+    let none = attach_silent v (thread_of n) (berth_of v.berths (thread_of n)) (free_berth v.berths) in
+    replies_append w (attaches n) (x ∷ []) t
+    ∙ ap (λ (rs : List Reply). rs ++ replies_told v (x ∷ []) t) (attaches_silent w n t)
+    ∙ ap (λ (rs : List Reply). rs ++ []) (silent_told t x (step_of true v x).answer none)
+
+begun_of : (k j : ℕ) (o : Option Call) (x : Step) → begin_of j o ≡ Some x → is_step_of (thread_of k) x ≡ (j == k)
+begun_of k j None x h = absurd (cc)
+begun_of k j (Some c) x h = ap (is_step_of (thread_of k)) (sym (same_Some (step.Begin (thread_of j) c) x h))
+
+woken_of : (k j : ℕ) (b : Bool) (x : Step) → (if b then Some (step.Spurious (thread_of j)) else None) ≡ Some x → is_step_of (thread_of k) x ≡ (j == k)
+woken_of k j true x h = ap (is_step_of (thread_of k)) (sym (same_Some (step.Spurious (thread_of j)) x h))
+woken_of k j false x h = absurd (cc)
+
+ticked_of : (k : ℕ) (o : Option ℕ) (x : Step) → tick_of o ≡ Some x → is_step_of (thread_of k) x ≡ false
+ticked_of k None x h = absurd (cc)
+ticked_of k (Some now) x h = ap (is_step_of (thread_of k)) (sym (same_Some (step.Tick now) x h))
+
+-- the step that a choice means is a thread's where the choice is
+step_is_of : (p : Program) (s : ProgramState) (c : Choice) (x : Step) (k : ℕ) → step_for p s c ≡ Some x → is_step_of (thread_of k) x ≡ is_choice_of k c
+step_is_of p s (choice.Begin j) x k h =
+    let is = meant p (choice.Begin j) j (slice_get s.nexts j) x h in
+    begun_of k j (call_below p j is.next) x is.is
+step_is_of p s (choice.Go j) x k h =
+    let is = meant p (choice.Go j) j (slice_get s.nexts j) x h in
+    ap (is_step_of (thread_of k)) (sym (same_Some (step.Go (thread_of j)) x is.is))
+step_is_of p s (choice.Expire j) x k h =
+    let is = meant p (choice.Expire j) j (slice_get s.nexts j) x h in
+    ap (is_step_of (thread_of k)) (sym (same_Some (step.Expire (thread_of j)) x is.is))
+step_is_of p s (choice.Spurious j) x k h =
+    let is = meant p (choice.Spurious j) j (slice_get s.nexts j) x h in
+    woken_of k j p.spurious x is.is
+step_is_of p s choice.Tick x k h = ticked_of k (slice_get p.moments.items s.told) x h
+
+-- what a choice hands out is what its step does
+reply_made : (p : Program) (s t : ProgramState) (c : Choice) (m : IsMade p s t c) (k : ℕ)
+    → reply_told (thread_of k) m.made (step_of true s.world m.made).answer ≡ reply_to k c (did_of p s c)
+reply_made p s t c m k =
+    ap (λ (b : Bool). if b then option_to_list (reply_in (did_in (step_of true s.world m.made).answer)) else []) (step_is_of p s c m.made k m.is)
+    ∙ ap (λ (o : Option Step). reply_to k c (did_by s.world o)) (sym m.is)
+
+-- the steps of choices hand out what the choices do
+steps_reply : (p : Program) (cs : List Choice) (s t : ProgramState) (k : ℕ) → played_from p cs (Some s) ≡ Some t
+    → replies_told s.world (steps_from p (Some s) cs) (thread_of k) ≡ replies_along p (Some s) cs k
+steps_reply p [] s t k h = refl
+steps_reply p (c ∷ cs) s t k h = by (after p s c) refl h (λ r g. steps_reply p cs r t k g)
+  where
+    by : (o : Option ProgramState) → after p s c ≡ o → played_from p cs o ≡ Some t
+        → ((r : ProgramState) → played_from p cs (Some r) ≡ Some t
+        → replies_told r.world (steps_from p (Some r) cs) (thread_of k) ≡ replies_along p (Some r) cs k)
+        → replies_told s.world (steps_from p (Some s) (c ∷ cs)) (thread_of k) ≡ replies_along p (Some s) (c ∷ cs) k
+    by None is g rest = absurd (none_goes p cs t g)
+    by (Some r) is g rest =
+        let m = choice_made p s r c is in
+        let later : List Step = steps_from p (Some r) cs in
+        let these : List Reply = reply_to k c (did_of p s c) in
+        ap (λ (xs : List Step). replies_told s.world xs (thread_of k)) (steps_made p s r c cs m is)
+        ∙ ap (λ (rs : List Reply). rs ++ replies_told (step_of true s.world m.made).after later (thread_of k)) (reply_made p s r c m k)
+        ∙ ap (λ (w : WorldState). these ++ replies_told w later (thread_of k)) m.world
+        ∙ ap (λ (rs : List Reply). these ++ rs) (rest r g)
+        ∙ ap (λ (o : Option ProgramState). these ++ replies_along p o cs k) (sym is)
+
+-- The steps of a script hand out the replies of the state of its choices.
+pub script_replies : (p : Program) (cs : List Choice) (s : ProgramState) (k : ℕ) → played p cs ≡ Some s → k < length p.starts.items
+    → replies_told (empty_world p) (script_steps p cs) (thread_of k) ≡ replies_of p s k
+script_replies p cs s k h within =
+    let n : ℕ = length p.starts.items in
+    let t : ThreadId = thread_of k in
+    let later : List Step = steps_from p (Some (opening p)) cs in
+    replies_append (empty_world p) (attaches n) later t
+    ∙ ap (λ (rs : List Reply). rs ++ replies_told (world_after (empty_world p) (granted (attaches n))) later t) (attaches_silent (empty_world p) n t)
+    ∙ ap (λ (w : WorldState). replies_told w later t) (attaches_lead p n)
+    ∙ steps_reply p cs (opening p) s k h
+    ∙ play_replies p cs s k h within

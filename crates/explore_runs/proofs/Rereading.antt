@@ -22,11 +22,12 @@ use Rattle.dump.specs.Reports.{named_call}
 use Rattle.explore.specs.declared.programs.Program.{Program}
 use Rattle.explore.specs.declared.programs.Choice.{Choice}
 use Rattle.explore.specs.declared.programs.Choice.TheVariants as choice
+use Rattle.explore.specs.Replies.{replies_of}
 use Rattle.explore.specs.States.{ProgramState, after, begin_of, call_below, opening, played, step_at, step_for, step_of_thread, thread_of, tick_of}
 use Rattle.explore_runs.specs.Replays.{HasFewStrangers, IsNamed, Replays}
 use Rattle.explore_runs.specs.Scripts.{attach_lines, choice_line, choice_lines, named_step, object_lines_from, script_of}
-use Rattle.explore_runs.specs.Steps.{LeadTo, attaches, empty_world, script_steps, step_in, steps_from}
-use Rattle.explore_runs.proofs.Leading.{script_leads}
+use Rattle.explore_runs.specs.Steps.{LeadTo, attaches, empty_world, replies_told, script_steps, step_in, steps_from}
+use Rattle.explore_runs.proofs.Leading.{script_leads, script_replies}
 use Rattle.explore_runs.proofs.Naming.{differs}
 use Rattle.explore_runs.proofs.Requests.{AreKnown, IsKnown, asked_again, lows_again, named_line, named_lines, object_lines_of}
 
@@ -281,5 +282,7 @@ replays names p cs s named few leads =
             steps = script_steps p cs;
             these = of.steps ∙ ap requests_of same ∙ steps;
             lead = subst (λ (w : WorldState). LeadTo w (script_steps p cs) s.world) (sym begins) (script_leads p cs s leads);
+            replies = λ k within.
+                subst (λ (w : WorldState). replies_told w (script_steps p cs) (thread_of k) ≡ replies_of p s k) (sym begins) (script_replies p cs s k leads within);
           };
     }

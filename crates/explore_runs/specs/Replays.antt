@@ -6,7 +6,6 @@ use Rattle.script_text.specs.Scripts.{IsScriptText}
 use Rattle.script_text.specs.Words.{is_name}
 use Rattle.step_core.specs.declared.steps.Request.TheVariants as request
 use Rattle.step_core.specs.declared.steps.Step.{Step}
-use Rattle.step_core.specs.World.{WorldState}
 use Rattle.history.specs.Histories.{first_world}
 use Rattle.history.specs.NameLists.{NameLists, name_at}
 use Rattle.history.specs.Plans.{IsPlanOf}
@@ -14,9 +13,10 @@ use Rattle.history.specs.declared.plans.Plan.{Plan}
 use Rattle.dump.specs.Reports.{named_call}
 use Rattle.explore.specs.declared.programs.Program.{Program}
 use Rattle.explore.specs.declared.programs.Choice.{Choice}
-use Rattle.explore.specs.States.{ProgramState}
+use Rattle.explore.specs.Replies.{replies_of}
+use Rattle.explore.specs.States.{ProgramState, thread_of}
 use Rattle.explore_runs.specs.Scripts.{script_of}
-use Rattle.explore_runs.specs.Steps.{LeadTo}
+use Rattle.explore_runs.specs.Steps.{LeadTo, replies_told}
 
 -- no two of these are the same
 abbrev pub AreApart : List (List ℕ) → Type 0
@@ -42,13 +42,16 @@ pub record IsNamed (names : NameLists) (p : Program) : Type 0 where
 abbrev pub HasFewStrangers : NameLists → Program → Type 0
 HasFewStrangers names p = length names.threads ≤ length p.starts.items + 1
 
--- What is played: steps alone, none of which is refused, and they lead to this world.
-pub record PlaysTo (plan : Plan) (w : WorldState) : Type 0 where
+-- What is played: steps alone, none of which is refused. They lead to the world of this state, and hand out to each
+-- thread of the program the replies that the state has for its calls.
+pub record PlaysTo (plan : Plan) (p : Program) (s : ProgramState) : Type 0 where
   pub steps : List Step
   pub these : plan.steps.items ≡ map (λ (x : Step). request.Step x) steps
-  pub lead : LeadTo (first_world plan) steps w
+  pub lead : LeadTo (first_world plan) steps s.world
+  pub replies : (k : ℕ) → k < length p.starts.items
+      → replies_told (first_world plan) steps (thread_of k) ≡ replies_of p s k
 
--- The text is that of a script, and whatever it is read as plays to the world of this state.
+-- The text is that of a script, and whatever it is read as plays to this state.
 pub record Replays (names : NameLists) (p : Program) (cs : List Choice) (s : ProgramState) : Type 0 where
   pub reads : IsScriptText (script_of names p cs)
-  pub plays : (plan : Plan) → IsPlanOf plan (script_of names p cs) → PlaysTo plan s.world
+  pub plays : (plan : Plan) → IsPlanOf plan (script_of names p cs) → PlaysTo plan p s
