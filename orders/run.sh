@@ -114,8 +114,8 @@ times() {
 # A live script with so many holds. With two it comes to 65,536 deeds, as many as the record has places.
 #
 # Three deeds come first: the interrupt, the bind of the wait, and the wait, which is interrupted at once. Each
-# call behind them is one. An enter needs three free places and keeps one of them for its exit. So the last enter
-# finds three, each holds one of the other two, and the exit has the one that was kept.
+# call behind them is one. An enter needs three free places: its own, and one of them is kept for its exit. So the
+# last enter finds four: its own, the one that it keeps, and one for each of two holds.
 record_script() {
     printf '%s\n' 'world 1 1' 'object a A5' 'attach x'
     printf 'begin x %s\n' 'interrupt x' 'enter a' 'wait a 0 0'

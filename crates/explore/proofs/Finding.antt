@@ -221,7 +221,7 @@ visited_next p keys keys' ws ws' queue rest queue' ends ends' steps made n s cs 
 
 -- ---- found in the end
 
-none_leads : (p : Program) (cs : List Choice) (s : ProgramState) → played_from p cs None ≡ Some s → ⊥
+pub none_leads : (p : Program) (cs : List Choice) (s : ProgramState) → played_from p cs None ≡ Some s → ⊥
 none_leads p [] s e = absurd (cc)
 none_leads p (c ∷ cs) s e = absurd (cc)
 

@@ -18,6 +18,7 @@ use Rattle.explore.specs.declared.programs.Choice.{Choice}
 use Rattle.explore.specs.declared.programs.Choice.TheVariants as choice
 use Rattle.explore.specs.States.{ProgramState, after, attached, chosen, did_of, end_of, moved, opening, played, played_from, replied, start_of, thread_of, with_reply}
 use Rattle.explore.specs.Replies.{is_choice_of, replies_along, replies_of, reply_in, reply_to}
+use Rattle.explore.proofs.Finding.{none_leads}
 use Rattle.explore.proofs.Busy.{idle_set, is_busy, is_busy_berth, is_busy_place}
 use Rattle.explore.proofs.Making.{choice_made, did_made}
 use Rattle.explore.proofs.Parts.{ends_before, ends_within, part_none, part_other, part_own, there}
@@ -211,10 +212,6 @@ next_state p s t c kept h =
 
 -- ---- from a state on
 
-nothing_leads : (p : Program) (cs : List Choice) (t : ProgramState) → played_from p cs None ≡ Some t → ⊥
-nothing_leads p [] t e = cc
-nothing_leads p (c ∷ cs) t e = cc
-
 replies_on : (p : Program) (cs : List Choice) (s t : ProgramState) (k : ℕ) → IsKept p s → k < length p.starts.items
     → played_from p cs (Some s) ≡ Some t → replies_of p s k ++ replies_along p (Some s) cs k ≡ replies_of p t k
 replies_on p [] s t k kept within h = append-nil (replies_of p s k) ∙ ap (λ (u : ProgramState). replies_of p u k) (same_Some s t h)
@@ -224,7 +221,7 @@ replies_on p (c ∷ cs) s t k kept within h = by (after p s c) refl h (λ u kept
         → ((u : ProgramState) → IsKept p u → played_from p cs (Some u) ≡ Some t
         → replies_of p u k ++ replies_along p (Some u) cs k ≡ replies_of p t k)
         → replies_of p s k ++ replies_along p (Some s) (c ∷ cs) k ≡ replies_of p t k
-    by None is g rest = absurd (nothing_leads p cs t g)
+    by None is g rest = absurd (none_leads p cs t g)
     by (Some u) is g rest =
         let next = next_state p s u c kept is in
         let these : List Reply = reply_to k c (did_of p s c) in

@@ -50,7 +50,7 @@ allows_live (choice.Expire k) d now = may_expire now d
 allows_live (choice.Spurious k) d now = may_wake d
 allows_live choice.Tick d now = true
 
--- and one that is not live may make none; the clock is no thread
+-- A thread that is not live may make no choice; a tick is no thread's.
 abbrev pub allows_none : Choice → Bool
 allows_none (choice.Begin k) = false
 allows_none (choice.Go k) = false

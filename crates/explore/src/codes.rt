@@ -24,7 +24,7 @@ impl Hash for Code {
 
     ghost respects_eq = { Prim.search (hashing, rules) };
 
-    /// All bytes at once: byte by byte it would take many times as long.
+    /// All bytes at once, where the hash of a `Vec` takes each by itself.
     fn hash<H: Hasher>(&self, state: &mut H) {
         state.write(&self.bytes);
     }
@@ -70,7 +70,7 @@ fn answer_number(answer: Option<Reply>) -> u64
 }
 
 /// Writes the numbers as bytes, in place of those that are there: most numbers are small, and have
-/// one byte; words and most moments have five.
+/// one byte; the word of an object that is not free has five.
 pub(crate) fn put_packed(numbers: &[u64], bytes: &mut Vec<u8>) -> Result<(), Memory>
     ensures bytes { OnOk result (bytes.new.items ≡ packed numbers.now) }
     ensures small { OnOk result (AreSmall numbers.now) }

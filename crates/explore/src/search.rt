@@ -3,9 +3,9 @@
 ghost use Rattle.std.specs.Prelude.{◌≡◌, ◌+◌, ◌<◌, ◌≤◌, ◌++◌, ◌∷◌, [], length, true, false, Some, None};
 ghost use Rattle.std.specs.Prelude.{IfErr, IfOk, IfSome, OnOk};
 ghost use Rattle.explore.specs.declared.programs.Choice.{Choice};
-ghost use Rattle.explore.specs.States.{ProgramState, after, played, opening};
-ghost use Rattle.explore.specs.Found.{witnesses, witness_at, IsAt, IsFound, FindsAll, IsReason, AreParents};
-ghost use Rattle.explore.specs.Found.{all_choices, made_among};
+ghost use Rattle.explore.specs.States.{played};
+ghost use Rattle.explore.specs.Found.{witnesses, witness_at, IsAt, FindsAll, IsReason, AreParents};
+ghost use Rattle.explore.specs.Found.{all_choices};
 ghost use Rattle.explore.specs.Searches.{
   IsSearch,
   StaysIn,

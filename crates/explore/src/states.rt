@@ -166,6 +166,7 @@ impl State {
         if self.step_for(program, choice).is_none() {
             return false;
         }
+        // A tick is allowed whatever a thread does; for it this is the first thread.
         let thread = ThreadId(chosen(choice) as u32);
         allows(choice, self.world.doing(thread), self.world.now())
     }

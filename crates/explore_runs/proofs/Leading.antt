@@ -22,6 +22,7 @@ use Rattle.explore.specs.declared.programs.Choice.{Choice}
 use Rattle.explore.specs.declared.programs.Choice.TheVariants as choice
 use Rattle.explore.specs.States.{ProgramState, after, attached, begin_of, call_below, did_by, did_in, did_of, opening, played, played_from, step_for, thread_of, tick_of}
 use Rattle.explore.specs.Replies.{is_choice_of, replies_along, replies_of, reply_in, reply_to}
+use Rattle.explore.proofs.Finding.{none_leads}
 use Rattle.explore.proofs.Making.{IsMade, choice_made, did_made, meant}
 use Rattle.explore.proofs.Replying.{play_replies}
 use Rattle.explore_runs.specs.Steps.{AreAccepted, LeadTo, attaches, empty_world, granted, is_step_of, replies_told, reply_told, script_moves, script_steps, step_in, steps_from}
@@ -81,10 +82,6 @@ steps_made : (p : Program) (s t : ProgramState) (c : Choice) (cs : List Choice) 
 steps_made p s t c cs m h =
     ap (λ (o : Option Step). step_in o ++ steps_from p (after p s c) cs) m.is ∙ ap (λ (o : Option ProgramState). m.made ∷ steps_from p o cs) h
 
-none_goes : (p : Program) (cs : List Choice) (t : ProgramState) → played_from p cs None ≡ Some t → ⊥
-none_goes p [] t e = cc
-none_goes p (c ∷ cs) t e = cc
-
 from_leads : (p : Program) (cs : List Choice) (s t : ProgramState) → played_from p cs (Some s) ≡ Some t
     → AreAccepted s.world (steps_from p (Some s) cs) × (world_after s.world (granted (steps_from p (Some s) cs)) ≡ t.world)
 from_leads p [] s t h = (tt, ap (λ (o : Option ProgramState). (unwrap_or o t).world) h)
@@ -93,7 +90,7 @@ from_leads p (c ∷ cs) s t h = by (after p s c) refl h (λ r g. from_leads p cs
     by : (o : Option ProgramState) → after p s c ≡ o → played_from p cs o ≡ Some t
         → ((r : ProgramState) → played_from p cs (Some r) ≡ Some t → AreAccepted r.world (steps_from p (Some r) cs) × (world_after r.world (granted (steps_from p (Some r) cs)) ≡ t.world))
         → AreAccepted s.world (steps_from p (Some s) (c ∷ cs)) × (world_after s.world (granted (steps_from p (Some s) (c ∷ cs))) ≡ t.world)
-    by None is g goes = absurd (none_goes p cs t g)
+    by None is g goes = absurd (none_leads p cs t g)
     by (Some r) is g goes =
         let m = choice_made p s r c is in
         let rest = goes r g in
@@ -228,7 +225,7 @@ steps_reply p (c ∷ cs) s t k h = by (after p s c) refl h (λ r g. steps_reply 
         → ((r : ProgramState) → played_from p cs (Some r) ≡ Some t
         → replies_told r.world (steps_from p (Some r) cs) (thread_of k) ≡ replies_along p (Some r) cs k)
         → replies_told s.world (steps_from p (Some s) (c ∷ cs)) (thread_of k) ≡ replies_along p (Some s) (c ∷ cs) k
-    by None is g rest = absurd (none_goes p cs t g)
+    by None is g rest = absurd (none_leads p cs t g)
     by (Some r) is g rest =
         let m = choice_made p s r c is in
         let later : List Step = steps_from p (Some r) cs in
