@@ -1,4 +1,8 @@
 pub mod Texts
+pub mod Firsts
+pub mod Tallied
+pub mod Tallying
+pub mod Counted
 pub mod Choices
 pub mod Attaching
 pub mod Leading

@@ -12,6 +12,7 @@ mod outcomes;
 mod reports;
 mod running;
 mod scripts;
+mod tallies;
 
 pub use faults::ExploreTextFault;
 pub use histories::moves_of;

@@ -1,20 +1,22 @@
 //! The report of a program that was explored.
 
-ghost use Rattle.std.specs.Prelude.{◌≡◌, ◌≤◌, ◌<◌, ◌+◌, ◌++◌, ◌∷◌, [], IfOk, OnOk, length, map, string_bytes};
+ghost use Rattle.std.specs.Prelude.{◌≡◌, ◌<◌, ◌++◌, ◌∷◌, [], All, IfOk, OnOk, length, string_bytes};
 ghost use Rattle.explore.specs.Found.{FindsAll, IsAt, witness_at};
 ghost use Rattle.explore.specs.States.{ProgramState};
-ghost use Rattle.std.specs.Prelude.{if◌then◌else◌};
+ghost use Rattle.indexmap.specs.IndexMap.{index_map_len};
 ghost use Rattle.explore_runs.specs.Outcomes.{IsOutcome};
-ghost use Rattle.explore_runs.specs.Reports.{AreOutcomes, IsReport, counts_part, end_at, is_first};
-ghost use Rattle.explore_runs.specs.Reports.{history_part, outcome_part, outcome_parts};
-ghost use Rattle.explore_runs.specs.Reports.{script_part, text_at, times, witness_part};
+ghost use Rattle.explore_runs.specs.Reports.{IsReport, counts_part, end_at};
+ghost use Rattle.explore_runs.specs.Reports.{history_part, outcome_part, script_part, witness_part};
+ghost use Rattle.explore_runs.specs.Tallies.{AreTallied, outcome_tallies, tally_parts};
 ghost use Rattle.explore.specs.States.{played};
 ghost use Rattle.std.specs.Prelude.{Some, codes, decimal};
 
 use crate::histories::{moves_of, put_history};
 use crate::outcomes::outcome_of;
 use crate::scripts::put_script;
+use crate::tallies::{Tally, count_end};
 use explore::{Choice, Found, Program, play};
+use indexmap::IndexMap;
 use lock_word::Memory;
 use program_text::NamedProgram;
 use std::alloc::Global;
@@ -40,24 +42,29 @@ pub fn report_of(
     ensures { IfOk result (λ text.
         IsReport form named.now.names named.now.program found.now text.items) }
 {
-    let texts = texts_of(alloc, named, found)?;
+    let tallies = tallies_of(alloc, named, found)?;
     let mut report = Vec::new(alloc);
     put_counts(alloc, &mut report, found.states(), found.steps())?;
-    put_outcomes(alloc, &mut report, named, found, form, &texts)?;
+    put_outcomes(alloc, &mut report, named, found, form, &tallies)?;
     Ok(report)
 }
 
-/// The text of each end, in their order.
-fn texts_of(alloc: Global, named: &NamedProgram, found: &Found) -> Result<Vec<String>, Memory>
+/// The outcomes that the ends have come to, in the order in which each comes first.
+fn tallies_of(
+    alloc: Global,
+    named: &NamedProgram,
+    found: &Found,
+) -> Result<IndexMap<String, Tally>, Memory>
     requires { FindsAll named.now.program found.now }
-    ensures { IfOk result (λ texts.
-        AreOutcomes named.now.names named.now.program found.now (map string_bytes texts.items)) }
+    ensures { IfOk result (λ tallies. AreTallied named.now.names named.now.program found.now
+        (outcome_tallies tallies.entries)) }
 {
-    let mut texts = Vec::new(alloc);
+    let mut tallies = IndexMap::new(alloc);
     'ends: for at in 0..found.ends().len() {
-        texts.push(text_of(alloc, named, found, end_in(&named.program, found, at))?)?;
+        let text = text_of(alloc, named, found, end_in(&named.program, found, at))?;
+        count_end(&mut tallies, text, at)?;
     }
-    Ok(texts)
+    Ok(tallies)
 }
 
 /// The text of the state with a number.
@@ -89,53 +96,63 @@ fn put_counts(alloc: Global, report: &mut Vec<u8>, states: usize, steps: u64) ->
     Ok(())
 }
 
-/// Writes each outcome where it comes first.
+/// Writes each outcome, in the order in which they come first.
 fn put_outcomes(
     alloc: Global,
     report: &mut Vec<u8>,
     named: &NamedProgram,
     found: &Found,
     form: WitnessForm,
-    texts: &[String],
+    tallies: &IndexMap<String, Tally>,
 ) -> Result<(), Memory>
     requires all { FindsAll named.now.program found.now }
-    requires texts { length texts.now ≡ length found.now.ends }
-    ensures { OnOk result (report.new.items ≡ report.old.items ++ outcome_parts form
-        named.now.names named.now.program found.now (map string_bytes texts.now)
-        (length found.now.ends)) }
+    requires first { All (λ tally. tally.first < length found.now.ends)
+        (outcome_tallies tallies.now.entries) }
+    ensures { OnOk result (report.new.items ≡ report.old.items ++ tally_parts form
+        named.now.names named.now.program found.now (outcome_tallies tallies.now.entries)
+        (index_map_len tallies.now)) }
 {
-    let mut number = 1;
-    'ends: for at in 0..texts.len() {
-        if is_first(texts, at) {
-            put_part(alloc, report, named, found, form, texts, at, number)?;
-            number += 1;
+    'outcomes: for at in 0..tallies.len() {
+        match tallies.get_index(at) {
+            Some((text, tally)) => {
+                put_part(
+                    alloc,
+                    report,
+                    named,
+                    found,
+                    form,
+                    at + 1,
+                    text.as_str(),
+                    *tally,
+                )?
+            }
+            None => unreachable!(),
         }
     }
     Ok(())
 }
 
-/// Writes the outcome that comes first at a position, with its number.
+/// Writes an outcome, with its number.
 fn put_part(
     alloc: Global,
     report: &mut Vec<u8>,
     named: &NamedProgram,
     found: &Found,
     form: WitnessForm,
-    texts: &[String],
-    at: usize,
     number: usize,
+    text: &str,
+    tally: Tally,
 ) -> Result<(), Memory>
     requires all { FindsAll named.now.program found.now }
-    requires texts { length texts.now ≡ length found.now.ends }
-    requires at { at < length texts.now }
+    requires there { tally.first < length found.now.ends }
     ensures { OnOk result (report.new.items ≡ report.old.items ++ outcome_part form
         named.now.names named.now.program
-        (witness_at found.now.witnesses (end_at found.now at)) number
-        (times (map string_bytes texts.now) at) (text_at (map string_bytes texts.now) at)) }
+        (witness_at found.now.witnesses (end_at found.now tally.first)) number tally.ends
+        text.now) }
 {
-    put_head(alloc, report, number, times(texts, at))?;
-    put_text(report, texts, at)?;
-    let choices = found.witness(alloc, end_in(&named.program, found, at))?;
+    put_head(alloc, report, number, tally.ends)?;
+    report.extend_from_slice(text.as_bytes())?;
+    let choices = found.witness(alloc, end_in(&named.program, found, tally.first))?;
     put_witness(alloc, report, named, form, &choices)?;
     Ok(())
 }
@@ -147,17 +164,6 @@ fn put_head(alloc: Global, report: &mut Vec<u8>, number: usize, ends: usize) -> 
 {
     let line = format!(in alloc; "outcome {number} ends {ends}\n")?;
     report.extend_from_slice(line.as_bytes())?;
-    Ok(())
-}
-
-/// Writes the text at a position.
-#[tactic(auto, using(crate::proofs::Texts::text_there))]
-fn put_text(report: &mut Vec<u8>, texts: &[String], at: usize) -> Result<(), Memory>
-    requires { at < length texts.now }
-    ensures { OnOk result (report.new.items
-        ≡ report.old.items ++ text_at (map string_bytes texts.now) at) }
-{
-    report.extend_from_slice(texts[at].as_bytes())?;
     Ok(())
 }
 
@@ -223,36 +229,4 @@ fn put_history_part(
         Some(moves) => put_history(alloc, report, program.lows.len() as u16, &moves),
         None => unreachable!(),
     }
-}
-
-/// Whether no text before this one is the same.
-#[tactic(auto, using(crate::proofs::Texts::text_there))]
-fn is_first(texts: &[String], at: usize) -> bool
-    requires { at < length texts.now }
-    ensures { result ≡ is_first (map string_bytes texts.now) at }
-{
-    let mut is_among = false;
-    'earlier: for before in 0..at {
-        is_among |= texts[before] == texts[at];
-    }
-    !is_among
-}
-
-/// How many texts are the same as this one.
-#[tactic(auto, using(crate::proofs::Texts::text_there))]
-fn times(texts: &[String], at: usize) -> usize
-    requires { at < length texts.now }
-    ensures { result ≡ times (map string_bytes texts.now) at }
-{
-    let mut times = 0;
-    'texts: for other in 0..texts.len() {
-        times += one_if(texts[other] == texts[at]);
-    }
-    times
-}
-
-fn one_if(is_so: bool) -> usize
-    ensures { result ≡ (if is_so then 1 else 0) }
-{
-    if is_so { 1 } else { 0 }
 }

@@ -1,9 +1,9 @@
-use Rattle.std.proofs.Common.{◌∙◌, List, ap, map, string_bytes}
+use Rattle.std.proofs.Common.{◌∙◌, List, ap}
 use Rattle.std.specs.Prelude.{codes, decimal}
 use Rattle.explore.specs.declared.programs.Choice.{Choice}
 use Rattle.explore.specs.Found.{witness_at}
 use Rattle.explore.specs.States.{played}
-use Rattle.explore_runs.specs.Reports.{end_at, text_at, times, witness_part}
+use Rattle.explore_runs.specs.Reports.{end_at, witness_part}
 use Rattle.explore_runs.proofs.Texts.{part_joined}
 use Rattle.explore_runs.proofs.reports.put_part.Goals as goal
 
@@ -14,10 +14,10 @@ put_witness-requires c =
 
 pub returns : goal.returns
 returns c =
-    let texts = map string_bytes c.args.texts.now in
-    let head = rw c.times.ensures at c.in_ok-put_head.ensures in
+    let text = rw c.as_bytes.ensures.value at c.in_ok-extend_from_slice.ensures.items in
     let witness = rw (c.deref.ensures.value, c.in_ok-choices.ensures, c.end_in.ensures.end) at c.in_ok-put_witness.ensures in
-    part_joined c.args.report.now.items c.put_head.new.report.items c.put_text.new.report.items c.put_witness.new.report.items
-    (codes "outcome ") (decimal c.args.number) (codes " ends ") (decimal (times texts c.args.at)) (text_at texts c.args.at)
-    (witness_part c.args.form c.args.named.now.names c.args.named.now.program (witness_at c.args.found.now.witnesses (end_at c.args.found.now c.args.at)))
-    head c.in_ok-put_text.ensures witness
+    part_joined c.args.report.now.items c.put_head.new.report.items c.extend_from_slice.new.self.items c.put_witness.new.report.items
+    (codes "outcome ") (decimal c.args.number) (codes " ends ") (decimal c.args.tally.ends) c.args.text.now
+    (witness_part c.args.form c.args.named.now.names c.args.named.now.program
+    (witness_at c.args.found.now.witnesses (end_at c.args.found.now c.args.tally.first)))
+    c.in_ok-put_head.ensures text witness
