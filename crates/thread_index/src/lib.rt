@@ -9,7 +9,7 @@
 
 ghost use Rattle.std.specs.Prelude.{◌≡◌, ◌↔◌, ◌-◌, ◌<◌, ◌≤◌, ◌+◌, ℕ, length, max, replicate};
 ghost use Rattle.std.specs.Prelude.{slice_set, is_ok, if◌then◌else◌, IsOk, IsSome, IfOk, IfErr};
-ghost use Rattle.std.specs.Prelude.{IfSome, OnOk, OnErr, Some, None};
+ghost use Rattle.std.specs.Prelude.{IfSome, OnOk, OnErr, Some, None, IsTrue};
 ghost use Rattle.thread_index.specs.Indices.{berth_of, free_berth, holder_at, holder_of, index_of};
 ghost use Rattle.thread_index.specs.Indices.{given_back, IsOneToOne};
 
@@ -224,6 +224,18 @@ impl Indices {
         }
     }
 
+    /// The same indices, of the same threads, in the memory of ones that are needed no more. Ones
+    /// that are the same already are handed back as they are, and of others nothing is kept. On
+    /// `Err` they are gone.
+    pub fn clone_into(&self, spare: Indices) -> Result<Indices, AllocError>
+        ensures { IfOk result (λ copy. copy ≡ self.now) }
+    {
+        if self.limit == spare.limit && are_same(&self.holders, &spare.holders) {
+            return Ok(spare);
+        }
+        self.clone()
+    }
+
     /// Notes the berth of a thread as a hint. Where there are few hints for the berths there are
     /// more from then on, if there is memory for them.
     fn note(&mut self, berth: usize, id: ThreadId)
@@ -278,6 +290,32 @@ impl Clone for Indices {
             hints: self.hints.clone()?,
             limit: self.limit,
         })
+    }
+}
+
+/// Whether these are the same holders at the same berths.
+fn are_same(holders: &[Option<ThreadId>], others: &[Option<ThreadId>]) -> bool
+    ensures { IsTrue result → holders.now ≡ others.now }
+{
+    if holders.len() != others.len() {
+        return false;
+    }
+    for (berth, holder) in holders.iter().enumerate() {
+        if !is_same(*holder, others[berth]) {
+            return false;
+        }
+    }
+    true
+}
+
+/// Whether this is the same holder, or nobody both times.
+fn is_same(holder: Option<ThreadId>, other: Option<ThreadId>) -> bool
+    ensures { IsTrue result → holder ≡ other }
+{
+    match (holder, other) {
+        (Some(id), Some(other)) => id.0 == other.0,
+        (None, None) => true,
+        _ => false,
     }
 }
 
