@@ -6,7 +6,7 @@
 #![tactic(auto)]
 
 ghost use Rattle.std.specs.Prelude.{◌≡◌, ◌↔◌, ◌+◌, ◌<◌, ◌≤◌, ℕ, length, IsTrue, IfSome, IfNone};
-ghost use Rattle.std.specs.Prelude.{OnOk, OnErr, slice_get};
+ghost use Rattle.std.specs.Prelude.{OnOk, OnErr, IfOk, slice_get};
 ghost use Rattle.std.specs.Bool.{OnFalse};
 ghost use Rattle.wait_lines.specs.declared.Role.{Role};
 ghost use Rattle.wait_lines.specs.Lines.{line, after_join, after_leave, StandsIn, Stands, StandsNowhere};
@@ -195,6 +195,17 @@ impl Lines {
         self.links.unlink(node);
         self.links.link(node, Stop::Free);
         self.table.release(&self.links, before);
+    }
+
+    /// The same threads in the same lines, at the same nodes, with room for as many, in the memory
+    /// of lines that are needed no more, whoever stands in those. On `Err` they are gone.
+    pub fn clone_into(&self, spare: Lines) -> Result<Lines, AllocError>
+        ensures { IfOk result (λ copy. copy ≡ self.now) }
+    {
+        Ok(Lines {
+            links: self.links.clone_into(spare.links)?,
+            table: self.table.clone_into(spare.table)?,
+        })
     }
 }
 

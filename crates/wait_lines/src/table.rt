@@ -1,7 +1,7 @@
 //! Which record each line has.
 
 ghost use Rattle.std.specs.Prelude.{◌≡◌, ◌⊎◌, ◌<◌, [], ◌∷◌, length, true, false, IfSome, IfNone};
-ghost use Rattle.std.specs.Prelude.{OnOk, OnErr, ℕ, suc};
+ghost use Rattle.std.specs.Prelude.{OnOk, OnErr, IfOk, ℕ, suc};
 ghost use Rattle.wait_lines.specs.Links.{chart, is_node, is_of, ends_at, BeginsAt, IsThere};
 ghost use Rattle.wait_lines.specs.Rows.{row_at};
 ghost use Rattle.wait_lines.specs.Tables.{bucket_of, with_move, with_record, released, IsInRow};
@@ -187,6 +187,17 @@ impl Table {
                 self.put(line as u32, ends.monitor, ends.role);
             }
         }
+    }
+
+    /// The same records in the same rows, in the memory of a table that is needed no more. On `Err`
+    /// that table is gone.
+    pub(crate) fn clone_into(&self, spare: Table) -> Result<Table, AllocError>
+        ensures { IfOk result (λ copy. copy ≡ self.now) }
+    {
+        Ok(Table {
+            rows: self.rows.clone_into(spare.rows)?,
+            buckets: self.buckets,
+        })
     }
 }
 
