@@ -16,5 +16,6 @@ pub mod NodesKept
 pub mod OwnedCounts
 pub mod WaitCounts
 pub mod Copies
+pub mod Overwriting
 pub mod Fronts
 pub mod Apart

@@ -91,3 +91,9 @@ LeadToRecords records keys = (t k : ℕ) → lookup (nat_eq t) keys ≡ Some k �
 -- each record has the key of its thread
 abbrev pub HaveKeys : Slab Record → List (ℕ × ℕ) → Type 0
 HaveKeys records keys = (k : ℕ) (r : Record) → get records k ≡ Some r → lookup (nat_eq r.thread.0) keys ≡ Some k
+
+-- each of these records is written over one of its thread, in the slot of its key, and no other slot has changed
+pub record AreWrittenOver (records old new : Slab Record) : Type 0 where
+  pub led : (k : ℕ) (r : Record) → get records k ≡ Some r → LeadsTo old r.thread.0 k
+  pub written : (k : ℕ) (r : Record) → get records k ≡ Some r → get new k ≡ Some r
+  pub others : (k : ℕ) → get records k ≡ None → get new k ≡ get old k

@@ -313,6 +313,23 @@ impl Fats {
             Action::End => Ok(self.end(thread)),
         }
     }
+
+    /// The same fat monitors, threads and lines, at the same moment, with room for as many binds, in
+    /// the memory of ones that are needed no more, whatever those are. On `Err` they are gone.
+    pub fn clone_into(&self, mut spare: Fats) -> Result<Fats, AllocError>
+        ensures { IfOk result (λ copy. copy ≡ self.now) }
+    {
+        spare.monitors.clear();
+        let room = self.monitors.len() + self.spare as usize;
+        spare.monitors.reserve(room)?;
+        spare.monitors.extend_from_slice(&self.monitors)?;
+        spare.posts = self.posts.clone_into(spare.posts)?;
+        spare.lines = self.lines.clone_into(spare.lines)?;
+        spare.moment = self.moment;
+        spare.limit = self.limit;
+        spare.spare = self.spare;
+        Ok(spare)
+    }
 }
 
 impl Clone for Fats {

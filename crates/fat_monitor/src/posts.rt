@@ -1,7 +1,7 @@
 //! The attached threads: where each stands, and whether it is interrupted.
 
 ghost use Rattle.std.specs.Prelude.{◌≡◌, ◌<◌, ◌↔◌, OnOk, OnErr, IfSome, IsErrOf, IsSome, Some, None};
-ghost use Rattle.std.specs.Prelude.{IsTrue, cond, false, is_some, nat_eq, ℕ};
+ghost use Rattle.std.specs.Prelude.{IsTrue, IfOk, cond, false, is_some, nat_eq, ℕ};
 ghost use Rattle.std.specs.Map.{lookup};
 ghost use Rattle.std.specs.Option.{unwrap_or};
 ghost use Rattle.std.specs.FinMap as map;
@@ -9,8 +9,8 @@ ghost use Rattle.lock_word.specs.declared.ThreadId.{ThreadId};
 ghost use Rattle.fat_monitor.specs.declared.actions.Post.{Post};
 ghost use Rattle.fat_monitor.specs.FatState.{waits, wait_count};
 ghost use Rattle.fat_monitor.specs.Slots.{nobody_posted, with_thread_posted, without_thread_posted};
-ghost use Rattle.slab.specs.Slab.{ContainsKey};
-ghost use Rattle.fat_monitor.specs.Slots.{HaveKeys, LeadsTo, LeadToRecords};
+ghost use Rattle.slab.specs.Slab.{ContainsKey, Updates};
+ghost use Rattle.fat_monitor.specs.Slots.{HaveKeys, LeadsTo, LeadToRecords, AreWrittenOver};
 ghost use Rattle.fat_monitor.specs.Slots.{with_parked, count_of, one_less, one_more, handed_over};
 
 use crate::{AttachFault, Post};
@@ -170,6 +170,34 @@ fn note_one(hints: &mut Hints, thread: ThreadId, key: usize) {
     if let Ok(position) = u32::try_from(key) {
         hints.note(thread.0, position);
     }
+}
+
+// Writes records over those of the same threads, each in the slot of its key; false where a record
+// has no such slot.
+fn write_all_over(over: &mut Slab<Record>, records: &Slab<Record>) -> bool
+    ensures { IsTrue result → AreWrittenOver records.now over.old over.new }
+{
+    for (key, record) in records.iter() {
+        if !write_over(over, key, *record) {
+            return false;
+        }
+    }
+    true
+}
+
+// Writes a record over that of the same thread, where the slot of this key has one.
+fn write_over(over: &mut Slab<Record>, key: usize, from: Record) -> bool
+    ensures led { IsTrue result → LeadsTo over.old from.thread.0 key }
+    ensures written { IsTrue result → Updates over.old over.new key (Some from) }
+{
+    let Some(at) = over.get_mut(key) else {
+        return false;
+    };
+    if at.thread.0 != from.thread.0 {
+        return false;
+    }
+    *at = from;
+    true
 }
 
 /// One where a thread with this post stands in a wait set.
@@ -397,6 +425,20 @@ impl Posts {
             unreachable!();
         };
         self.waiting -= one_waiting(record.post);
+    }
+
+    /// The same records of the same threads, in the memory of ones that are needed no more. Where
+    /// those are of the same threads, nothing but the records is written; else nothing is kept of
+    /// them. On `Err` they are gone.
+    pub(crate) fn clone_into(&self, mut spare: Posts) -> Result<Posts, AllocError>
+        ensures { IfOk result (λ copy. copy ≡ self.now) }
+    {
+        let are_as_many = spare.records.len() == self.records.len();
+        if are_as_many && write_all_over(&mut spare.records, &self.records) {
+            spare.waiting = self.waiting;
+            return Ok(spare);
+        }
+        self.clone()
     }
 }
 
