@@ -359,6 +359,23 @@ impl World {
     {
         self.fats.object(monitor).unwrap_or(ObjectId(0))
     }
+
+    /// A world that is the same, in the memory of one that is needed no more, whatever that one is:
+    /// nothing but the memory is left of it. Where it has the same threads at the same indices, as
+    /// one that was a copy of this world before, little or no memory is asked for. On want of
+    /// memory it is gone, and this world is as it was.
+    pub fn clone_into(&self, mut spare: World) -> Result<World, AllocError>
+        ensures { IfOk result (λ copy. copy ≡ self.now) }
+    {
+        spare.split = self.split;
+        spare.words.clear();
+        spare.words.extend_from_slice(&self.words)?;
+        spare.indices = self.indices.clone_into(spare.indices)?;
+        spare.places.clear();
+        spare.places.extend_from_slice(&self.places)?;
+        spare.fats = self.fats.clone_into(spare.fats)?;
+        Ok(spare)
+    }
 }
 
 /// What a thread at this place is doing, where it is out of every fat action.
