@@ -17,6 +17,7 @@ macro_rules! begins {
     };
 }
 
+mod copies;
 mod memory;
 mod names;
 mod readers;
