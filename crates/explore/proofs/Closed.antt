@@ -28,12 +28,8 @@ use Rattle.step_core.specs.World.{WorldState, place_at}
 use Rattle.explore.specs.declared.programs.Program.{Program}
 use Rattle.explore.specs.declared.programs.Choice.{Choice}
 use Rattle.explore.specs.declared.programs.Choice.TheVariants as choice
-use Rattle.explore.specs.Allowed.{allows, may_begin, may_expire, may_go, may_wake}
+use Rattle.explore.specs.Allowed.{allows, doing_at, may_begin, may_expire, may_go, may_wake}
 use Rattle.explore.specs.States.{ProgramState, after, after_step, begin_of, call_below, chosen, step_at, step_of_thread, thread_of}
-
--- what a thread of a world is doing
-abbrev pub doing_at : WorldState → ThreadId → Option Doing
-doing_at w t = option_map (λ (x : Thread). x.act) ((shown w).thread t)
 
 -- this answer is a fault
 abbrev Refuses : AfterStep → Type 0

@@ -5,7 +5,7 @@ use Rattle.std.proofs.Common.{append_assoc, append-nil, ◌≤◌}
 use Rattle.std.specs.Prelude.{map}
 use Rattle.std.specs.Int.{w32, w64, to_le_bytes, from_le_bytes}
 use Rattle.std.proofs.lemmas.Nat.{from_le_bytes-to_le_bytes_4, from_le_bytes-to_le_bytes_8}
-use Rattle.std.proofs.lemmas.Bool.{ltb-true}
+use Rattle.std.proofs.lemmas.Bool.{ltb-true, ltb-false}
 use Rattle.std.proofs.lemmas.List.{map-append, take_more}
 use Rattle.fat_monitor.specs.declared.actions.Cause.{Cause}
 use Rattle.fat_monitor.specs.declared.actions.Cause.TheVariants as cause
@@ -43,44 +43,55 @@ small_append : (xs ys : List ℕ) → AreSmall xs → AreSmall ys → AreSmall (
 small_append [] ys h g = g
 small_append (x ∷ xs) ys h g = (h.0, small_append xs ys h.1 g)
 
-cause_small : (c : Cause) → cause_number c + 1 < 2 ^ 64
-cause_small cause.NoMonitor = omega arith
-cause_small cause.Memory = omega arith
-cause_small cause.TooDeep = omega arith
-cause_small cause.StillOwner = omega arith
-cause_small cause.NoThread = omega arith
+cause_byte : (c : Cause) → cause_number c + 1 < 254
+cause_byte cause.NoMonitor = omega arith
+cause_byte cause.Memory = omega arith
+cause_byte cause.TooDeep = omega arith
+cause_byte cause.StillOwner = omega arith
+cause_byte cause.NoThread = omega arith
 
-reply_small : (r : Reply) → reply_number r + 1 < 2 ^ 64
-reply_small reply.Entered = omega arith
-reply_small reply.Exited = omega arith
-reply_small reply.WaitOver = omega arith
-reply_small reply.Interrupted = omega arith
-reply_small reply.Notified = omega arith
-reply_small reply.Yes = omega arith
-reply_small reply.No = omega arith
-reply_small reply.Done = omega arith
-reply_small reply.Ended = omega arith
-reply_small reply.IllegalMonitorState = omega arith
-reply_small reply.IllegalArgument = omega arith
-reply_small (reply.Refused c) = cause_small c
+pub reply_byte : (r : Reply) → reply_number r + 1 < 254
+reply_byte reply.Entered = omega arith
+reply_byte reply.Exited = omega arith
+reply_byte reply.WaitOver = omega arith
+reply_byte reply.Interrupted = omega arith
+reply_byte reply.Notified = omega arith
+reply_byte reply.Yes = omega arith
+reply_byte reply.No = omega arith
+reply_byte reply.Done = omega arith
+reply_byte reply.Ended = omega arith
+reply_byte reply.IllegalMonitorState = omega arith
+reply_byte reply.IllegalArgument = omega arith
+reply_byte (reply.Refused c) = cause_byte c
 
-answer_small : (o : Option Reply) → answer_number o < 2 ^ 64
+answer_small : (o : Option Reply) → answer_number o < 254
 answer_small None = omega arith
-answer_small (Some r) = reply_small r
+answer_small (Some r) = reply_byte r
+
+-- the number of a reply is one byte
+one_byte : (n : ℕ) → n < 254 → packed_number n ≡ n ∷ []
+one_byte n lt = by (nat_lt n 254) refl
+  where
+    by : (b : Bool) → nat_lt n 254 ≡ b → (if b then n ∷ [] else packed_long n) ≡ n ∷ []
+    by true e = refl
+    by false e = absurd (let le = ltb-false n 254 e in omega (arith, lt, le))
 
 small_answers : (os : List (Option Reply)) → AreSmall (map answer_number os)
 small_answers [] = tt
-small_answers (o ∷ os) = (answer_small o, small_answers os)
+small_answers (o ∷ os) = (let lt = answer_small o in omega (arith, lt), small_answers os)
 
--- one answer more
-pub answers_more : (old mid new : List ℕ) (os : List (Option Reply)) (i : ℕ) (o : Option Reply) → i < length os
-    → mid ≡ old ++ packed (map answer_number (take i os)) → new ≡ mid ++ packed_number (answer_number (get_or os i o))
+-- one answer more, which is a byte
+pub answers_more : (old mid new : List ℕ) (os : List (Option Reply)) (i n : ℕ) (o : Option Reply) → i < length os
+    → mid ≡ old ++ packed (map answer_number (take i os)) → n ≡ answer_number (get_or os i o) → new ≡ mid ++ n ∷ []
     → new ≡ old ++ packed (map answer_number (take (i + 1) os))
-answers_more old mid new os i o lt e f =
+answers_more old mid new os i n o lt e is f =
     let one : map answer_number (take (i + 1) os) ≡ map answer_number (take i os) ++ answer_number (get_or os i o) ∷ [] =
     ap (map answer_number) (take_more os i o lt) ∙ map-append answer_number (take i os) (get_or os i o ∷ []) in
-    f ∙ ap (λ (b : List ℕ). b ++ packed_number (answer_number (get_or os i o))) e
-    ∙ append_assoc old (packed (map answer_number (take i os))) (packed_number (answer_number (get_or os i o)))
+    let byte : n ∷ [] ≡ packed_number (answer_number (get_or os i o)) =
+    ap (λ (k : ℕ). k ∷ []) is ∙ sym (one_byte (answer_number (get_or os i o)) (answer_small (get_or os i o))) in
+    f ∙ ap (λ (b : List ℕ). b ++ n ∷ []) e
+    ∙ append_assoc old (packed (map answer_number (take i os))) (n ∷ [])
+    ∙ ap (λ (b : List ℕ). old ++ (packed (map answer_number (take i os)) ++ b)) byte
     ∙ ap (λ (b : List ℕ). old ++ b) (sym (packed_more (map answer_number (take i os)) (answer_number (get_or os i o))))
     ∙ ap (λ (ns : List ℕ). old ++ packed ns) (sym one)
 

@@ -1,9 +1,18 @@
 -- Which choices a thread may make, by what it is doing.
 use Rattle.std.specs.Prelude.{ℕ, Bool, true, false, not, nat_lt, Option, Some, None}
+use Rattle.std.specs.Option.{option_map}
+use Rattle.lock_word.specs.declared.ThreadId.{ThreadId}
 use Rattle.step_core.specs.declared.machine.Doing.{Doing}
 use Rattle.step_core.specs.declared.machine.Doing.TheVariants as doing
+use Rattle.step_core.specs.Machine.{Thread}
+use Rattle.step_core.specs.Shown.{shown}
+use Rattle.step_core.specs.World.{WorldState}
 use Rattle.explore.specs.declared.programs.Choice.{Choice}
 use Rattle.explore.specs.declared.programs.Choice.TheVariants as choice
+
+-- what a thread of a world is doing; None where it is not live
+abbrev pub doing_at : WorldState → ThreadId → Option Doing
+doing_at w t = option_map (λ (x : Thread). x.act) ((shown w).thread t)
 
 -- whether a wait with this deadline is over; one without is not
 abbrev pub is_over : ℕ → Option ℕ → Bool

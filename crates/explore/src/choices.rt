@@ -7,8 +7,8 @@ ghost use Rattle.explore.specs.Searches.{IsSifted};
 ghost use Rattle.step_core.specs.Sound.{IsSound};
 
 use crate::programs::{Choice, Program};
-use crate::states::State;
-use lock_word::Memory;
+use crate::states::{State, thread_of};
+use lock_word::{Memory, ThreadId};
 use std::alloc::Global;
 
 /// Notes the number of a state that is an end.
@@ -35,8 +35,16 @@ pub(crate) fn sift(
         possible.new.items) }
 {
     possible.clear();
+    // The choices of a thread stand side by side, so what it is doing is looked up once for them.
+    let mut thread = ThreadId(0);
+    let mut doing = state.world().doing(thread);
     'sifting: for choice in choices {
-        let may = state.may_make(program, *choice);
+        let next = thread_of(*choice);
+        if next.0 != thread.0 {
+            thread = next;
+            doing = state.world().doing(next);
+        }
+        let may = state.may_make(program, *choice, doing);
         note_choice(possible, may, *choice)?;
     }
     Ok(())

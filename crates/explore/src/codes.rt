@@ -48,23 +48,25 @@ pub(crate) fn push_positions(positions: &[usize], numbers: &mut Vec<u64>) -> Res
     Ok(())
 }
 
-/// Puts the number of each reply, 0 where there is none, as bytes behind those that are there.
+/// Puts the number of each reply, 0 where there is none, as a byte behind those that are there.
+/// Room for all is asked for at once, since most bytes of a state are these.
 pub(crate) fn push_answers(answers: &[Option<Reply>], bytes: &mut Vec<u8>) -> Result<(), Memory>
     ensures bytes { OnOk result (bytes.new.items
         ≡ bytes.old.items ++ packed (map answer_number answers.now)) }
 {
+    bytes.reserve(answers.len())?;
     'answers: for answer in answers {
-        push_number(answer_number(*answer), bytes)?;
+        bytes.push_reserved(answer_number(*answer));
     }
     Ok(())
 }
 
 #[inline(always)]
-fn answer_number(answer: Option<Reply>) -> u64
+fn answer_number(answer: Option<Reply>) -> u8
     ensures { result ≡ answer_number answer }
 {
     match answer {
-        Some(reply) => u64::from(reply.number()) + 1,
+        Some(reply) => reply.number() + 1,
         None => 0,
     }
 }

@@ -35,6 +35,8 @@ struct Search {
     codes: IndexSet<Code>,
     nodes: Vec<Node>,
     queue: VecDeque<State>,
+    // States that were found before, kept for their memory: a copy takes that of one of them.
+    spares: Vec<State>,
     // The numbers and bytes of the code that was made last: the next one takes their room.
     numbers: Vec<u64>,
     bytes: Vec<u8>,
@@ -43,7 +45,7 @@ struct Search {
 
 impl Search {
     /// Takes in the state that a choice led to from the state `parent`, and answers its number. One
-    /// that was found before is let go.
+    /// that was found before is spare.
     #[inline(always)]
     fn add(
         &mut self,
@@ -68,7 +70,7 @@ impl Search {
         if is_new {
             self.queue.push_back(made)?;
         } else {
-            drop(made);
+            self.spares.push(made)?;
         }
         Ok(number)
     }
@@ -107,8 +109,7 @@ impl Search {
         Ok((number, is_new))
     }
 
-    /// Tries a choice in the state whose number is `at`. The state is used up, and comes back only
-    /// where the choice cannot be made there.
+    /// Tries a choice in the state whose number is `at`. The state is used up.
     #[inline(always)]
     fn try_choice(
         &mut self,
@@ -117,7 +118,7 @@ impl Search {
         state: State,
         at: u32,
         choice: Choice,
-    ) -> Result<(Tried, Option<State>), Memory>
+    ) -> Result<Tried, Memory>
         requires search { IsSearch program.now self.old.codes.keys (witnesses self.old.nodes.items)
             self.old.queue.items (at + 1) }
         requires here { IsAt program.now (witnesses self.old.nodes.items) at state }
@@ -125,17 +126,16 @@ impl Search {
             (witnesses self.new.nodes.items) self.new.queue.items (at + 1)) }
         ensures stays { OnOk result (StaysIn (witnesses self.old.nodes.items)
             (witnesses self.new.nodes.items)) }
-        ensures back { IfOk result (λ r. IfSome r.1 (λ s. s ≡ state)) }
-        ensures tried { IfOk result (λ r.
-            IsTried program.now (witnesses self.new.nodes.items)
-            (behind (witnesses self.new.nodes.items) at) state choice r.0) }
+        ensures tried { IfOk result (IsTried program.now (witnesses self.new.nodes.items)
+            (behind (witnesses self.new.nodes.items) at) state choice) }
     {
         let mut next = state;
         if !next.make(program, choice)? {
-            return Ok((Tried::Refused, Some(next)));
+            self.spares.push(next)?;
+            return Ok(Tried::Refused);
         }
         let number = self.add(alloc, program, next, at, choice)?;
-        Ok((tried_from(at, number), None))
+        Ok(tried_from(at, number))
     }
 
     /// Tries choices in copies of the state whose number is `at`.
@@ -160,11 +160,9 @@ impl Search {
     {
         let mut is_end = true;
         let mut made = 0;
-        let mut spare = None;
         'choosing: for choice in choices {
-            let next = copy_of(spare, state)?;
-            let (tried, back) = self.try_choice(alloc, program, next, at, *choice)?;
-            spare = back;
+            let next = copy_of(&mut self.spares, state)?;
+            let tried = self.try_choice(alloc, program, next, at, *choice)?;
             is_end &= !tried.changes();
             made += tried.steps();
         }
@@ -233,7 +231,7 @@ impl Search {
             (front.now ++ last ∷ []) x.is_end x.made) }
     {
         let copied = self.expand_copies(alloc, program, front, &state, at)?;
-        let (tried, _) = self.try_choice(alloc, program, state, at, last)?;
+        let tried = self.try_choice(alloc, program, state, at, last)?;
         Ok(Expanded {
             is_end: copied.is_end & !tried.changes(),
             made: copied.made + tried.steps(),
@@ -257,6 +255,7 @@ impl Search {
             codes,
             nodes: Vec::new(alloc),
             queue,
+            spares: Vec::new(alloc),
             numbers,
             bytes,
         })

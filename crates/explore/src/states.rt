@@ -6,11 +6,11 @@ ghost use Rattle.explore.specs.declared.programs.Choice.TheVariants as Choice;
 ghost use Rattle.std.specs.Prelude.{is_some};
 ghost use Rattle.explore.specs.States.{opening, after, did_of, played, played_from};
 ghost use Rattle.explore.specs.States.{step_at, step_for, end_of};
-ghost use Rattle.explore.specs.States.{moved, replied, chosen};
+ghost use Rattle.explore.specs.States.{moved, replied, chosen, thread_of};
 ghost use Rattle.explore.specs.Codes.{code_of, front_numbers, IsCoded};
 ghost use Rattle.step_core.specs.Numbers.{IsNumbered};
 ghost use Rattle.explore.specs.Wants.{wants_memory};
-ghost use Rattle.explore.specs.Allowed.{allows, is_over};
+ghost use Rattle.explore.specs.Allowed.{allows, doing_at, is_over};
 ghost use Rattle.step_core.specs.Sound.{IsSound};
 
 use crate::codes::{Code, push_answers, push_positions, put_packed};
@@ -107,6 +107,20 @@ impl State {
         push_positions(&self.nexts, numbers)
     }
 
+    /// The same state, in the memory of one that is needed no more. On want of memory that one is
+    /// gone, too.
+    fn clone_into(&self, mut spare: State) -> Result<State, AllocError>
+        ensures { IfOk result (λ copy. copy ≡ self.now) }
+    {
+        spare.told = self.told;
+        spare.nexts.clear();
+        spare.nexts.extend_from_slice(&self.nexts)?;
+        spare.replies.clear();
+        spare.replies.extend_from_slice(&self.replies)?;
+        spare.world = self.world.clone_into(spare.world)?;
+        Ok(spare)
+    }
+
     /// Makes a choice. False: it cannot be made here, and nothing changes. On want of memory the
     /// state is not to be used any more.
     pub fn make(&mut self, program: &Program, choice: Choice) -> Result<bool, Memory>
@@ -159,16 +173,12 @@ impl State {
 
     /// Whether a choice may be made here, as far as what its thread is doing tells. Where this says
     /// no it cannot be made; where it says yes, making it may show that it cannot.
-    pub(crate) fn may_make(&self, program: &Program, choice: Choice) -> bool
-        requires { IsSound self.now.world }
+    pub(crate) fn may_make(&self, program: &Program, choice: Choice, doing: Option<Doing>) -> bool
+        requires sound { IsSound self.now.world }
+        requires doing { doing ≡ doing_at self.now.world (thread_of (chosen choice)) }
         ensures { result ≡ false → after program.now self.now choice ≡ None }
     {
-        if self.step_for(program, choice).is_none() {
-            return false;
-        }
-        // A tick is allowed whatever a thread does; for it this is the first thread.
-        let thread = ThreadId(chosen(choice) as u32);
-        allows(choice, self.world.doing(thread), self.world.now())
+        self.step_for(program, choice).is_some() && allows(choice, doing, self.world.now())
     }
 
     /// Notes that a choice was made, and the reply of its thread's call, if it has one.
@@ -322,6 +332,13 @@ fn is_over(deadline: Option<u128>, now: u64) -> bool
     }
 }
 
+/// The thread that a choice is tried for: a tick, which is no thread's, for the first.
+pub(crate) fn thread_of(choice: Choice) -> ThreadId
+    ensures { result ≡ thread_of (chosen choice) }
+{
+    ThreadId(chosen(choice) as u32)
+}
+
 /// The thread of a choice.
 fn chosen(choice: Choice) -> usize
     ensures { result ≡ chosen choice }
@@ -364,14 +381,13 @@ impl Clone for State {
     }
 }
 
-/// A copy of a state: the one that is spare, or else a new one.
+/// A copy of a state, in the memory of one that is spare where there is one.
 #[inline(always)]
-pub(crate) fn copy_of(spare: Option<State>, state: &State) -> Result<State, Memory>
-    requires { IfSome spare (λ s. s ≡ state.now) }
+pub(crate) fn copy_of(spares: &mut Vec<State>, state: &State) -> Result<State, Memory>
     ensures { IfOk result (λ s. s ≡ state.now) }
 {
-    match spare {
-        Some(copy) => Ok(copy),
+    match spares.pop() {
+        Some(spare) => Ok(state.clone_into(spare)?),
         None => Ok(state.clone()?),
     }
 }

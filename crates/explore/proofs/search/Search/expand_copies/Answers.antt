@@ -13,7 +13,6 @@ pub choosing-init : goal.choosing-init
 choosing-init c = record {
   search = c.requires.search;
   stays = stays_still (witnesses c.args.self.now.nodes.items);
-  spare = tt;
   expanded = none_expanded c.args.program.now (witnesses c.args.self.now.nodes.items) (behind (witnesses c.args.self.now.nodes.items) c.args.at) c.args.state.now;
   few = omega arith;
 }
@@ -27,7 +26,6 @@ choosing-preserved c =
     record {
       search = c.in_ok-tried.ensures.search;
       stays = stays_then _ _ _ c.choosing.invariant.stays c.in_ok-tried.ensures.stays;
-      spare = rw c.in_ok-next.ensures at c.in_ok-tried.ensures.back;
       expanded = rw (take_more cs i (choice.Begin 0) c.choosing-test.true)
           (expanded_more c.args.program.now (witnesses c.choosing.self.nodes.items) (witnesses c.try_choice.new.self.nodes.items)
           (behind (witnesses c.try_choice.new.self.nodes.items) c.args.at) c.args.state.now
