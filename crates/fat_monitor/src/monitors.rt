@@ -314,8 +314,8 @@ impl Fats {
         }
     }
 
-    /// The same fat monitors, threads and lines, at the same moment, with room for as many binds, in
-    /// the memory of ones that are needed no more, whatever those are. On `Err` they are gone.
+    /// The same fat monitors, threads and lines, at the same moment, with room for as many binds,
+    /// in the memory of ones that are needed no more, whatever those are. On `Err` they are gone.
     pub fn clone_into(&self, mut spare: Fats) -> Result<Fats, AllocError>
         ensures { IfOk result (λ copy. copy ≡ self.now) }
     {
