@@ -24,7 +24,8 @@ use step_core::{Atomic, Cause, Did, Doing, Step, World};
 /// A state of a program: its world, how far each thread and the clock have come, and the replies.
 #[derive(Drop)]
 pub struct State {
-    world: World,
+    // In a box, since a search moves states more often than it copies them.
+    world: Box<World>,
     nexts: Vec<usize>,
     replies: Vec<Option<Reply>>,
     told: usize,
@@ -40,7 +41,7 @@ impl Model for State {
     ghost coded = { Prim.hlevel (codes, map.code) };
 
     ghost view = { λ s. record {
-      world = s.world;
+      world = s.world.value;
       nexts = s.nexts.items;
       replies = s.replies.items;
       told = s.told;
@@ -55,7 +56,7 @@ impl State {
         let nexts = Vec::from_slice(alloc, &program.starts)?;
         let replies = no_replies(alloc, program.calls.len())?;
         Ok(State {
-            world: first_world(alloc, program)?,
+            world: Box::new(alloc, first_world(alloc, program)?)?,
             nexts,
             replies,
             told: 0,
@@ -107,18 +108,17 @@ impl State {
         push_positions(&self.nexts, numbers)
     }
 
-    /// The same state, in the memory of one that is needed no more. On want of memory that one is
-    /// gone, too.
-    fn clone_into(&self, mut spare: State) -> Result<State, AllocError>
-        ensures { IfOk result (λ copy. copy ≡ self.now) }
+    /// Makes `copy` the same state, in the memory that it has. On want of memory the copy is not to
+    /// be used any more.
+    fn clone_into(&self, copy: &mut State) -> Result<(), AllocError>
+        ensures { OnOk result (copy.new ≡ self.now) }
     {
-        spare.told = self.told;
-        spare.nexts.clear();
-        spare.nexts.extend_from_slice(&self.nexts)?;
-        spare.replies.clear();
-        spare.replies.extend_from_slice(&self.replies)?;
-        spare.world = self.world.clone_into(spare.world)?;
-        Ok(spare)
+        copy.told = self.told;
+        copy.nexts.clear();
+        copy.nexts.extend_from_slice(&self.nexts)?;
+        copy.replies.clear();
+        copy.replies.extend_from_slice(&self.replies)?;
+        World::clone_into(&self.world, &mut copy.world)
     }
 
     /// Makes a choice. False: it cannot be made here, and nothing changes. On want of memory the
@@ -387,7 +387,10 @@ pub(crate) fn copy_of(spares: &mut Vec<State>, state: &State) -> Result<State, M
     ensures { IfOk result (λ s. s ≡ state.now) }
 {
     match spares.pop() {
-        Some(spare) => Ok(state.clone_into(spare)?),
+        Some(mut copy) => {
+            state.clone_into(&mut copy)?;
+            Ok(copy)
+        }
         None => Ok(state.clone()?),
     }
 }

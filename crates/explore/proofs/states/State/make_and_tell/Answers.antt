@@ -7,7 +7,7 @@ use Rattle.explore.proofs.states.State.make_and_tell.Goals as goal
 pub returns-clause-made : goal.returns-clause-made
 returns-clause-made c =
     let s : ProgramState = record {
-      world = c.self.inside.world;
+      world = c.self.inside.world.value;
       nexts = c.self.inside.nexts.items;
       replies = c.self.inside.replies.items;
       told = c.self.inside.told;
@@ -15,13 +15,14 @@ returns-clause-made c =
     let a : step_for c.args.program.now c.args.self.now c.args.choice ≡ Some c.in-Some.step = cc in
     let b : wants_memory c.in-Ok.did.atomic ≡ false = cc in
     let e = rw (← c.self.view_is) at a in
+    let exact = rw c.deref_mut.ensures.value at c.in-Ok.ensures.exact.1 in
     rw c.note.ensures (rw (← c.self.view_is)
-    (made c.args.program.now s c.args.choice c.in-Some.step c.step.new.self c.in-Ok.ensures.exact.0 c.in-Ok.did e c.in-Ok.ensures.exact.1 b))
+    (made c.args.program.now s c.args.choice c.in-Some.step c.step.new.self c.in-Ok.ensures.exact.0 c.in-Ok.did e exact b))
 
 pub returns-clause-told : goal.returns-clause-told
 returns-clause-told c =
     let s : ProgramState = record {
-      world = c.self.inside.world;
+      world = c.self.inside.world.value;
       nexts = c.self.inside.nexts.items;
       replies = c.self.inside.replies.items;
       told = c.self.inside.told;
@@ -29,5 +30,6 @@ returns-clause-told c =
     let a : step_for c.args.program.now c.args.self.now c.args.choice ≡ Some c.in-Some.step = cc in
     let b : wants_memory c.in-Ok.did.atomic ≡ false = cc in
     let e = rw (← c.self.view_is) at a in
+    let exact = rw c.deref_mut.ensures.value at c.in-Ok.ensures.exact.1 in
     rw (← c.self.view_is)
-    (told c.args.program.now s c.args.choice c.in-Some.step c.step.new.self c.in-Ok.ensures.exact.0 c.in-Ok.did e c.in-Ok.ensures.exact.1 b)
+    (told c.args.program.now s c.args.choice c.in-Some.step c.step.new.self c.in-Ok.ensures.exact.0 c.in-Ok.did e exact b)
