@@ -1,7 +1,7 @@
 //! The fat monitors and the threads that may use them.
 
 ghost use Rattle.std.specs.Prelude.{false, ◌≡◌, ◌-◌, ◌<◌, ◌≤◌, ◌↔◌, IfOk, IfErr, OnErr, IsErrOf};
-ghost use Rattle.std.specs.Prelude.{OnOk, length, [], ◌∷◌, ◌++◌, Some, None, Option, Ok};
+ghost use Rattle.std.specs.Prelude.{OnOk, length, [], ◌∷◌, ◌++◌, Some, None, Option, Ok, vec_capacity};
 ghost use Rattle.std.specs.FinMap as map;
 ghost use Rattle.lock_word.specs.declared.ThreadId.{ThreadId};
 ghost use Rattle.fat_monitor.specs.declared.actions.Action.{Action};
@@ -314,22 +314,37 @@ impl Fats {
         }
     }
 
-    /// The same fat monitors, threads and lines, at the same moment, with room for as many binds,
-    /// in the memory of ones that are needed no more, whatever those are. On `Err` they are gone.
-    pub fn clone_into(&self, mut spare: Fats) -> Result<Fats, AllocError>
-        ensures { IfOk result (λ copy. copy ≡ self.now) }
+    /// Makes `copy` the same fat monitors, threads and lines, at the same moment, with room for as
+    /// many binds, in the memory that it has, whatever it was. On `Err` no monitor is bound in it
+    /// and no thread attached, and no monitor will be bound.
+    pub fn clone_into(&self, copy: &mut Fats) -> Result<(), AllocError>
+        ensures same { OnOk result (copy.new ≡ self.now) }
+        ensures empty { OnErr result (copy.new ≡ opened 0) }
     {
-        spare.monitors.clear();
+        let alloc = *self.monitors.allocator();
         let room = self.monitors.len() + self.spare as usize;
-        spare.monitors.reserve(room)?;
-        spare.monitors.extend_from_slice(&self.monitors)?;
-        spare.posts = self.posts.clone_into(spare.posts)?;
-        spare.lines = self.lines.clone_into(spare.lines)?;
-        spare.moment = self.moment;
-        spare.limit = self.limit;
-        spare.spare = self.spare;
-        Ok(spare)
+        if copy_all(&self.monitors, room, &mut copy.monitors).is_ok()
+            && self.posts.clone_into(alloc, &mut copy.posts).is_ok()
+            && self.lines.clone_into(&mut copy.lines).is_ok()
+        {
+            copy.moment = self.moment;
+            copy.limit = self.limit;
+            copy.spare = self.spare;
+            return Ok(());
+        }
+        *copy = Fats::new(alloc, 0);
+        Err(AllocError)
     }
+}
+
+/// Makes `copy` the same monitors, in a place for as many as `room`. On `Err` it has none.
+fn copy_all(monitors: &[Monitor], room: usize, copy: &mut Vec<Monitor>) -> Result<(), AllocError>
+    ensures same { OnOk result (copy.new.items ≡ monitors.now) }
+    ensures capacity { OnOk result (room ≤ vec_capacity copy.new) }
+{
+    copy.clear();
+    copy.reserve(room)?;
+    copy.extend_from_slice(monitors)
 }
 
 impl Clone for Fats {

@@ -1,7 +1,7 @@
 //! The attached threads: where each stands, and whether it is interrupted.
 
 ghost use Rattle.std.specs.Prelude.{◌≡◌, ◌<◌, ◌↔◌, OnOk, OnErr, IfSome, IsErrOf, IsSome, Some, None};
-ghost use Rattle.std.specs.Prelude.{IsTrue, IfOk, cond, false, is_some, nat_eq, ℕ};
+ghost use Rattle.std.specs.Prelude.{IsTrue, cond, false, is_some, nat_eq, ℕ};
 ghost use Rattle.std.specs.Map.{lookup};
 ghost use Rattle.std.specs.Option.{unwrap_or};
 ghost use Rattle.std.specs.FinMap as map;
@@ -427,18 +427,20 @@ impl Posts {
         self.waiting -= one_waiting(record.post);
     }
 
-    /// The same records of the same threads, in the memory of ones that are needed no more. Where
-    /// those are of the same threads, nothing but the records is written; else nothing is kept of
-    /// them. On `Err` they are gone.
-    pub(crate) fn clone_into(&self, mut spare: Posts) -> Result<Posts, AllocError>
-        ensures { IfOk result (λ copy. copy ≡ self.now) }
+    /// Makes `copy` the same records of the same threads. Where it is of the same threads, nothing
+    /// but the records is written; else nothing is kept of it. On `Err` no thread is attached.
+    pub(crate) fn clone_into(&self, alloc: Global, copy: &mut Posts) -> Result<(), AllocError>
+        ensures same { OnOk result (copy.new ≡ self.now) }
+        ensures empty { OnErr result (copy.new ≡ nobody_posted) }
     {
-        let are_as_many = spare.records.len() == self.records.len();
-        if are_as_many && write_all_over(&mut spare.records, &self.records) {
-            spare.waiting = self.waiting;
-            return Ok(spare);
+        let are_as_many = copy.records.len() == self.records.len();
+        if are_as_many && write_all_over(&mut copy.records, &self.records) {
+            copy.waiting = self.waiting;
+            return Ok(());
         }
-        self.clone()
+        *copy = Posts::new(alloc);
+        *copy = self.clone()?;
+        Ok(())
     }
 }
 

@@ -1,9 +1,10 @@
 //! The world, and its steps.
 
 ghost use Rattle.std.specs.Prelude.{◌≡◌, ◌+◌, ◌<◌, ◌≤◌, length, Bool, true, Option, IfOk, IfErr};
-ghost use Rattle.std.specs.Prelude.{IfSome, OnOk, OnErr, Some, None, map};
+ghost use Rattle.std.specs.Prelude.{IfSome, OnOk, OnErr, Some, None, map, [], vec_capacity};
 ghost use Rattle.std.specs.Option.{option_map};
 ghost use Rattle.lock_word.specs.Layout.{greatest_index};
+ghost use Rattle.lock_word.specs.declared.Split.{Split};
 ghost use Rattle.fat_monitor.specs.FatState.{monitor_at, StandBehindOwners};
 ghost use Rattle.thread_index.specs.Indices.{index_of, holder_of};
 ghost use Rattle.step_core.specs.Machine.{Run, opening, Thread, ActExists, is_waiting};
@@ -360,21 +361,59 @@ impl World {
         self.fats.object(monitor).unwrap_or(ObjectId(0))
     }
 
-    /// A world that is the same, in the memory of one that is needed no more, whatever that one is:
-    /// nothing but the memory is left of it. Where it has the same threads at the same indices, as
-    /// one that was a copy of this world before, little or no memory is asked for. On want of
-    /// memory it is gone, and this world is as it was.
-    pub fn clone_into(&self, mut spare: World) -> Result<World, AllocError>
-        ensures { IfOk result (λ copy. copy ≡ self.now) }
+    /// Makes `copy` the same world, whatever it was: nothing but its memory is left of it. Where it
+    /// has the same threads at the same indices, as one that was a copy of this world before,
+    /// little or no memory is asked for. On want of memory it is a world without objects, for one
+    /// thread, in which nothing has happened, and this world is as it was.
+    pub fn clone_into(&self, copy: &mut World) -> Result<(), AllocError>
+        ensures same { OnOk result (copy.new ≡ self.now) }
+        ensures empty { OnErr result (copy.new ≡ opening_world [] 0 1 Split.Wide) }
     {
-        spare.split = self.split;
-        spare.words.clear();
-        spare.words.extend_from_slice(&self.words)?;
-        spare.indices = self.indices.clone_into(spare.indices)?;
-        spare.places.clear();
-        spare.places.extend_from_slice(&self.places)?;
-        spare.fats = self.fats.clone_into(spare.fats)?;
-        Ok(spare)
+        let copied = self.write_over(
+            &mut copy.words,
+            &mut copy.indices,
+            &mut copy.places,
+            &mut copy.fats,
+        );
+        if copied.is_ok() {
+            copy.split = self.split;
+            return Ok(());
+        }
+        let alloc = *self.words.allocator();
+        let Ok(indices) = Indices::new(alloc, 1) else {
+            unreachable!();
+        };
+        copy.split = Split::Wide;
+        copy.words.clear();
+        copy.indices = indices;
+        copy.places.clear();
+        copy.places.push_reserved(Place::Idle);
+        copy.fats = Fats::new(alloc, 0);
+        Err(AllocError)
+    }
+
+    /// Writes the parts of this world over those of another. On `Err` they are no world's; there
+    /// is room for a place all the same.
+    fn write_over(
+        &self,
+        words: &mut Vec<Word>,
+        indices: &mut Indices,
+        places: &mut Vec<Place>,
+        fats: &mut Fats,
+    ) -> Result<(), AllocError>
+        ensures words { OnOk result (words.new.items ≡ self.now.words) }
+        ensures indices { OnOk result (indices.new ≡ self.now.berths) }
+        ensures places { OnOk result (places.new.items ≡ self.now.places) }
+        ensures fats { OnOk result (fats.new ≡ self.now.fats) }
+        ensures one_at_least { 1 ≤ length indices.old }
+        ensures room { vec_capacity places.old ≤ vec_capacity places.new }
+    {
+        self.indices.clone_into(indices)?;
+        words.clear();
+        words.extend_from_slice(&self.words)?;
+        places.clear();
+        places.extend_from_slice(&self.places)?;
+        self.fats.clone_into(fats)
     }
 }
 

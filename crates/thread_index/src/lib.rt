@@ -224,16 +224,18 @@ impl Indices {
         }
     }
 
-    /// The same indices, of the same threads, in the memory of ones that are needed no more. Ones
-    /// that are the same already are handed back as they are, and of others nothing is kept. On
-    /// `Err` they are gone.
-    pub fn clone_into(&self, spare: Indices) -> Result<Indices, AllocError>
-        ensures { IfOk result (λ copy. copy ≡ self.now) }
+    /// Makes `copy` the same indices, of the same threads. Where it is the same already nothing is
+    /// written, and of others nothing is kept. On `Err` it is as it was.
+    pub fn clone_into(&self, copy: &mut Indices) -> Result<(), AllocError>
+        ensures same { OnOk result (copy.new ≡ self.now) }
+        ensures unchanged { OnErr result (copy.new ≡ copy.old) }
+        ensures one_at_least { 1 ≤ length copy.old }
     {
-        if self.limit == spare.limit && are_same(&self.holders, &spare.holders) {
-            return Ok(spare);
+        if self.limit == copy.limit && are_same(&self.holders, &copy.holders) {
+            return Ok(());
         }
-        self.clone()
+        *copy = self.clone()?;
+        Ok(())
     }
 
     /// Notes the berth of a thread as a hint. Where there are few hints for the berths there are

@@ -197,15 +197,20 @@ impl Lines {
         self.table.release(&self.links, before);
     }
 
-    /// The same threads in the same lines, at the same nodes, with room for as many, in the memory
-    /// of lines that are needed no more, whoever stands in those. On `Err` they are gone.
-    pub fn clone_into(&self, spare: Lines) -> Result<Lines, AllocError>
-        ensures { IfOk result (λ copy. copy ≡ self.now) }
+    /// Makes `copy` the same threads in the same lines, at the same nodes, with room for as many, in
+    /// the memory that it has, whoever stood in it. On `Err` nobody stands in a line of it.
+    pub fn clone_into(&self, copy: &mut Lines) -> Result<(), AllocError>
+        ensures same { OnOk result (copy.new ≡ self.now) }
+        ensures empty { OnErr result (standing copy.new ≡ nobody) }
+        ensures nodes { OnErr result (copy.new.nodes ≡ map.empty) }
     {
-        Ok(Lines {
-            links: self.links.clone_into(spare.links)?,
-            table: self.table.clone_into(spare.table)?,
-        })
+        if self.links.clone_into(&mut copy.links).is_ok()
+            && self.table.clone_into(&mut copy.table).is_ok()
+        {
+            return Ok(());
+        }
+        *copy = Lines::new(*self.links.spots.allocator());
+        Err(AllocError)
     }
 }
 

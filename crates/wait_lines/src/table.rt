@@ -1,7 +1,7 @@
 //! Which record each line has.
 
 ghost use Rattle.std.specs.Prelude.{◌≡◌, ◌⊎◌, ◌<◌, [], ◌∷◌, length, true, false, IfSome, IfNone};
-ghost use Rattle.std.specs.Prelude.{OnOk, OnErr, IfOk, ℕ, suc};
+ghost use Rattle.std.specs.Prelude.{OnOk, OnErr, ℕ, suc};
 ghost use Rattle.wait_lines.specs.Links.{chart, is_node, is_of, ends_at, BeginsAt, IsThere};
 ghost use Rattle.wait_lines.specs.Rows.{row_at};
 ghost use Rattle.wait_lines.specs.Tables.{bucket_of, with_move, with_record, released, IsInRow};
@@ -189,15 +189,17 @@ impl Table {
         }
     }
 
-    /// The same records in the same rows, in the memory of a table that is needed no more. On `Err`
-    /// that table is gone.
-    pub(crate) fn clone_into(&self, spare: Table) -> Result<Table, AllocError>
-        ensures { IfOk result (λ copy. copy ≡ self.now) }
+    /// Makes `copy` the same records in the same rows, in the memory that it has, whatever it was.
+    /// On `Err` it has no record.
+    pub(crate) fn clone_into(&self, copy: &mut Table) -> Result<(), AllocError>
+        ensures { OnOk result (copy.new ≡ self.now) }
     {
-        Ok(Table {
-            rows: self.rows.clone_into(spare.rows)?,
-            buckets: self.buckets,
-        })
+        if self.rows.clone_into(&mut copy.rows).is_err() {
+            *copy = Table::new(*self.rows.spots.allocator());
+            return Err(AllocError);
+        }
+        copy.buckets = self.buckets;
+        Ok(())
     }
 }
 
