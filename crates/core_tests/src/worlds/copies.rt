@@ -97,18 +97,28 @@ fn first_apart(
     Ok((!are_same).then_some(STEPS.len()))
 }
 
+/// Makes the copy. Where memory for it is refused, it is a world without objects and threads, to
+/// which a thread can be attached, and it is made when that is tried again.
+fn copies(world: &World, copy: &mut World) -> bool {
+    world.clone_into(copy).is_ok()
+        || (copy.objects() == 0
+            && copy.thread_at(1).is_none()
+            && does(copy, Step::Attach { thread: X })
+            && copy.index(X) == Some(1)
+            && world.clone_into(copy).is_ok())
+}
+
 /// The same of a world in the middle of calls and its copy in the memory of another, of which this
 /// was asked before.
-fn first_apart_in(alloc: Global, mut spare: World, asks: &[Ask]) -> Result<Option<usize>, Memory> {
+fn first_apart_in(alloc: Global, mut copy: World, asks: &[Ask]) -> Result<Option<usize>, Memory> {
     let mut world = opened(alloc, Split::Wide)?;
-    let others = (
-        first_other(&mut spare, asks),
-        first_other(&mut world, &ASKS),
-    );
+    let others = (first_other(&mut copy, asks), first_other(&mut world, &ASKS));
     if others != (None, None) {
         return Ok(others.0.or(others.1));
     }
-    let mut copy = world.clone_into(spare)?;
+    if !copies(&world, &mut copy) {
+        return Ok(Some(0));
+    }
     first_apart(alloc, &mut world, &mut copy)
 }
 
