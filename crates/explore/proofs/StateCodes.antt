@@ -50,7 +50,7 @@ cause_byte cause.TooDeep = omega arith
 cause_byte cause.StillOwner = omega arith
 cause_byte cause.NoThread = omega arith
 
-pub reply_byte : (r : Reply) → reply_number r + 1 < 254
+reply_byte : (r : Reply) → reply_number r + 1 < 254
 reply_byte reply.Entered = omega arith
 reply_byte reply.Exited = omega arith
 reply_byte reply.WaitOver = omega arith

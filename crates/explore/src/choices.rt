@@ -7,7 +7,7 @@ ghost use Rattle.explore.specs.Searches.{IsSifted};
 ghost use Rattle.step_core.specs.Sound.{IsSound};
 
 use crate::programs::{Choice, Program};
-use crate::states::{State, thread_of};
+use crate::states::{State, chosen_thread};
 use lock_word::{Memory, ThreadId};
 use std::alloc::Global;
 
@@ -39,7 +39,7 @@ pub(crate) fn sift(
     let mut thread = ThreadId(0);
     let mut doing = state.world().doing(thread);
     'sifting: for choice in choices {
-        let next = thread_of(*choice);
+        let next = chosen_thread(*choice);
         if next.0 != thread.0 {
             thread = next;
             doing = state.world().doing(next);

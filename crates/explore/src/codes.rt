@@ -48,8 +48,8 @@ pub(crate) fn push_positions(positions: &[usize], numbers: &mut Vec<u64>) -> Res
     Ok(())
 }
 
-/// Puts the number of each reply, 0 where there is none, as a byte behind those that are there.
-/// Room for all is asked for at once, since most bytes of a state are these.
+/// Puts the number of each reply, 0 where there is none, as a byte behind those that are there. Room
+/// for all is asked for at once.
 pub(crate) fn push_answers(answers: &[Option<Reply>], bytes: &mut Vec<u8>) -> Result<(), Memory>
     ensures bytes { OnOk result (bytes.new.items
         ≡ bytes.old.items ++ packed (map answer_number answers.now)) }

@@ -1,7 +1,7 @@
 //! The search: states are visited in the order in which they were found.
 
 ghost use Rattle.std.specs.Prelude.{◌≡◌, ◌+◌, ◌<◌, ◌≤◌, ◌++◌, ◌∷◌, [], length, true, false, Some, None};
-ghost use Rattle.std.specs.Prelude.{IfErr, IfOk, IfSome, OnOk};
+ghost use Rattle.std.specs.Prelude.{IfErr, IfOk, OnOk};
 ghost use Rattle.explore.specs.declared.programs.Choice.{Choice};
 ghost use Rattle.explore.specs.States.{played};
 ghost use Rattle.explore.specs.Found.{witnesses, witness_at, IsAt, FindsAll, IsReason, AreParents};
@@ -35,8 +35,8 @@ struct Search {
     codes: IndexSet<Code>,
     nodes: Vec<Node>,
     queue: VecDeque<State>,
-    // States that were found before, kept for their memory: a copy takes that of one of them.
-    spares: Vec<State>,
+    // States that are needed no more, kept for their memory: a copy is made in that of one of them.
+    reusable: Vec<State>,
     // The numbers and bytes of the code that was made last: the next one takes their room.
     numbers: Vec<u64>,
     bytes: Vec<u8>,
@@ -45,7 +45,7 @@ struct Search {
 
 impl Search {
     /// Takes in the state that a choice led to from the state `parent`, and answers its number. One
-    /// that was found before is spare.
+    /// that was found before is kept for its memory.
     #[inline(always)]
     fn add(
         &mut self,
@@ -70,7 +70,7 @@ impl Search {
         if is_new {
             self.queue.push_back(made)?;
         } else {
-            self.spares.push(made)?;
+            self.reusable.push(made)?;
         }
         Ok(number)
     }
@@ -131,7 +131,7 @@ impl Search {
     {
         let mut next = state;
         if !next.make(program, choice)? {
-            self.spares.push(next)?;
+            self.reusable.push(next)?;
             return Ok(Tried::Refused);
         }
         let number = self.add(alloc, program, next, at, choice)?;
@@ -161,7 +161,7 @@ impl Search {
         let mut is_end = true;
         let mut made = 0;
         'choosing: for choice in choices {
-            let next = copy_of(&mut self.spares, state)?;
+            let next = copy_of(&mut self.reusable, state)?;
             let tried = self.try_choice(alloc, program, next, at, *choice)?;
             is_end &= !tried.changes();
             made += tried.steps();
@@ -195,10 +195,13 @@ impl Search {
     {
         sift(program, choices, possible, &state)?;
         match possible.pop() {
-            None => Ok(Expanded {
-                is_end: true,
-                made: 0,
-            }),
+            None => {
+                self.reusable.push(state)?;
+                Ok(Expanded {
+                    is_end: true,
+                    made: 0,
+                })
+            }
             Some(last) => {
                 let expanded = self.expand_all(alloc, program, possible, last, state, at)?;
                 Ok(expanded)
@@ -255,7 +258,7 @@ impl Search {
             codes,
             nodes: Vec::new(alloc),
             queue,
-            spares: Vec::new(alloc),
+            reusable: Vec::new(alloc),
             numbers,
             bytes,
         })

@@ -332,14 +332,14 @@ fn is_over(deadline: Option<u128>, now: u64) -> bool
     }
 }
 
-/// The thread that a choice is tried for: a tick, which is no thread's, for the first.
-pub(crate) fn thread_of(choice: Choice) -> ThreadId
+/// The thread of a choice; of a tick, which is no thread's, the first.
+pub(crate) fn chosen_thread(choice: Choice) -> ThreadId
     ensures { result ≡ thread_of (chosen choice) }
 {
     ThreadId(chosen(choice) as u32)
 }
 
-/// The thread of a choice.
+/// The number of the thread of a choice.
 fn chosen(choice: Choice) -> usize
     ensures { result ≡ chosen choice }
 {
@@ -381,12 +381,12 @@ impl Clone for State {
     }
 }
 
-/// A copy of a state, in the memory of one that is spare where there is one.
+/// A copy of a state, in the memory of a reusable one where there is one.
 #[inline(always)]
-pub(crate) fn copy_of(spares: &mut Vec<State>, state: &State) -> Result<State, Memory>
+pub(crate) fn copy_of(reusable: &mut Vec<State>, state: &State) -> Result<State, Memory>
     ensures { IfOk result (λ s. s ≡ state.now) }
 {
-    match spares.pop() {
+    match reusable.pop() {
         Some(mut copy) => {
             state.clone_into(&mut copy)?;
             Ok(copy)
