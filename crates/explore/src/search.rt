@@ -21,7 +21,7 @@ use crate::choices::{choices_of, note_end, sift};
 use crate::codes::{Code, codes_tell_states_apart};
 use crate::found::{ExploreFault, Found, Node};
 use crate::programs::{Choice, Program};
-use crate::states::{State, copy_of};
+use crate::states::{State, copy_of, keep};
 use crate::tried::{Expanded, Tried, tried_from};
 use crate::watching::{Nobody, Watch};
 use indexmap::IndexSet;
@@ -70,7 +70,7 @@ impl Search {
         if is_new {
             self.queue.push_back(made)?;
         } else {
-            self.reusable.push(made)?;
+            keep(&mut self.reusable, made)?;
         }
         Ok(number)
     }
@@ -131,7 +131,7 @@ impl Search {
     {
         let mut next = state;
         if !next.make(program, choice)? {
-            self.reusable.push(next)?;
+            keep(&mut self.reusable, next)?;
             return Ok(Tried::Refused);
         }
         let number = self.add(alloc, program, next, at, choice)?;
@@ -196,7 +196,7 @@ impl Search {
         sift(program, choices, possible, &state)?;
         match possible.pop() {
             None => {
-                self.reusable.push(state)?;
+                keep(&mut self.reusable, state)?;
                 Ok(Expanded {
                     is_end: true,
                     made: 0,

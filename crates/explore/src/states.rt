@@ -1,7 +1,7 @@
 //! A state of a program.
 
 ghost use Rattle.std.specs.Prelude.{◌≡◌, ◌≤◌, IfOk, OnErr, OnOk, length, Some, None};
-ghost use Rattle.std.specs.Prelude.{if◌then◌else◌, false, replicate, ◌<◌, IfSome};
+ghost use Rattle.std.specs.Prelude.{if◌then◌else◌, false, replicate, ◌<◌, IfSome, vec_len};
 ghost use Rattle.explore.specs.declared.programs.Choice.TheVariants as Choice;
 ghost use Rattle.std.specs.Prelude.{is_some};
 ghost use Rattle.explore.specs.States.{opening, after, did_of, played, played_from};
@@ -379,6 +379,20 @@ impl Clone for State {
             told: self.told,
         })
     }
+}
+
+/// How many states are kept for their memory. A search needs few: it makes one copy at a time, and
+/// most lead to a state that was found before. The memory of the others is better given back.
+const MOST_REUSABLE: usize = 64;
+
+/// Keeps a state that is needed no more for its memory, or gives it back where enough are kept.
+pub(crate) fn keep(reusable: &mut Vec<State>, state: State) -> Result<(), Memory>
+    ensures { vec_len reusable.old ≤ 64 → vec_len reusable.new ≤ 64 }
+{
+    if reusable.len() < MOST_REUSABLE {
+        reusable.push(state)?;
+    }
+    Ok(())
 }
 
 /// A copy of a state, in the memory of a reusable one where there is one.

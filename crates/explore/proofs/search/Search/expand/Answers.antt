@@ -7,8 +7,8 @@ use Rattle.explore.proofs.Finding.{sound_here}
 use Rattle.explore.proofs.Sifting.{all_expanded, none_possible}
 use Rattle.explore.proofs.search.Search.expand.Goals as goal
 
-pub returns-in_ok-push-in-None-clause-expanded : goal.returns-in_ok-push-in-None-clause-expanded
-returns-in_ok-push-in-None-clause-expanded c =
+pub returns-in_ok-keep-in-None-clause-expanded : goal.returns-in_ok-keep-in-None-clause-expanded
+returns-in_ok-keep-in-None-clause-expanded c =
     let n = c.in-None.ensures.cases.0 in
     none_possible c.args.program.now (witnesses c.args.self.now.nodes.items) (behind (witnesses c.args.self.now.nodes.items) c.args.at) c.args.state c.args.choices.now c.sift.new.possible.items c.in_ok-sift.ensures
     (omega (arith, n, c.sift.new.possible.ok.0))
