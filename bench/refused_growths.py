@@ -33,6 +33,7 @@ TESTS = {
             "what_was_refused_succeeds_when_tried_again",
             "a_refused_relayout_succeeds_when_tried_again",
             "an_enter_that_won_stays_though_its_bind_is_refused",
+            "a_refused_copy_is_made_when_tried_again",
         ],
         "machines::memory": ["a_crowd_with_refused_growths_is_judged_alike"],
     },

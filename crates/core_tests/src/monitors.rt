@@ -8,7 +8,8 @@ use crate::rows::expect_none;
 use binding::{RECEIPT, RESERVED};
 use fat_monitor::{Action, Cause, Done, Fats, Post, Receipt};
 use lock_word::{Memory, ObjectId, ThreadId};
-use readers::{BOUND, GRANTS, WAITER};
+use readers::{BOUND, COPIED, GRANTS, RESERVING, WAITER};
+use std::alloc::Global;
 
 mod binding;
 mod names;
@@ -151,4 +152,35 @@ fn monitors_are_bound_and_acted_on(rt: HostRuntime) {
         let mut fats = Fats::new(rt.alloc(), u32::from(limit));
         expect_none(&rt, name, first_behind_both(&mut fats, asks));
     }
+}
+
+/// The first that monitors with a waiter and room for binds, or a copy of them in the memory of
+/// others, answer otherwise.
+fn first_of_copy(alloc: Global, copy: &mut Fats) -> Result<Option<usize>, Memory> {
+    let mut fats = Fats::new(alloc, 5);
+    let other = first_behind_both(&mut fats, &RESERVING)?;
+    if other.is_some() {
+        return Ok(other);
+    }
+    if fats.clone_into(copy).is_err() {
+        return Err(Memory);
+    }
+    Ok(first_other(&mut fats, &COPIED).or(first_other(copy, &COPIED)))
+}
+
+#[test]
+fn a_copy_answers_the_same_whatever_its_memory_held(rt: HostRuntime) {
+    let alloc = rt.alloc();
+    let mut with_none = Fats::new(alloc, 0);
+    expect_none(&rt, "no threads", first_of_copy(alloc, &mut with_none));
+    let mut with_both = Fats::new(alloc, 9);
+    assert!(rt; attach_both(&mut with_both));
+    expect_none(&rt, "both", first_of_copy(alloc, &mut with_both));
+    let mut with_others = Fats::new(alloc, 1);
+    assert!(rt; attach(&mut with_others, SEVEN) && attach(&mut with_others, EIGHT));
+    expect_none(
+        &rt,
+        "in another order",
+        first_of_copy(alloc, &mut with_others),
+    );
 }

@@ -1,5 +1,5 @@
-//! What no script can show: memory that is refused, what the readers answer,
-//! and how faults are named.
+//! What no script can show: memory that is refused, copies in the memory of other worlds, what the
+//! readers answer, and how faults are named.
 
 use fast_path::Call;
 use fat_monitor::{Cause, Reply};
@@ -7,13 +7,20 @@ use lock_word::{Memory, ObjectId, Split, ThreadId, Word};
 use std::alloc::Global;
 use step_core::{Did, Doing, Fault, RelayoutFault, Step, World};
 
-/// The thread begins a call.
-macro_rules! begins {
+/// The step in which the thread begins a call.
+macro_rules! calls {
     ($thread:expr, $call:expr) => {
-        Ask::Does(Step::Begin {
+        Step::Begin {
             thread: $thread,
             call: $call,
-        })
+        }
+    };
+}
+
+/// That step is accepted.
+macro_rules! begins {
+    ($thread:expr, $call:expr) => {
+        Ask::Does(calls!($thread, $call))
     };
 }
 

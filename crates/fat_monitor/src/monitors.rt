@@ -315,8 +315,8 @@ impl Fats {
     }
 
     /// Makes `copy` the same fat monitors, threads and lines, at the same moment, with room for as
-    /// many binds, in the memory that it has, whatever it was. On `Err` no monitor is bound in it
-    /// and no thread attached, and no monitor will be bound.
+    /// many binds, mostly in the memory that it has, whatever it was. On `Err` no monitor is bound
+    /// in it and no thread attached, and no monitor will be bound.
     pub fn clone_into(&self, copy: &mut Fats) -> Result<(), AllocError>
         ensures same { OnOk result (copy.new ≡ self.now) }
         ensures empty { OnErr result (copy.new ≡ opened 0) }
@@ -337,10 +337,11 @@ impl Fats {
     }
 }
 
-/// Makes `copy` the same monitors, in a place for as many as `room`. On `Err` it has none.
+/// Makes `copy` the same monitors, with room for `room` in all. On `Err` it has none.
 fn copy_all(monitors: &[Monitor], room: usize, copy: &mut Vec<Monitor>) -> Result<(), AllocError>
     ensures same { OnOk result (copy.new.items ≡ monitors.now) }
     ensures capacity { OnOk result (room ≤ vec_capacity copy.new) }
+    ensures none { OnErr result (copy.new.items ≡ []) }
 {
     copy.clear();
     copy.reserve(room)?;

@@ -187,7 +187,7 @@ fn write_all_over(over: &mut Slab<Record>, records: &Slab<Record>) -> bool
 
 // Writes a record over that of the same thread, where the slot of this key has one.
 fn write_over(over: &mut Slab<Record>, key: usize, from: Record) -> bool
-    ensures led { IsTrue result → LeadsTo over.old from.thread.0 key }
+    ensures led { IsTrue result ↔ LeadsTo over.old from.thread.0 key }
     ensures written { IsTrue result → Updates over.old over.new key (Some from) }
 {
     let Some(at) = over.get_mut(key) else {
@@ -427,8 +427,9 @@ impl Posts {
         self.waiting -= one_waiting(record.post);
     }
 
-    /// Makes `copy` the same records of the same threads. Where it is of the same threads, nothing
-    /// but the records is written; else nothing is kept of it. On `Err` no thread is attached.
+    /// Makes `copy` the same records of the same threads. Where each record is of the thread that
+    /// has this slot in `copy`, and there are no others, the records and the count of waiters are
+    /// written over; else `copy` is made anew. On `Err` no thread is attached.
     pub(crate) fn clone_into(&self, alloc: Global, copy: &mut Posts) -> Result<(), AllocError>
         ensures same { OnOk result (copy.new ≡ self.now) }
         ensures empty { OnErr result (copy.new ≡ nobody_posted) }

@@ -362,9 +362,9 @@ impl World {
     }
 
     /// Makes `copy` the same world, whatever it was: nothing but its memory is left of it. Where it
-    /// has the same threads at the same indices, as one that was a copy of this world before,
-    /// little or no memory is asked for. On want of memory it is a world without objects, for one
-    /// thread, in which nothing has happened, and this world is as it was.
+    /// has the same threads at the same indices and in the same slots, as a former copy of this
+    /// world mostly has, it asks for little or no memory. On want of memory it is a world without
+    /// objects, for one thread, in which nothing has happened, and this world is as it was.
     pub fn clone_into(&self, copy: &mut World) -> Result<(), AllocError>
         ensures same { OnOk result (copy.new ≡ self.now) }
         ensures empty { OnErr result (copy.new ≡ opening_world [] 0 1 Split.Wide) }

@@ -297,7 +297,7 @@ impl Clone for Indices {
 
 /// Whether these are the same holders at the same berths.
 fn are_same(holders: &[Option<ThreadId>], others: &[Option<ThreadId>]) -> bool
-    ensures { IsTrue result → holders.now ≡ others.now }
+    ensures { IsTrue result ↔ (holders.now ≡ others.now) }
 {
     if holders.len() != others.len() {
         return false;
@@ -312,7 +312,7 @@ fn are_same(holders: &[Option<ThreadId>], others: &[Option<ThreadId>]) -> bool
 
 /// Whether this is the same holder, or nobody both times.
 fn is_same(holder: Option<ThreadId>, other: Option<ThreadId>) -> bool
-    ensures { IsTrue result → holder ≡ other }
+    ensures { IsTrue result ↔ (holder ≡ other) }
 {
     match (holder, other) {
         (Some(id), Some(other)) => id.0 == other.0,

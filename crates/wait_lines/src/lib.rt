@@ -6,7 +6,7 @@
 #![tactic(auto)]
 
 ghost use Rattle.std.specs.Prelude.{◌≡◌, ◌↔◌, ◌+◌, ◌<◌, ◌≤◌, ℕ, length, IsTrue, IfSome, IfNone};
-ghost use Rattle.std.specs.Prelude.{OnOk, OnErr, IfOk, slice_get};
+ghost use Rattle.std.specs.Prelude.{OnOk, OnErr, slice_get};
 ghost use Rattle.std.specs.Bool.{OnFalse};
 ghost use Rattle.wait_lines.specs.declared.Role.{Role};
 ghost use Rattle.wait_lines.specs.Lines.{line, after_join, after_leave, StandsIn, Stands, StandsNowhere};
@@ -197,8 +197,8 @@ impl Lines {
         self.table.release(&self.links, before);
     }
 
-    /// Makes `copy` the same threads in the same lines, at the same nodes, with room for as many, in
-    /// the memory that it has, whoever stood in it. On `Err` nobody stands in a line of it.
+    /// Makes `copy` the same threads in the same lines, at the same nodes, with room for as many,
+    /// in the memory that it has, whoever stood in it. On `Err` nobody stands in a line of it.
     pub fn clone_into(&self, copy: &mut Lines) -> Result<(), AllocError>
         ensures same { OnOk result (copy.new ≡ self.now) }
         ensures empty { OnErr result (standing copy.new ≡ nobody) }

@@ -192,7 +192,8 @@ impl Table {
     /// Makes `copy` the same records in the same rows, in the memory that it has, whatever it was.
     /// On `Err` it has no record.
     pub(crate) fn clone_into(&self, copy: &mut Table) -> Result<(), AllocError>
-        ensures { OnOk result (copy.new ≡ self.now) }
+        ensures same { OnOk result (copy.new ≡ self.now) }
+        ensures empty { OnErr result (copy.new ≡ record { rows = [] ∷ []; size = 0; buckets = 1 }) }
     {
         if self.rows.clone_into(&mut copy.rows).is_err() {
             *copy = Table::new(*self.rows.spots.allocator());

@@ -61,6 +61,23 @@ pub(super) const WAITER: [Ask; 5] = [
     Ask::Stands(SEVEN, WAITING),
 ];
 
+/// A wait, behind which there is room for three binds.
+pub(super) const RESERVING: [Ask; 4] = [
+    Ask::Binds(3, Ok(0)),
+    Ask::Ticks(10),
+    Ask::Acts(SEVEN, WAIT, PARKED),
+    Ask::Reserves(3),
+];
+
+/// What is told after that.
+pub(super) const COPIED: [Ask; 5] = [
+    Ask::HasSpare(3),
+    Ask::Times(10, 1),
+    Ask::Stands(SEVEN, WAITING),
+    Ask::Stands(EIGHT, Post::Out),
+    Ask::Counts(1, 5),
+];
+
 const GRANTED: Done = Done {
     answer: Answer::Reply(Reply::Exited),
     granted: Some(EIGHT),

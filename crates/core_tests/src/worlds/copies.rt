@@ -3,16 +3,6 @@
 use super::*;
 use crate::rows::expect_none;
 
-/// The step in which the thread begins a call.
-macro_rules! calls {
-    ($thread:expr, $call:expr) => {
-        Step::Begin {
-            thread: $thread,
-            call: $call,
-        }
-    };
-}
-
 const Z: ThreadId = ThreadId(2);
 
 const STRANGER: ThreadId = ThreadId(9);
@@ -38,6 +28,29 @@ const ASKS: [Ask; 13] = [
 const OTHERS: [Ask; 4] = [
     Ask::Does(Step::Attach { thread: Z }),
     Ask::Does(Step::Attach { thread: STRANGER }),
+    Ask::Does(Step::Attach { thread: X }),
+    Ask::Does(Step::Attach { thread: Y }),
+];
+
+/// The same threads, and one more behind them.
+const MORE: [Ask; 4] = [
+    Ask::Does(Step::Attach { thread: X }),
+    Ask::Does(Step::Attach { thread: Y }),
+    Ask::Does(Step::Attach { thread: Z }),
+    Ask::Does(Step::Attach { thread: STRANGER }),
+];
+
+/// The same threads at the same indices, where x and y ended and came again: x has taken the place
+/// of y in memory, and y that of x.
+const BACK: [Ask; 10] = [
+    Ask::Does(Step::Attach { thread: X }),
+    Ask::Does(Step::Attach { thread: Y }),
+    Ask::Does(Step::Attach { thread: Z }),
+    begins!(X, Call::End),
+    Ask::Goes(2),
+    begins!(Y, Call::End),
+    Ask::Does(Step::Go { thread: Y }),
+    Ask::Does(Step::Go { thread: Y }),
     Ask::Does(Step::Attach { thread: X }),
     Ask::Does(Step::Attach { thread: Y }),
 ];
@@ -80,7 +93,25 @@ fn are_same(alloc: Global, world: &World, copy: &World) -> Result<bool, Memory> 
     Ok(numbers_of(alloc, world)? == numbers_of(alloc, copy)?)
 }
 
-/// The first of the steps before which two worlds differ, or that they do not accept alike.
+/// Whether two worlds take as many threads more, and then want an index for the same one.
+fn take_as_many(world: &mut World, copy: &mut World) -> bool {
+    for number in 10..20 {
+        let attach = Step::Attach {
+            thread: ThreadId(number),
+        };
+        let did = take(world, attach);
+        if did != take(copy, attach) {
+            return false;
+        }
+        if did.is_err() {
+            return did == Err(Fault::NoIndex);
+        }
+    }
+    false
+}
+
+/// The first of the steps before which two worlds differ, or that they do not accept alike; behind
+/// the last, where they do not take as many threads more.
 fn first_apart(
     alloc: Global,
     world: &mut World,
@@ -93,31 +124,22 @@ fn first_apart(
             return Ok(Some(row));
         }
     }
-    let are_same = are_same(alloc, world, copy)?;
-    Ok((!are_same).then_some(STEPS.len()))
+    let end_same = are_same(alloc, world, copy)?
+        && take_as_many(world, copy)
+        && are_same(alloc, world, copy)?;
+    Ok((!end_same).then_some(STEPS.len()))
 }
 
-/// Makes the copy. Where memory for it is refused, it is a world without objects and threads, to
-/// which a thread can be attached, and it is made when that is tried again.
-fn copies(world: &World, copy: &mut World) -> bool {
-    world.clone_into(copy).is_ok()
-        || (copy.objects() == 0
-            && copy.thread_at(1).is_none()
-            && does(copy, Step::Attach { thread: X })
-            && copy.index(X) == Some(1)
-            && world.clone_into(copy).is_ok())
-}
-
-/// The same of a world in the middle of calls and its copy in the memory of another, of which this
-/// was asked before.
+/// The first step apart of a world in the middle of calls and its copy in the memory of another, of
+/// which this was asked before.
 fn first_apart_in(alloc: Global, mut copy: World, asks: &[Ask]) -> Result<Option<usize>, Memory> {
     let mut world = opened(alloc, Split::Wide)?;
     let others = (first_other(&mut copy, asks), first_other(&mut world, &ASKS));
     if others != (None, None) {
         return Ok(others.0.or(others.1));
     }
-    if !copies(&world, &mut copy) {
-        return Ok(Some(0));
+    if world.clone_into(&mut copy).is_err() {
+        return Err(Memory);
     }
     first_apart(alloc, &mut world, &mut copy)
 }
@@ -143,6 +165,10 @@ fn a_copy_is_the_same_whatever_its_memory_held(rt: HostRuntime) -> Result<(), Me
     expect_none(&rt, "indices", first_apart_in(alloc, more_indices, &ASKS));
     let of_others = opened(alloc, Split::Wide)?;
     expect_none(&rt, "others", first_apart_in(alloc, of_others, &OTHERS));
+    let of_more = opened(alloc, Split::Wide)?;
+    expect_none(&rt, "more", first_apart_in(alloc, of_more, &MORE));
+    let come_back = opened(alloc, Split::Wide)?;
+    expect_none(&rt, "back", first_apart_in(alloc, come_back, &BACK));
     let earlier = opened(alloc, Split::Wide)?;
     expect_none(&rt, "earlier", first_apart_in(alloc, earlier, &ASKS[..4]));
     let same = opened(alloc, Split::Wide)?;

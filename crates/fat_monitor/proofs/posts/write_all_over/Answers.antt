@@ -14,7 +14,7 @@ loop-key-preserved c = record {
   may = tt;
   ends = tt;
   written = AreBeingWritten-next c.args.records.now c.args.over.now c.loop-key.over c.write_over.new.over _ _ c.in-Some.key c.in-Some.record.now
-      c.loop-key.invariant.written c.in-Some.ensures.steps (c.if-not-write_over.ensures.led refl) (c.if-not-write_over.ensures.written refl);
+      c.loop-key.invariant.written c.in-Some.ensures.steps (c.if-not-write_over.ensures.led.0 refl) (c.if-not-write_over.ensures.written refl);
 }
 
 pub returns : goal.returns
