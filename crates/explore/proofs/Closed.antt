@@ -21,7 +21,7 @@ use Rattle.step_core.specs.declared.steps.Fault.TheVariants as fault
 use Rattle.step_core.specs.declared.steps.Step.{Step}
 use Rattle.step_core.specs.declared.steps.Step.TheVariants as step
 use Rattle.step_core.specs.Machine.{Thread}
-use Rattle.step_core.specs.Shown.{act_of, doing_in, shown, thread_of as shown_of}
+use Rattle.step_core.specs.Shown.{act_of, doing_in, thread_of as shown_of}
 use Rattle.step_core.specs.Sound.{Agrees, IsSound}
 use Rattle.step_core.specs.Step.{AfterStep, after_begin, after_begin_at, after_begin_on, after_collect, after_go, after_go_at, after_wait_end, after_wait_end_as, step_of, time_over, wake_up}
 use Rattle.step_core.specs.World.{WorldState, place_at}

@@ -1,4 +1,4 @@
-use Rattle.std.proofs.Common.{◌≡◌, None, arith}
+use Rattle.std.proofs.Common.{None, arith}
 use Rattle.explore.proofs.StateCodes.{answers_more}
 use Rattle.explore.proofs.codes.push_answers.Goals as goal
 

@@ -1,4 +1,4 @@
-use Rattle.std.proofs.Common.{◌≡◌, ◌≤◌, ◌+◌, take}
+use Rattle.std.proofs.Common.{◌≤◌, ◌+◌, take}
 use Rattle.explore.specs.Found.{witnesses}
 use Rattle.explore.specs.Searches.{IsExpanded, IsSearch, StaysIn, behind}
 use Rattle.explore.proofs.search.Search.expand_copies.Given as goal
