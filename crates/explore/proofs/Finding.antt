@@ -16,6 +16,7 @@ use Rattle.explore.specs.declared.programs.Program.{Program}
 use Rattle.explore.specs.declared.programs.Choice.{Choice}
 use Rattle.explore.specs.declared.programs.Choice.TheVariants as choice
 use Rattle.explore.specs.declared.found.Node.{Node}
+use Rattle.explore.specs.declared.queue.Queued.{Queued}
 use Rattle.step_core.specs.Sound.{IsSound}
 use Rattle.explore.specs.States.{ProgramState, after, played, played_from, opening}
 use Rattle.explore.specs.Found.{witness_at, witnesses, witnesses_from, grown, IsAt, IsEnd, AreEnds, AreStates, AreParents, FindsAll, HasMore, node_at}
@@ -24,7 +25,7 @@ use Rattle.explore.specs.Searches.{IsSearch, IsNear, StaysIn, IsClosed, IsVisite
 use Rattle.explore.specs.Found.{choices_for, choices_below, all_choices, made_among, steps_before}
 use Rattle.explore.proofs.Choosing.{all_found, is_end}
 use Rattle.explore.proofs.Searching.{stays_more, witness_before, witness_last}
-use Rattle.explore.proofs.Trying.{stays_still, stays_then, behind_stays, found_stays, at_stays}
+use Rattle.explore.proofs.Trying.{stays_still, stays_then, behind_stays, found_stays, at_stays, from_nowhere, same_number}
 
 -- ---- visited
 
@@ -42,11 +43,6 @@ closed_next p a b n s closed stays lt here all = λ k r below leads c t made. pi
         let now : IsAt p b n s = at_stays p a b n s stays lt here in
         let one : s ≡ r = ap (λ (o : Option ProgramState). unwrap_or o r) (sym now ∙ subst (λ (m : ℕ). IsAt p b m r) same leads) in
         subst (λ (m : ℕ). IsNear p b t (behind b m)) (sym same) (all c t (subst (λ (x : ProgramState). after p x c ≡ Some t) (sym one) made))
-
-pub closed_stays : (p : Program) (a b : List (List Choice)) (n : ℕ) → IsClosed p a n → StaysIn a b → n ≤ length a → IsClosed p b n
-closed_stays p a b n closed stays le = λ k r below leads c t made.
-    subst (λ (d : ℕ). IsNear p b t d) (behind_stays a b k stays (omega (arith, below, le)))
-    (found_stays p a b (behind a k) t stays (closed k r below (rw (sym (stays.same k (omega (arith, below, le)))) leads) c t made))
 
 -- a state that is no end leaves the ends that there were
 pub ends_stay : (p : Program) (a b : List (List Choice)) (n : ℕ) (ends : List ℕ) (s : ProgramState)
@@ -124,36 +120,46 @@ ends_more p a b n ends s h stays lt here is = record {
         let l = length-append ends (n ∷ []) in
         (length ends, omega (arith, l), get_or-append_seam ends n [] 0 ∙ sym same)
 
--- the first of those that wait is taken
-pub popped : (p : Program) (keys : List Code) (ws : List (List Choice)) (queue rest : List ProgramState) (n : ℕ) (s : ProgramState)
-    → IsSearch p keys ws queue n → queue ≡ s ∷ rest → IsSearch p keys ws rest (n + 1)
-popped p keys ws queue rest n s h e = record {
+-- the next state is taken for its visit
+pub taken_next : (p : Program) (keys : List Code) (ws : List (List Choice)) (queue : List Queued) (n : ℕ)
+    → IsSearch p keys ws queue n → n < length ws → IsSearch p keys ws queue (n + 1)
+taken_next p keys ws queue n h lt = record {
   counted = h.counted;
-  waiting = (let l = ap (λ (q : List ProgramState). length q) e in let w = h.waiting in omega (arith, l, w));
+  within = omega (arith, lt);
   known = h.known;
   distinct = h.distinct;
-  queued = λ j r leads.
-      let here : IsAt p ws (n + suc j) r = h.queued (suc j) r (rw e leads) in
-      subst (λ (m : ℕ). IsAt p ws m r) (omega arith) here;
+  queued = h.queued;
   rising = h.rising;
-  near = λ k lt.
-      let l = ap (λ (q : List ProgramState). length q) e in let w = h.waiting in
+  near = λ k below.
       let one : n + 1 - 1 ≡ n = omega arith in
-      let a = h.near k lt in
-      let b = h.rising (n - 1) n (omega arith) (omega (arith, l, w)) in
+      let a = h.near k below in
+      let b = h.rising (n - 1) n (omega arith) lt in
       subst (λ (j : ℕ). length (witness_at ws k) ≤ length (witness_at ws j) + 1) (sym one) (omega (arith, a, b));
 }
 
-pub first_here : (p : Program) (keys : List Code) (ws : List (List Choice)) (queue rest : List ProgramState) (n : ℕ) (s : ProgramState)
-    → IsSearch p keys ws queue n → queue ≡ s ∷ rest → IsAt p ws n s
-first_here p keys ws queue rest n s h e =
-    let here : IsAt p ws (n + 0) s = h.queued 0 s (rw e refl) in
-    subst (λ (m : ℕ). IsAt p ws m s) (omega arith) here
+-- the first state of the queue is taken
+pub queue_less : (p : Program) (keys : List Code) (ws : List (List Choice)) (queue rest : List Queued) (n : ℕ) (w : Queued)
+    → IsSearch p keys ws queue n → queue ≡ w ∷ rest → IsSearch p keys ws rest n
+queue_less p keys ws queue rest n w h e = record {
+  counted = h.counted;
+  within = h.within;
+  known = h.known;
+  distinct = h.distinct;
+  queued = λ j r leads. h.queued (suc j) r (rw e leads);
+  rising = h.rising;
+  near = h.near;
+}
 
-first_within : (p : Program) (keys : List Code) (ws : List (List Choice)) (queue rest : List ProgramState) (n : ℕ) (s : ProgramState)
-    → IsSearch p keys ws queue n → queue ≡ s ∷ rest → n < length ws
-first_within p keys ws queue rest n s h e =
-    let l = ap (λ (q : List ProgramState). length q) e in let w = h.waiting in omega (arith, l, w)
+pub first_there : (p : Program) (keys : List Code) (ws : List (List Choice)) (queue rest : List Queued) (n : ℕ) (w : Queued)
+    → IsSearch p keys ws queue n → queue ≡ w ∷ rest → IsAt p ws w.number w.state
+first_there p keys ws queue rest n w h e = (h.queued 0 w (rw e refl)).1
+
+-- no state that was found leads nowhere
+pub leads_somewhere : (p : Program) (keys : List Code) (ws : List (List Choice)) (queue : List Queued) (n k : ℕ) (cs : List Choice)
+    → IsSearch p keys ws queue n → k < length ws → cs ≡ witness_at ws k → None ≡ played p cs → ⊥
+leads_somewhere p keys ws queue n k cs h lt same none =
+    let r = h.known k lt in
+    absurd (let e = none ∙ ap (played p) same ∙ r.1.leads in cc)
 
 -- ---- counted
 
@@ -188,17 +194,15 @@ few_choices p =
     omega (arith, h, l, t)
 
 -- one state more was visited
-pub visited_next : (p : Program) (keys keys' : List Code) (ws ws' : List (List Choice)) (queue rest queue' : List ProgramState) (ends ends' : List ℕ) (steps made n : ℕ) (s : ProgramState) (cs : List Choice) (end : Bool)
-    → IsVisited p keys ws queue ends steps n → queue ≡ s ∷ rest → cs ≡ all_choices p
+pub visited_next : (p : Program) (keys keys' : List Code) (ws ws' : List (List Choice)) (queue queue' : List Queued) (ends ends' : List ℕ) (steps made n : ℕ) (s : ProgramState) (cs : List Choice) (end : Bool)
+    → IsVisited p keys ws queue ends steps n → n < length ws → IsAt p ws n s → cs ≡ all_choices p
     → IsSearch p keys' ws' queue' (n + 1) → StaysIn ws ws' → AreFoundFrom p ws' (behind ws' n) s cs (length cs)
     → (end ≡ true → NoneChanges p s cs (length cs))
     → (end ≡ false → (c : Choice) × Changes p s c)
     → made ≡ made_among p s cs (length cs) → made ≤ length cs
     → ends' ≡ (if end then ends ++ n ∷ [] else ends)
     → IsVisited p keys' ws' queue' ends' (steps + made) (n + 1)
-visited_next p keys keys' ws ws' queue rest queue' ends ends' steps made n s cs end v e all search stays found none some counted few noted =
-    let lt = first_within p keys ws queue rest n s v.search e in
-    let here = first_here p keys ws queue rest n s v.search e in
+visited_next p keys keys' ws ws' queue queue' ends ends' steps made n s cs end v lt here all search stays found none some counted few noted =
     record {
       search = search;
       closed = closed_next p ws ws' n s v.closed stays lt here
@@ -222,8 +226,7 @@ visited_next p keys keys' ws ws' queue rest queue' ends ends' steps made n s cs 
 -- ---- found in the end
 
 pub none_leads : (p : Program) (cs : List Choice) (s : ProgramState) → played_from p cs None ≡ Some s → ⊥
-none_leads p [] s e = absurd (cc)
-none_leads p (c ∷ cs) s e = absurd (cc)
+none_leads p cs s e = absurd (let h = sym (from_nowhere p cs) ∙ e in cc)
 
 complete_from : (p : Program) (ws : List (List Choice)) (n : ℕ) → IsClosed p ws n → n ≡ length ws
     → (cs : List Choice) (o s : ProgramState) (d : ℕ) → IsNear p ws o d → played_from p cs (Some o) ≡ Some s → IsNear p ws s (d + length cs)
@@ -250,7 +253,7 @@ first_stays ws [] = stays_still ws
 first_stays ws (n ∷ ns) = stays_then ws (grown ws n) (witnesses_from (grown ws n) ns) (stays_more ws _) (first_stays (grown ws n) ns)
 
 -- what is known are states, no two the same
-pub are_states : (p : Program) (keys : List Code) (ws : List (List Choice)) (queue : List ProgramState) (n : ℕ)
+pub are_states : (p : Program) (keys : List Code) (ws : List (List Choice)) (queue : List Queued) (n : ℕ)
     → IsSearch p keys ws queue n → AreStates p ws
 are_states p keys ws queue n h = record {
   sound = λ k lt. (let r = h.known k lt in (r.0, r.1.leads));
@@ -263,42 +266,31 @@ are_states p keys ws queue n h = record {
       h.distinct j k x.1.keyed.0 y.1.keyed.0 below x.1.keyed.1 y.1.keyed.1 (x.1.keyed.2 ∙ codes ∙ sym y.1.keyed.2);
 }
 
--- more states were found than were visited, while some wait
-pub has_more : (p : Program) (keys : List Code) (ns : List Node) (queue : List ProgramState) (ends : List ℕ) (steps n : ℕ)
-    → IsVisited p keys (witnesses ns) queue ends steps n → 0 < length queue → HasMore p n
-has_more p keys ns queue ends steps n v some =
-    let w = v.search.waiting in
-    (witnesses ns, omega (arith, w, some), are_states p keys (witnesses ns) queue n v.search)
-
 -- more states were found than were asked for
-pub over : (p : Program) (keys : List Code) (ns : List Node) (queue : List ProgramState) (ends : List ℕ) (steps n most : ℕ)
+pub over : (p : Program) (keys : List Code) (ns : List Node) (queue : List Queued) (ends : List ℕ) (steps n most : ℕ)
     → IsVisited p keys (witnesses ns) queue ends steps n → most < length (witnesses ns) → HasMore p most
 over p keys ns queue ends steps n most v more = (witnesses ns, more, are_states p keys (witnesses ns) queue n v.search)
 
--- and no more, once no state waits to be visited
-pub few : (p : Program) (keys : List Code) (ns : List Node) (ends : List ℕ) (steps n most : ℕ)
-    → IsVisited p keys (witnesses ns) [] ends steps n → n ≤ most → length (witnesses ns) ≤ most
-few p keys ns ends steps n most v le = let w = v.search.waiting in omega (arith, w, le)
-
--- all is found once no state waits to be visited
-pub finds_all : (p : Program) (keys : List Code) (ns : List Node) (ends : List ℕ) (steps n : ℕ)
-    → IsVisited p keys (witnesses ns) [] ends steps n → FindsAll p (record { witnesses = witnesses ns; ends = ends; steps = steps })
-finds_all p keys ns ends steps n v =
+-- all is found once no more states were found than were visited
+pub finds_all : (p : Program) (keys : List Code) (ns : List Node) (queue : List Queued) (ends : List ℕ) (steps n : ℕ)
+    → IsVisited p keys (witnesses ns) queue ends steps n → length (witnesses ns) ≤ n
+    → FindsAll p (record { witnesses = witnesses ns; ends = ends; steps = steps })
+finds_all p keys ns queue ends steps n v no_more =
     let ws : List (List Choice) = witnesses ns in
-    let w = v.search.waiting in
-    let all : n ≡ length ws = omega (arith, w) in
+    let w = v.search.within in
+    let all : n ≡ length ws = omega (arith, w, no_more) in
     let first = first_stays ([] ∷ []) ns in
     let x = first.more in
     let begin : IsNear p ws (opening p) 0 =
     (0, omega (arith, x), ap (λ (c : List Choice). played p c) (first.same 0 (omega arith)), ap_le (ap (λ (c : List Choice). length c) (first.same 0 (omega arith)))) in
-    let states = are_states p keys ws [] n v.search in
+    let states = are_states p keys ws queue n v.search in
     record {
       states = states;
       complete = λ cs s e. (let f = complete_from p ws n v.closed all cs (opening p) s 0 begin e in (f.0, f.1, f.2));
       shortest = λ k cs s lt at e.
           let f = complete_from p ws n v.closed all cs (opening p) s 0 begin e in
           let near = f.3 in
-          let same = one_number f.0 k s states f.1 f.2 lt at in
+          let same = same_number p ws f.0 k s states (f.1, f.2) (lt, at) in
           subst (λ (j : ℕ). length (witness_at ws j) ≤ length cs) same (omega (arith, near));
       ends = subst (λ (m : ℕ). AreEnds p ws m ends) all v.noted;
       steps = v.counted ∙ ap (λ (m : ℕ). steps_before p ws m) all;
@@ -306,14 +298,6 @@ finds_all p keys ns ends steps n v =
   where
     ap_le : {m : ℕ} → m ≡ 0 → m ≤ 0
     ap_le e = omega (arith, e)
-
-    one_number : (j k : ℕ) (s : ProgramState) → AreStates p (witnesses ns) → j < length (witnesses ns) → IsAt p (witnesses ns) j s → k < length (witnesses ns) → IsAt p (witnesses ns) k s → j ≡ k
-    one_number j k s states a b c d = by (cases_lt j k) (cases_lt k j)
-      where
-        by : (j < k) ⊎ (k ≤ j) → (k < j) ⊎ (j ≤ k) → j ≡ k
-        by (inl lt) other = absurd (states.distinct j k s lt c b d)
-        by (inr le) (inl lt) = absurd (states.distinct k j s lt a d b)
-        by (inr le) (inr ge) = omega (arith, le, ge)
 
 -- ---- the way back from a state
 
@@ -396,13 +380,13 @@ walked ns at node cs all parents some within e h =
           ∙ ap (λ (ys : List Choice). witness_at (witnesses ns) node.parent ++ ys) (sym (reverse-append cs (node.choice ∷ []))),
     )
 
--- the state that was popped last has a number
-pub within_search : (p : Program) (keys : List Code) (ws : List (List Choice)) (queue : List ProgramState) (at : ℕ)
+-- the state that was taken last has a number
+pub within_search : (p : Program) (keys : List Code) (ws : List (List Choice)) (queue : List Queued) (at : ℕ)
     → IsSearch p keys ws queue (at + 1) → at < length ws
-within_search p keys ws queue at h = let w = h.waiting in omega (arith, w)
+within_search p keys ws queue at h = let w = h.within in omega (arith, w)
 
 -- and its world is sound
-pub sound_here : (p : Program) (keys : List Code) (ws : List (List Choice)) (queue : List ProgramState) (at : ℕ) (s : ProgramState)
+pub sound_here : (p : Program) (keys : List Code) (ws : List (List Choice)) (queue : List Queued) (at : ℕ) (s : ProgramState)
     → IsSearch p keys ws queue (at + 1) → IsAt p ws at s → IsSound s.world
 sound_here p keys ws queue at s h here =
     let r = h.known at (within_search p keys ws queue at h) in

@@ -1,6 +1,6 @@
 -- A step that asks for memory and does not tell that there is none is the step with memory granted.
 use native.Mathlib.Omega.{arith}
-use Rattle.std.proofs.Common.{◌≡◌, ℕ, ◌+◌, Bool, true, false, if◌then◌else◌, nat_lt, length, Option, Some, None, Result, Ok, Err, refl, sym, ap, add-one}
+use Rattle.std.proofs.Common.{◌≡◌, ℕ, ◌+◌, Bool, true, false, if◌then◌else◌, nat_lt, length, Option, Some, None, Ok, refl, sym, ap, add-one}
 use Rattle.lock_word.specs.declared.ThreadId.{ThreadId}
 use Rattle.fat_monitor.specs.declared.actions.Cause.TheVariants as cause
 use Rattle.fast_path.specs.declared.calls.MonitorCall.{MonitorCall}
@@ -10,7 +10,6 @@ use Rattle.step_core.specs.declared.places.Place.TheVariants.{Idle, InCall, Endi
 use Rattle.step_core.specs.declared.places.Stage.{Stage}
 use Rattle.step_core.specs.declared.places.Stage.TheVariants.{Begun, Taking, Storing, Binding, Acting, Won, Bound, Inflated, Direct}
 use Rattle.step_core.specs.declared.steps.Did.{Did}
-use Rattle.step_core.specs.declared.steps.Fault.{Fault}
 use Rattle.step_core.specs.declared.steps.Step.{Step}
 use Rattle.step_core.specs.declared.steps.Step.TheVariants as step
 use Rattle.step_core.specs.World.{WorldState, place_at}
@@ -18,7 +17,7 @@ use Rattle.step_core.specs.Go.{after_bind, with_go, entering}
 use Rattle.step_core.specs.Step.{AfterStep, accept, step_of, after_attach, after_go, after_go_at}
 use Rattle.explore.specs.declared.programs.Program.{Program}
 use Rattle.explore.specs.declared.programs.Choice.{Choice}
-use Rattle.explore.specs.States.{ProgramState, thread_of, attached, step_for, after, after_answer, after_step, did_by, did_in, did_of, moved, replied, chosen}
+use Rattle.explore.specs.States.{ProgramState, thread_of, attached, step_for, after, after_answer, did_in, did_of, moved, replied, chosen}
 use Rattle.explore.specs.Wants.{wants_memory}
 
 -- where the one is accepted and does not tell of want of memory, it is the other
@@ -105,15 +104,3 @@ pub told : (p : Program) (s : ProgramState) (c : Choice) (x : Step) (v : WorldSt
     → wants_memory d.atomic ≡ false → Some d ≡ did_of p s c
 told p s c x v room d e g h =
     rw e (ap (λ (o : AfterStep). did_in o.answer) (sym (granted_step s.world v x room d g h)))
-
--- one that cannot be made has no step that did something
-pub not_told : (p : Program) (s : ProgramState) (c : Choice) → after p s c ≡ None → None ≡ did_of p s c
-not_told p s c h = by (step_for p s c) h
-  where
-    by_answer : (a : Result Did Fault) (w : WorldState) → after_answer s c a w ≡ None → None ≡ did_in a
-    by_answer (Ok d) w g = absurd (cc)
-    by_answer (Err f) w g = refl
-
-    by : (o : Option Step) → after_step s c o ≡ None → None ≡ did_by s.world o
-    by None g = refl
-    by (Some x) g = by_answer (step_of true s.world x).answer (step_of true s.world x).after g

@@ -1,6 +1,8 @@
 pub mod Granted
+pub mod Numbering
 pub mod Searching
 pub mod Trying
+pub mod Trailing
 pub mod Finding
 pub mod StateCodes
 pub mod Sifting

@@ -16,9 +16,10 @@ use Rattle.std.proofs.lemmas.Option.{slice_get-get_or, slice_get_within, get_or_
 use Rattle.explore.specs.declared.programs.Program.{Program}
 use Rattle.explore.specs.declared.programs.Choice.{Choice}
 use Rattle.explore.specs.declared.found.Node.{Node}
+use Rattle.explore.specs.declared.queue.Queued.{Queued}
 use Rattle.explore.specs.States.{ProgramState, opening, played}
 use Rattle.explore.specs.Codes.{code_of, IsCoded}
-use Rattle.explore.specs.Found.{witness_at, grown, witnesses_from, witnesses, IsAt}
+use Rattle.explore.specs.Found.{witness_at, grown, witnesses_from, witnesses}
 use Rattle.explore.specs.Searches.{IsKnown, IsSearch, StaysIn, HasNumber, IsVisited}
 
 witnesses_from_more : (ws : List (List Choice)) (ns : List Node) (n : Node)
@@ -37,18 +38,18 @@ witness_before ws x k h = get_or_append_left ws (x ∷ []) [] k h
 pub witness_last : (ws : List (List Choice)) (x : List Choice) → witness_at (ws ++ x ∷ []) (length ws) ≡ x
 witness_last ws x = get_or-append_seam ws x [] []
 
-get_before : {A : Type 0} (xs : List A) (x : A) (k : ℕ) (y : A) → slice_get xs k ≡ Some y → slice_get (xs ++ x ∷ []) k ≡ Some y
-get_before xs x k y h =
+pub get_front : {A : Type 0} (xs ys : List A) (k : ℕ) (y : A) → slice_get xs k ≡ Some y → slice_get (xs ++ ys) k ≡ Some y
+get_front xs ys k y h =
     let lt = slice_get_within xs k y h in
-    let e = length-append xs (x ∷ []) in
-    rw (slice_get-get_or (xs ++ x ∷ []) k y (omega (arith, lt, e))) (ap Some (rw (get_or_append_left xs (x ∷ []) y k lt) (get_or_from_slice_get xs k y y h)))
+    let e = length-append xs ys in
+    rw (slice_get-get_or (xs ++ ys) k y (omega (arith, lt, e))) (ap Some (rw (get_or_append_left xs ys y k lt) (get_or_from_slice_get xs k y y h)))
 
-get_last : {A : Type 0} (xs : List A) (x : A) → slice_get (xs ++ x ∷ []) (length xs) ≡ Some x
+pub get_last : {A : Type 0} (xs : List A) (x : A) → slice_get (xs ++ x ∷ []) (length xs) ≡ Some x
 get_last xs x =
     let e = length-append xs (x ∷ []) in
     rw (slice_get-get_or (xs ++ x ∷ []) (length xs) x (omega (arith, e))) (ap Some (get_or-append_seam xs x [] x))
 
-get_old : {A : Type 0} (xs : List A) (x : A) (k : ℕ) (y : A) → k < length xs → slice_get (xs ++ x ∷ []) k ≡ Some y → slice_get xs k ≡ Some y
+pub get_old : {A : Type 0} (xs : List A) (x : A) (k : ℕ) (y : A) → k < length xs → slice_get (xs ++ x ∷ []) k ≡ Some y → slice_get xs k ≡ Some y
 get_old xs x k y lt h =
     rw (slice_get-get_or xs k y lt) (rw (← get_or_append_left xs (x ∷ []) y k lt) (ap Some (get_or_from_slice_get (xs ++ x ∷ []) k y y h)))
 
@@ -63,7 +64,7 @@ known_stays : (p : Program) (keys : List Code) (ws : List (List Choice)) (key : 
 known_stays p keys ws key x k s lt h = record {
   leads = rw (witness_before ws x k lt) h.leads;
   coded = h.coded;
-  keyed = (h.keyed.0, get_before keys key k h.keyed.0 h.keyed.1, h.keyed.2);
+  keyed = (h.keyed.0, get_front keys (key ∷ []) k h.keyed.0 h.keyed.1, h.keyed.2);
 }
 
 known_last : (p : Program) (keys : List Code) (ws : List (List Choice)) (key : Code) (x : List Choice) (s : ProgramState)
@@ -75,17 +76,17 @@ known_last p keys ws key x s e leads sound coded = record {
   keyed = (key, subst (λ (n : ℕ). slice_get (keys ++ key ∷ []) n ≡ Some key) e (get_last keys key), coded);
 }
 
--- this witness may go last: none is longer, and it is longer by one choice than that of the state that was popped last
-pub record IsLast (ws : List (List Choice)) (popped : ℕ) (x : List Choice) : Type 0 where
+-- this witness may go last: none is longer, and it is longer by one choice than that of the state that was taken last
+pub record IsLast (ws : List (List Choice)) (taken : ℕ) (x : List Choice) : Type 0 where
   pub longest : (k : ℕ) → k < length ws → length (witness_at ws k) ≤ length x
-  pub there : (k : ℕ) → k < length ws → popped - 1 < length ws
-  pub short : length x ≤ length (witness_at (ws ++ x ∷ []) (popped - 1)) + 1
+  pub there : (k : ℕ) → k < length ws → taken - 1 < length ws
+  pub short : length x ≤ length (witness_at (ws ++ x ∷ []) (taken - 1)) + 1
 
 -- a choice behind the witness of that state
-pub choice_last : (p : Program) (keys : List Code) (ws : List (List Choice)) (queue : List ProgramState) (at : ℕ) (c : Choice)
+pub choice_last : (p : Program) (keys : List Code) (ws : List (List Choice)) (queue : List Queued) (at : ℕ) (c : Choice)
     → IsSearch p keys ws queue (at + 1) → IsLast ws (at + 1) (witness_at ws at ++ c ∷ [])
 choice_last p keys ws queue at c h =
-    let w = h.waiting in
+    let w = h.within in
     let one : at + 1 - 1 ≡ at = omega arith in
     let l = length-append (witness_at ws at) (c ∷ []) in
     let there : at < length ws = omega (arith, w) in
@@ -96,17 +97,17 @@ choice_last p keys ws queue at c h =
     }
 
 -- a state that was not among those that were found
-pub search_more : (p : Program) (keys : List Code) (ws : List (List Choice)) (queue : List ProgramState) (popped : ℕ) (key : Code) (x : List Choice) (made : ProgramState)
-    → IsSearch p keys ws queue popped → played p x ≡ Some made → IsCoded made → key.bytes.items ≡ code_of made
+pub search_more : (p : Program) (keys : List Code) (ws : List (List Choice)) (queue : List Queued) (taken : ℕ) (key : Code) (x : List Choice) (made : ProgramState)
+    → IsSearch p keys ws queue taken → played p x ≡ Some made → IsCoded made → key.bytes.items ≡ code_of made
     → ((j : ℕ) (y : Code) → slice_get keys j ≡ Some y → y.bytes.items ≡ key.bytes.items → ⊥)
-    → IsLast ws popped x
-    → IsSearch p (keys ++ key ∷ []) (ws ++ x ∷ []) (queue ++ made ∷ []) popped
-search_more p keys ws queue popped key x made h leads sound coded fresh last = record {
+    → IsLast ws taken x
+    → IsSearch p (keys ++ key ∷ []) (ws ++ x ∷ []) queue taken
+search_more p keys ws queue taken key x made h leads sound coded fresh last = record {
   counted = let a = length-append keys (key ∷ []) in let b = length-append ws (x ∷ []) in let e = h.counted in omega (arith, a, b, e);
-  waiting = let a = length-append queue (made ∷ []) in let b = length-append ws (x ∷ []) in let e = h.waiting in omega (arith, a, b, e);
+  within = let b = length-append ws (x ∷ []) in let e = h.within in omega (arith, b, e);
   known = λ k lt. known_at k lt (cases_lt k (length ws));
   distinct = λ j k y z lt a b e. apart_at j k y z lt a b e (cases_lt k (length keys));
-  queued = λ j s e. queued_at j s e (cases_lt j (length queue));
+  queued = λ j w e. (let r = h.queued j w e in number_stays w.number w.state r);
   rising = λ j k le lt. rises j k le lt (cases_lt k (length ws)) (cases_lt j (length ws));
   near = λ k lt. near_at k lt (cases_lt k (length ws));
 }
@@ -125,11 +126,11 @@ search_more p keys ws queue popped key x made h leads sound coded fresh last = r
         rw same (omega arith)
 
     near_at : (k : ℕ) → k < length (ws ++ x ∷ []) → (k < length ws) ⊎ (length ws ≤ k)
-        → length (witness_at (ws ++ x ∷ []) k) ≤ length (witness_at (ws ++ x ∷ []) (popped - 1)) + 1
+        → length (witness_at (ws ++ x ∷ []) k) ≤ length (witness_at (ws ++ x ∷ []) (taken - 1)) + 1
     near_at k lt (inl below) = rw (witness_before ws x k below) (old_near (last.there k below) k below)
       where
-        old_near : popped - 1 < length ws → (k : ℕ) → k < length ws → length (witness_at ws k) ≤ length (witness_at (ws ++ x ∷ []) (popped - 1)) + 1
-        old_near there k below = rw (witness_before ws x (popped - 1) there) (h.near k below)
+        old_near : taken - 1 < length ws → (k : ℕ) → k < length ws → length (witness_at ws k) ≤ length (witness_at (ws ++ x ∷ []) (taken - 1)) + 1
+        old_near there k below = rw (witness_before ws x (taken - 1) there) (h.near k below)
     near_at k lt (inr past) =
         let b = length-append ws (x ∷ []) in
         let here : k ≡ length ws = omega (arith, b, lt, past) in
@@ -154,27 +155,41 @@ search_more p keys ws queue popped key x made h leads sound coded fresh last = r
         let same : key ≡ z = ap (λ (o : Option Code). unwrap_or o key) (sym (get_last keys key) ∙ last) in
         fresh j y (get_old keys key j y (omega (arith, lt, here)) a) (e ∙ ap (λ (v : Code). v.bytes.items) (sym same))
 
-    queued_at : (j : ℕ) (s : ProgramState) → slice_get (queue ++ made ∷ []) j ≡ Some s → (j < length queue) ⊎ (length queue ≤ j)
-        → IsAt p (ws ++ x ∷ []) (popped + j) s
-    queued_at j s e (inl below) =
-        let old : slice_get queue j ≡ Some s = rw (slice_get-get_or queue j s below) (rw (← get_or_append_left queue (made ∷ []) s j below) (ap Some (get_or_from_slice_get (queue ++ made ∷ []) j s s e))) in
-        let w = h.waiting in
-        rw (witness_before ws x (popped + j) (omega (arith, w, below))) (h.queued j s old)
-    queued_at j s e (inr past) =
-        let within = slice_get_within (queue ++ made ∷ []) j s e in
-        let b = length-append queue (made ∷ []) in
+    number_stays : (k : ℕ) (s : ProgramState) → HasNumber p ws k s → HasNumber p (ws ++ x ∷ []) k s
+    number_stays k s r =
+        let lt = r.0 in
+        let l = length-append ws (x ∷ []) in
+        (omega (arith, lt, l), rw (witness_before ws x k lt) r.1)
+
+-- one state more goes into the queue
+pub queue_more : (p : Program) (keys : List Code) (ws : List (List Choice)) (queue : List Queued) (n : ℕ) (one : Queued)
+    → IsSearch p keys ws queue n → HasNumber p ws one.number one.state → IsSearch p keys ws (queue ++ one ∷ []) n
+queue_more p keys ws queue n one h there = record {
+  counted = h.counted;
+  within = h.within;
+  known = h.known;
+  distinct = h.distinct;
+  queued = λ j w e. pick j w e (cases_lt j (length queue));
+  rising = h.rising;
+  near = h.near;
+}
+  where
+    pick : (j : ℕ) (w : Queued) → slice_get (queue ++ one ∷ []) j ≡ Some w → (j < length queue) ⊎ (length queue ≤ j)
+        → HasNumber p ws w.number w.state
+    pick j w e (inl below) = h.queued j w (get_old queue one j w below e)
+    pick j w e (inr past) =
+        let within = slice_get_within (queue ++ one ∷ []) j w e in
+        let b = length-append queue (one ∷ []) in
         let here : length queue ≡ j = omega (arith, b, within, past) in
-        let w = h.waiting in
-        let there : length ws ≡ popped + j = omega (arith, w, here) in
-        let g : slice_get (queue ++ made ∷ []) (length queue) ≡ Some s = subst (λ (n : ℕ). slice_get (queue ++ made ∷ []) n ≡ Some s) (sym here) e in
-        let same : made ≡ s = ap (λ (o : Option ProgramState). unwrap_or o made) (sym (get_last queue made) ∙ g) in
-        subst (λ (n : ℕ). IsAt p (ws ++ x ∷ []) n s) there (rw (witness_last ws x) (leads ∙ ap Some same))
+        let g : slice_get (queue ++ one ∷ []) (length queue) ≡ Some w = subst (λ (n : ℕ). slice_get (queue ++ one ∷ []) n ≡ Some w) (sym here) e in
+        let same : one ≡ w = ap (λ (o : Option Queued). unwrap_or o one) (sym (get_last queue one) ∙ g) in
+        subst (λ (v : Queued). HasNumber p ws v.number v.state) same there
 
 -- a state has the number of its key
-pub number_of : (p : Program) (keys : List Code) (ws : List (List Choice)) (queue : List ProgramState) (popped k : ℕ) (code key : Code) (made : ProgramState)
-    → IsSearch p keys ws queue popped → ((s t : ProgramState) → IsCoded s → IsCoded t → code_of s ≡ code_of t → s ≡ t) → IsCoded made → code.bytes.items ≡ code_of made
+pub number_of : (p : Program) (keys : List Code) (ws : List (List Choice)) (queue : List Queued) (taken k : ℕ) (code key : Code) (made : ProgramState)
+    → IsSearch p keys ws queue taken → ((s t : ProgramState) → IsCoded s → IsCoded t → code_of s ≡ code_of t → s ≡ t) → IsCoded made → code.bytes.items ≡ code_of made
     → slice_get keys k ≡ Some key → pointwise nat_eq code.bytes.items key.bytes.items ≡ true → HasNumber p ws k made
-number_of p keys ws queue popped k code key made h apart sound coded there same =
+number_of p keys ws queue taken k code key made h apart sound coded there same =
     let lt = slice_get_within keys k key there in
     let w = h.counted in
     let below : k < length ws = omega (arith, w, lt) in
@@ -204,23 +219,28 @@ key_there ks ks' k b e t h = by (list_any (is_same k) ks) (sym e ∙ t) h
     by true n g = g
     by false n g = absurd (cc)
 
+-- nothing is found yet
+none_found : (p : Program) → IsSearch p [] [] [] 0
+none_found p = record {
+  counted = refl;
+  within = omega arith;
+  known = λ k lt. absurd (omega (arith, lt));
+  distinct = λ j k y z lt a b e. absurd (cc);
+  queued = λ j w e. absurd (cc);
+  rising = λ j k le lt. absurd (omega (arith, lt));
+  near = λ k lt. absurd (omega (arith, lt));
+}
+
 -- where a program begins
 pub first_found : (p : Program) (key : Code) (s : ProgramState) → s ≡ opening p → IsCoded s → key.bytes.items ≡ code_of s
-    → IsVisited p (key ∷ []) ([] ∷ []) (s ∷ []) [] 0 0
+    → IsVisited p (key ∷ []) ([] ∷ []) (record { number = 0; state = s } ∷ []) [] 0 0
 first_found p key s e sound coded = record {
-  search = search_more p [] [] [] 0 key [] s (record {
-    counted = refl;
-    waiting = refl;
-    known = λ k lt. absurd (omega (arith, lt));
-    distinct = λ j k y z lt a b e. absurd (cc);
-    queued = λ j r leads. absurd (cc);
-    rising = λ j k le lt. absurd (omega (arith, lt));
-    near = λ k lt. absurd (omega (arith, lt));
-  }) (ap Some (sym e)) sound coded (λ j y a e. absurd (cc)) (record {
-    longest = λ k lt. absurd (omega (arith, lt));
-    there = λ k lt. absurd (omega (arith, lt));
-    short = omega arith;
-  });
+  search = queue_more p (key ∷ []) ([] ∷ []) [] 0 (record { number = 0; state = s })
+      (search_more p [] [] [] 0 key [] s (none_found p) (ap Some (sym e)) sound coded (λ j y a e. absurd (cc)) (record {
+        longest = λ k lt. absurd (omega (arith, lt));
+        there = λ k lt. absurd (omega (arith, lt));
+        short = omega arith;
+      })) (omega arith, ap Some (sym e));
   closed = λ k r lt leads. absurd (omega (arith, lt));
   noted = record {
     each = λ i lt. absurd (omega (arith, lt));

@@ -34,13 +34,6 @@ made_last p s xs c =
     let h = made_front p s xs (c ∷ []) (length xs) (omega arith) in
     rw (n, h, last_choice xs c) refl
 
-pub sifted_none : (p : Program) (s : ProgramState) (cs : List Choice) → IsSifted p s cs 0 []
-sifted_none p s cs = record {
-  kept = λ i t lt leads. absurd (omega (arith, lt));
-  counted = refl;
-  few = omega arith;
-}
-
 -- one that cannot be made is left out
 pub sifted_out : (p : Program) (s : ProgramState) (cs those : List Choice) (n : ℕ) → IsSifted p s cs n those
     → after p s (choice_at cs n) ≡ None → IsSifted p s cs (n + 1) those

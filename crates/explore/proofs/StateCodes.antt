@@ -1,12 +1,14 @@
 -- A code is of one state.
 use native.Mathlib.Omega.{arith}
-use Rattle.std.proofs.Common.{◌≡◌, ◌∙◌, sym, ap, refl, ℕ, ◌<◌, ◌^◌, nat_lt, suc, Bool, true, false, if◌then◌else◌, List, [], ◌∷◌, ◌++◌, length, take, drop, get_or, ◌+◌, subst, Option, Some, None}
-use Rattle.std.proofs.Common.{append_assoc, append-nil, ◌≤◌}
+use Rattle.std.proofs.Common.{◌≡◌, ◌∙◌, sym, ap, refl, ℕ, ◌<◌, ◌^◌, nat_lt, suc, Bool, true, false, if◌then◌else◌, List, [], ◌∷◌, ◌++◌, length, take, drop, get_or, ◌+◌, Option, Some, None}
+use Rattle.std.proofs.Common.{append_assoc, append-nil, ◌≤◌, ◌*◌, ◌&&◌, zero}
+use Rattle.std.specs.Option.{unwrap_or}
+use Rattle.std.specs.Prelude.{slice_get}
+use Rattle.std.proofs.lemmas.Option.{slice_get_within}
 use Rattle.std.specs.Prelude.{map}
 use Rattle.std.specs.Int.{w32, w64, to_le_bytes, from_le_bytes}
 use Rattle.std.proofs.lemmas.Nat.{from_le_bytes-to_le_bytes_4, from_le_bytes-to_le_bytes_8}
-use Rattle.std.proofs.lemmas.Bool.{ltb-true, ltb-false}
-use Rattle.std.proofs.lemmas.List.{map-append, take_more}
+use Rattle.std.proofs.lemmas.Bool.{ltb-true}
 use Rattle.fat_monitor.specs.declared.actions.Cause.{Cause}
 use Rattle.fat_monitor.specs.declared.actions.Cause.TheVariants as cause
 use Rattle.fat_monitor.specs.declared.actions.Reply.{Reply}
@@ -16,7 +18,7 @@ use Rattle.fat_monitor.specs.Numbers.{reply_number}
 use Rattle.step_core.specs.World.{WorldState}
 use Rattle.step_core.specs.Numbers.{numbers_of, IsNumbered}
 use Rattle.explore.specs.States.{ProgramState}
-use Rattle.explore.specs.Codes.{answer_number, front_numbers, state_numbers, packed_long, packed_number, packed, code_of, AreSmall, IsCoded}
+use Rattle.explore.specs.Codes.{answer_number, front_numbers, shares, pair_of, alone_long, alone, dense, code_of, AreSmall, IsCoded}
 
 abbrev first : List ℕ → ℕ
 first [] = 0
@@ -30,27 +32,14 @@ pub small_all : (xs : List ℕ) → ((k : ℕ) → get_or xs k 0 < 2 ^ 64) → A
 small_all [] h = tt
 small_all (x ∷ xs) h = (h 0, small_all xs (λ k. h (suc k)))
 
-pub packed_more : (xs : List ℕ) (n : ℕ) → packed (xs ++ n ∷ []) ≡ packed xs ++ packed_number n
-packed_more [] n = append-nil (packed_number n)
-packed_more (x ∷ xs) n = ap (λ (ys : List ℕ). packed_number x ++ ys) (packed_more xs n) ∙ sym (append_assoc (packed_number x) (packed xs) (packed_number n))
-
-pub packed_append : (xs ys : List ℕ) → packed (xs ++ ys) ≡ packed xs ++ packed ys
-packed_append [] ys = refl
-packed_append (x ∷ xs) ys =
-    ap (λ (zs : List ℕ). packed_number x ++ zs) (packed_append xs ys) ∙ sym (append_assoc (packed_number x) (packed xs) (packed ys))
-
-small_append : (xs ys : List ℕ) → AreSmall xs → AreSmall ys → AreSmall (xs ++ ys)
-small_append [] ys h g = g
-small_append (x ∷ xs) ys h g = (h.0, small_append xs ys h.1 g)
-
-cause_byte : (c : Cause) → cause_number c + 1 < 254
+cause_byte : (c : Cause) → cause_number c + 1 < 17
 cause_byte cause.NoMonitor = omega arith
 cause_byte cause.Memory = omega arith
 cause_byte cause.TooDeep = omega arith
 cause_byte cause.StillOwner = omega arith
 cause_byte cause.NoThread = omega arith
 
-reply_byte : (r : Reply) → reply_number r + 1 < 254
+reply_byte : (r : Reply) → reply_number r + 1 < 17
 reply_byte reply.Entered = omega arith
 reply_byte reply.Exited = omega arith
 reply_byte reply.WaitOver = omega arith
@@ -64,48 +53,89 @@ reply_byte reply.IllegalMonitorState = omega arith
 reply_byte reply.IllegalArgument = omega arith
 reply_byte (reply.Refused c) = cause_byte c
 
-answer_small : (o : Option Reply) → answer_number o < 254
+answer_small : (o : Option Reply) → answer_number o < 17
 answer_small None = omega arith
 answer_small (Some r) = reply_byte r
-
--- the number of a reply is one byte
-one_byte : (n : ℕ) → n < 254 → packed_number n ≡ n ∷ []
-one_byte n lt = by (nat_lt n 254) refl
-  where
-    by : (b : Bool) → nat_lt n 254 ≡ b → (if b then n ∷ [] else packed_long n) ≡ n ∷ []
-    by true e = refl
-    by false e = absurd (let le = ltb-false n 254 e in omega (arith, lt, le))
 
 small_answers : (os : List (Option Reply)) → AreSmall (map answer_number os)
 small_answers [] = tt
 small_answers (o ∷ os) = (let lt = answer_small o in omega (arith, lt), small_answers os)
 
--- one answer more, which is a byte
-pub answers_more : (old mid new : List ℕ) (os : List (Option Reply)) (i n : ℕ) (o : Option Reply) → i < length os
-    → mid ≡ old ++ packed (map answer_number (take i os)) → n ≡ answer_number (get_or os i o) → new ≡ mid ++ n ∷ []
-    → new ≡ old ++ packed (map answer_number (take (i + 1) os))
-answers_more old mid new os i n o lt e is f =
-    let one : map answer_number (take (i + 1) os) ≡ map answer_number (take i os) ++ answer_number (get_or os i o) ∷ [] =
-    ap (map answer_number) (take_more os i o lt) ∙ map-append answer_number (take i os) (get_or os i o ∷ []) in
-    let byte : n ∷ [] ≡ packed_number (answer_number (get_or os i o)) =
-    ap (λ (k : ℕ). k ∷ []) is ∙ sym (one_byte (answer_number (get_or os i o)) (answer_small (get_or os i o))) in
-    f ∙ ap (λ (b : List ℕ). b ++ n ∷ []) e
-    ∙ append_assoc old (packed (map answer_number (take i os))) (n ∷ [])
-    ∙ ap (λ (b : List ℕ). old ++ (packed (map answer_number (take i os)) ++ b)) byte
-    ∙ ap (λ (b : List ℕ). old ++ b) (sym (packed_more (map answer_number (take i os)) (answer_number (get_or os i o))))
-    ∙ ap (λ (ns : List ℕ). old ++ packed ns) (sym one)
+-- ---- numbers one behind the other
 
-front_append : (s : ProgramState) → front_numbers s ++ map answer_number s.replies ≡ state_numbers s
-front_append s = append_assoc (numbers_of s.world) (s.told ∷ length s.nexts ∷ s.nexts) (map answer_number s.replies)
+dense_pair : (a b c : ℕ) (ns : List ℕ) → pair_of a (Some b) ≡ Some c → dense (a ∷ b ∷ ns) ≡ c ∷ dense ns
+dense_pair a b c ns e = by (shares a b) e
+  where
+    by : (q : Bool) → (if q then Some (16 * a + b) else None) ≡ Some c
+        → (if q then (16 * a + b) ∷ dense ns else alone a ++ dense (b ∷ ns)) ≡ c ∷ dense ns
+    by true g = ap (λ (o : Option ℕ). unwrap_or o c ∷ dense ns) g
+    by false g = absurd (cc)
 
--- the numbers of a state but its answers, and these behind them
-pub code_parts : (s : ProgramState) → packed (front_numbers s) ++ packed (map answer_number s.replies) ≡ code_of s
-code_parts s = sym (packed_append (front_numbers s) (map answer_number s.replies)) ∙ ap packed (front_append s)
+dense_alone : (a b : ℕ) (ns : List ℕ) → pair_of a (Some b) ≡ None → dense (a ∷ b ∷ ns) ≡ alone a ++ dense (b ∷ ns)
+dense_alone a b ns e = by (shares a b) e
+  where
+    by : (q : Bool) → (if q then Some (16 * a + b) else None) ≡ None
+        → (if q then (16 * a + b) ∷ dense ns else alone a ++ dense (b ∷ ns)) ≡ alone a ++ dense (b ∷ ns)
+    by true g = absurd (cc)
+    by false g = refl
 
-pub small_parts : (s : ProgramState) → AreSmall (front_numbers s) → AreSmall (state_numbers s)
-small_parts s h = subst AreSmall (front_append s) (small_append (front_numbers s) (map answer_number s.replies) h (small_answers s.replies))
+no_pair : (a c : ℕ) (o : Option ℕ) → o ≡ None → pair_of a o ≡ Some c → ⊥
+no_pair a c o e g = absurd (let h : None ≡ Some c = sym (ap (pair_of a) e) ∙ g in cc)
 
--- ---- numbers packed one behind the other
+shares_from : (ns : List ℕ) (i a c : ℕ) (o : Option ℕ) → i < length ns → a ≡ get_or ns i 0 → o ≡ slice_get ns (suc i)
+    → pair_of a o ≡ Some c → dense (drop i ns) ≡ c ∷ dense (drop (suc (suc i)) ns)
+shares_from [] i a c o lt e f g = absurd (omega (arith, lt))
+shares_from (x ∷ []) zero a c o lt e f g = absurd (no_pair a c o f g)
+shares_from (x ∷ y ∷ ns) zero a c o lt e f g =
+    dense_pair x y c ns (ap (λ (n : ℕ). pair_of n (Some y)) (sym e) ∙ ap (pair_of a) (sym f) ∙ g)
+shares_from (x ∷ ns) (suc i) a c o lt e f g = shares_from ns i a c o (omega (arith, lt)) e f g
+
+alone_from : (ns : List ℕ) (i a : ℕ) (o : Option ℕ) → i < length ns → a ≡ get_or ns i 0 → o ≡ slice_get ns (suc i)
+    → pair_of a o ≡ None → dense (drop i ns) ≡ alone a ++ dense (drop (suc i) ns)
+alone_from [] i a o lt e f g = absurd (omega (arith, lt))
+alone_from (x ∷ []) zero a o lt e f g = ap alone (sym e) ∙ sym (append-nil (alone a))
+alone_from (x ∷ y ∷ ns) zero a o lt e f g =
+    dense_alone x y ns (ap (λ (n : ℕ). pair_of n (Some y)) (sym e) ∙ ap (pair_of a) (sym f) ∙ g)
+    ∙ ap (λ (n : ℕ). alone n ++ dense (y ∷ ns)) (sym e)
+alone_from (x ∷ ns) (suc i) a o lt e f g = alone_from ns i a o (omega (arith, lt)) e f g
+
+-- the next number shares its byte with the one behind it
+next_shares : (ns : List ℕ) (i a c : ℕ) (o : Option ℕ) → i < length ns → a ≡ get_or ns i 0 → o ≡ slice_get ns (i + 1)
+    → pair_of a o ≡ Some c → dense (drop i ns) ≡ c ∷ dense (drop (i + 2) ns)
+next_shares ns i a c o lt e f g =
+    let one : i + 1 ≡ suc i = omega arith in
+    let two : i + 2 ≡ suc (suc i) = omega arith in
+    shares_from ns i a c o lt e (f ∙ ap (slice_get ns) one) g ∙ ap (λ (n : ℕ). c ∷ dense (drop n ns)) (sym two)
+
+-- it shares none
+next_alone : (ns : List ℕ) (i a : ℕ) (o : Option ℕ) → i < length ns → a ≡ get_or ns i 0 → o ≡ slice_get ns (i + 1)
+    → pair_of a o ≡ None → dense (drop i ns) ≡ alone a ++ dense (drop (i + 1) ns)
+next_alone ns i a o lt e f g =
+    let one : i + 1 ≡ suc i = omega arith in
+    alone_from ns i a o lt e (f ∙ ap (slice_get ns) one) g ∙ ap (λ (n : ℕ). alone a ++ dense (drop n ns)) (sym one)
+
+pair_within : (ns : List ℕ) (k a c : ℕ) (o : Option ℕ) → o ≡ slice_get ns k → pair_of a o ≡ Some c → k < length ns
+pair_within ns k a c None e g = absurd (cc)
+pair_within ns k a c (Some b) e g = slice_get_within ns k b (sym e)
+
+-- the bytes of one step more
+wrote : (old new step all before after : List ℕ) → old ++ before ≡ all → before ≡ step ++ after → new ≡ old ++ step → new ++ after ≡ all
+wrote old new step all before after h e f =
+    ap (λ (b : List ℕ). b ++ after) f ∙ append_assoc old step after ∙ ap (λ (b : List ℕ). old ++ b) (sym e) ∙ h
+
+-- the numbers up to a position are written, and then two more in one byte, or one by itself
+pub both_written : (old new all ns : List ℕ) (i a c : ℕ) (o : Option ℕ) → i < length ns
+    → old ++ dense (drop i ns) ≡ all → a ≡ get_or ns i 0 → o ≡ slice_get ns (i + 1) → pair_of a o ≡ Some c → new ≡ old ++ c ∷ []
+    → (i + 2 ≤ length ns) × (new ++ dense (drop (i + 2) ns) ≡ all)
+both_written old new all ns i a c o lt h e f g is =
+    let within = pair_within ns (i + 1) a c o f g in
+    (omega (arith, within), wrote old new (c ∷ []) all (dense (drop i ns)) (dense (drop (i + 2) ns)) h (next_shares ns i a c o lt e f g) is)
+
+pub one_written : (old new all ns : List ℕ) (i a : ℕ) (o : Option ℕ) → i < length ns
+    → old ++ dense (drop i ns) ≡ all → a ≡ get_or ns i 0 → o ≡ slice_get ns (i + 1) → pair_of a o ≡ None → new ≡ old ++ alone a
+    → (i + 1 ≤ length ns) × (new ++ dense (drop (i + 1) ns) ≡ all)
+one_written old new all ns i a o lt h e f g is =
+    (omega (arith, lt), wrote old new (alone a) all (dense (drop i ns)) (dense (drop (i + 1) ns)) h (next_alone ns i a o lt e f g) is)
 
 bytes_apart : (x y : ℕ) (a b : List ℕ) → x < 2 ^ 64 → y < 2 ^ 64 → to_le_bytes w64 x ++ a ≡ to_le_bytes w64 y ++ b → (x ≡ y) × (a ≡ b)
 bytes_apart x y a b hx hy e =
@@ -124,65 +154,133 @@ short_apart x y a b hx hy e =
 below_short : (n : ℕ) → nat_lt n 4294967296 ≡ true → n < 2 ^ 32
 below_short n h = let lt = ltb-true n 4294967296 h in omega (arith, lt)
 
-long_apart : (x y : ℕ) (a b : List ℕ) → x < 2 ^ 64 → y < 2 ^ 64 → packed_long x ++ a ≡ packed_long y ++ b → (x ≡ y) × (a ≡ b)
+long_apart : (x y : ℕ) (a b : List ℕ) → x < 2 ^ 64 → y < 2 ^ 64 → alone_long x ++ a ≡ alone_long y ++ b → (x ≡ y) × (a ≡ b)
 long_apart x y a b hx hy e = by (nat_lt x 4294967296) (nat_lt y 4294967296) refl refl e
   where
     by : (p q : Bool) → nat_lt x 4294967296 ≡ p → nat_lt y 4294967296 ≡ q
-        → (if p then 254 ∷ to_le_bytes w32 x else 255 ∷ to_le_bytes w64 x) ++ a
-        ≡ (if q then 254 ∷ to_le_bytes w32 y else 255 ∷ to_le_bytes w64 y) ++ b → (x ≡ y) × (a ≡ b)
+        → (if p then 241 ∷ to_le_bytes w32 x else 242 ∷ to_le_bytes w64 x) ++ a
+        ≡ (if q then 241 ∷ to_le_bytes w32 y else 242 ∷ to_le_bytes w64 y) ++ b → (x ≡ y) × (a ≡ b)
     by true true hp hq g = short_apart x y a b (below_short x hp) (below_short y hq) (ap rest g)
-    by true false hp hq g = absurd (let f : 254 ≡ 255 = ap first g in omega (arith, f))
-    by false true hp hq g = absurd (let f : 255 ≡ 254 = ap first g in omega (arith, f))
+    by true false hp hq g = absurd (let f : 241 ≡ 242 = ap first g in omega (arith, f))
+    by false true hp hq g = absurd (let f : 242 ≡ 241 = ap first g in omega (arith, f))
     by false false hp hq g = bytes_apart x y a b hx hy (ap rest g)
 
--- a long number begins with a byte that no small one is
-long_first : (y : ℕ) (b : List ℕ) → 254 ≤ first (packed_long y ++ b)
+-- a long number begins with a byte of its own
+abbrev IsBetween : ℕ → ℕ → ℕ → Type 0
+IsBetween least n most = (least ≤ n) × (n ≤ most)
+
+long_first : (y : ℕ) (b : List ℕ) → IsBetween 241 (first (alone_long y ++ b)) 242
 long_first y b = by (nat_lt y 4294967296)
   where
-    by : (q : Bool) → 254 ≤ first ((if q then 254 ∷ to_le_bytes w32 y else 255 ∷ to_le_bytes w64 y) ++ b)
-    by true = omega arith
-    by false = omega arith
+    by : (q : Bool) → IsBetween 241 (first ((if q then 241 ∷ to_le_bytes w32 y else 242 ∷ to_le_bytes w64 y) ++ b)) 242
+    by true = (omega arith, omega arith)
+    by false = (omega arith, omega arith)
 
-number_apart : (x y : ℕ) (a b : List ℕ) → x < 2 ^ 64 → y < 2 ^ 64 → packed_number x ++ a ≡ packed_number y ++ b → (x ≡ y) × (a ≡ b)
-number_apart x y a b hx hy e = by (nat_lt x 254) (nat_lt y 254) refl refl e
+alone_first : (y : ℕ) (b : List ℕ) → IsBetween 240 (first (alone y ++ b)) 242
+alone_first y b = by (nat_lt y 256)
   where
-    by : (p q : Bool) → nat_lt x 254 ≡ p → nat_lt y 254 ≡ q
-        → (if p then x ∷ [] else packed_long x) ++ a ≡ (if q then y ∷ [] else packed_long y) ++ b → (x ≡ y) × (a ≡ b)
-    by true true hp hq g = (ap first g, ap rest g)
-    by true false hp hq g = absurd (let lt = ltb-true x 254 hp in let f : x ≡ first (packed_long y ++ b) = ap first g in let l = long_first y b in omega (arith, lt, f, l))
-    by false true hp hq g = absurd (let lt = ltb-true y 254 hq in let f : first (packed_long x ++ a) ≡ y = ap first g in let l = long_first x a in omega (arith, lt, f, l))
-    by false false hp hq g = long_apart x y a b hx hy g
+    by : (q : Bool) → IsBetween 240 (first ((if q then 240 ∷ y ∷ [] else alone_long y) ++ b)) 242
+    by true = (omega arith, omega arith)
+    by false = (let l = long_first y b in let low = l.0 in let high = l.1 in (omega (arith, low), high))
 
-none_packed : (y : ℕ) (b : List ℕ) → [] ≡ packed_number y ++ b → ⊥
-none_packed y b e = by (nat_lt y 254) e
+alone_apart : (x y : ℕ) (a b : List ℕ) → x < 2 ^ 64 → y < 2 ^ 64 → alone x ++ a ≡ alone y ++ b → (x ≡ y) × (a ≡ b)
+alone_apart x y a b hx hy e = by (nat_lt x 256) (nat_lt y 256) e
   where
-    long : (q : Bool) → [] ≡ (if q then 254 ∷ to_le_bytes w32 y else 255 ∷ to_le_bytes w64 y) ++ b → ⊥
-    long true g = absurd (let l = ap (λ (ns : List ℕ). length ns) g in omega (arith, l))
-    long false g = absurd (let l = ap (λ (ns : List ℕ). length ns) g in omega (arith, l))
+    by : (p q : Bool)
+        → (if p then 240 ∷ x ∷ [] else alone_long x) ++ a ≡ (if q then 240 ∷ y ∷ [] else alone_long y) ++ b → (x ≡ y) × (a ≡ b)
+    by true true g = (ap (λ (ns : List ℕ). first (rest ns)) g, ap (λ (ns : List ℕ). rest (rest ns)) g)
+    by true false g = absurd (let f : 240 ≡ first (alone_long y ++ b) = ap first g in let l = (long_first y b).0 in omega (arith, f, l))
+    by false true g = absurd (let f : first (alone_long x ++ a) ≡ 240 = ap first g in let l = (long_first x a).0 in omega (arith, f, l))
+    by false false g = long_apart x y a b hx hy g
 
-    by : (q : Bool) → [] ≡ (if q then y ∷ [] else packed_long y) ++ b → ⊥
-    by true g = absurd (let l = ap (λ (ns : List ℕ). length ns) g in omega (arith, l))
-    by false g = long (nat_lt y 4294967296) g
+-- two numbers that share a byte are small
+both_small : (a b : ℕ) → shares a b ≡ true → (a < 15) × (b < 16)
+both_small a b e = by (nat_lt a 15) (nat_lt b 16) refl refl e
+  where
+    by : (p q : Bool) → nat_lt a 15 ≡ p → nat_lt b 16 ≡ q → (p && q) ≡ true → (a < 15) × (b < 16)
+    by true true hp hq g = (ltb-true a 15 hp, ltb-true b 16 hq)
+    by true false hp hq g = absurd (cc)
+    by false q hp hq g = absurd (cc)
 
-packed_apart : (xs ys : List ℕ) → AreSmall xs → AreSmall ys → packed xs ≡ packed ys → xs ≡ ys
-packed_apart [] [] hx hy e = refl
-packed_apart [] (y ∷ ys) hx hy e = absurd (none_packed y (packed ys) e)
-packed_apart (x ∷ xs) [] hx hy e = absurd (none_packed x (packed xs) (sym e))
-packed_apart (x ∷ xs) (y ∷ ys) hx hy e =
-    let h = number_apart x y (packed xs) (packed ys) hx.0 hy.0 e in
-    let t = packed_apart xs ys hx.1 hy.1 h.1 in
-    ap (λ (n : ℕ). n ∷ xs) h.0 ∙ ap (λ (ns : List ℕ). y ∷ ns) t
+-- no number begins as the end does
+not_end : (y : ℕ) (ys b : List ℕ) → first (dense (y ∷ ys) ++ b) < 255
+not_end y [] b = let l = (alone_first y b).1 in omega (arith, l)
+not_end y (z ∷ ys) b = by (shares y z) refl
+  where
+    by : (q : Bool) → shares y z ≡ q → first ((if q then (16 * y + z) ∷ dense ys else alone y ++ dense (z ∷ ys)) ++ b) < 255
+    by true h = (let s = both_small y z h in let low = s.0 in let high = s.1 in omega (arith, low, high))
+    by false h = (let l = (alone_first y (dense (z ∷ ys) ++ b)).1 in
+        let f = ap first (append_assoc (alone y) (dense (z ∷ ys)) b) in omega (arith, l, f))
+
+-- neither list begins with a shared byte
+both_alone : (x y : ℕ) (xs ys a b : List ℕ) → x < 2 ^ 64 → y < 2 ^ 64
+    → (dense xs ++ 255 ∷ a ≡ dense ys ++ 255 ∷ b → (xs ≡ ys) × (a ≡ b))
+    → (alone x ++ dense xs) ++ 255 ∷ a ≡ (alone y ++ dense ys) ++ 255 ∷ b → (x ∷ xs ≡ y ∷ ys) × (a ≡ b)
+both_alone x y xs ys a b hx hy more e =
+    let h = alone_apart x y (dense xs ++ 255 ∷ a) (dense ys ++ 255 ∷ b) hx hy
+    (sym (append_assoc (alone x) (dense xs) (255 ∷ a)) ∙ e ∙ append_assoc (alone y) (dense ys) (255 ∷ b)) in
+    let t = more h.1 in
+    (ap (λ (n : ℕ). n ∷ xs) h.0 ∙ ap (λ (ns : List ℕ). y ∷ ns) t.0, t.1)
+
+-- one begins with a shared byte, and the other does not
+one_shares : (x w y : ℕ) (xs ys a b : List ℕ) → shares x w ≡ true → ((16 * x + w) ∷ xs) ++ a ≡ (alone y ++ ys) ++ b → ⊥
+one_shares x w y xs ys a b h e = absurd (
+    let s = both_small x w h in
+    let low = s.0 in
+    let high = s.1 in
+    let f : 16 * x + w ≡ first ((alone y ++ ys) ++ b) = ap first e in
+    let g = ap first (append_assoc (alone y) ys b) in
+    let l = (alone_first y (ys ++ b)).0 in
+    omega (arith, low, high, f, g, l))
+
+-- the bytes up to the end are of one list
+dense_split : (xs ys a b : List ℕ) → AreSmall xs → AreSmall ys → dense xs ++ 255 ∷ a ≡ dense ys ++ 255 ∷ b → (xs ≡ ys) × (a ≡ b)
+dense_split [] [] a b hx hy e = (refl, ap rest e)
+dense_split [] (y ∷ ys) a b hx hy e =
+    absurd (let l = not_end y ys (255 ∷ b) in let f : 255 ≡ first (dense (y ∷ ys) ++ 255 ∷ b) = ap first e in omega (arith, l, f))
+dense_split (x ∷ xs) [] a b hx hy e =
+    absurd (let l = not_end x xs (255 ∷ a) in let f : first (dense (x ∷ xs) ++ 255 ∷ a) ≡ 255 = ap first e in omega (arith, l, f))
+dense_split (x ∷ []) (y ∷ []) a b hx hy e =
+    both_alone x y [] [] a b hx.0 hy.0 (λ g. dense_split [] [] a b tt tt g)
+    (rw (append-nil (alone x), append-nil (alone y)) e)
+dense_split (x ∷ []) (y ∷ z ∷ ys) a b hx hy e = by (shares y z) refl e (λ f. dense_split [] (z ∷ ys) a b tt hy.1 f)
+  where
+    by : (q : Bool) → shares y z ≡ q
+        → alone x ++ 255 ∷ a ≡ (if q then (16 * y + z) ∷ dense ys else alone y ++ dense (z ∷ ys)) ++ 255 ∷ b
+        → (dense [] ++ 255 ∷ a ≡ dense (z ∷ ys) ++ 255 ∷ b → ([] ≡ z ∷ ys) × (a ≡ b)) → (x ∷ [] ≡ y ∷ z ∷ ys) × (a ≡ b)
+    by true h g more = absurd (one_shares y z x (dense ys) [] (255 ∷ b) (255 ∷ a) h (rw (append-nil (alone x)) (sym g)))
+    by false h g more = both_alone x y [] (z ∷ ys) a b hx.0 hy.0 more (rw (append-nil (alone x)) g)
+dense_split (x ∷ w ∷ xs) (y ∷ []) a b hx hy e = by (shares x w) refl e (λ f. dense_split (w ∷ xs) [] a b hx.1 tt f)
+  where
+    by : (p : Bool) → shares x w ≡ p
+        → (if p then (16 * x + w) ∷ dense xs else alone x ++ dense (w ∷ xs)) ++ 255 ∷ a ≡ alone y ++ 255 ∷ b
+        → (dense (w ∷ xs) ++ 255 ∷ a ≡ dense [] ++ 255 ∷ b → (w ∷ xs ≡ []) × (a ≡ b)) → (x ∷ w ∷ xs ≡ y ∷ []) × (a ≡ b)
+    by true h g more = absurd (one_shares x w y (dense xs) [] (255 ∷ a) (255 ∷ b) h (rw (append-nil (alone y)) g))
+    by false h g more = both_alone x y (w ∷ xs) [] a b hx.0 hy.0 more (rw (append-nil (alone y)) g)
+dense_split (x ∷ w ∷ xs) (y ∷ z ∷ ys) a b hx hy e =
+    by (shares x w) (shares y z) refl refl e (λ f. dense_split xs ys a b hx.1.1 hy.1.1 f)
+    (λ f. dense_split (w ∷ xs) (z ∷ ys) a b hx.1 hy.1 f)
+  where
+    by : (p q : Bool) → shares x w ≡ p → shares y z ≡ q
+        → (if p then (16 * x + w) ∷ dense xs else alone x ++ dense (w ∷ xs)) ++ 255 ∷ a
+        ≡ (if q then (16 * y + z) ∷ dense ys else alone y ++ dense (z ∷ ys)) ++ 255 ∷ b
+        → (dense xs ++ 255 ∷ a ≡ dense ys ++ 255 ∷ b → (xs ≡ ys) × (a ≡ b))
+        → (dense (w ∷ xs) ++ 255 ∷ a ≡ dense (z ∷ ys) ++ 255 ∷ b → (w ∷ xs ≡ z ∷ ys) × (a ≡ b))
+        → (x ∷ w ∷ xs ≡ y ∷ z ∷ ys) × (a ≡ b)
+    by true true hp hq g two one =
+        let s = both_small x w hp in
+        let t = both_small y z hq in
+        let s0 = s.0 in let s1 = s.1 in let t0 = t.0 in let t1 = t.1 in
+        let f : 16 * x + w ≡ 16 * y + z = ap first g in
+        let same : x ≡ y = omega (arith, f, s0, s1, t0, t1) in
+        let next : w ≡ z = omega (arith, f, s0, s1, t0, t1) in
+        let more = two (ap rest g) in
+        (ap (λ (n : ℕ). n ∷ w ∷ xs) same ∙ ap (λ (n : ℕ). y ∷ n ∷ xs) next ∙ ap (λ (ns : List ℕ). y ∷ z ∷ ns) more.0, more.1)
+    by true false hp hq g two one = absurd (one_shares x w y (dense xs) (dense (z ∷ ys)) (255 ∷ a) (255 ∷ b) hp g)
+    by false true hp hq g two one = absurd (one_shares y z x (dense ys) (dense (w ∷ xs)) (255 ∷ b) (255 ∷ a) hq (sym g))
+    by false false hp hq g two one = both_alone x y (w ∷ xs) (z ∷ ys) a b hx.0 hy.0 one g
 
 -- ---- the numbers of a state
-
-append_apart : (xs ys a b : List ℕ) → length xs ≡ length ys → xs ++ a ≡ ys ++ b → (xs ≡ ys) × (a ≡ b)
-append_apart [] [] a b l e = (refl, e)
-append_apart [] (y ∷ ys) a b l e = absurd (omega (arith, l))
-append_apart (x ∷ xs) [] a b l e = absurd (omega (arith, l))
-append_apart (x ∷ xs) (y ∷ ys) a b l e =
-    let h = append_apart xs ys a b (omega (arith, l)) (ap rest e) in
-    let f : x ≡ y = ap first e in
-    (ap (λ (n : ℕ). n ∷ xs) f ∙ ap (λ (ns : List ℕ). y ∷ ns) h.0, h.1)
 
 -- two replies with one number are the same
 abbrev pub RepliesApart : Type 0
@@ -208,13 +306,14 @@ answers_apart h (x ∷ xs) (y ∷ ys) e =
 -- a code is of one state
 pub states_apart : RepliesApart → WorldsApart → (s t : ProgramState) → IsCoded s → IsCoded t → code_of s ≡ code_of t → s ≡ t
 states_apart replies worlds s t hs ht e =
-    let numbers = packed_apart (state_numbers s) (state_numbers t) hs.small ht.small e in
-    let w = worlds s.world t.world _ _ hs.numbered ht.numbered numbers in
+    let numbers = dense_split (front_numbers s) (front_numbers t) (dense (map answer_number s.replies)) (dense (map answer_number t.replies)) hs.small ht.small e in
+    let w = worlds s.world t.world _ _ hs.numbered ht.numbered numbers.0 in
     let told : s.told ≡ t.told = ap first w.1 in
-    let long : length s.nexts ≡ length t.nexts = ap (λ (ns : List ℕ). first (rest ns)) w.1 in
-    let lists = append_apart s.nexts t.nexts (map answer_number s.replies) (map answer_number t.replies) long (ap (λ (ns : List ℕ). rest (rest ns)) w.1) in
-    let answers = answers_apart replies s.replies t.replies lists.1 in
+    let nexts : s.nexts ≡ t.nexts = ap (λ (ns : List ℕ). rest (rest ns)) w.1 in
+    let last = dense_split (map answer_number s.replies) (map answer_number t.replies) [] [] (small_answers s.replies) (small_answers t.replies)
+    (ap (λ (ns : List ℕ). ns ++ 255 ∷ []) numbers.1) in
+    let answers = answers_apart replies s.replies t.replies last.0 in
     ap (λ (x : WorldState). record { world = x; nexts = s.nexts; replies = s.replies; told = s.told }) w.0
-    ∙ ap (λ (x : List ℕ). record { world = t.world; nexts = x; replies = s.replies; told = s.told }) lists.0
+    ∙ ap (λ (x : List ℕ). record { world = t.world; nexts = x; replies = s.replies; told = s.told }) nexts
     ∙ ap (λ (x : List (Option Reply)). record { world = t.world; nexts = t.nexts; replies = x; told = s.told }) answers
     ∙ ap (λ (x : ℕ). record { world = t.world; nexts = t.nexts; replies = t.replies; told = x }) told

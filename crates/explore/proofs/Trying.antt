@@ -20,6 +20,21 @@ from_more p [] o c s t e h = rw e h
 from_more p (d ∷ cs) (Some r) c s t e h = from_more p cs (after p r d) c s t e h
 from_more p (d ∷ cs) None c s t e h = absurd (cc)
 
+-- nothing leads on from nowhere
+pub from_nowhere : (p : Program) (cs : List Choice) → played_from p cs None ≡ None
+from_nowhere p [] = refl
+from_nowhere p (c ∷ cs) = refl
+
+from_append : (p : Program) (cs ds : List Choice) (o : Option ProgramState)
+    → played_from p (cs ++ ds) o ≡ played_from p ds (played_from p cs o)
+from_append p [] ds o = refl
+from_append p (c ∷ cs) ds (Some s) = from_append p cs ds (after p s c)
+from_append p (c ∷ cs) ds None = sym (from_nowhere p ds)
+
+-- where the first choices lead nowhere, all do
+pub front_nowhere : (p : Program) (cs ds : List Choice) → played p cs ≡ None → played p (cs ++ ds) ≡ None
+front_nowhere p cs ds e = from_append p cs ds (Some (opening p)) ∙ ap (played_from p ds) e ∙ from_nowhere p ds
+
 -- a choice more
 pub played_more : (p : Program) (cs : List Choice) (c : Choice) (s : ProgramState) (t : Option ProgramState)
     → played p cs ≡ Some s → after p s c ≡ t → played p (cs ++ c ∷ []) ≡ t
@@ -110,7 +125,8 @@ tried_none p ws d s c h = record {
   made = rw h refl;
 }
 
-same_number : (p : Program) (ws : List (List Choice)) (j k : ℕ) (s : ProgramState) → AreStates p ws
+-- a state has one number
+pub same_number : (p : Program) (ws : List (List Choice)) (j k : ℕ) (s : ProgramState) → AreStates p ws
     → HasNumber p ws j s → HasNumber p ws k s → j ≡ k
 same_number p ws j k s states a b = by (cases_lt j k) (cases_lt k j)
   where

@@ -6,3 +6,4 @@ pub mod Codes
 pub mod Searches
 pub mod Starts
 pub mod Replies
+pub mod Trails

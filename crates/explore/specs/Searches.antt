@@ -7,18 +7,19 @@ use Rattle.explore.specs.declared.programs.Choice.{Choice}
 use Rattle.explore.specs.States.{ProgramState, after}
 use Rattle.explore.specs.Codes.{code_of, IsCoded}
 use Rattle.explore.specs.declared.tried.Tried.{Tried}
+use Rattle.explore.specs.declared.queue.Queued.{Queued}
 use Rattle.explore.specs.declared.tried.Tried.TheVariants as tried
 use Rattle.explore.specs.Found.{IsAt, AreEnds, choice_at, made_among, steps_before, witness_at}
 
--- the codes of the states that were found, the choices that lead to each, and states that wait
+-- the codes of the states that were found, the choices that lead to each, and the states in the queue
 abbrev pub Keys : Type 0
 Keys = List Code
 
 abbrev pub Witnesses : Type 0
 Witnesses = List (List Choice)
 
-abbrev pub States : Type 0
-States = List ProgramState
+abbrev pub Queue : Type 0
+Queue = List Queued
 
 -- the state with number k has this key
 abbrev pub HasKey : Keys → ℕ → ProgramState → Type 0
@@ -30,18 +31,22 @@ pub record IsKnown (p : Program) (keys : Keys) (ws : Witnesses) (k : ℕ) (s : P
   pub coded : IsCoded s
   pub keyed : HasKey keys k s
 
--- Each state that was found is known, no two have one key, and those that are still to be visited wait in their
--- order: the first states were popped already. Witnesses get longer, and none is longer by more than one choice than
--- that of the state that was popped last.
-pub record IsSearch (p : Program) (keys : Keys) (ws : Witnesses) (queue : States) (popped : ℕ) : Type 0 where
+-- the state has this number
+abbrev pub HasNumber : Program → Witnesses → ℕ → ProgramState → Type 0
+HasNumber p ws k s = (k < length ws) × IsAt p ws k s
+
+-- Each state that was found is known, no two have one key, and those in the queue have their numbers. The first states
+-- have been taken for their visit. Witnesses get longer, and none is longer by more than one choice than that of the
+-- state that was taken last.
+pub record IsSearch (p : Program) (keys : Keys) (ws : Witnesses) (queue : Queue) (taken : ℕ) : Type 0 where
   pub counted : length keys ≡ length ws
-  pub waiting : popped + length queue ≡ length ws
+  pub within : taken ≤ length ws
   pub known : (k : ℕ) → k < length ws → (s : ProgramState) × IsKnown p keys ws k s
   pub distinct : (j k : ℕ) (x y : Code) → j < k → slice_get keys j ≡ Some x → slice_get keys k ≡ Some y
       → x.bytes.items ≡ y.bytes.items → ⊥
-  pub queued : (j : ℕ) (s : ProgramState) → slice_get queue j ≡ Some s → IsAt p ws (popped + j) s
+  pub queued : (j : ℕ) (w : Queued) → slice_get queue j ≡ Some w → HasNumber p ws w.number w.state
   pub rising : (j k : ℕ) → j ≤ k → k < length ws → length (witness_at ws j) ≤ length (witness_at ws k)
-  pub near : (k : ℕ) → k < length ws → length (witness_at ws k) ≤ length (witness_at ws (popped - 1)) + 1
+  pub near : (k : ℕ) → k < length ws → length (witness_at ws k) ≤ length (witness_at ws (taken - 1)) + 1
 
 -- the witnesses that there were stay
 pub record StaysIn (ws ws' : Witnesses) : Type 0 where
@@ -68,10 +73,6 @@ NoneChanges p s cs n = (i : ℕ) (t : ProgramState) → i < n → after p s (cho
 -- this choice leads to another state
 abbrev pub Changes : Program → ProgramState → Choice → Type 0
 Changes p s c = (t : ProgramState) × (after p s c ≡ Some t) × (t ≡ s → ⊥)
-
--- the state has this number
-abbrev pub HasNumber : Program → Witnesses → ℕ → ProgramState → Type 0
-HasNumber p ws k s = (k < length ws) × IsAt p ws k s
 
 -- what came of a choice that was tried: whether it changes the state, and whether it can be made
 abbrev pub changes : Tried → Bool
@@ -101,7 +102,7 @@ IsClosed p ws n = (k : ℕ) (s : ProgramState) → k < n → IsAt p ws k s → A
 
 -- The first states were visited: what they lead to is found, those that are ends are noted, and the choices that can
 -- be made there are counted.
-pub record IsVisited (p : Program) (keys : Keys) (ws : Witnesses) (q : States) (ends : List ℕ)
+pub record IsVisited (p : Program) (keys : Keys) (ws : Witnesses) (q : Queue) (ends : List ℕ)
     (steps n : ℕ) : Type 0 where
   pub search : IsSearch p keys ws q n
   pub closed : IsClosed p ws n

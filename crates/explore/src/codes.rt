@@ -1,10 +1,12 @@
 //! The bytes that stand for a state.
 
-ghost use Rattle.std.specs.Prelude.{◌≡◌, ◌++◌, length, map, if◌then◌else◌, OnOk};
+ghost use Rattle.std.specs.Prelude.{◌≡◌, ◌++◌, slice_get, OnOk};
 ghost use Rattle.explore.specs.States.{ProgramState};
-ghost use Rattle.explore.specs.Codes.{AreSmall, IsCoded, answer_number, code_of, packed, packed_number};
+ghost use Rattle.std.specs.Prelude.{◌∷◌};
+ghost use Rattle.explore.specs.Codes.{AreSmall, IsCoded, alone, code_of, dense};
+ghost use Rattle.explore.specs.Codes.{pair_of};
 
-use fat_monitor::{Reply, numbers_tell_replies_apart};
+use fat_monitor::numbers_tell_replies_apart;
 use lock_word::Memory;
 use std::hash::{Hash, Hasher};
 use step_core::numbers_tell_worlds_apart;
@@ -48,53 +50,85 @@ pub(crate) fn push_positions(positions: &[usize], numbers: &mut Vec<u64>) -> Res
     Ok(())
 }
 
-/// Puts the number of each reply, 0 where there is none, as a byte behind those that are there. Room
-/// for all is asked for at once.
-pub(crate) fn push_answers(answers: &[Option<Reply>], bytes: &mut Vec<u8>) -> Result<(), Memory>
-    ensures bytes { OnOk result (bytes.new.items
-        ≡ bytes.old.items ++ packed (map answer_number answers.now)) }
-{
-    bytes.reserve(answers.len())?;
-    'answers: for answer in answers {
-        bytes.push_reserved(answer_number(*answer));
-    }
-    Ok(())
-}
-
-#[inline(always)]
-fn answer_number(answer: Option<Reply>) -> u8
-    ensures { result ≡ answer_number answer }
-{
-    match answer {
-        Some(reply) => reply.number() + 1,
-        None => 0,
-    }
-}
-
-/// Writes the numbers as bytes, in place of those that are there: most numbers are small, and have
-/// one byte; the word of an object that is not free has five.
-pub(crate) fn put_packed(numbers: &[u64], bytes: &mut Vec<u8>) -> Result<(), Memory>
-    ensures bytes { OnOk result (bytes.new.items ≡ packed numbers.now) }
+/// Writes the numbers as bytes, in place of those that are there. Most numbers are small: two that
+/// follow each other mostly share a byte.
+pub(crate) fn put_dense(numbers: &[u64], bytes: &mut Vec<u8>) -> Result<(), Memory>
+    ensures bytes { OnOk result (bytes.new.items ≡ dense numbers.now) }
     ensures small { OnOk result (AreSmall numbers.now) }
 {
     bytes.clear();
-    'numbers: for number in numbers {
-        push_number(*number, bytes)?;
+    let mut at = 0;
+    'numbers: while at < numbers.len() {
+        let number = numbers[at];
+        match pair_of(number, numbers.get(at + 1).copied()) {
+            Some(both) => {
+                bytes.push(both)?;
+                at += 2;
+            }
+            None => {
+                push_alone(number, bytes)?;
+                at += 1;
+            }
+        }
     }
     Ok(())
 }
 
-#[inline(always)]
-fn push_number(number: u64, bytes: &mut Vec<u8>) -> Result<(), Memory>
-    ensures { OnOk result (bytes.new.items ≡ bytes.old.items ++ packed_number number) }
+/// Puts 255, with which no number begins, behind the bytes that are there, and then the numbers of
+/// replies.
+pub(crate) fn push_replies(numbers: &[u8], bytes: &mut Vec<u8>) -> Result<(), Memory>
+    ensures bytes { OnOk result (bytes.new.items ≡ bytes.old.items ++ 255 ∷ dense numbers.now) }
 {
-    if number < 254 {
-        bytes.push(number as u8)?;
+    bytes.push(255)?;
+    let mut at = 0;
+    'replies: while at < numbers.len() {
+        let number = u64::from(numbers[at]);
+        match pair_of(number, number_at(numbers, at + 1)) {
+            Some(both) => {
+                bytes.push(both)?;
+                at += 2;
+            }
+            None => {
+                push_alone(number, bytes)?;
+                at += 1;
+            }
+        }
+    }
+    Ok(())
+}
+
+/// The number that stands at a position, if there is one.
+#[inline(always)]
+fn number_at(numbers: &[u8], at: usize) -> Option<u64>
+    ensures { result ≡ slice_get numbers.now at }
+{
+    Some(u64::from(*numbers.get(at)?))
+}
+
+/// The byte that a number shares with the next one, where both are small.
+#[inline(always)]
+fn pair_of(number: u64, next: Option<u64>) -> Option<u8>
+    ensures { result ≡ pair_of number next }
+{
+    match next {
+        Some(next) if number < 15 && next < 16 => Some((16 * number + next) as u8),
+        _ => None,
+    }
+}
+
+/// Writes a number by itself: its byte behind 240, or its four or eight bytes behind 241 or 242.
+/// The word of an object that is not free has five bytes so.
+#[inline(always)]
+fn push_alone(number: u64, bytes: &mut Vec<u8>) -> Result<(), Memory>
+    ensures { OnOk result (bytes.new.items ≡ bytes.old.items ++ alone number) }
+{
+    if number < 256 {
+        bytes.extend_from_slice(&[240, number as u8])?;
     } else if number < 4_294_967_296 {
-        bytes.push(254)?;
+        bytes.push(241)?;
         bytes.extend_from_slice(&(number as u32).to_le_bytes())?;
     } else {
-        bytes.push(255)?;
+        bytes.push(242)?;
         bytes.extend_from_slice(&number.to_le_bytes())?;
     }
     Ok(())

@@ -7,8 +7,11 @@ mod codes;
 mod found;
 mod laws;
 mod programs;
+mod queue;
+mod replies;
 mod search;
 mod states;
+mod trail;
 mod tried;
 mod watching;
 

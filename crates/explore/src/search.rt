@@ -6,6 +6,7 @@ ghost use Rattle.explore.specs.declared.programs.Choice.{Choice};
 ghost use Rattle.explore.specs.States.{played};
 ghost use Rattle.explore.specs.Found.{witnesses, witness_at, IsAt, FindsAll, IsReason, AreParents};
 ghost use Rattle.explore.specs.Found.{all_choices};
+ghost use Rattle.explore.specs.Trails.{AreReached};
 ghost use Rattle.explore.specs.Searches.{
   IsSearch,
   StaysIn,
@@ -19,9 +20,11 @@ ghost use Rattle.std.specs.Prelude.{if◌then◌else◌};
 
 use crate::choices::{choices_of, note_end, sift};
 use crate::codes::{Code, codes_tell_states_apart};
-use crate::found::{ExploreFault, Found, Node};
+use crate::found::{ExploreFault, Found, Node, choices_to};
 use crate::programs::{Choice, Program};
+use crate::queue::{MOST_QUEUED, Queued, take_queued};
 use crate::states::{State, copy_of, keep};
+use crate::trail::Trail;
 use crate::tried::{Expanded, Tried, tried_from};
 use crate::watching::{Nobody, Watch};
 use indexmap::IndexSet;
@@ -34,7 +37,8 @@ use std::collections::VecDeque;
 struct Search {
     codes: IndexSet<Code>,
     nodes: Vec<Node>,
-    queue: VecDeque<State>,
+    // Some of those that are still to be visited, in their order.
+    queue: VecDeque<Queued>,
     // States that are needed no more, kept for their memory: a copy is made in that of one of them.
     reusable: Vec<State>,
     // The numbers and bytes of the code that was made last: the next one takes their room.
@@ -45,7 +49,7 @@ struct Search {
 
 impl Search {
     /// Takes in the state that a choice led to from the state `parent`, and answers its number. One
-    /// that was found before is kept for its memory.
+    /// that does not go into the queue is kept for its memory.
     #[inline(always)]
     fn add(
         &mut self,
@@ -65,10 +69,13 @@ impl Search {
             (witnesses self.new.nodes.items)) }
         ensures found { IfOk result (λ k.
             HasNumber program.now (witnesses self.new.nodes.items) k made) }
+        ensures few { OnOk result (length self.old.queue.items ≤ 4096
+            → length self.new.queue.items ≤ 4096) }
     {
         let (number, is_new) = self.add_code(alloc, program, &made, parent, choice)?;
-        if is_new {
-            self.queue.push_back(made)?;
+        if is_new && self.queue.len() < MOST_QUEUED {
+            let state = made;
+            self.queue.push_back(Queued { number, state })?;
         } else {
             keep(&mut self.reusable, made)?;
         }
@@ -76,7 +83,7 @@ impl Search {
     }
 
     /// Takes in the code of the state that a choice led to from the state `parent` and, where it is
-    /// new, how it was found. Answers its number, and whether it is new: the state is to wait then.
+    /// new, how it was found. Answers its number, and whether it is new.
     #[inline(always)]
     fn add_code(
         &mut self,
@@ -90,15 +97,15 @@ impl Search {
             self.old.queue.items (parent + 1) }
         requires leads { played program.now
             (witness_at (witnesses self.old.nodes.items) parent ++ choice ∷ []) ≡ Some made.now }
-        ensures search { IfOk result (λ r. IsSearch program.now self.new.codes.keys
-            (witnesses self.new.nodes.items)
-            (if r.1 then self.old.queue.items ++ made.now ∷ [] else self.old.queue.items)
-            (parent + 1)) }
+        ensures search { OnOk result (IsSearch program.now self.new.codes.keys
+            (witnesses self.new.nodes.items) self.old.queue.items (parent + 1)) }
         ensures queue { OnOk result (self.new.queue.items ≡ self.old.queue.items) }
         ensures stays { OnOk result (StaysIn (witnesses self.old.nodes.items)
             (witnesses self.new.nodes.items)) }
         ensures found { IfOk result (λ r.
             HasNumber program.now (witnesses self.new.nodes.items) r.0 made.now) }
+        ensures new { IfOk result (λ r. length (witnesses self.new.nodes.items)
+            ≡ length (witnesses self.old.nodes.items) + (if r.1 then 1 else 0)) }
     {
         codes_tell_states_apart();
         let code = made.code(alloc, &mut self.numbers, &mut self.bytes)?;
@@ -252,7 +259,10 @@ impl Search {
         let mut numbers = Vec::new(alloc);
         let mut bytes = Vec::new(alloc);
         let code = first.code(alloc, &mut numbers, &mut bytes)?;
-        queue.push_back(first)?;
+        queue.push_back(Queued {
+            number: 0,
+            state: first,
+        })?;
         codes.insert_full(code)?;
         Ok(Search {
             codes,
@@ -264,6 +274,35 @@ impl Search {
         })
     }
 
+    /// The state with the number `at`, which is visited next: from the queue, or made anew by the
+    /// choices of its witness.
+    fn next_state(
+        &mut self,
+        alloc: Global,
+        program: &Program,
+        trail: &mut Trail,
+        at: u32,
+    ) -> Result<State, Memory>
+        requires search { IsSearch program.now self.old.codes.keys (witnesses self.old.nodes.items)
+            self.old.queue.items at }
+        requires there { at < length (witnesses self.old.nodes.items) }
+        requires reached { AreReached program.now trail.old.reached.items }
+        ensures search { OnOk result (IsSearch program.now self.new.codes.keys
+            (witnesses self.new.nodes.items) self.new.queue.items (at + 1)) }
+        ensures nodes { OnOk result (self.new.nodes.items ≡ self.old.nodes.items) }
+        ensures reached { OnOk result (AreReached program.now trail.new.reached.items) }
+        ensures here { IfOk result (IsAt program.now (witnesses self.old.nodes.items) at) }
+    {
+        if let Some(state) = take_queued(&mut self.queue, at) {
+            return Ok(state);
+        }
+        let choices = choices_to(alloc, &self.nodes, at)?;
+        match trail.play(alloc, program, &choices, &mut self.reusable)? {
+            Some(state) => Ok(state),
+            None => unreachable!(),
+        }
+    }
+
     /// Visits the next state, whose number is `at`: notes it where it is an end, and counts the
     /// choices that can be made. False: there is none.
     fn visit(
@@ -271,6 +310,7 @@ impl Search {
         alloc: Global,
         program: &Program,
         choices: &[Choice],
+        trail: &mut Trail,
         possible: &mut Vec<Choice>,
         ends: &mut Vec<u32>,
         steps: &mut u64,
@@ -279,24 +319,30 @@ impl Search {
         requires visited { IsVisited program.now self.old.codes.keys
             (witnesses self.old.nodes.items) self.old.queue.items ends.old.items steps.old at }
         requires all { choices.now ≡ all_choices program.now }
+        requires reached { AreReached program.now trail.old.reached.items }
         ensures visited { IfOk result (λ went. IsVisited program.now self.new.codes.keys
             (witnesses self.new.nodes.items) self.new.queue.items ends.new.items steps.new
             (if went then at + 1 else at)) }
-        ensures last { IfOk result (λ went. went ≡ false → self.new.queue.items ≡ []) }
+        ensures reached { OnOk result (AreReached program.now trail.new.reached.items) }
+        ensures last { IfOk result (λ went. went ≡ false
+            → length (witnesses self.new.nodes.items) ≤ at) }
     {
-        let Some(state) = self.queue.pop_front() else {
+        if self.is_done(at) {
             return Ok(false);
-        };
+        }
+        let state = self.next_state(alloc, program, trail, at)?;
         let expanded = self.expand(alloc, program, choices, possible, state, at)?;
         note_end(ends, expanded.is_end, at)?;
         *steps += expanded.made;
         Ok(true)
     }
 
-    /// Tells a watch how far the search has come.
+    /// Tells a watch how far the search has come, where the state with the number `at` was visited
+    /// last.
     #[inline(always)]
-    fn tell<W: Watch>(&self, watch: &mut W) {
-        watch.tell(self.nodes.len().saturating_add(1), self.queue.len());
+    fn tell<W: Watch>(&self, watch: &mut W, at: u32) {
+        let found = self.nodes.len().saturating_add(1);
+        watch.tell(found, self.nodes.len().saturating_sub(at as usize));
     }
 
     /// Whether more states were found than this.
@@ -306,12 +352,12 @@ impl Search {
         self.nodes.len() + 1 > most as usize
     }
 
-    /// Whether each state that was found was visited.
-    fn is_done(&self) -> bool
-        ensures done { result ≡ true → self.now.queue.items ≡ [] }
-        ensures more { result ≡ false → 0 < length self.now.queue.items }
+    /// Whether no more states were found than this.
+    fn is_done(&self, most: u32) -> bool
+        ensures done { result ≡ true → length (witnesses self.now.nodes.items) ≤ most }
+        ensures more { result ≡ false → most < length (witnesses self.now.nodes.items) }
     {
-        self.queue.is_empty()
+        self.nodes.len() < most as usize
     }
 }
 
@@ -354,6 +400,7 @@ fn find_all<W: Watch>(
 {
     let choices = choices_of(alloc, program)?;
     let mut search = Search::open(alloc, program)?;
+    let mut trail = Trail::new(alloc);
     let mut possible = Vec::new(alloc);
     let mut ends = Vec::new(alloc);
     let mut steps = 0;
@@ -362,6 +409,7 @@ fn find_all<W: Watch>(
             alloc,
             program,
             &choices,
+            &mut trail,
             &mut possible,
             &mut ends,
             &mut steps,
@@ -376,9 +424,9 @@ fn find_all<W: Watch>(
         if search.is_over(most) {
             return Err(ExploreFault::TooManyStates);
         }
-        search.tell(watch);
+        search.tell(watch, at);
     }
-    if !search.is_done() {
+    if !search.is_done(most) {
         return Err(ExploreFault::TooManyStates);
     }
     Ok(Found {

@@ -1,7 +1,7 @@
 //! A state of a program.
 
 ghost use Rattle.std.specs.Prelude.{◌≡◌, ◌≤◌, IfOk, OnErr, OnOk, length, Some, None};
-ghost use Rattle.std.specs.Prelude.{if◌then◌else◌, false, replicate, ◌<◌, IfSome, vec_len};
+ghost use Rattle.std.specs.Prelude.{if◌then◌else◌, false, ◌<◌, IfSome, vec_len};
 ghost use Rattle.explore.specs.declared.programs.Choice.TheVariants as Choice;
 ghost use Rattle.std.specs.Prelude.{is_some};
 ghost use Rattle.explore.specs.States.{opening, after, did_of, played, played_from};
@@ -13,8 +13,9 @@ ghost use Rattle.explore.specs.Wants.{wants_memory};
 ghost use Rattle.explore.specs.Allowed.{allows, doing_at, is_over};
 ghost use Rattle.step_core.specs.Sound.{IsSound};
 
-use crate::codes::{Code, push_answers, push_positions, put_packed};
+use crate::codes::{Code, push_positions, push_replies, put_dense};
 use crate::programs::{Choice, Program};
+use crate::replies::NumberedReplies;
 use fat_monitor::Reply;
 use lock_word::{Memory, ThreadId};
 use std::alloc::{AllocError, Global};
@@ -27,7 +28,7 @@ pub struct State {
     // In a box, since a search moves states more often than it copies them.
     world: Box<World>,
     nexts: Vec<usize>,
-    replies: Vec<Option<Reply>>,
+    replies: NumberedReplies,
     told: usize,
 }
 
@@ -43,7 +44,7 @@ impl Model for State {
     ghost view = { λ s. record {
       world = s.world.value;
       nexts = s.nexts.items;
-      replies = s.replies.items;
+      replies = s.replies;
       told = s.told;
     } };
 }
@@ -54,7 +55,7 @@ impl State {
         ensures { IfOk result (λ s. s ≡ opening program.now) }
     {
         let nexts = Vec::from_slice(alloc, &program.starts)?;
-        let replies = no_replies(alloc, program.calls.len())?;
+        let replies = NumberedReplies::none(alloc, program.calls.len())?;
         Ok(State {
             world: Box::new(alloc, first_world(alloc, program)?)?,
             nexts,
@@ -74,12 +75,11 @@ impl State {
     pub fn replies(&self) -> &[Option<Reply>]
         ensures { result.now ≡ self.now.replies }
     {
-        &self.replies
+        self.replies.as_slice()
     }
 
     /// The bytes that stand for the state, and for no other. The numbers and bytes of another code
     /// may be there: they are taken for their room, and let go.
-    #[tactic(auto, using(crate::proofs::StateCodes::code_parts, crate::proofs::StateCodes::small_parts))]
     pub(crate) fn code(
         &self,
         alloc: Global,
@@ -90,8 +90,8 @@ impl State {
         ensures coded { OnOk result (IsCoded self.now) }
     {
         self.put_numbers(numbers)?;
-        put_packed(numbers, bytes)?;
-        push_answers(&self.replies, bytes)?;
+        put_dense(numbers, bytes)?;
+        push_replies(self.replies.numbers(), bytes)?;
         Ok(Code {
             bytes: Vec::from_slice(alloc, bytes)?,
         })
@@ -116,8 +116,7 @@ impl State {
         copy.told = self.told;
         copy.nexts.clear();
         copy.nexts.extend_from_slice(&self.nexts)?;
-        copy.replies.clear();
-        copy.replies.extend_from_slice(&self.replies)?;
+        self.replies.copy_into(&mut copy.replies)?;
         World::clone_into(&self.world, &mut copy.world)
     }
 
@@ -196,7 +195,7 @@ impl State {
         if thread < self.nexts.len() {
             let at = self.nexts[thread];
             if at < self.replies.len() {
-                self.replies[at] = Some(reply);
+                self.replies.note(at, reply);
                 self.nexts[thread] = at + 1;
             }
         }
@@ -289,13 +288,6 @@ fn first_world(alloc: Global, program: &Program) -> Result<World, Memory>
     Ok(world)
 }
 
-/// No reply yet, to this many calls.
-fn no_replies(alloc: Global, count: usize) -> Result<Vec<Option<Reply>>, Memory>
-    ensures { IfOk result (λ v. v.items ≡ replicate count None) }
-{
-    Ok(vec![in alloc; None; count]?)
-}
-
 /// Where the calls of a thread end.
 fn end_of(program: &Program, thread: u8) -> usize
     ensures { result ≡ end_of program.now thread }
@@ -371,7 +363,7 @@ impl Clone for State {
     fn clone(&self) -> Result<State, AllocError> {
         // The world comes last: a want of memory before leaves none to give back.
         let nexts = Vec::from_slice(*self.nexts.allocator(), &self.nexts)?;
-        let replies = Vec::from_slice(*self.replies.allocator(), &self.replies)?;
+        let replies = self.replies.copy()?;
         Ok(State {
             world: self.world.clone()?,
             nexts,
@@ -381,8 +373,8 @@ impl Clone for State {
     }
 }
 
-/// How many states are kept for their memory. A search needs few: it makes one copy at a time, and
-/// most lead to a state that was found before. The memory of the others is better given back.
+/// How many states are kept for their memory. A search needs few: most copies lead to states that
+/// were found before, and are kept here then. The memory of the others is better given back.
 const MOST_REUSABLE: usize = 64;
 
 /// Keeps a state that is needed no more for its memory, or gives it back where enough are kept.

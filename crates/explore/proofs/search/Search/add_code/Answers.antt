@@ -1,5 +1,5 @@
 use native.Mathlib.Omega.{arith}
-use Rattle.std.proofs.Common.{◌≡◌, ◌≤◌, Bool, true, false, length, List, [], ◌∷◌, ◌++◌, ◌+◌}
+use Rattle.std.proofs.Common.{length-append, ap, ◌≡◌, ◌≤◌, Bool, true, false, length, List, [], ◌∷◌, ◌++◌, ◌+◌}
 use Rattle.std.specs.Prelude.{if◌then◌else◌}
 use Rattle.explore.specs.declared.programs.Choice.{Choice}
 use Rattle.explore.specs.declared.found.Node.{Node}
@@ -16,7 +16,7 @@ parents_either true ns ms n e h le = rw e (parents_more ns n h le)
 parents_either false ns ms n e h le = rw e h
 
 more : (c : goal.In_ok-push)
-    → IsSearch c.args.program.now c.insert_full.new.self.keys (witnesses c.push.new.self.items) (c.args.self.now.queue.items ++ c.args.made.now ∷ []) (c.args.parent + 1)
+    → IsSearch c.args.program.now c.insert_full.new.self.keys (witnesses c.push.new.self.items) c.args.self.now.queue.items (c.args.parent + 1)
 more c =
     let ws : List (List Choice) = witnesses c.args.self.now.nodes.items in
     let keys : c.insert_full.new.self.keys ≡ c.args.self.now.codes.keys ++ c.in_ok-code.code ∷ [] =
@@ -30,7 +30,7 @@ more c =
     (choice_last c.args.program.now c.args.self.now.codes.keys ws c.args.self.now.queue.items c.args.parent c.args.choice c.requires.search))
 
 pub returns-in_ok-push-clause-search : goal.returns-in_ok-push-clause-search
-returns-in_ok-push-clause-search c = rw c.if-is_new.true (more c)
+returns-in_ok-push-clause-search c = more c
 
 pub returns-in_ok-push-clause-stays : goal.returns-in_ok-push-clause-stays
 returns-in_ok-push-clause-stays c =
@@ -40,7 +40,7 @@ returns-in_ok-push-clause-stays c =
 pub returns-in_ok-push-clause-found : goal.returns-in_ok-push-clause-found
 returns-in_ok-push-clause-found c =
     let stored = c.in_ok-number.ensures.stored in
-    number_of c.args.program.now c.insert_full.new.self.keys (witnesses c.push.new.self.items) (c.args.self.now.queue.items ++ c.args.made.now ∷ []) (c.args.parent + 1)
+    number_of c.args.program.now c.insert_full.new.self.keys (witnesses c.push.new.self.items) c.args.self.now.queue.items (c.args.parent + 1)
     c.in_ok-number.number c.in_ok-code.code stored.0 c.args.made.now (more c) c.codes_tell_states_apart.ensures c.in_ok-code.ensures.coded
     c.in_ok-code.ensures.code stored.1 stored.2
 
@@ -49,7 +49,7 @@ returns-else-is_new-clause-search c =
     let keys : c.insert_full.new.self.keys ≡ c.args.self.now.codes.keys =
     key_there c.args.self.now.codes.keys c.insert_full.new.self.keys c.in_ok-code.code c.in_ok-number.is_new
     c.in_ok-number.ensures.added c.if-is_new.false c.in_ok-number.ensures.keys in
-    rw (c.if-is_new.false, keys) c.requires.search
+    rw keys c.requires.search
 
 pub returns-else-is_new-clause-found : goal.returns-else-is_new-clause-found
 returns-else-is_new-clause-found c =
@@ -64,8 +64,16 @@ returns-else-is_new-clause-found c =
 pub invariant_of-self-then-is_new : goal.invariant_of-self-then-is_new
 invariant_of-self-then-is_new c =
     let l = length_witnesses c.args.self.now.nodes.items in
-    let w = c.requires.search.waiting in
+    let w = c.requires.search.within in
     record { parents = parents_either _ c.args.self.now.nodes.items c.push.new.self.items _ c.push.ensures.items c.args.self.now.parents (omega (arith, l, w)) }
 
 pub returns-else-is_new-clause-stays : goal.returns-else-is_new-clause-stays
 returns-else-is_new-clause-stays c = stays_still (witnesses c.args.self.now.nodes.items)
+
+pub returns-in_ok-push-clause-new : goal.returns-in_ok-push-clause-new
+returns-in_ok-push-clause-new c =
+    let old = length_witnesses c.args.self.now.nodes.items in
+    let new = length_witnesses c.push.new.self.items in
+    let l = ap (λ (ns : List Node). length ns) c.in_ok-push.ensures.items in
+    let m = length-append c.args.self.now.nodes.items (record { parent = c.args.parent; choice = c.args.choice } ∷ []) in
+    rw c.if-is_new.true (omega (arith, old, new, l, m))

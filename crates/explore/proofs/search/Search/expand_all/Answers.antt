@@ -9,7 +9,7 @@ use Rattle.explore.proofs.search.Search.expand_all.Goals as goal
 
 pub try_choice-requires-clause-here : goal.try_choice-requires-clause-here
 try_choice-requires-clause-here c =
-    let w = c.requires.search.waiting in
+    let w = c.requires.search.within in
     at_stays c.args.program.now (witnesses c.args.self.now.nodes.items) (witnesses c.expand_copies.new.self.nodes.items) c.args.at c.args.state c.in_ok-copied.ensures.stays
     (omega (arith, w)) c.requires.here
 

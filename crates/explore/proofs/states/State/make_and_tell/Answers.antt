@@ -9,7 +9,7 @@ returns-clause-made c =
     let s : ProgramState = record {
       world = c.self.inside.world.value;
       nexts = c.self.inside.nexts.items;
-      replies = c.self.inside.replies.items;
+      replies = c.self.inside.replies;
       told = c.self.inside.told;
     } in
     let a : step_for c.args.program.now c.args.self.now c.args.choice ≡ Some c.in-Some.step = cc in
@@ -24,7 +24,7 @@ returns-clause-told c =
     let s : ProgramState = record {
       world = c.self.inside.world.value;
       nexts = c.self.inside.nexts.items;
-      replies = c.self.inside.replies.items;
+      replies = c.self.inside.replies;
       told = c.self.inside.told;
     } in
     let a : step_for c.args.program.now c.args.self.now c.args.choice ≡ Some c.in-Some.step = cc in

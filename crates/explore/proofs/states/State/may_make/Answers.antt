@@ -10,7 +10,7 @@ returns-then-is_some c = λ shut.
     let s : ProgramState = record {
       world = c.self.inside.world.value;
       nexts = c.self.inside.nexts.items;
-      replies = c.self.inside.replies.items;
+      replies = c.self.inside.replies;
       told = c.self.inside.told;
     } in
     let sound : IsSound s.world = rw (← c.self.view_is) at c.requires.sound in

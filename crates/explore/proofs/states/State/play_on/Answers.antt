@@ -1,22 +1,17 @@
-use Rattle.std.proofs.Common.{◌≡◌, ◌∙◌, ℕ, ◌+◌, ◌<◌, List, [], ◌∷◌, length, get_or, drop, Option, Some, None, add-one, ap, refl, sym}
+use Rattle.std.proofs.Common.{◌≡◌, ◌∙◌, ℕ, ◌+◌, ◌<◌, List, length, get_or, drop, Option, Some, add-one, ap, refl, sym}
 use Rattle.std.proofs.Math.Seq.{drop-cons}
 use Rattle.std.proofs.lemmas.List.{drop_all}
 use Rattle.explore.specs.declared.programs.Program.{Program}
 use Rattle.explore.specs.declared.programs.Choice.{Choice}
 use Rattle.explore.specs.declared.programs.Choice.TheVariants as choice
 use Rattle.explore.specs.States.{ProgramState, after, played_from}
-use Rattle.explore.proofs.Trying.{taken, not_taken}
+use Rattle.explore.proofs.Trying.{from_nowhere, taken, not_taken}
 use Rattle.explore.proofs.states.State.play_on.Goals as goal
 
 -- what the rest of the choices leads to is led to behind the next one
 behind_next : (p : Program) (cs : List Choice) (i : ℕ) (s : ProgramState) (t o : Option ProgramState) → i < length cs
     → after p s (get_or cs i (choice.Begin 0)) ≡ t → played_from p (drop i cs) (Some s) ≡ o → played_from p (drop (i + 1) cs) t ≡ o
 behind_next p cs i s t o lt e h = rw (← e, add-one) (rw (drop-cons cs i (choice.Begin 0) lt) at h)
-
--- nothing leads on from nowhere
-from_nowhere : (p : Program) (cs : List Choice) → played_from p cs None ≡ None
-from_nowhere p [] = refl
-from_nowhere p (c ∷ cs) = refl
 
 pub playing-init : goal.playing-init
 playing-init c = refl
