@@ -84,7 +84,7 @@ idle_set (q ∷ ps) zero = refl
 idle_set (q ∷ ps) (suc k) = idle_set ps k
 
 -- another thread stands where it stood
-other_stays : (bs : Berths) (ps : List Place) (t u : ThreadId) (k : ℕ) (q : Place) → berth_of bs t ≡ Some k → (u.0 ≡ t.0 → ⊥)
+pub other_stays : (bs : Berths) (ps : List Place) (t u : ThreadId) (k : ℕ) (q : Place) → berth_of bs t ≡ Some k → (u.0 ≡ t.0 → ⊥)
     → is_busy_berth (slice_set ps k q) (berth_of bs u) ≡ is_busy_berth ps (berth_of bs u)
 other_stays bs ps t u k q at ne = by (berth_of bs u) refl
   where
@@ -92,11 +92,11 @@ other_stays bs ps t u k q at ne = by (berth_of bs u) refl
     by None e = refl
     by (Some j) e = ap is_busy_place (get_or-set_other ps k j q Idle (λ (same : j ≡ k). ne (berth_thread bs t u k at (e ∙ ap Some same))))
 
-own_busy : (bs : Berths) (ps : List Place) (t u : ThreadId) (k : ℕ) → berth_of bs t ≡ Some k → is_busy_place (slice_index_or ps k Idle) ≡ true
+pub own_busy : (bs : Berths) (ps : List Place) (t u : ThreadId) (k : ℕ) → berth_of bs t ≡ Some k → is_busy_place (slice_index_or ps k Idle) ≡ true
     → u.0 ≡ t.0 → is_busy_berth ps (berth_of bs u) ≡ true
 own_busy bs ps t u k at busy same = ap (is_busy_berth ps) (berth_same bs t u same ∙ at) ∙ busy
 
-own_idle : (bs : Berths) (ps : List Place) (t : ThreadId) (k : ℕ) (q : Place) → berth_of bs t ≡ Some k → q ≡ Idle
+pub own_idle : (bs : Berths) (ps : List Place) (t : ThreadId) (k : ℕ) (q : Place) → berth_of bs t ≡ Some k → q ≡ Idle
     → is_busy_berth (slice_set ps k q) (berth_of bs t) ≡ false
 own_idle bs ps t k q at idle =
     ap (is_busy_berth (slice_set ps k q)) at
@@ -147,7 +147,7 @@ tick_told w now d h = by (nat_lt now w.fats.moment) h
 -- ---- a Go
 
 -- a Go moves its thread alone, which was in a call; where there is a reply it is in none any more
-abbrev Idles : AfterGo → Type 0
+abbrev pub Idles : AfterGo → Type 0
 Idles a = (r : Reply) → a.did.reply ≡ Some r → a.place ≡ Idle
 
 went : (w : WorldState) (t : ThreadId) (k : ℕ) (a : AfterGo) → IsOneToOne w.berths → berth_of w.berths t ≡ Some k
@@ -221,18 +221,18 @@ told_idles w t c a (Err x) f = λ r e. refl
 act_idles : (w : WorldState) (t : ThreadId) (c : Call) (a : Action) → Idles (after_act w t c a)
 act_idles w t c a = told_idles w t c a (outcome_of w.fats t a).answer (outcome_of w.fats t a).after
 
-stage_idles : (w : WorldState) (k : ℕ) (t : ThreadId) (s : Stage) → Idles (after_stage true w k t s)
-stage_idles w k t (Begun c b) = load_idles w t c b (next_of w.split c.operation (lock_at w c.object.0) (k + 1))
-stage_idles w k t (Taking o b) = take_idles w k t o b (lock_at w o.0)
-stage_idles w k t (Storing c l) = λ a e. refl
-stage_idles w k t (Binding c n) = bind_idles w t c false (n + 1) (bind_cause true w.fats)
-stage_idles w k t (Acting c m) = act_idles w t (call_of c) (action_on c.operation m)
-stage_idles w k t (Won o) = bind_idles w t (entering o) true 1 (bind_cause true w.fats)
-stage_idles w k t (Bound c won m) = publish_idles w t c won m
-stage_idles w k t (Inflated c m) = act_idles w t (call_of c) (action_on c.operation m)
-stage_idles w k t (Direct c) = act_idles w t (call_about c) (action_about c)
+pub stage_idles : (room : Bool) (w : WorldState) (k : ℕ) (t : ThreadId) (s : Stage) → Idles (after_stage room w k t s)
+stage_idles room w k t (Begun c b) = load_idles w t c b (next_of w.split c.operation (lock_at w c.object.0) (k + 1))
+stage_idles room w k t (Taking o b) = take_idles w k t o b (lock_at w o.0)
+stage_idles room w k t (Storing c l) = λ a e. refl
+stage_idles room w k t (Binding c n) = bind_idles w t c false (n + 1) (bind_cause room w.fats)
+stage_idles room w k t (Acting c m) = act_idles w t (call_of c) (action_on c.operation m)
+stage_idles room w k t (Won o) = bind_idles w t (entering o) true 1 (bind_cause room w.fats)
+stage_idles room w k t (Bound c won m) = publish_idles w t c won m
+stage_idles room w k t (Inflated c m) = act_idles w t (call_of c) (action_on c.operation m)
+stage_idles room w k t (Direct c) = act_idles w t (call_about c) (action_about c)
 
-look_idles : (w : WorldState) (t : ThreadId) (n : ℕ) (b : Bool) → Idles (after_look_as w t n b)
+pub look_idles : (w : WorldState) (t : ThreadId) (n : ℕ) (b : Bool) → Idles (after_look_as w t n b)
 look_idles w t n true = λ a e. refl
 look_idles w t n false = λ a e. absurd (cc)
 
@@ -269,7 +269,7 @@ module _ (w : WorldState) (t : ThreadId) (k : ℕ) (one : IsOneToOne w.berths) (
 go_at : (w : WorldState) (t : ThreadId) (k : ℕ) (q : Place) → IsOneToOne w.berths → berth_of w.berths t ≡ Some k → place_at w k ≡ q
     → LeavesBy w t false (after_go_at true w k t q)
 go_at w t k Idle one at stands = tt
-go_at w t k (InCall s) one at stands = went w t k (after_stage true w k t s) one at (ap is_busy_place stands) (stage_idles w k t s)
+go_at w t k (InCall s) one at stands = went w t k (after_stage true w k t s) one at (ap is_busy_place stands) (stage_idles true w k t s)
 go_at w t k (Ending n) one at stands = ending_leaves w t k one at (ap is_busy_place stands) n
 go_at w t k AtPost one at stands =
     collect_leaves w t k one at (ap is_busy_place stands) (outcome_of w.fats t action.Collect).answer (outcome_of w.fats t action.Collect).after

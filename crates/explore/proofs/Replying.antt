@@ -26,24 +26,24 @@ use Rattle.explore.proofs.Serving.{IsReplied, IsServed, MayBe, choice_serves, ne
 
 -- The next call of a thread is one of its own, or behind them; it is one of them where the thread is in it. From there on
 -- none of them has a reply.
-record IsOnItsWay (p : Program) (s : ProgramState) (k : ℕ) : Type 0 where
-  from : start_of p k ≤ next_of s k
-  busy : is_busy s.world (thread_of k) ≡ true → next_of s k < end_of p k
-  later : (i : ℕ) → next_of s k ≤ i → i < end_of p k → slice_index_or s.replies i None ≡ None
+pub record IsOnItsWay (p : Program) (s : ProgramState) (k : ℕ) : Type 0 where
+  pub from : start_of p k ≤ next_of s k
+  pub busy : is_busy s.world (thread_of k) ≡ true → next_of s k < end_of p k
+  pub later : (i : ℕ) → next_of s k ≤ i → i < end_of p k → slice_index_or s.replies i None ≡ None
 
 -- what every state keeps that choices lead to
-record IsKept (p : Program) (s : ProgramState) : Type 0 where
-  one : IsOneToOne s.world.berths
-  long : length s.replies ≡ length p.calls.items
-  threads : (k : ℕ) → k < length p.starts.items → IsOnItsWay p s k
+pub record IsKept (p : Program) (s : ProgramState) : Type 0 where
+  pub one : IsOneToOne s.world.berths
+  pub long : length s.replies ≡ length p.calls.items
+  pub threads : (k : ℕ) → k < length p.starts.items → IsOnItsWay p s k
 
 -- ---- a reply more
 
 -- the state with this world, and this reply to the call at a position, which is the next of thread k
-abbrev noted : ProgramState → Choice → WorldState → ℕ → ℕ → Reply → ProgramState
+abbrev pub noted : ProgramState → Choice → WorldState → ℕ → ℕ → Reply → ProgramState
 noted s c v k n a = record (moved s c v) { nexts = slice_set s.nexts k (n + 1); replies = slice_set s.replies n (Some a) }
 
-replied_is : (s : ProgramState) (c : Choice) (v : WorldState) (k n : ℕ) (a : Reply) → slice_get s.nexts k ≡ Some n → n < length s.replies
+pub replied_is : (s : ProgramState) (c : Choice) (v : WorldState) (k n : ℕ) (a : Reply) → slice_get s.nexts k ≡ Some n → n < length s.replies
     → replied (moved s c v) k (Some a) ≡ noted s c v k n a
 replied_is s c v k n a has lt =
     ap (with_reply (moved s c v) k a) has
@@ -91,7 +91,7 @@ own_way p s c v k n a way within is free =
     }
 
 -- what a choice hands out, by the reply of its step
-abbrev handed : ℕ → Choice → Option Reply → List Reply
+abbrev pub handed : ℕ → Choice → Option Reply → List Reply
 handed k c r = if is_choice_of k c then option_to_list r else []
 
 handed_none : (k : ℕ) (c : Choice) → handed k c None ≡ []
@@ -121,9 +121,9 @@ nothing_more p s t k rs same none = same ∙ sym (append-nil (replies_of p s k))
 
 -- The state behind a choice whose step has this reply, if any: it is kept too, and has what was handed out behind the
 -- replies before.
-record IsNext (p : Program) (s t : ProgramState) (c : Choice) (r : Option Reply) : Type 0 where
-  kept : IsKept p t
-  replies : (k : ℕ) → k < length p.starts.items → replies_of p t k ≡ replies_of p s k ++ handed k c r
+pub record IsNext (p : Program) (s t : ProgramState) (c : Choice) (r : Option Reply) : Type 0 where
+  pub kept : IsKept p t
+  pub replies : (k : ℕ) → k < length p.starts.items → replies_of p t k ≡ replies_of p s k ++ handed k c r
 
 has_next : (p : Program) (s : ProgramState) (k : ℕ) → IsOnItsWay p s k → MayBe p s k → next_of s k < end_of p k
 has_next p s k way (inl before) = way.busy before
@@ -203,7 +203,7 @@ module _ (p : Program) (s : ProgramState) (c : Choice) (v : WorldState) (kept : 
   next_with None serves = silent serves
   next_with (Some a) serves = replying a serves
 
-next_state : (p : Program) (s t : ProgramState) (c : Choice) → IsKept p s → after p s c ≡ Some t → IsNext p s t c (reply_in (did_of p s c))
+pub next_state : (p : Program) (s t : ProgramState) (c : Choice) → IsKept p s → after p s c ≡ Some t → IsNext p s t c (reply_in (did_of p s c))
 next_state p s t c kept h =
     let m = choice_made p s t c h in
     let next = next_with p s c (step_of true s.world m.made).after kept m.did.reply (choice_serves p s t c m kept.one) in
@@ -238,9 +238,9 @@ same_everywhere (suc n) zero a = refl
 same_everywhere (suc n) (suc k) a = same_everywhere n k a
 
 -- nobody is busy
-record IsFresh (w : WorldState) : Type 0 where
-  one : IsOneToOne w.berths
-  idle : (k : ℕ) → place_at w k ≡ Idle
+pub record IsFresh (w : WorldState) : Type 0 where
+  pub one : IsOneToOne w.berths
+  pub idle : (k : ℕ) → place_at w k ≡ Idle
 
 fresh_next : (w : WorldState) (t : ThreadId) (b f : Option ℕ) → berth_of w.berths t ≡ b → free_berth w.berths ≡ f → IsFresh w
     → IsFresh (after_attach true w t b f).after
@@ -261,20 +261,20 @@ fresh_attached w (suc n) fresh =
     let v : WorldState = attached w n in
     fresh_next v (thread_of n) (berth_of v.berths (thread_of n)) (free_berth v.berths) refl refl (fresh_attached w n fresh)
 
-fresh_opening : (p : Program) → IsFresh (opening p).world
+pub fresh_opening : (p : Program) → IsFresh (opening p).world
 fresh_opening p = fresh_attached (opening_world p.lows.items p.monitors p.indices p.split) (length p.starts.items) (record {
   one = IsOneToOne-replicate p.indices;
   idle = λ k. same_everywhere p.indices k Idle;
 })
 
-not_busy : (w : WorldState) (t : ThreadId) → IsFresh w → is_busy w t ≡ false
+pub not_busy : (w : WorldState) (t : ThreadId) → IsFresh w → is_busy w t ≡ false
 not_busy w t fresh = by (berth_of w.berths t)
   where
     by : (o : Option ℕ) → is_busy_berth w.places o ≡ false
     by None = refl
     by (Some k) = ap is_busy_place (fresh.idle k)
 
-kept_opening : (p : Program) → IsKept p (opening p)
+pub kept_opening : (p : Program) → IsKept p (opening p)
 kept_opening p = record {
   one = (fresh_opening p).one;
   long = length-replicate (length p.calls.items) None;

@@ -11,4 +11,5 @@ choices_along ms = map (λ (m : Reached). m.choice) ms
 
 -- each state of a trail is behind the choices up to its own
 abbrev pub AreReached : Program → List Reached → Type 0
-AreReached p ms = (i : ℕ) (m : Reached) → slice_get ms i ≡ Some m → played p (choices_along (take (suc i) ms)) ≡ Some m.state
+AreReached p ms =
+    (i : ℕ) (m : Reached) → slice_get ms i ≡ Some m → played p (choices_along (take (suc i) ms)) ≡ Some m.state

@@ -1,10 +1,8 @@
 //! The bytes that stand for a state.
 
-ghost use Rattle.std.specs.Prelude.{◌≡◌, ◌++◌, slice_get, OnOk};
+ghost use Rattle.std.specs.Prelude.{◌≡◌, ◌++◌, ◌∷◌, slice_get, OnOk};
+ghost use Rattle.explore.specs.Codes.{AreSmall, IsCoded, alone, code_of, dense, pair_of};
 ghost use Rattle.explore.specs.States.{ProgramState};
-ghost use Rattle.std.specs.Prelude.{◌∷◌};
-ghost use Rattle.explore.specs.Codes.{AreSmall, IsCoded, alone, code_of, dense};
-ghost use Rattle.explore.specs.Codes.{pair_of};
 
 use fat_monitor::numbers_tell_replies_apart;
 use lock_word::Memory;

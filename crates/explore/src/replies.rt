@@ -1,7 +1,7 @@
 //! The replies of the calls of a program, each with its number.
 
-ghost use Rattle.std.specs.Prelude.{◌≡◌, ◌<◌, [], IfOk, OnErr, OnOk, length, map, replicate, slice_set};
-ghost use Rattle.std.specs.Prelude.{Some, None};
+ghost use Rattle.std.specs.Prelude.{◌≡◌, ◌<◌, [], IfOk, OnErr, OnOk, Some, None, length};
+ghost use Rattle.std.specs.Prelude.{map, replicate, slice_set};
 ghost use Rattle.explore.specs.Codes.{answer_number};
 
 use fat_monitor::Reply;

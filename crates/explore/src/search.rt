@@ -1,7 +1,7 @@
 //! The search: states are visited in the order in which they were found.
 
-ghost use Rattle.std.specs.Prelude.{◌≡◌, ◌+◌, ◌<◌, ◌≤◌, ◌++◌, ◌∷◌, [], length, true, false, Some, None};
-ghost use Rattle.std.specs.Prelude.{IfErr, IfOk, OnOk};
+ghost use Rattle.std.specs.Prelude.{◌≡◌, ◌+◌, ◌<◌, ◌≤◌, ◌++◌, ◌∷◌, [], length, true, false};
+ghost use Rattle.std.specs.Prelude.{IfErr, IfOk, OnOk, Some, None};
 ghost use Rattle.explore.specs.declared.programs.Choice.{Choice};
 ghost use Rattle.explore.specs.States.{played};
 ghost use Rattle.explore.specs.Found.{witnesses, witness_at, IsAt, FindsAll, IsReason, AreParents};
@@ -37,7 +37,8 @@ use std::collections::VecDeque;
 struct Search {
     codes: IndexSet<Code>,
     nodes: Vec<Node>,
-    // Some of those that are still to be visited, in their order.
+    // States that are still to be visited, in their order. Of one that is not here only its code is
+    // kept, and how it was found.
     queue: VecDeque<Queued>,
     // States that are needed no more, kept for their memory: a copy is made in that of one of them.
     reusable: Vec<State>,

@@ -157,7 +157,8 @@ impl State {
         Ok(Some(did))
     }
 
-    /// Makes choices one behind the other, up to the first that cannot be made. False: there is one.
+    /// Makes choices one behind the other, up to the first that cannot be made. False: there is
+    /// one.
     fn play_on(&mut self, program: &Program, choices: &[Choice]) -> Result<bool, Memory>
         ensures { IfOk result (λ all. played_from program.now choices.now (Some self.old)
             ≡ (if all then Some self.new else None)) }
