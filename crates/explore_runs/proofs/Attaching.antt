@@ -1,9 +1,9 @@
 -- The attaches with which a program begins.
 use native.Mathlib.Omega.{arith}
-use Rattle.std.proofs.Common.{◌≡◌, ◌∙◌, sym, ap, refl, subst, ℕ, zero, suc, ◌+◌, ◌-◌, ◌<◌, ◌≤◌, true, false, List, [], ◌∷◌, ◌++◌, length, Option, Some, None, append_assoc, length-append}
+use Rattle.std.proofs.Common.{◌≡◌, ◌∙◌, ◌⊎◌, inl, inr, sym, ap, refl, subst, ℕ, zero, suc, ◌+◌, ◌-◌, ◌<◌, ◌≤◌, true, false, List, [], ◌∷◌, ◌++◌, length, Option, Some, None, append_assoc, length-append}
 use Rattle.std.specs.Prelude.{is_none, replicate, slice_set, nat_eq}
 use Rattle.std.specs.List.{position_from}
-use Rattle.std.proofs.lemmas.Bool.{ne_eqb}
+use Rattle.std.proofs.lemmas.Bool.{cases_lt, ne_eqb}
 use Rattle.lock_word.specs.declared.ThreadId.{ThreadId}
 use Rattle.thread_index.specs.Indices.{berth_of, free_berth, is_held_by}
 use Rattle.step_core.specs.declared.machine.Move.TheVariants as move
@@ -13,7 +13,7 @@ use Rattle.step_core.specs.Did.{one_move}
 use Rattle.step_core.specs.Step.{AfterStep, accept, after_attach, step_of, with_live}
 use Rattle.step_core.specs.World.{WorldState}
 use Rattle.explore.specs.declared.programs.Program.{Program}
-use Rattle.explore.specs.States.{attached, thread_of}
+use Rattle.explore.specs.States.{attached, opening, thread_of}
 use Rattle.explore_runs.specs.Steps.{empty_world}
 
 abbrev Berths : Type 0
@@ -89,3 +89,17 @@ attach_goes p n lt =
     let few = p.threads_are_live in
     let m : n + suc (p.indices - suc n) ≡ p.indices = omega (arith, few, lt) in
     attach_next (attached (empty_world p) n) n (p.indices - suc n) (berths_after p n (suc (p.indices - suc n)) m)
+
+-- who has a berth where a program begins is a thread of it
+pub opening_ours : (p : Program) (t : ThreadId) (k : ℕ) → berth_of (opening p).world.berths t ≡ Some k → t.0 < length p.starts.items
+opening_ours p t k berth = by (cases_lt t.0 (length p.starts.items))
+  where
+    by : (t.0 < length p.starts.items) ⊎ (length p.starts.items ≤ t.0) → t.0 < length p.starts.items
+    by (inl lt) = lt
+    by (inr le) =
+        let n : ℕ = length p.starts.items in
+        let few = p.threads_are_live in
+        let m : n + (p.indices - n) ≡ p.indices = omega (arith, few) in
+        let none : berth_of (opening p).world.berths t ≡ None =
+        ap (λ (b : Berths). berth_of b t) (berths_after p n (p.indices - n) m) ∙ held_behind n t.0 0 (replicate (p.indices - n) None) le ∙ none_held (p.indices - n) (0 + n) t in
+        absurd (let never = sym berth ∙ none in cc)

@@ -4,15 +4,12 @@ use Rattle.history.specs.NameLists.{NameLists}
 use Rattle.explore.specs.declared.programs.Program.{Program}
 use Rattle.explore.specs.declared.programs.Choice.{Choice}
 use Rattle.explore.specs.States.{ProgramState, after, played_from, step_for}
+use Rattle.explore.proofs.Trying.{from_nowhere}
 use Rattle.explore_runs.specs.Scripts.{choice_line, choice_lines}
 
 no_lines : (names : NameLists) (p : Program) (cs : List Choice) → choice_lines names p None cs ≡ []
 no_lines names p [] = refl
 no_lines names p (c ∷ cs) = refl
-
-no_state : (p : Program) (cs : List Choice) → played_from p cs None ≡ None
-no_state p [] = refl
-no_state p (c ∷ cs) = refl
 
 -- the last line is that of the choice which cannot be made
 pub lines_end : (names : NameLists) (p : Program) (s : ProgramState) (c : Choice) (cs : List Choice) → after p s c ≡ None
@@ -23,4 +20,4 @@ lines_end names p s c cs h =
 
 pub state_end : (p : Program) (s : ProgramState) (c : Choice) (cs : List Choice) → after p s c ≡ None
     → played_from p (c ∷ cs) (Some s) ≡ None
-state_end p s c cs h = ap (λ (o : Option ProgramState). played_from p cs o) h ∙ no_state p cs
+state_end p s c cs h = ap (λ (o : Option ProgramState). played_from p cs o) h ∙ from_nowhere p cs

@@ -52,7 +52,7 @@ accepted_append w (x ∷ xs) ys h g = (h.0, accepted_append (step_of true w x).a
 
 -- ---- attaches
 
-attaches_lead : (p : Program) (n : ℕ) → world_after (empty_world p) (granted (attaches n)) ≡ attached (empty_world p) n
+pub attaches_lead : (p : Program) (n : ℕ) → world_after (empty_world p) (granted (attaches n)) ≡ attached (empty_world p) n
 attaches_lead p zero = refl
 attaches_lead p (suc n) =
     world_append (empty_world p) (attaches n) (step.Attach (thread_of n) ∷ [])
@@ -77,12 +77,12 @@ attach_moves p n lt =
 
 -- ---- choices
 
-steps_made : (p : Program) (s t : ProgramState) (c : Choice) (cs : List Choice) (m : IsMade p s t c) → after p s c ≡ Some t
+pub steps_made : (p : Program) (s t : ProgramState) (c : Choice) (cs : List Choice) (m : IsMade p s t c) → after p s c ≡ Some t
     → steps_from p (Some s) (c ∷ cs) ≡ m.made ∷ steps_from p (Some t) cs
 steps_made p s t c cs m h =
     ap (λ (o : Option Step). step_in o ++ steps_from p (after p s c) cs) m.is ∙ ap (λ (o : Option ProgramState). m.made ∷ steps_from p o cs) h
 
-from_leads : (p : Program) (cs : List Choice) (s t : ProgramState) → played_from p cs (Some s) ≡ Some t
+pub from_leads : (p : Program) (cs : List Choice) (s t : ProgramState) → played_from p cs (Some s) ≡ Some t
     → AreAccepted s.world (steps_from p (Some s) cs) × (world_after s.world (granted (steps_from p (Some s) cs)) ≡ t.world)
 from_leads p [] s t h = (tt, ap (λ (o : Option ProgramState). (unwrap_or o t).world) h)
 from_leads p (c ∷ cs) s t h = by (after p s c) refl h (λ r g. from_leads p cs r t g)
@@ -101,17 +101,6 @@ from_leads p (c ∷ cs) s t h = by (after p s c) refl h (λ r g. from_leads p cs
           subst (λ (xs : List Step). AreAccepted s.world xs) (sym these) accepted,
           ap (λ (xs : List Step). world_after s.world (granted xs)) these ∙ leads,
         )
-
--- The steps of a script lead to the state of its choices.
-pub script_leads : (p : Program) (cs : List Choice) (s : ProgramState) → played p cs ≡ Some s → LeadTo (empty_world p) (script_steps p cs) s.world
-script_leads p cs s h =
-    let there = attaches_lead p (length p.starts.items) in
-    let rest = from_leads p cs (opening p) s h in
-    record {
-      accepted = accepted_append (empty_world p) (attaches (length p.starts.items)) (steps_from p (Some (opening p)) cs) (attaches_accepted p (length p.starts.items) (omega arith))
-          (rw there rest.0);
-      leads = world_append (empty_world p) (attaches (length p.starts.items)) (steps_from p (Some (opening p)) cs) ∙ rw there rest.1;
-    }
 
 -- ---- moves
 
@@ -163,7 +152,7 @@ attach_silent w u (Some k) free = refl
 attach_silent w u None None = refl
 attach_silent w u None (Some k) = refl
 
-silent_told : (t : ThreadId) (x : Step) (a : Result Did Fault) → reply_in (did_in a) ≡ None → reply_told t x a ≡ []
+pub silent_told : (t : ThreadId) (x : Step) (a : Result Did Fault) → reply_in (did_in a) ≡ None → reply_told t x a ≡ []
 silent_told t x a h = ap (λ (r : Option Reply). if is_step_of t x then option_to_list r else []) h ∙ by (is_step_of t x)
   where
     by : (b : Bool) → (if b then option_to_list {X = Reply} None else []) ≡ []
@@ -236,15 +225,37 @@ steps_reply p (c ∷ cs) s t k h = by (after p s c) refl h (λ r g. steps_reply 
         ∙ ap (λ (rs : List Reply). these ++ rs) (rest r g)
         ∙ ap (λ (o : Option ProgramState). these ++ replies_along p o cs k) (sym is)
 
+-- From where the program begins the steps of choices hand out the replies of their state.
+pub later_replies : (p : Program) (cs : List Choice) (s : ProgramState) (k : ℕ) → played p cs ≡ Some s → k < length p.starts.items
+    → replies_told (opening p).world (steps_from p (Some (opening p)) cs) (thread_of k) ≡ replies_of p s k
+later_replies p cs s k h within = steps_reply p cs (opening p) s k h ∙ play_replies p cs s k h within
+
+-- steps behind the attaches hand out what they do from where the program begins
+pub behind_attaches : (p : Program) (xs : List Step) (t : ThreadId)
+    → replies_told (empty_world p) (attaches (length p.starts.items) ++ xs) t ≡ replies_told (opening p).world xs t
+behind_attaches p xs t =
+    let n : ℕ = length p.starts.items in
+    replies_append (empty_world p) (attaches n) xs t
+    ∙ ap (λ (rs : List Reply). rs ++ replies_told (world_after (empty_world p) (granted (attaches n))) xs t) (attaches_silent (empty_world p) n t)
+    ∙ ap (λ (w : WorldState). replies_told w xs t) (attaches_lead p n)
+
+-- and lead where they do from there
+pub lead_behind : (p : Program) (xs : List Step) (w : WorldState) → AreAccepted (opening p).world xs → world_after (opening p).world (granted xs) ≡ w
+    → LeadTo (empty_world p) (attaches (length p.starts.items) ++ xs) w
+lead_behind p xs w accepted leads =
+    let n : ℕ = length p.starts.items in
+    let there = attaches_lead p n in
+    record {
+      accepted = accepted_append (empty_world p) (attaches n) xs (attaches_accepted p n (omega arith)) (rw there accepted);
+      leads = world_append (empty_world p) (attaches n) xs ∙ rw there leads;
+    }
+
 -- The steps of a script hand out the replies of the state of its choices.
 pub script_replies : (p : Program) (cs : List Choice) (s : ProgramState) (k : ℕ) → played p cs ≡ Some s → k < length p.starts.items
     → replies_told (empty_world p) (script_steps p cs) (thread_of k) ≡ replies_of p s k
-script_replies p cs s k h within =
-    let n : ℕ = length p.starts.items in
-    let t : ThreadId = thread_of k in
-    let later : List Step = steps_from p (Some (opening p)) cs in
-    replies_append (empty_world p) (attaches n) later t
-    ∙ ap (λ (rs : List Reply). rs ++ replies_told (world_after (empty_world p) (granted (attaches n))) later t) (attaches_silent (empty_world p) n t)
-    ∙ ap (λ (w : WorldState). replies_told w later t) (attaches_lead p n)
-    ∙ steps_reply p cs (opening p) s k h
-    ∙ play_replies p cs s k h within
+script_replies p cs s k h within = behind_attaches p (steps_from p (Some (opening p)) cs) (thread_of k) ∙ later_replies p cs s k h within
+
+-- The steps of a script lead to the state of its choices.
+pub script_leads : (p : Program) (cs : List Choice) (s : ProgramState) → played p cs ≡ Some s → LeadTo (empty_world p) (script_steps p cs) s.world
+script_leads p cs s h =
+    let rest = from_leads p cs (opening p) s h in lead_behind p (steps_from p (Some (opening p)) cs) s.world rest.0 rest.1

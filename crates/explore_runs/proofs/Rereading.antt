@@ -13,6 +13,7 @@ use Rattle.script_text.specs.Lines.{CallFits, Continues, IsScript, StepFits, is_
 use Rattle.script_text.proofs.ScriptLaws.{Continues-append, lines_again, script_text-append}
 use Rattle.step_core.specs.declared.steps.Step.{Step}
 use Rattle.step_core.specs.declared.steps.Step.TheVariants as step
+use Rattle.step_core.specs.Requests.{world_after}
 use Rattle.step_core.specs.World.{WorldState}
 use Rattle.history.specs.Histories.{first_world}
 use Rattle.history.specs.NameLists.{NameLists, name_at}
@@ -22,14 +23,18 @@ use Rattle.dump.specs.Reports.{named_call}
 use Rattle.explore.specs.declared.programs.Program.{Program}
 use Rattle.explore.specs.declared.programs.Choice.{Choice}
 use Rattle.explore.specs.declared.programs.Choice.TheVariants as choice
+use Rattle.explore.specs.Found.{IsEnd}
 use Rattle.explore.specs.Replies.{replies_of}
 use Rattle.explore.specs.States.{ProgramState, after, begin_of, call_below, opening, played, step_at, step_for, step_of_thread, thread_of, tick_of}
 use Rattle.explore_runs.specs.Replays.{HasFewStrangers, IsNamed, Replays}
 use Rattle.explore_runs.specs.Scripts.{attach_lines, choice_line, choice_lines, named_step, object_lines_from, script_of}
-use Rattle.explore_runs.specs.Steps.{LeadTo, attaches, empty_world, replies_told, script_steps, step_in, steps_from}
-use Rattle.explore_runs.proofs.Leading.{script_leads, script_replies}
+use Rattle.explore_runs.specs.Steps.{AreAccepted, LeadTo, attaches, granted, empty_world, replies_told, script_steps, step_in, steps_from}
+use Rattle.explore_runs.proofs.Leading.{behind_attaches, from_leads, later_replies, lead_behind, script_leads, script_replies}
 use Rattle.explore_runs.proofs.Naming.{differs}
-use Rattle.explore_runs.proofs.Requests.{AreKnown, IsKnown, asked_again, lows_again, named_line, named_lines, object_lines_of}
+use Rattle.explore_runs.proofs.Requests.{AreKnown, AreRead, IsKnown, asked, asked_again, few_same, lows_again, named_line, named_lines, object_lines_of, renumbered_steps}
+use Rattle.explore_runs.proofs.Alike.{all_alike}
+use Rattle.explore_runs.proofs.Ended.{end_stays, kept_opening, kept_played, no_attaches, opening_stays}
+use Rattle.explore_runs.proofs.Renumbering.{Numbers, renumbered}
 
 -- ---- its lines
 
@@ -261,14 +266,18 @@ world_as_read : (plan : Plan) (p : Program) (rest : List Line) → IsWorldWith p
     → first_world plan ≡ empty_world p
 world_as_read plan p rest world lows = rw (world.0, world.1, world.2, lows) refl
 
-pub replays : (names : NameLists) (p : Program) (cs : List Choice) (s : ProgramState) → IsNamed names p → HasFewStrangers names p → played p cs ≡ Some s → Replays names p cs s
-replays names p cs s named few leads =
+-- these steps are what the script is read as, and what comes of them
+record Plays (names : NameLists) (p : Program) (cs : List Choice) (s : ProgramState) (xs : List Step) : Type 0 where
+  pub requests : requests_of (lines_of names p cs) ≡ asked xs
+  pub lead : LeadTo (empty_world p) xs s.world
+  pub replies : (k : ℕ) → k < length p.starts.items → replies_told (empty_world p) xs (thread_of k) ≡ replies_of p s k
+
+replays_by : (names : NameLists) (p : Program) (cs : List Choice) (s : ProgramState) (xs : List Step) → IsNamed names p → Plays names p cs s xs → Replays names p cs s
+replays_by names p cs s xs named played =
     let text = text_of_lines names p cs in
     let is = is_script names p cs named in
     let attached_lines : List Line = named_lines names (attaches (length p.starts.items)) in
     let later_lines : List Line = named_lines names (steps_from p (Some (opening p)) cs) in
-    let steps = asked_again names p.lows.items (length p.starts.items) (steps_from p (Some (opening p)) cs) named.threads_apart named.objects_apart named.each_object
-    named.each_thread few (steps_known names p (Some (opening p)) cs named) in
     let all_lines : attached_lines ++ later_lines ≡ named_lines names (script_steps p cs) = sym (map-append (named_line names) (attaches (length p.starts.items)) (steps_from p (Some (opening p)) cs)) in
     let lows : low_bytes (lines_of names p cs) ≡ p.lows.items =
     ap (λ (ls : List Line). low_bytes (object_lines_of names 0 p.lows.items ++ ls)) all_lines ∙ lows_again names 0 p.lows.items (script_steps p cs) in
@@ -279,10 +288,54 @@ replays names p cs s named few leads =
           let world : IsWorldWith plan.monitors plan.indices plan.split (lines_of names p cs) = subst (λ (ls : List Line). IsWorldWith plan.monitors plan.indices plan.split ls) same of.world in
           let begins : first_world plan ≡ empty_world p = world_as_read plan p (object_lines_of names 0 p.lows.items ++ (attached_lines ++ later_lines)) world (of.lows ∙ ap low_bytes same ∙ lows) in
           record {
-            steps = script_steps p cs;
-            these = of.steps ∙ ap requests_of same ∙ steps;
-            lead = subst (λ (w : WorldState). LeadTo w (script_steps p cs) s.world) (sym begins) (script_leads p cs s leads);
+            steps = xs;
+            these = of.steps ∙ ap requests_of same ∙ played.requests;
+            lead = subst (λ (w : WorldState). LeadTo w xs s.world) (sym begins) played.lead;
             replies = λ k within.
-                subst (λ (w : WorldState). replies_told w (script_steps p cs) (thread_of k) ≡ replies_of p s k) (sym begins) (script_replies p cs s k leads within);
+                subst (λ (w : WorldState). replies_told w xs (thread_of k) ≡ replies_of p s k) (sym begins) (played.replies k within);
           };
     }
+
+-- the steps as they are read
+read_steps : (names : NameLists) (p : Program) (cs : List Choice) → IsNamed names p → AreRead names p.lows.items (length p.starts.items) (steps_from p (Some (opening p)) cs)
+read_steps names p cs named =
+    asked_again names p.lows.items (length p.starts.items) (steps_from p (Some (opening p)) cs) named.threads_apart named.threads named.objects_apart named.each_object named.each_thread
+    (steps_known names p (Some (opening p)) cs named)
+
+-- where the calls name at most one thread that the program has not they are those of the choices
+pub replays : (names : NameLists) (p : Program) (cs : List Choice) (s : ProgramState) → IsNamed names p → HasFewStrangers names p → played p cs ≡ Some s → Replays names p cs s
+replays names p cs s named few leads =
+    let n : ℕ = length p.starts.items in
+    let later : List Step = steps_from p (Some (opening p)) cs in
+    let read = read_steps names p cs named in
+    let same : renumbered_steps read.numbers later ≡ later =
+    ap (λ (r : Numbers). renumbered_steps r later) read.these
+    ∙ few_same names n later named.threads_apart named.threads named.objects_apart named.each_thread few (steps_known names p (Some (opening p)) cs named) in
+    replays_by names p cs s (script_steps p cs) named (record {
+      requests = read.requests ∙ ap (λ (xs : List Step). asked (attaches n ++ xs)) same;
+      lead = script_leads p cs s leads;
+      replies = λ k within. script_replies p cs s k leads within;
+    })
+
+-- and else they have other numbers, which nobody stands with where no choice changes the state
+pub end_replays : (names : NameLists) (p : Program) (cs : List Choice) (s : ProgramState) → IsNamed names p → played p cs ≡ Some s → IsEnd p s → Replays names p cs s
+end_replays names p cs s named leads end =
+    let n : ℕ = length p.starts.items in
+    let later : List Step = steps_from p (Some (opening p)) cs in
+    let read = read_steps names p cs named in
+    let r : Numbers = read.numbers in
+    let first = kept_opening p named.lows in
+    let from = from_leads p cs (opening p) s leads in
+    let alike = all_alike n r (opening p).world later read.others first.sound first.manned (no_attaches p (Some (opening p)) cs) from.0 in
+    let begins = opening_stays p r in
+    let kept = kept_played p cs s named.lows leads in
+    replays_by names p cs s (attaches n ++ renumbered_steps r later) named (record {
+      requests = read.requests;
+      lead = lead_behind p (renumbered_steps r later) s.world
+          (subst (λ (w : WorldState). AreAccepted w (renumbered_steps r later)) begins alike.accepted)
+          (ap (λ (w : WorldState). world_after w (granted (renumbered_steps r later))) (sym begins) ∙ alike.leads ∙ ap (renumbered r) from.1 ∙ end_stays p s r kept end);
+      replies = λ k within.
+          behind_attaches p (renumbered_steps r later) (thread_of k)
+          ∙ ap (λ (w : WorldState). replies_told w (renumbered_steps r later) (thread_of k)) (sym begins)
+          ∙ alike.replies (thread_of k) ∙ later_replies p cs s k leads within;
+    })

@@ -1,5 +1,6 @@
 pub mod Scripts
 pub mod Steps
+pub mod JavaRuns
 pub mod Outcomes
 pub mod Reports
 pub mod Tallies

@@ -46,9 +46,11 @@ tally_at ts i = slice_index_or ts i (record { text = []; first = 0; ends = 0 })
 
 -- what a report says of an outcome: its number, how many ends have it, its text, and how it comes to the first of them
 abbrev pub tally_part : WitnessForm → NameLists → Program → FoundStates → ℕ → OutcomeTally → List ℕ
-tally_part form names p f number t = outcome_part form names p (witness_at f.witnesses (end_at f t.first)) number t.ends t.text
+tally_part form names p f number t =
+    outcome_part form names p (witness_at f.witnesses (end_at f t.first)) number t.ends t.text
 
 -- what it says of the first outcomes, one behind the other
 abbrev pub tally_parts : WitnessForm → NameLists → Program → FoundStates → List OutcomeTally → ℕ → List ℕ
 tally_parts form names p f ts zero = []
-tally_parts form names p f ts (suc n) = tally_parts form names p f ts n ++ tally_part form names p f (n + 1) (tally_at ts n)
+tally_parts form names p f ts (suc n) =
+    tally_parts form names p f ts n ++ tally_part form names p f (n + 1) (tally_at ts n)

@@ -1,22 +1,37 @@
-//! What a script of choices plays.
+//! What a script of choices plays, and what the Java machine says of its outcome.
 
-ghost use Rattle.std.specs.Prelude.{◌≡◌, ◌<◌, ℕ, List, Some, length};
+ghost use Rattle.std.specs.Prelude.{◌≡◌, ◌<◌, ◌-◌, ℕ, Bool, List, Some, length};
+ghost use Rattle.std.specs.List.{flat_map};
+ghost use Rattle.lock_word.specs.declared.ThreadId.{ThreadId};
+ghost use Rattle.step_core.specs.declared.machine.Doing.{Doing};
+ghost use Rattle.step_core.specs.Machine.{Is};
+ghost use Rattle.step_core.specs.Shown.{shown};
 ghost use Rattle.history.specs.NameLists.{NameLists};
 ghost use Rattle.explore.specs.declared.programs.Choice.{Choice};
 ghost use Rattle.explore.specs.declared.programs.Program.{Program};
+ghost use Rattle.explore.specs.Found.{IsEnd};
 ghost use Rattle.explore.specs.Replies.{replies_of};
-ghost use Rattle.explore.specs.States.{ProgramState, played, thread_of};
+ghost use Rattle.explore.specs.States.{ProgramState, end_of, played, start_of, thread_of};
 ghost use Rattle.program_text.specs.Programs.{IsProgramIn};
-ghost use Rattle.program_text.specs.declared.numbering.NamedProgram.{NamedProgram as NamedProgramData};
+ghost use Rattle.program_text.specs.declared.numbering.NamedProgram.{
+  NamedProgram as NamedProgramData,
+};
+ghost use Rattle.explore_runs.specs.JavaRuns.{AreBytes, IsOutcomeOf, IsRunOf, Rests, returns_in};
+ghost use Rattle.explore_runs.specs.Outcomes.{replies_text, reply_word};
 ghost use Rattle.explore_runs.specs.Replays.{HasFewStrangers, IsNamed, Replays};
-ghost use Rattle.explore_runs.specs.Steps.{LeadTo, empty_world, replies_told, script_steps};
+ghost use Rattle.explore_runs.specs.Steps.{LeadTo, empty_world, replies_told};
+ghost use Rattle.explore_runs.specs.Steps.{script_moves, script_steps};
 
 /// The script of choices that lead to a state is a script, and whatever it is read as plays to the
 /// world of that state: each of its steps is accepted, with all memory granted, and they hand out
-/// to each thread the replies that the state has for its calls. What is asked is that the names
-/// are those of the program, and that its calls name at most one thread that it has not.
+/// to each thread the replies that the state has for its calls. The names have to be those of the
+/// program. Of a state that some choice changes, as none changes that of an outcome, it is asked
+/// too that the calls name at most one thread that the program has not.
 pub fn a_script_leads_to_its_state()
-    // The text, read as a script and played.
+    // The text of an outcome, read as a script and played.
+    ensures outcomes { (names : NameLists) (p : Program) (cs : List Choice) (s : ProgramState)
+        → IsNamed names p → played p cs ≡ Some s → IsEnd p s → Replays names p cs s }
+    // The same of any state, where the calls name at most one thread that the program has not.
     ensures played { (names : NameLists) (p : Program) (cs : List Choice) (s : ProgramState)
         → IsNamed names p → HasFewStrangers names p → played p cs ≡ Some s → Replays names p cs s }
     // The names of a program that was read from a text are right so.
@@ -29,4 +44,34 @@ pub fn a_script_leads_to_its_state()
     ensures replies { (p : Program) (cs : List Choice) (s : ProgramState) (k : ℕ)
         → played p cs ≡ Some s → k < length p.starts.items
         → replies_told (empty_world p) (script_steps p cs) (thread_of k) ≡ replies_of p s k }
+    // And these are the replies that the text of an outcome tells in the thread's line.
+    ensures told { (p : Program) (s : ProgramState) (k : ℕ)
+        → replies_text s.replies (start_of p k) (end_of p k - start_of p k)
+        ≡ flat_map reply_word (replies_of p s k) }
+{}
+
+/// An outcome of the core is one of the Java machine itself, for the same program: the moves of its
+/// witness are a run of the machine that the program may make, which leads to what the state shows,
+/// and in which the calls of each thread return with the replies that the state has; and behind it
+/// the machine can make no move that the program leaves to it, not even a refusal for want of a
+/// monitor or of memory. So who is stuck in an outcome is stuck by JLS SE 8, chapter 17, and not by
+/// how locks are kept.
+pub fn an_outcome_is_one_of_the_machine()
+    // The moves of any witness.
+    ensures run { (p : Program) (cs : List Choice) (s : ProgramState)
+        → AreBytes p.lows.items → played p cs ≡ Some s
+        → IsRunOf p (script_moves p cs) (shown s.world) }
+    // The replies in them are those of the state.
+    ensures returns { (p : Program) (cs : List Choice) (s : ProgramState) (k : ℕ)
+        → AreBytes p.lows.items → played p cs ≡ Some s → k < length p.starts.items
+        → returns_in (thread_of k) (script_moves p cs) ≡ replies_of p s k }
+    // The moves of an outcome.
+    ensures outcome { (p : Program) (cs : List Choice) (s : ProgramState)
+        → AreBytes p.lows.items → played p cs ≡ Some s → IsEnd p s
+        → IsOutcomeOf p (script_moves p cs) (shown s.world) }
+    // What each thread is doing there.
+    ensures rests { (p : Program) (cs : List Choice) (s : ProgramState)
+        (t : ThreadId) (flag : Bool) (d : Doing)
+        → AreBytes p.lows.items → played p cs ≡ Some s → IsEnd p s
+        → Is (shown s.world) t flag d → Rests p (shown s.world) t d }
 {}

@@ -16,7 +16,7 @@ mod tallies;
 
 pub use faults::ExploreTextFault;
 pub use histories::moves_of;
-pub use laws::a_script_leads_to_its_state;
+pub use laws::{a_script_leads_to_its_state, an_outcome_is_one_of_the_machine};
 pub use outcomes::outcome_of;
 pub use reports::{WitnessForm, report_of};
 pub use running::explore_text;

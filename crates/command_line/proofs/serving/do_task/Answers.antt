@@ -1,4 +1,4 @@
-use Rattle.std.proofs.Common.{rules, ◌≡◌, ℕ, Err, IfSome, subst, sym}
+use Rattle.std.proofs.Common.{rules, ◌≡◌, IfSome, subst, sym}
 use Rattle.explore_runs.specs.declared.faults.ExploreTextFault.TheVariants as exploring
 use Rattle.command_line.specs.Tasks.{HasTooManyStates}
 use Rattle.command_line.proofs.Exploring.{caused}

@@ -1,0 +1,51 @@
+-- What the line of a thread tells of its replies.
+use native.Mathlib.Omega.{arith}
+use Rattle.std.proofs.Common.{◌≡◌, ◌∙◌, sym, ap, refl, ℕ, zero, suc, ◌+◌, ◌-◌, List, [], ◌∷◌, ◌++◌, take, drop, Option, Some, None, append-nil}
+use Rattle.std.specs.Prelude.{slice_get}
+use Rattle.std.specs.List.{filter_map, flat_map}
+use Rattle.std.specs.Option.{option_to_list}
+use Rattle.std.proofs.lemmas.Grind.{flat_map-append}
+use Rattle.std.proofs.lemmas.List.Elements.{filter_map-append}
+use Rattle.fat_monitor.specs.declared.actions.Reply.{Reply}
+use Rattle.explore.specs.declared.programs.Program.{Program}
+use Rattle.explore.specs.Replies.{replies_of}
+use Rattle.explore.specs.States.{ProgramState, end_of, start_of}
+use Rattle.explore_runs.specs.Outcomes.{replies_text, reply_text, reply_word}
+
+abbrev there : List (Option Reply) → List Reply
+there rs = filter_map (λ (r : Option Reply). r) rs
+
+pub take_more : {A : Type 0} (xs : List A) (n : ℕ) → take (suc n) xs ≡ take n xs ++ option_to_list (slice_get xs n)
+take_more [] zero = refl
+take_more [] (suc n) = refl
+take_more (x ∷ xs) zero = refl
+take_more (x ∷ xs) (suc n) = ap (λ ys. x ∷ ys) (take_more xs n)
+
+pub get_behind : {A : Type 0} (xs : List A) (m n : ℕ) → slice_get (drop m xs) n ≡ slice_get xs (m + n)
+get_behind xs zero n = ap (slice_get xs) (omega arith)
+get_behind [] (suc m) n = refl
+get_behind (x ∷ xs) (suc m) n =
+    let more : suc (m + n) ≡ suc m + n = omega arith in
+    get_behind xs m n ∙ ap (slice_get (x ∷ xs)) more
+
+one_text : (o : Option (Option Reply)) → reply_text o ≡ flat_map reply_word (there (option_to_list o))
+one_text None = refl
+one_text (Some None) = refl
+one_text (Some (Some r)) = sym (append-nil (reply_word r))
+
+texts_from : (rs : List (Option Reply)) (m n : ℕ) → replies_text rs m n ≡ flat_map reply_word (there (take n (drop m rs)))
+texts_from rs m zero = refl
+texts_from rs m (suc n) =
+    let behind : List (Option Reply) = drop m rs in
+    let last : List (Option Reply) = option_to_list (slice_get behind n) in
+    ap (λ (t : List ℕ). t ++ reply_text (slice_get rs (m + n))) (texts_from rs m n)
+    ∙ ap (λ (o : Option (Option Reply)). flat_map reply_word (there (take n behind)) ++ reply_text o) (sym (get_behind rs m n))
+    ∙ ap (λ (t : List ℕ). flat_map reply_word (there (take n behind)) ++ t) (one_text (slice_get behind n))
+    ∙ sym (flat_map-append reply_word (there (take n behind)) (there last))
+    ∙ ap (flat_map reply_word) (sym (filter_map-append (λ (r : Option Reply). r) (take n behind) last))
+    ∙ ap (λ (xs : List (Option Reply)). flat_map reply_word (there xs)) (sym (take_more behind n))
+
+-- It is the text of the replies that the state has for the thread's calls.
+pub replies_told_of : (p : Program) (s : ProgramState) (k : ℕ)
+    → replies_text s.replies (start_of p k) (end_of p k - start_of p k) ≡ flat_map reply_word (replies_of p s k)
+replies_told_of p s k = texts_from s.replies (start_of p k) (end_of p k - start_of p k)
