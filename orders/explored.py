@@ -3,13 +3,16 @@
 
 python3 orders/explored.py THINMON
 
-The programs are those of `crates/explored_programs/data/classic.programs`, and the second explorer is
+The programs are those of `crates/explored_programs/data/classic.programs`, and those of
+`orders/strangers.programs`, whose calls name threads that the program has not. The second explorer is
 `bench/explored.py`, which was written from the rules and not from the code. Of each program are compared how
 many states and steps it has, its outcomes with how many ends have each, and how long the script of each is: no
 other leads there with fewer steps. Each script is then played by `thinmon run`, and has to come to that outcome.
 With `--moves` the same outcomes have to be told, each with the history that `thinmon run --moves` writes of its
-script, and `thinmon check` has to find the moves of that history a run.
+script, and `thinmon check` has to find the moves of that history a run. Of the second file some history of each
+program has to have other numbers of threads that the program has not, and nothing else.
 """
+import json
 import pathlib
 import subprocess
 import sys
@@ -20,12 +23,13 @@ ROOT = pathlib.Path(__file__).resolve().parent.parent
 sys.path.insert(0, str(ROOT / "bench"))
 import explored  # noqa: E402
 
-PROGRAMS = ROOT / "crates/explored_programs/data/classic.programs"
+STRANGERS = ROOT / "orders/strangers.programs"
+PROGRAMS = (ROOT / "crates/explored_programs/data/classic.programs", STRANGERS)
 
 
-def texts():
+def texts(programs):
     """The text of each program, without its name, and with each call as often as it is made."""
-    for block in PROGRAMS.read_text().split("program ")[1:]:
+    for block in programs.read_text().split("program ")[1:]:
         lines = []
         for line in block.split("\n")[1:]:
             words = line.split()
@@ -165,18 +169,39 @@ def written(words, lines):
                           check=True).stdout
 
 
-def compare_histories(thinmon, text, counts, parts):
-    """The same outcomes with histories: those of the scripts, and each a run."""
+def differ_in_strangers(history, again, threads):
+    """Whether two histories differ in the numbers of threads that the program has not, each of which has one other
+    number, and in nothing else."""
+    there, back = {}, {}
+    for one, two in zip(map(json.loads, history), map(json.loads, again), strict=True):
+        numbers = one.get("target", 0), two.get("target", 0)
+        if min(numbers) >= threads:
+            assert there.setdefault(numbers[0], numbers[1]) == numbers[1], "two numbers of a thread"
+            assert back.setdefault(numbers[1], numbers[0]) == numbers[0], "one number of two threads"
+            two["target"] = one["target"]
+        assert one == two, "another history"
+    return any(one != two for one, two in there.items())
+
+
+def compare_histories(thinmon, program, text, counts, parts):
+    """The same outcomes with histories: those of the scripts, and each a run. Whether one has other numbers."""
     done = subprocess.run([thinmon, "explore", "--moves"], input=text, text=True, capture_output=True, check=True)
-    again, histories = parts_of(done.stdout, "history")
-    assert again == counts, again
+    told, histories = parts_of(done.stdout, "history")
+    assert told == counts, told
     assert [part[:3] for part in histories] == [part[:3] for part in parts], "other outcomes with histories"
-    for (_, _, _, script), (_, _, _, history) in zip(parts, histories):
-        assert written([thinmon, "run", "--moves"], script) == "".join(line + "\n" for line in history)
+    others = False
+    for (_, _, _, script), (_, _, _, history) in zip(parts, histories, strict=True):
+        again = written([thinmon, "run", "--moves"], script).split("\n")
+        assert again.pop() == "", "a last line without its end"
+        differ = differ_in_strangers(history, again, len(program.threads))
+        assert differ != (again == history), "another spelling"
+        others = others or differ
         assert written([thinmon, "check"], history) == f"run of {len(history) - 1} moves\n"
+    return others
 
 
 def compare(thinmon, program, text):
+    """Compares what is told of a program. Whether a history has other numbers than its script."""
     done = subprocess.run([thinmon, "explore"], input=text, text=True, capture_output=True, check=True)
     counts, parts = parts_of(done.stdout, "script")
     states, steps, outcomes = explore(program)
@@ -192,18 +217,21 @@ def compare(thinmon, program, text):
             if words[0] == "thread":
                 assert words[2:2 + len(replies[words[1]])] == replies[words[1]], line
         assert objects == [line for line in told if line.startswith("object ")], objects
-    compare_histories(thinmon, text, counts, parts)
+    return compare_histories(thinmon, program, text, counts, parts)
 
 
 def main():
     (thinmon,) = sys.argv[1:]
-    programs = list(explored.read(str(PROGRAMS)))
-    for program, text in zip(programs, texts(), strict=True):
-        try:
-            compare(thinmon, program, text)
-        except AssertionError as error:
-            raise SystemExit(f"explored: {program.name}: {error}")
-    print(f"explored: {len(programs)} programs as the second explorer finds them")
+    count = 0
+    for file in PROGRAMS:
+        for program, text in zip(explored.read(str(file)), texts(file), strict=True):
+            try:
+                others = compare(thinmon, program, text)
+                assert others == (file == STRANGERS), "whether strangers have other numbers in a script"
+            except AssertionError as error:
+                raise SystemExit(f"explored: {program.name}: {error}")
+            count += 1
+    print(f"explored: {count} programs as the second explorer finds them")
 
 
 main()
