@@ -65,7 +65,7 @@ fn push_thread(
     state: &State,
     thread: u8,
 ) -> Result<(), Trouble> {
-    let name = THREADS.get(usize::from(thread)).copied().unwrap_or("?");
+    let name = name_at(&THREADS, usize::from(thread));
     write!(text, "{name}: ")?;
     push_replies(text, replies_of(program, state, usize::from(thread)))?;
     let id = ThreadId(u32::from(thread));
@@ -81,12 +81,25 @@ fn push_thread(
 /// The replies of a thread, as far as it has come.
 fn replies_of<'a>(program: &Program, state: &'a State, thread: usize) -> &'a [Option<Reply>] {
     let replies = state.replies();
-    let start = program.starts.get(thread).copied().unwrap_or(0);
-    let end = match program.starts.get(thread.saturating_add(1)) {
-        Some(end) => *end,
-        None => replies.len(),
-    };
-    replies.get(start..end).unwrap_or(&[])
+    let start = start_of(&program.starts, thread, 0);
+    let end = start_of(&program.starts, thread.saturating_add(1), replies.len());
+    part_of(replies, start, end)
+}
+
+/// Where the calls of a thread begin, or the other place if there is no such thread.
+fn start_of(starts: &[usize], thread: usize, other: usize) -> usize {
+    match starts.get(thread) {
+        Some(start) => *start,
+        None => other,
+    }
+}
+
+/// The replies from one place to another, or none where these are no places.
+fn part_of(replies: &[Option<Reply>], start: usize, end: usize) -> &[Option<Reply>] {
+    match replies.get(start..end) {
+        Some(part) => part,
+        None => &[],
+    }
 }
 
 /// Replies in their order: one that comes several times stands once, with how often it came.
@@ -148,7 +161,7 @@ fn push_object(text: &mut String, world: &World, object: ObjectId) -> Result<(),
     }
     match world.owner(object) {
         Some(owner) => {
-            let thread = THREADS.get(owner.0 as usize).copied().unwrap_or("?");
+            let thread = name_at(&THREADS, owner.0 as usize);
             write!(text, "{name}: {thread} {}", world.holds(object))?;
         }
         None => write!(text, "{name}: free")?,
@@ -157,7 +170,15 @@ fn push_object(text: &mut String, world: &World, object: ObjectId) -> Result<(),
 }
 
 fn name_of(object: ObjectId) -> &'static str {
-    OBJECTS.get(object.0 as usize).copied().unwrap_or("?")
+    name_at(&OBJECTS, object.0 as usize)
+}
+
+/// The name that stands at this place.
+fn name_at(names: &[&'static str], at: usize) -> &'static str {
+    match names.get(at) {
+        Some(name) => name,
+        None => "?",
+    }
 }
 
 /// Prints each text once, with how many ends have it.
