@@ -9,11 +9,11 @@ The programs are those of `crates/explored_programs/data/classic.programs`, and 
 many states and steps it has, its outcomes with how many ends have each, and how long the script of each is: no
 other leads there with fewer steps. Each script is then played by `thinmon run`, and has to come to that outcome.
 With `--moves` the same outcomes have to be told, each with the history that `thinmon run --moves` writes of its
-script, and `thinmon check` has to find the moves of that history a run. Of the second file some history of each
-program has to have other numbers of threads that the program has not, and nothing else.
+script, and `thinmon check` has to find the moves of that history a run. In the histories of the second file the
+threads that the program has not have the numbers of the program, which are other ones in the scripts.
 """
-import json
 import pathlib
+import re
 import subprocess
 import sys
 
@@ -169,39 +169,42 @@ def written(words, lines):
                           check=True).stdout
 
 
-def differ_in_strangers(history, again, threads):
-    """Whether two histories differ in the numbers of threads that the program has not, each of which has one other
-    number, and in nothing else."""
-    there, back = {}, {}
-    for one, two in zip(map(json.loads, history), map(json.loads, again), strict=True):
-        numbers = one.get("target", 0), two.get("target", 0)
-        if min(numbers) >= threads:
-            assert there.setdefault(numbers[0], numbers[1]) == numbers[1], "two numbers of a thread"
-            assert back.setdefault(numbers[1], numbers[0]) == numbers[0], "one number of two threads"
-            two["target"] = one["target"]
-        assert one == two, "another history"
-    return any(one != two for one, two in there.items())
+def strangers_in(lines, threads):
+    """The threads that the calls of some lines name, and that are none of these, in the order in which they come."""
+    strangers = []
+    for words in map(str.split, lines):
+        call = {"call": words[1:], "begin": words[2:]}.get(words[0], [])
+        if call and explored.SHAPES[call[0]] == "t" and call[1] not in threads + strangers:
+            strangers.append(call[1])
+    return strangers
+
+
+def renumbered(line, from_names, to_names):
+    """A line of a history whose target has its number in the one list, with its number in the other."""
+    return re.sub(r'"target":(\d+)', lambda found: f'"target":{to_names.index(from_names[int(found[1])])}', line)
 
 
 def compare_histories(thinmon, program, text, counts, parts):
-    """The same outcomes with histories: those of the scripts, and each a run. Whether one has other numbers."""
+    """The same outcomes with histories: those of the scripts, but that strangers have the numbers of the program; and
+    each a run. Whether all have other numbers than their scripts."""
     done = subprocess.run([thinmon, "explore", "--moves"], input=text, text=True, capture_output=True, check=True)
     told, histories = parts_of(done.stdout, "history")
     assert told == counts, told
     assert [part[:3] for part in histories] == [part[:3] for part in parts], "other outcomes with histories"
-    others = False
+    names = program.threads + strangers_in(text.splitlines(), program.threads)
+    others = True
     for (_, _, _, script), (_, _, _, history) in zip(parts, histories, strict=True):
         again = written([thinmon, "run", "--moves"], script).split("\n")
         assert again.pop() == "", "a last line without its end"
-        differ = differ_in_strangers(history, again, len(program.threads))
-        assert differ != (again == history), "another spelling"
-        others = others or differ
+        script_names = program.threads + strangers_in(script, program.threads)
+        assert [renumbered(line, script_names, names) for line in again] == history, "another history"
+        others = others and again != history
         assert written([thinmon, "check"], history) == f"run of {len(history) - 1} moves\n"
     return others
 
 
 def compare(thinmon, program, text):
-    """Compares what is told of a program. Whether a history has other numbers than its script."""
+    """Compares what is told of a program. Whether all its histories have other numbers than their scripts."""
     done = subprocess.run([thinmon, "explore"], input=text, text=True, capture_output=True, check=True)
     counts, parts = parts_of(done.stdout, "script")
     states, steps, outcomes = explore(program)

@@ -1,11 +1,13 @@
 -- What is picked from the labels of moves: attaches, calls, returns and moments.
 use native.Mathlib.Omega.{arith}
-use Rattle.std.proofs.Common.{◌≡◌, ◌∙◌, sym, ap, refl, ℕ, zero, suc, ◌≤◌, Bool, true, false, if◌then◌else◌, List, [], ◌∷◌, ◌++◌, length, Option, Some, None, append_assoc}
+use Rattle.std.proofs.Common.{◌≡◌, ◌∙◌, sym, ap, refl, ℕ, zero, suc, ◌+◌, ◌≤◌, Bool, true, false, if◌then◌else◌, List, [], ◌∷◌, ◌++◌, length, map, Option, Some, None, append_assoc, length-append}
 use Rattle.std.specs.List.{filter_map}
+use Rattle.std.proofs.lemmas.List.{map-append}
 use Rattle.std.proofs.lemmas.List.Elements.{filter_map-append}
+use Rattle.lock_word.specs.declared.ThreadId.{ThreadId}
 use Rattle.step_core.specs.Labels.{is_label, labels_after, labels_for, labels_of}
 use Rattle.step_core.specs.Laws.{AreWithinLimits}
-use Rattle.step_core.specs.Requests.{world_after}
+use Rattle.step_core.specs.Requests.{moves_after, world_after}
 use Rattle.step_core.specs.Step.{AfterStep, step_of}
 use Rattle.step_core.specs.World.{WorldState}
 use Rattle.step_core.specs.declared.machine.Move.{Move}
@@ -16,10 +18,10 @@ use Rattle.step_core.proofs.Lists.Reached.{reached_labels}
 use Rattle.explore.specs.declared.programs.Program.{Program}
 use Rattle.explore.specs.declared.programs.Choice.{Choice}
 use Rattle.explore.specs.States.{opening, thread_of}
-use Rattle.explore_runs.specs.JavaRuns.{AreBytes}
+use Rattle.explore_runs.specs.JavaRuns.{AreBytes, attached_in, threads_below}
 use Rattle.explore_runs.specs.Steps.{attaches, empty_world, granted, script_moves, script_steps, steps_from}
 use Rattle.explore_runs.proofs.Attaching.{attach_goes}
-use Rattle.explore_runs.proofs.Leading.{attaches_lead}
+use Rattle.explore_runs.proofs.Leading.{attach_moves as attach_moved, attaches_lead}
 
 -- a program is within the limits of its split
 pub within_limits : (p : Program) → AreBytes p.lows.items → AreWithinLimits p.lows.items p.monitors p.indices p.split
@@ -67,6 +69,25 @@ attach_labels p (suc n) le =
     ∙ ap (λ (ms : List Move). ms ++ labels_after (world_after (empty_world p) (granted (attaches n))) (granted (x ∷ []))) (attach_labels p n (omega (arith, le)))
     ∙ ap (λ (w : WorldState). attach_moves n ++ (labels_for x (step_of true w x).answer ++ [])) (attaches_lead p n)
     ∙ ap (λ (o : AfterStep). attach_moves n ++ (labels_for x o.answer ++ [])) (attach_goes p n (omega (arith, le)))
+
+-- they are the moves of the attaches
+pub attaches_moved : (p : Program) (n : ℕ) → n ≤ length p.starts.items
+    → moves_after (empty_world p) (granted (attaches n)) ≡ map (λ (t : ThreadId). move.Attach t) (threads_below n)
+attaches_moved p zero le = refl
+attaches_moved p (suc n) le =
+    let one : suc n ≡ n + 1 = omega arith in
+    ap (λ (k : ℕ). moves_after (empty_world p) (granted (attaches k))) one ∙ attach_moved p n (omega (arith, le))
+    ∙ ap (λ (ms : List Move). ms ++ move.Attach (thread_of n) ∷ []) (attaches_moved p n (omega (arith, le)))
+    ∙ sym (map-append (λ (t : ThreadId). move.Attach t) (threads_below n) (thread_of n ∷ []))
+
+pub attached_back : (ts : List ThreadId) → attached_in (map (λ (t : ThreadId). move.Attach t) ts) ≡ ts
+attached_back [] = refl
+attached_back (t ∷ ts) = ap (λ (us : List ThreadId). t ∷ us) (attached_back ts)
+
+-- a list behind which the same comes is not longer
+pub nothing_more : {A : Type 0} (xs ys : List A) → xs ++ ys ≡ xs → ys ≡ []
+nothing_more xs [] h = refl
+nothing_more xs (y ∷ ys) h = absurd (let l = length-append xs (y ∷ ys) in let e = ap length h in omega (arith, l, e))
 
 -- the labels of a script, and what is picked from its moves
 pub script_labels : (p : Program) (cs : List Choice) → labels_after (empty_world p) (granted (script_steps p cs))

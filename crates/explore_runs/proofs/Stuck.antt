@@ -1,10 +1,11 @@
 -- Where no choice changes a state, the Java machine is stuck.
 use native.Mathlib.Omega.{arith}
-use Rattle.std.proofs.Common.{◌≡◌, ◌∙◌, ◌⊎◌, inl, inr, sym, ap, refl, subst, ℕ, ◌+◌, ◌-◌, ◌<◌, ◌≤◌, Bool, true, false, if◌then◌else◌, nat_lt, List, [], ◌++◌, length, take, Option, Some, None, Result, Ok, Err}
+use Rattle.std.proofs.Common.{◌≡◌, ◌∙◌, ◌⊎◌, inl, inr, sym, ap, refl, subst, ℕ, ◌+◌, ◌-◌, ◌<◌, ◌≤◌, Bool, true, false, if◌then◌else◌, nat_lt, List, [], ◌++◌, length, map, take, Option, Some, None, Result, Ok, Err}
 use Rattle.std.specs.Prelude.{IfSome, IsSome, MatchOption, slice_get, slice_index_or, slice_set}
 use Rattle.std.specs.Option.{unwrap_or}
 use Rattle.std.proofs.lemmas.Bool.{cases_lt, le-ltb, lt-ltb}
 use Rattle.std.proofs.lemmas.List.{get_or-set_same}
+use Rattle.std.proofs.lemmas.List.Elements.{filter_map-append}
 use Rattle.std.proofs.lemmas.Option.{get_or_from_slice_get, same_Some}
 use Rattle.lock_word.specs.declared.ThreadId.{ThreadId}
 use Rattle.lock_word.specs.declared.ObjectId.{ObjectId}
@@ -43,6 +44,7 @@ use Rattle.thread_index.specs.Indices.{berth_of, holder_at}
 use Rattle.step_core.specs.Go.{AfterGo, action_about, action_on, after_act, after_bind, after_load, after_look_as, after_publish, after_stage, after_take, after_told, bind_cause, entering, place_after, with_go}
 use Rattle.step_core.specs.Machine.{Calls, Exists, Is, IsAnswer, MayRefuse, OwnedBy, Run, State, Steps, Thread, Unowned, opening as opening_state, owner_only}
 use Rattle.step_core.specs.Labels.{labels_after}
+use Rattle.step_core.specs.Requests.{moves_after}
 use Rattle.step_core.specs.Shown.{act_of, doing_in, monitor_of, shown, thread_of as shown_thread}
 use Rattle.step_core.specs.Sound.{Agrees, Fitting, IsPublished, MayShow, bound_by}
 use Rattle.step_core.specs.Step.{AfterStep, accept, after_begin, after_begin_at, after_begin_on, after_collect, after_go_at, after_look, after_wait_end, after_wait_end_as, first_place, refuse, step_of, time_over, wake_up}
@@ -71,10 +73,10 @@ use Rattle.explore.proofs.Serving.{next_of as next_of_thread}
 use Rattle.explore.specs.Found.{IsEnd}
 use Rattle.explore.specs.States.{ProgramState, after, after_answer, after_step, begin_of, call_below, moved, opening, played, start_of, step_at, step_for, step_of_thread, thread_of, tick_of}
 use Rattle.explore_runs.specs.Steps.{empty_world, granted, script_moves, script_steps, steps_from}
-use Rattle.explore_runs.specs.JavaRuns.{AreBytes, IsBlocked, IsLeft, IsOutcomeOf, IsRunOf, Rests, attached_by, attached_in, called_by, calls_in, calls_of, moments_in, threads_below, told_by, woken_in}
-use Rattle.explore_runs.proofs.Leading.{script_leads}
+use Rattle.explore_runs.specs.JavaRuns.{AreBytes, BeginsWith, IsBlocked, IsLeft, IsOutcomeOf, IsRunOf, Rests, attached_by, attached_in, called_by, calls_in, calls_of, moments_in, threads_below, told_by, woken_in}
+use Rattle.explore_runs.proofs.Leading.{moves_first, script_leads}
 use Rattle.explore_runs.proofs.Called.{Told, begun, call_back, front_next, front_of, one_if, picks_attach, picks_call, picks_moment, script_told, way_played}
-use Rattle.explore_runs.proofs.Labelled.{attach_moves, script_picked, within_limits}
+use Rattle.explore_runs.proofs.Labelled.{attach_moves, attached_back, attaches_moved, nothing_more, script_picked, within_limits}
 use Rattle.explore_runs.proofs.Waking.{script_wakes, steps_wake}
 use Rattle.explore_runs.proofs.Ended.{IsKept, kept_played, next_there, go_rests, own, place_rests, step_rests, thread_means, within}
 
@@ -559,6 +561,18 @@ module _ (p : Program) (cs : List Choice) (s : ProgramState) (bytes : AreBytes p
   attaches_told : attached_in (script_moves p cs) ≡ threads_below (length p.starts.items)
   attaches_told = script_picked attached_by picks_attach p cs bytes ∙ told.attaches
 
+  -- the threads of the program are attached before anything else
+  attaches_first : BeginsWith (threads_below (length p.starts.items)) (script_moves p cs)
+  attaches_first =
+      let threads : List ThreadId = threads_below (length p.starts.items) in
+      let rest : List Move = moves_after (opening p).world (granted (steps_from p (Some (opening p)) cs)) in
+      let begins : script_moves p cs ≡ map (λ (t : ThreadId). move.Attach t) threads ++ rest =
+      moves_first p cs ∙ ap (λ (ms : List Move). ms ++ rest) (attaches_moved p (length p.starts.items) (omega arith)) in
+      let no_more : threads ++ attached_in rest ≡ threads =
+      ap (λ (ts : List ThreadId). ts ++ attached_in rest) (sym (attached_back threads))
+      ∙ sym (filter_map-append attached_by (map (λ (t : ThreadId). move.Attach t) threads) rest) ∙ ap attached_in (sym begins) ∙ attaches_told in
+      (rest, begins, nothing_more threads (attached_in rest) no_more)
+
   moments_told : moments_in (script_moves p cs) ≡ take s.told p.moments.items
   moments_told = script_picked told_by picks_moment p cs bytes ∙ told.moments
 
@@ -575,7 +589,7 @@ module _ (p : Program) (cs : List Choice) (s : ProgramState) (bytes : AreBytes p
   pub script_is_run : IsRunOf p (script_moves p cs) (shown s.world)
   script_is_run = record {
     run = script_runs p cs s bytes leads;
-    attaches = attaches_told;
+    attaches = attaches_first;
     calls = λ k lt. front_of (calls_in (thread_of k) (script_moves p cs)) (calls_of p k) (begun p s k) (calls_told k lt);
     moments = front_of (moments_in (script_moves p cs)) p.moments.items s.told moments_told;
     woken = never_woken;

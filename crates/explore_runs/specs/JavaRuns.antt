@@ -1,7 +1,7 @@
 -- The runs of the Java machine that a program may make, and their outcomes.
 use Rattle.std.specs.Prelude.{◌≡◌, ℕ, zero, suc, ◌-◌, ◌<◌, ◌==◌, true, false}
 use Rattle.std.specs.Prelude.{if◌then◌else◌, List, [], ◌∷◌, ◌++◌, length}
-use Rattle.std.specs.Prelude.{take, drop, slice_get, slice_index_or, Option, Some, None, IfSome}
+use Rattle.std.specs.Prelude.{map, take, drop, slice_get, slice_index_or, Option, Some, None, IfSome}
 use Rattle.std.specs.List.{filter_map}
 use Rattle.lock_word.specs.declared.ObjectId.{ObjectId}
 use Rattle.lock_word.specs.declared.ThreadId.{ThreadId}
@@ -73,16 +73,20 @@ threads_below (suc n) = threads_below n ++ thread_of n ∷ []
 abbrev pub calls_of : Program → ℕ → List Call
 calls_of p k = take (end_of p k - start_of p k) (drop (start_of p k) p.calls.items)
 
--- the one list is the front of the other
+-- the first list is a front of the second
 abbrev pub IsFront : {A : Type 0} → List A → List A → Type 0
 IsFront xs ys = xs ≡ take (length xs) ys
 
--- A run of the machine that the program may make: its threads are attached, in their order; each makes its own calls,
--- in their order; the clock tells the program's moments; and no wait ends for no reason, unless the program says that
--- it may.
+-- these threads are attached by the first moves, and by no others
+abbrev pub BeginsWith : List ThreadId → List Move → Type 0
+BeginsWith ts ms = (rest : List Move) × (ms ≡ map (λ t. move.Attach t) ts ++ rest) × (attached_in rest ≡ [])
+
+-- A run of the machine that the program may make. Its threads are attached, in their order, before anything else. Each
+-- makes its own calls in their order, all of them or fewer; so does the clock tell the program's moments. No wait ends
+-- for no reason, unless the program says that it may.
 pub record IsRunOf (p : Program) (ms : List Move) (x : State) : Type 0 where
   pub run : Run (opening (length p.lows.items)) ms x
-  pub attaches : attached_in ms ≡ threads_below (length p.starts.items)
+  pub attaches : BeginsWith (threads_below (length p.starts.items)) ms
   pub calls : (k : ℕ) → k < length p.starts.items → IsFront (calls_in (thread_of k) ms) (calls_of p k)
   pub moments : IsFront (moments_in ms) p.moments.items
   pub woken : p.spurious ≡ false → woken_in ms ≡ []

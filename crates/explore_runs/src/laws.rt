@@ -54,8 +54,9 @@ pub fn a_script_leads_to_its_state()
 /// witness are a run of the machine that the program may make, which leads to what the state shows,
 /// and in which the calls of each thread return with the replies that the state has; and behind it
 /// the machine can make no move that the program leaves to it, not even a refusal for want of a
-/// monitor or of memory. So who is stuck in an outcome is stuck by JLS SE 8, chapter 17, and not by
-/// how locks are kept.
+/// monitor or of memory. So who is stuck in an outcome is stuck by the rules of JLS SE 8, chapter
+/// 17, and not by how locks are kept, as long as the clock tells no more moments and no wait ends
+/// for no reason that the program has not allowed. The machine may have other outcomes, too.
 pub fn an_outcome_is_one_of_the_machine()
     // The moves of any witness.
     ensures run { (p : Program) (cs : List Choice) (s : ProgramState)
