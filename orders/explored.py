@@ -9,8 +9,9 @@ The programs are those of `crates/explored_programs/data/classic.programs`, and 
 many states and steps it has, its outcomes with how many ends have each, and how long the script of each is: no
 other leads there with fewer steps. Each script is then played by `thinmon run`, and has to come to that outcome.
 With `--moves` the same outcomes have to be told, each with the history that `thinmon run --moves` writes of its
-script, and `thinmon check` has to find the moves of that history a run. In the histories of the second file the
-threads that the program has not have the numbers of the program, which are other ones in the scripts.
+script, but for the numbers of threads that the program has not, and `thinmon check` has to find the moves of that
+history a run. In the histories of the second file such threads have the numbers of the program, and in what is
+written of the scripts other ones.
 """
 import pathlib
 import re
