@@ -2,6 +2,7 @@
 use base.Fml.{Fml, ftrue}
 use denote.RattleType.{RattleType}
 use denote.RawPtr.{Ptr}
+pub use denote.RawPtr.{null_ptr}
 use mir.Syntax.{Ty}
 use Rattle.std.specs.declared.option.Option.{Option}
 use Rattle.std.specs.declared.option.Option.TheVariants.{None, Some}

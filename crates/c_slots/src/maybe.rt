@@ -2,7 +2,7 @@
 
 ghost use Rattle.std.specs.Prelude.{◌≡◌, Option, Some, None};
 ghost use Rattle.std.specs.Coded.{coded_option};
-ghost use Rattle.c_slots.specs.Maybe.{maybe_owns};
+ghost use Rattle.c_slots.specs.Maybe.{maybe_owns, null_ptr};
 
 use crate::Parts;
 use std::alloc::Allocator;
@@ -24,17 +24,17 @@ impl<T, A: Allocator> Model for MaybeParts<T, A> {
 }
 
 impl<T, A: Allocator> MaybeParts<T, A> {
-    /// Those of a box.
+    /// Those of a box: the same pointer.
     pub fn of(parts: Parts<T, A>) -> MaybeParts<T, A>
-        ensures { result.value ≡ Some parts.value }
+        ensures { (result.value ≡ Some parts.value) × (result.ptr ≡ parts.ptr) }
     {
         let Parts { ptr, alloc } = parts;
         MaybeParts { ptr, alloc }
     }
 
-    /// No box.
+    /// No box: the null pointer.
     pub fn none(alloc: A) -> MaybeParts<T, A>
-        ensures { result.value ≡ None }
+        ensures { (result.value ≡ None) × (result.ptr ≡ null_ptr) }
     {
         MaybeParts {
             ptr: ptr::null_mut(),

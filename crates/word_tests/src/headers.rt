@@ -3,7 +3,6 @@
 ghost use Rattle.std.specs.Prelude.{◌≡◌, ◌∷◌, [], IfSome, All, length, false};
 ghost use Rattle.header_words.specs.Passes.{new_pass, new_passes};
 
-mod books;
 mod gate;
 mod limits;
 mod memory;

@@ -6,6 +6,7 @@
 mod book;
 #[cfg(test)]
 mod headers;
+mod ledger;
 mod names;
 #[cfg(test)]
 mod slots;

@@ -1,5 +1,6 @@
 //! A book that the tests keep behind the gate, and what a user of the gate does with it.
-ghost use Rattle.std.specs.Prelude.{◌≡◌, ◌<◌, ◌++◌, [], List, length, true, false};
+ghost use Rattle.std.specs.Prelude.{◌≡◌, ◌<◌, ◌++◌, ◌∷◌, [], List, length, true, false};
+ghost use Rattle.std.specs.Prelude.{if◌then◌else◌};
 ghost use Rattle.std.specs.Bool.{OnTrue};
 ghost use Rattle.std.specs.Vec.{vec_len};
 ghost use Rattle.header_words.specs.Bindings.{Binds, Covers};
@@ -33,6 +34,10 @@ impl Names {
             (self.new.objects.items ≡ self.old.objects.items ++ rest) }
         ensures bound { OnTrue result
             (Binds self.new.objects.items (vec_len self.old.objects) object.0) }
+        // Where the answer is true it stands last, and else nothing was bound.
+        ensures exact { self.new.objects.items ≡ (if result
+            then self.old.objects.items ++ object ∷ []
+            else self.old.objects.items) }
     {
         self.objects.push(object).is_ok()
     }

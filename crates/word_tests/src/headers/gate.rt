@@ -4,8 +4,8 @@ ghost use Rattle.std.specs.Bool.{OnTrue};
 ghost use Rattle.header_words.specs.Bindings.{Binds, Covers};
 ghost use Rattle.header_words.specs.Passes.{depth_at};
 
-use super::books::Ledger;
 use super::{OBJECT, close_one, close_two, open_one, open_two};
+use crate::ledger::Ledger;
 use crate::names::{Names, inflate};
 use fat_monitor::{Fats, Receipt};
 use header_words::{Headers, Kept, Pass};

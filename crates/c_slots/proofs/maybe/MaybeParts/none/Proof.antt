@@ -76,7 +76,7 @@ module _ (E : Bx) where
         sets ! (of_opd ! (get ! refl)) refl fa $ sets ! (agg ! (and_then ! (lit ! tt) (and_then ! (get ! refl) (no_more !)))) refl (both_typed E p h fa) $ returns ! (look_at ! 0 refl) $ free_all ! refl $
         nothing ! $ nothing ! $ move ! (2 ∷ 0 ∷ []) $ fjoin ! $ feq_i ! (List Val) (ptr_val p ∷ []) (ptr_val p ∷ []) refl $ fjoin ! $ feq_i ! (List Val) (w ∷ []) (w ∷ []) refl $ fjoin ! $
         fpack ! (Valss (RawPtr ∷ P E ∷ [])) (within (shape (maybe.the_type (R E) (P E) E.al.g)) (to (maybe.the_type (R E) (P E) E.al.g) made) (w ∷ [])) (ptr_val p ∷ [], (h ∷ [], tt)) $ fjoin ! $
-        suffices ! _ (ends_at 𝓛 ended stayed held z w made (tt, tt) (tt, tt)) $ says ! refl $
+        suffices ! _ (ends_at 𝓛 ended stayed held z w made (tt, tt) (tt, tt)) $ says ! (refl, refl) $
         nothing ! $ nothing ! $ fjoin ! $ join ! $ move ! (1 ∷ 0 ∷ []) $ join ! $ done !))))
 
 pub none_spec : {M : Type 1} → stated.statement M

@@ -30,8 +30,9 @@ impl Ledger {
         }
     }
 
-    /// How many objects are bound, which is told by the invariant of the type alone.
+    /// How many objects are bound: at most 8, which is told by the invariant of the type alone.
     pub fn len(&self) -> usize
+        ensures count { result ≡ length self.now }
         ensures few { result ≤ 8 }
     {
         self.objects.len()
