@@ -18,7 +18,7 @@ pub use history_check::{one_answer, replay};
 pub use names::Names;
 pub use plans::{Plan, call_of};
 pub use playing::{play, play_text};
-pub use reports::{put_standing, put_threads, wait_sets_of};
+pub use reports::{owner_name, put_standing, put_threads, wait_sets_of};
 pub use running::{plan_in, read_all, run};
 pub use script_text::{Script, print_script, read_script};
 pub use text_streams::{FileFault, ReaderSource, Sink, Source, WriterSink};

@@ -346,8 +346,8 @@ pub fn put_standing(
     write!(report, " owner {owner} holds {holds}")
 }
 
-/// The name of an owner, or `-`.
-fn owner_name(names: &Names, owner: Option<ThreadId>) -> &str
+/// The name of an owner, or `-` where there is none.
+pub fn owner_name(names: &Names, owner: Option<ThreadId>) -> &str
     ensures { result.now ≡ owner_text names.now owner }
 {
     match owner {

@@ -5,7 +5,7 @@ use Rattle.step_core.specs.Machine.{State, opening, Steps, Run}
 use Rattle.history_moves.specs.Lines.{IsFirst, IsMove}
 use Rattle.history_check.specs.Histories.{NoFeed, IsLine, lines_text, Spell, LeadTo, IsWellFormed, IsUnlawfulLine, LineLeads, IsRunOf, IsOpen, IsBadMove, IsBroken}
 use Rattle.history_moves.proofs.LineLaws.{one_line_move, one_line_first}
-use Rattle.history_check.proofs.OneNext.{one_next}
+use Rattle.jls_check.proofs.OneNext.{one_next}
 use Rattle.history_check.proofs.Lines.{same_line, no_feed_no_line}
 
 -- ---- what the lower layers give

@@ -1,6 +1,5 @@
 pub mod Lines
 pub mod Histories
 pub mod Reading
-pub mod OneNext
 pub mod Answers
 pub mod MoveLists

@@ -1,7 +1,7 @@
 -- The abstract machine of object monitors (JLS SE 8, 17.1 and 17.2): its states, its moves and its runs. It knows
 -- no header word, thread index, inflation, place in a call or number of a monitor.
-use Rattle.std.specs.Prelude.{◌≡◌, ◌⊎◌, ◌↔◌, ℕ, ◌+◌, ◌*◌, ◌<◌, ◌≤◌, Bool, true, false, if◌then◌else◌, ◌==◌, List, []}
-use Rattle.std.specs.Prelude.{◌∷◌, ℤ, pos, ◌≤ℤ◌, nat_abs, Option, Some, None, MatchOption}
+use Rattle.std.specs.Prelude.{◌≡◌, ◌⊎◌, ◌↔◌, ℕ, ◌+◌, ◌*◌, ◌<◌, ◌≤◌, Bool, true, false, if◌then◌else◌}
+use Rattle.std.specs.Prelude.{◌==◌, List, [], ◌∷◌, ℤ, pos, ◌≤ℤ◌, nat_abs, Option, Some, None, MatchOption}
 use Rattle.std.specs.Option.{option_map}
 use Rattle.lock_word.specs.declared.ThreadId.{ThreadId}
 use Rattle.lock_word.specs.declared.ObjectId.{ObjectId}
@@ -181,7 +181,8 @@ IsAnswer s t c answer = ⊥
 -- From s the machine may make this move, which leads to s'. Whatever a row does not name stays.
 abbrev pub Steps : State → Move → State → Type 0
 Steps s (move.Attach t) s' = (s.thread t ≡ None) × (s' ≡ now_is s t false Idle)
-Steps s (move.Call t c) s' = (flag : Bool) × Is s t flag Idle × Exists s.objects c × (s' ≡ now_is s t flag (Wants c))
+Steps s (move.Call t c) s' =
+    (flag : Bool) × Is s t flag Idle × Exists s.objects c × (s' ≡ now_is s t flag (Wants c))
 Steps s (move.Return t reply.Ended) s' = (flag : Bool) × Is s t flag (Has reply.Ended) × (s' ≡ with_thread s t None)
 Steps s (move.Return t r) s' = (flag : Bool) × Is s t flag (Has r) × (s' ≡ now_is s t flag Idle)
 Steps s (move.Lock t) s' =
@@ -192,11 +193,12 @@ Steps s (move.Unlock t) s' =
     (flag : Bool) × (o : ObjectId) × (n : ℕ) × Calls s t flag (call.Exit o) × (s.monitor o ≡ held t (n + 1))
     × (s' ≡ with_monitor (with_reply s t flag reply.Exited) o (if n == 0 then free else held t n))
 Steps s (move.Illegal t) s' =
-    (flag : Bool) × (c : Call) × (o : ObjectId) × Calls s t flag c × (owner_only c ≡ Some o) × (OwnedBy s o t → ⊥)
+    (flag : Bool) × (c : Call) × (o : ObjectId) × Calls s t flag c
+    × (owner_only c ≡ Some o) × (OwnedBy s o t → ⊥)
     × (s' ≡ with_reply s t flag reply.IllegalMonitorState)
 Steps s (move.BadArgument t) s' =
-    (flag : Bool) × (o : ObjectId) × (millis nanos : ℤ) × Calls s t flag (call.Wait o millis nanos) × OwnedBy s o t
-    × (AreGood millis nanos → ⊥)
+    (flag : Bool) × (o : ObjectId) × (millis nanos : ℤ) × Calls s t flag (call.Wait o millis nanos)
+    × OwnedBy s o t × (AreGood millis nanos → ⊥)
     × (s' ≡ with_reply s t flag reply.IllegalArgument)
 Steps s (move.Early t) s' =
     (o : ObjectId) × (millis nanos : ℤ) × Calls s t true (call.Wait o millis nanos) × OwnedBy s o t

@@ -1,6 +1,6 @@
 use Rattle.std.proofs.Common.{◌∙◌, refl}
 use Rattle.fat_monitor.proofs.Overwriting.{AreBeingWritten-first, AreBeingWritten-next, AreWrittenOver-last}
-use Rattle.fat_monitor.proofs.posts.write_all_over.Goals as goal
+use Rattle.fat_monitor.proofs.posts.copies.write_all_over.Goals as goal
 
 pub loop-key-init : goal.loop-key-init
 loop-key-init c = record {

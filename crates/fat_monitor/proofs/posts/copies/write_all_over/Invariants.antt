@@ -1,5 +1,5 @@
 use Rattle.fat_monitor.proofs.Overwriting.{AreBeingWritten}
-use Rattle.fat_monitor.proofs.posts.write_all_over.Given as goal
+use Rattle.fat_monitor.proofs.posts.copies.write_all_over.Given as goal
 
 abbrev pub invariant-loop-key : goal.invariant-loop-key
 invariant-loop-key l = record {
