@@ -13,3 +13,5 @@ pub mod Crossed
 pub mod Positions
 pub mod TakenOut
 pub mod SameOwner
+pub mod Apart
+pub mod OneNext

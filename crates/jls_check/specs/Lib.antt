@@ -8,3 +8,4 @@ pub mod Judging
 pub mod Texts
 pub mod Emptied
 pub mod Slots
+pub mod Numbers

@@ -1,5 +1,7 @@
 -- What a checker knows, and the state of the abstract machine that it shows.
-use Rattle.std.specs.Prelude.{◌≡◌, ℕ, ◌^◌, ◌<◌, Bool, List, length, nat_lt, if◌then◌else◌, Option, Some, None}
+use Rattle.std.specs.Prelude.{◌≡◌, ℕ, ◌^◌, ◌<◌, Bool, List, length, replicate, nat_lt, if◌then◌else◌}
+use Rattle.std.specs.Prelude.{Option, Some, None}
+use Rattle.std.specs.FinMap as map
 use Rattle.std.specs.Option.{option_map}
 use Rattle.lock_word.specs.declared.ThreadId.{ThreadId}
 use Rattle.lock_word.specs.declared.ObjectId.{ObjectId}
@@ -13,13 +15,18 @@ use Rattle.jls_check.specs.declared.monitors.Held.{Held}
 use Rattle.jls_check.specs.declared.monitors.ObjectRecord.{ObjectRecord}
 use Rattle.jls_check.specs.LiveThreads.{LiveThreads, live_of, with_live, owned_of, owning_one_less, owning_one_more}
 use Rattle.jls_check.specs.LiveThreads.{waiting_count}
-use Rattle.jls_check.specs.Monitors.{kept_at, waiting_in, with_monitor_held, left, joined, is_owned_by, owned_count}
+use Rattle.jls_check.specs.Monitors.{untouched, kept_at, waiting_in, with_monitor_held, left, joined}
+use Rattle.jls_check.specs.Monitors.{is_owned_by, owned_count}
 
 -- the live threads; what is kept of each object, by its number; and the moment, in nanoseconds
 pub record MachineState : Type 0 where
   pub threads : LiveThreads
   pub objects : List ObjectRecord
   pub moment : ℕ
+
+-- no thread, and so many objects, which nobody owns
+abbrev pub opening_machine : ℕ → MachineState
+opening_machine n = record { threads = map.empty; objects = replicate n untouched; moment = 0 }
 
 -- the monitor of an object, where one that does not exist has the free one
 abbrev pub held_at : MachineState → ObjectId → Held

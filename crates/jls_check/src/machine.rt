@@ -7,7 +7,8 @@ ghost use Rattle.step_core.specs.Machine.{opening, over_at, Steps};
 ghost use Rattle.step_core.specs.Lasting.{LastsBut, MoveReturns};
 ghost use Rattle.jls_check.specs.LiveThreads.{live_of, some_waits};
 ghost use Rattle.jls_check.specs.Monitors.{kept_at, waiting_in, owns_one};
-ghost use Rattle.jls_check.specs.MachineState.{state, held_at, owns, IsSound, monitor_of};
+ghost use Rattle.jls_check.specs.MachineState.{state, held_at, owns, opening_machine};
+ghost use Rattle.jls_check.specs.MachineState.{IsSound, monitor_of};
 ghost use Rattle.jls_check.specs.MachineState.{thread_of};
 ghost use Rattle.jls_check.specs.Judging.{IsUnlawful, IsAttach};
 ghost use Rattle.jls_check.specs.declared.faults.MoveFault.TheVariants.{Broken, Memory as NoMemory};
@@ -21,7 +22,7 @@ use crate::threads::{Live, Threads};
 use fast_path::Call;
 use fat_monitor::Cause;
 use lock_word::{Memory, ObjectId, ThreadId};
-use std::alloc::Global;
+use std::alloc::{AllocError, Global};
 use std::marker::Model;
 use step_core::{Doing, Move, every_move_keeps_what_lasts};
 
@@ -68,7 +69,8 @@ impl Machine {
     /// The machine before all moves: no thread is live, nobody owns an object, and the moment is 0.
     /// An object is named by a number below `objects`.
     pub fn new(alloc: Global, objects: u32) -> Result<Machine, Memory>
-        ensures { IfOk result (λ machine. state machine ≡ opening objects) }
+        ensures shown { IfOk result (λ machine. state machine ≡ opening objects) }
+        ensures made { IfOk result (λ machine. machine ≡ opening_machine objects) }
     {
         Ok(Machine {
             threads: Threads::new(alloc),
@@ -91,6 +93,9 @@ impl Machine {
         ensures kept { OnErr result (self.new ≡ self.old) }
         ensures lasting { OnOk result
             (LastsBut (state self.old) (MoveReturns made) (state self.new)) }
+        // The answer and what is known then, in the checker's own terms.
+        ensures exact { (room : Bool)
+            × (record { answer = result; after = self.new } ≡ after_move room self.old made) }
     {
         // A law, by which a move that is taken keeps what lasts.
         every_move_keeps_what_lasts();
@@ -268,6 +273,22 @@ impl Machine {
             (Call::End, Cause::StillOwner) => self.owns_one(thread),
             _ => false,
         }
+    }
+}
+
+impl Clone for Machine {
+    ghost use Rattle.std.specs.Prelude.{◌≡◌};
+
+    ghost is_clone = { λ machine copy. copy ≡ machine };
+
+    /// A machine of its own in the same state; or want of memory, and then nothing was made.
+    fn clone(&self) -> Result<Machine, AllocError> {
+        Ok(Machine {
+            threads: self.threads.clone()?,
+            objects: Vec::from_slice(*self.objects.allocator(), &self.objects)?,
+            moment: self.moment,
+            waiters: Vec::from_slice(*self.waiters.allocator(), &self.waiters)?,
+        })
     }
 }
 

@@ -15,7 +15,7 @@ use crate::slots::{
 use fast_path::Call;
 use fat_monitor::Reply;
 use lock_word::{Memory, ObjectId, ThreadId};
-use std::alloc::Global;
+use std::alloc::{AllocError, Global};
 use std::collections::BTreeMap;
 use std::marker::Model;
 use step_core::Doing;
@@ -82,7 +82,8 @@ impl Threads {
         }
     }
 
-    fn kept(&self, thread: ThreadId) -> Option<ThreadRecord>
+    /// What is kept of a thread; None where it is not live.
+    pub(crate) fn kept(&self, thread: ThreadId) -> Option<ThreadRecord>
         ensures { result ≡ map.get self.now thread.0 }
     {
         let position = position_of(&self.slots, &self.positions, &self.hints, thread.0)?;
@@ -244,6 +245,21 @@ impl Threads {
         ensures { self.new ≡ all_back self.old object }
     {
         notify_slots(&mut self.slots, object);
+    }
+}
+
+impl Clone for Threads {
+    ghost use Rattle.std.specs.Prelude.{◌≡◌};
+
+    ghost is_clone = { λ threads copy. copy ≡ threads };
+
+    /// The same threads.
+    fn clone(&self) -> Result<Threads, AllocError> {
+        Ok(Threads {
+            slots: Vec::from_slice(*self.slots.allocator(), &self.slots)?,
+            positions: self.positions.clone()?,
+            hints: Vec::from_slice(*self.hints.allocator(), &self.hints)?,
+        })
     }
 }
 

@@ -4,7 +4,7 @@ use Rattle.lock_word.specs.declared.ThreadId.{ThreadId}
 use Rattle.step_core.specs.declared.machine.Move.{Move}
 use Rattle.step_core.specs.Machine.{State, Steps, Run}
 use Rattle.step_core.specs.Step.{moves_made}
-use Rattle.history_check.proofs.OneNext.{one_next}
+use Rattle.jls_check.proofs.OneNext.{one_next}
 use Rattle.pictures.specs.declared.picture.Arrow.{Arrow}
 use Rattle.pictures.specs.Arrows.{arrows_of, Tells, TellsOne, IsLawful}
 

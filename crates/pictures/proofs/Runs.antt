@@ -4,7 +4,7 @@ use Rattle.std.proofs.lemmas.Grind.{flat_map-append}
 use Rattle.step_core.specs.declared.machine.Move.{Move}
 use Rattle.step_core.specs.Machine.{State, Run}
 use Rattle.step_core.specs.Step.{moves_made}
-use Rattle.history_check.proofs.OneNext.{one_next}
+use Rattle.jls_check.proofs.OneNext.{one_next}
 use Rattle.pictures.specs.declared.columns.Column.{Column}
 use Rattle.pictures.specs.Arrows.{IsLawful}
 use Rattle.pictures.specs.Marks.{moves_in}

@@ -2,18 +2,16 @@
 
 ghost use Rattle.std.specs.Prelude.{◌≡◌, ◌≤◌, IfOk, IsErrOf, length, map, vec_items};
 ghost use Rattle.jls_check.specs.MachineState.{state};
-ghost use Rattle.step_core.specs.Cycles.{AreCycles, next, object_wanted};
+ghost use Rattle.step_core.specs.Cycles.{AreCycles, next};
 ghost use Rattle.pictures.specs.Pictures.{AreAllLive, HasManyCycles};
 ghost use Rattle.pictures.specs.declared.faults.PictureFault.TheVariants.{TooManyColumns, TooManyLanes};
 
 use crate::faults::PictureFault;
 use crate::picturing::MOST_LANES;
-use fast_path::Call;
 use jls_check::Machine;
-use lock_word::{ObjectId, ThreadId};
+use lock_word::ThreadId;
 use owner_cycles::cycles_along;
 use std::alloc::{AllocError, Global};
-use step_core::Doing;
 
 /// The cycles of owners of a machine, if they are no more than a picture has lanes. All its live
 /// threads, and maybe others, are told by rising number.
@@ -47,31 +45,7 @@ fn nexts_of(
 {
     let mut nexts = Vec::new(alloc);
     'threads: for thread in threads {
-        nexts.push(next_of(machine, *thread))?;
+        nexts.push(machine.next_of(*thread))?;
     }
     Ok(nexts)
-}
-
-/// The owner of the object that a thread wants to enter or comes back to, where that is another
-/// thread.
-fn next_of(machine: &Machine, thread: ThreadId) -> Option<ThreadId>
-    ensures { result ≡ next (state machine.now) thread }
-{
-    let object = wanted(machine.live(thread)?.act)?;
-    let owner = machine.held(object).owner?;
-    if owner.0 == thread.0 {
-        None
-    } else {
-        Some(owner)
-    }
-}
-
-/// The object that a thread wants to enter or comes back to.
-fn wanted(act: Doing) -> Option<ObjectId>
-    ensures { result ≡ object_wanted act }
-{
-    match act {
-        Doing::Wants(Call::Enter(object)) | Doing::Back { object, .. } => Some(object),
-        Doing::Idle | Doing::Wants(_) | Doing::Waits { .. } | Doing::Has(_) => None,
-    }
 }

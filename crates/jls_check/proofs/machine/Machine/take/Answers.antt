@@ -19,3 +19,6 @@ pub returns-clause-lasting : goal.returns-clause-lasting
 returns-clause-lasting c =
     let judges = judged c.args.self.now c.advance.ensures.was c.advance.ensures.exact.0 c.args.made c.advance.result c.advance.new.self c.advance.ensures.exact.1 in
     on_ok_weaker c.advance.result (c.every_move_keeps_what_lasts.ensures (state c.args.self.now) (state c.advance.new.self) c.args.made) judges.0
+
+pub returns-clause-exact : goal.returns-clause-exact
+returns-clause-exact c = c.advance.ensures.exact

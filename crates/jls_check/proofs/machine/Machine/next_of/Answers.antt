@@ -1,5 +1,5 @@
 use Rattle.std.proofs.Common.{rules}
-use Rattle.pictures.proofs.cycles.next_of.Goals as goal
+use Rattle.jls_check.proofs.machine.Machine.next_of.Goals as goal
 
 pub returns-then-owner-thread : goal.returns-then-owner-thread
 returns-then-owner-thread c = search rules
