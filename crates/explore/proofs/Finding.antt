@@ -292,6 +292,7 @@ finds_all p keys ns queue ends steps n v no_more =
           let near = f.3 in
           let same = same_number p ws f.0 k s states (f.1, f.2) (lt, at) in
           subst (λ (j : ℕ). length (witness_at ws j) ≤ length cs) same (omega (arith, near));
+      rising = v.search.rising;
       ends = subst (λ (m : ℕ). AreEnds p ws m ends) all v.noted;
       steps = v.counted ∙ ap (λ (m : ℕ). steps_before p ws m) all;
     }

@@ -106,6 +106,9 @@ pub record FindsAll (p : Program) (f : FoundStates) : Type 0 where
   -- and each witness is as short as any list of choices that leads there
   pub shortest : (k : ℕ) (cs : List Choice) (s : ProgramState) → k < length f.witnesses → IsAt p f.witnesses k s
       → played p cs ≡ Some s → length (witness_at f.witnesses k) ≤ length cs
+  -- and states with shorter witnesses come first
+  pub rising : (j k : ℕ) → j ≤ k → k < length f.witnesses
+      → length (witness_at f.witnesses j) ≤ length (witness_at f.witnesses k)
   -- and the ends are those that no choice changes
   pub ends : AreEnds p f.witnesses (length f.witnesses) f.ends
   -- and the steps are counted, each state with each choice that can be made there

@@ -2,6 +2,7 @@
 //! choices that leads there.
 #![tactic(auto)]
 
+mod calls;
 mod choices;
 mod codes;
 mod found;

@@ -23,11 +23,11 @@ pub struct Program {
     pub split: Split,
     /// The calls of the first thread in order, then those of the second, and so on: at most 1,024.
     pub calls: Vec<Call>,
-    /// Where in `calls` those of each thread begin, in rising order ([`are_in_order`]): at most 64 threads. They go on
-    /// to where the next thread's begin.
+    /// Where in `calls` those of each thread begin, in rising order ([`are_in_order`]): at most 64
+    /// threads. They go on to where the next thread's begin.
     pub starts: Vec<usize>,
-    /// The moments that the clock tells, one after the other, in nanoseconds: at most 1,048,576. One
-    /// that is before the moment that was told last is refused, and the clock stops there.
+    /// The moments that the clock tells, one after the other, in nanoseconds: at most 1,048,576.
+    /// One that is before the moment that was told last is refused, and the clock stops there.
     pub moments: Vec<u64>,
     /// Whether a wait may end for no reason that a program can see.
     pub spurious: bool,

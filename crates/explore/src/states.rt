@@ -5,7 +5,7 @@ ghost use Rattle.std.specs.Prelude.{if◌then◌else◌, false, ◌<◌, IfSome,
 ghost use Rattle.explore.specs.declared.programs.Choice.TheVariants as Choice;
 ghost use Rattle.std.specs.Prelude.{is_some};
 ghost use Rattle.explore.specs.States.{opening, after, did_of, played, played_from};
-ghost use Rattle.explore.specs.States.{step_at, step_for, end_of};
+ghost use Rattle.explore.specs.States.{step_at, step_for};
 ghost use Rattle.explore.specs.States.{moved, replied, chosen, thread_of};
 ghost use Rattle.explore.specs.Codes.{code_of, front_numbers, IsCoded};
 ghost use Rattle.step_core.specs.Numbers.{IsNumbered};
@@ -232,11 +232,11 @@ fn step_at(program: &Program, choice: Choice, next: usize) -> Option<Step>
 {
     match choice {
         Choice::Begin { thread } => {
-            if next >= end_of(program, thread) {
+            let thread = ThreadId(u32::from(thread));
+            if next >= program.end_of(thread) {
                 return None;
             }
             let call = *program.calls.get(next)?;
-            let thread = ThreadId(u32::from(thread));
             Some(Step::Begin { thread, call })
         }
         Choice::Go { thread } => {
@@ -287,16 +287,6 @@ fn first_world(alloc: Global, program: &Program) -> Result<World, Memory>
         }
     }
     Ok(world)
-}
-
-/// Where the calls of a thread end.
-fn end_of(program: &Program, thread: u8) -> usize
-    ensures { result ≡ end_of program.now thread }
-{
-    match program.starts.get(usize::from(thread) + 1) {
-        Some(end) => *end,
-        None => program.calls.len(),
-    }
 }
 
 /// Whether a choice may be made while its thread does this, at this moment.
