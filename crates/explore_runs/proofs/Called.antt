@@ -1,10 +1,10 @@
 -- Which calls the threads of a program have made behind some choices, and which moments the clock has told.
 use native.Mathlib.Omega.{arith}
-use Rattle.std.proofs.Common.{◌≡◌, ◌∙◌, ◌⊎◌, inl, inr, sym, ap, refl, subst, ℕ, zero, suc, ◌+◌, ◌-◌, ◌<◌, ◌≤◌, Bool, true, false, if◌then◌else◌, nat_lt, List, [], ◌∷◌, ◌++◌, length, take, drop, Option, Some, None, Result, Ok, Err, append_assoc, append-nil}
+use Rattle.std.proofs.Common.{◌≡◌, ◌∙◌, ◌⊎◌, inl, inr, sym, ap, refl, subst, ℕ, zero, suc, ◌+◌, ◌-◌, ◌<◌, Bool, true, false, if◌then◌else◌, nat_lt, List, [], ◌∷◌, ◌++◌, length, take, Option, Some, None, Result, Ok, Err, append_assoc, append-nil}
 use Rattle.std.specs.Prelude.{◌==◌, IfOk, slice_get, slice_index_or}
 use Rattle.std.specs.List.{filter_map}
 use Rattle.std.specs.Option.{option_to_list}
-use Rattle.std.proofs.lemmas.Bool.{cases_eq, eq-eqb, lt-ltb, ltb-true, ne_eqb}
+use Rattle.std.proofs.lemmas.Bool.{cases_eq, eq-eqb, ltb-true, ne_eqb}
 use Rattle.std.proofs.lemmas.List.{get_or-set_other, get_or-set_same}
 use Rattle.std.proofs.lemmas.List.Elements.{filter_map-append}
 use Rattle.std.proofs.lemmas.Option.{get_or_from_slice_get, same_Some, slice_get_within}
@@ -40,60 +40,14 @@ use Rattle.explore.proofs.Parts.{ends_within}
 use Rattle.explore.proofs.Replying.{fresh_opening, next_state, noted, not_busy, replied_is}
 use Rattle.explore.proofs.Replying as replying
 use Rattle.explore.proofs.Serving.{next_of}
-use Rattle.explore_runs.specs.JavaRuns.{IsFront, attached_by, called_by, calls_of, threads_below, told_by}
+use Rattle.explore_java.specs.JavaRuns.{attached_by, called_by, calls_of, threads_below, told_by}
 use Rattle.explore_runs.specs.Steps.{granted, steps_from}
 use Rattle.explore_runs.proofs.Busied.{Begins, Goes, begin_busies, go_busies}
 use Rattle.explore_runs.proofs.Ended.{IsKept, kept_next, kept_opening, no_attach}
 use Rattle.explore_runs.proofs.Renumbering.{IsNoAttach}
 use Rattle.explore_runs.proofs.Labelled.{PicksLabels, attach_moves}
 use Rattle.explore_runs.proofs.Leading.{steps_made}
-use Rattle.explore_runs.proofs.ReplyTexts.{get_behind, take_more}
-
--- ---- fronts of lists
-
-front_take : {A : Type 0} (n : ℕ) (xs : List A) → IsFront (take n xs) xs
-front_take zero xs = refl
-front_take (suc n) [] = refl
-front_take (suc n) (x ∷ xs) = ap (λ ys. x ∷ ys) (front_take n xs)
-
-pub front_of : {A : Type 0} (xs ys : List A) (n : ℕ) → xs ≡ take n ys → IsFront xs ys
-front_of xs ys n h = subst (λ zs. IsFront zs ys) (sym h) (front_take n ys)
-
-taken_past : {A : Type 0} (xs : List A) (n i : ℕ) → i < n → slice_get (take n xs) i ≡ slice_get xs i
-taken_past [] zero i lt = absurd (omega (arith, lt))
-taken_past [] (suc n) i lt = refl
-taken_past (x ∷ xs) zero i lt = absurd (omega (arith, lt))
-taken_past (x ∷ xs) (suc n) zero lt = refl
-taken_past (x ∷ xs) (suc n) (suc i) lt = taken_past xs n i (omega (arith, lt))
-
-taken_back : {A : Type 0} (xs : List A) (n i : ℕ) (x : A) → slice_get (take n xs) i ≡ Some x → (i < n) × (slice_get xs i ≡ Some x)
-taken_back xs zero i x h = absurd (cc)
-taken_back [] (suc n) i x h = absurd (cc)
-taken_back (y ∷ xs) (suc n) zero x h = (omega arith, h)
-taken_back (y ∷ xs) (suc n) (suc i) x h = let rest = taken_back xs n i x h in ((let lt = rest.0 in omega (arith, lt)), rest.1)
-
--- what comes behind a front of a list
-pub front_next : {A : Type 0} (n : ℕ) (xs : List A) (x : A) → slice_get xs (length (take n xs)) ≡ Some x → slice_get xs n ≡ Some x
-front_next zero xs x h = h
-front_next (suc n) [] x h = absurd (cc)
-front_next (suc n) (y ∷ xs) x h = front_next n xs x h
-
--- the call of a thread that stands at a position among all
-pub call_back : (p : Program) (k n : ℕ) (c : Call) → start_of p k ≤ n → slice_get (calls_of p k) (n - start_of p k) ≡ Some c → call_below p k n ≡ Some c
-call_back p k n c from is =
-    let taken = taken_back (drop (start_of p k) p.calls.items) (end_of p k - start_of p k) (n - start_of p k) c is in
-    let lt = taken.0 in
-    let here : start_of p k + (n - start_of p k) ≡ n = omega (arith, from) in
-    let there : slice_get p.calls.items n ≡ Some c =
-    ap (λ (i : ℕ). slice_get p.calls.items i) (sym here) ∙ sym (get_behind p.calls.items (start_of p k) (n - start_of p k)) ∙ taken.1 in
-    ap (λ (b : Bool). if b then slice_get p.calls.items n else None) (lt-ltb n (end_of p k) (omega (arith, lt, from))) ∙ there
-
-call_there : (p : Program) (k n : ℕ) (c : Call) → start_of p k ≤ n → n < end_of p k → slice_get p.calls.items n ≡ Some c
-    → slice_get (calls_of p k) (n - start_of p k) ≡ Some c
-call_there p k n c from lt is =
-    let here : start_of p k + (n - start_of p k) ≡ n = omega (arith, from) in
-    taken_past (drop (start_of p k) p.calls.items) (end_of p k - start_of p k) (n - start_of p k) (omega (arith, from, lt))
-    ∙ get_behind p.calls.items (start_of p k) (n - start_of p k) ∙ ap (λ (i : ℕ). slice_get p.calls.items i) here ∙ is
+use Rattle.explore_java.proofs.CallFronts.{call_there, take_more}
 
 -- ---- how many calls a thread has made
 

@@ -18,7 +18,7 @@ use Rattle.step_core.proofs.Lists.Reached.{reached_labels}
 use Rattle.explore.specs.declared.programs.Program.{Program}
 use Rattle.explore.specs.declared.programs.Choice.{Choice}
 use Rattle.explore.specs.States.{opening, thread_of}
-use Rattle.explore_runs.specs.JavaRuns.{AreBytes, attached_in, threads_below}
+use Rattle.explore_java.specs.JavaRuns.{AreBytes, attached_in, threads_below}
 use Rattle.explore_runs.specs.Steps.{attaches, empty_world, granted, script_moves, script_steps, steps_from}
 use Rattle.explore_runs.proofs.Attaching.{attach_goes}
 use Rattle.explore_runs.proofs.Leading.{attach_moves as attach_moved, attaches_lead}

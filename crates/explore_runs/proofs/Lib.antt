@@ -1,6 +1,8 @@
 pub mod Texts
 pub mod Firsts
 pub mod Tallied
+mod JavaCycles
+mod JavaTallying
 pub mod Tallying
 pub mod Counted
 pub mod Choices
@@ -16,7 +18,9 @@ pub mod Busied
 pub mod Labelled
 pub mod Called
 pub mod Waking
+mod Spinning
 pub mod Stuck
+mod ScriptRuns
 pub mod Requests
 pub mod ReplyTexts
 pub mod Rereading

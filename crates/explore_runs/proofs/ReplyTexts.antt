@@ -1,6 +1,5 @@
 -- What the line of a thread tells of its replies.
-use native.Mathlib.Omega.{arith}
-use Rattle.std.proofs.Common.{◌≡◌, ◌∙◌, sym, ap, refl, ℕ, zero, suc, ◌+◌, ◌-◌, List, [], ◌∷◌, ◌++◌, take, drop, Option, Some, None, append-nil}
+use Rattle.std.proofs.Common.{◌≡◌, ◌∙◌, sym, ap, refl, ℕ, zero, suc, ◌+◌, ◌-◌, List, ◌++◌, take, drop, Option, Some, None, append-nil}
 use Rattle.std.specs.Prelude.{slice_get}
 use Rattle.std.specs.List.{filter_map, flat_map}
 use Rattle.std.specs.Option.{option_to_list}
@@ -10,23 +9,11 @@ use Rattle.fat_monitor.specs.declared.actions.Reply.{Reply}
 use Rattle.explore.specs.declared.programs.Program.{Program}
 use Rattle.explore.specs.Replies.{replies_of}
 use Rattle.explore.specs.States.{ProgramState, end_of, start_of}
+use Rattle.explore_java.proofs.CallFronts.{get_behind, take_more}
 use Rattle.explore_runs.specs.Outcomes.{replies_text, reply_text, reply_word}
 
 abbrev there : List (Option Reply) → List Reply
 there rs = filter_map (λ (r : Option Reply). r) rs
-
-pub take_more : {A : Type 0} (xs : List A) (n : ℕ) → take (suc n) xs ≡ take n xs ++ option_to_list (slice_get xs n)
-take_more [] zero = refl
-take_more [] (suc n) = refl
-take_more (x ∷ xs) zero = refl
-take_more (x ∷ xs) (suc n) = ap (λ ys. x ∷ ys) (take_more xs n)
-
-pub get_behind : {A : Type 0} (xs : List A) (m n : ℕ) → slice_get (drop m xs) n ≡ slice_get xs (m + n)
-get_behind xs zero n = ap (slice_get xs) (omega arith)
-get_behind [] (suc m) n = refl
-get_behind (x ∷ xs) (suc m) n =
-    let more : suc (m + n) ≡ suc m + n = omega arith in
-    get_behind xs m n ∙ ap (slice_get (x ∷ xs)) more
 
 one_text : (o : Option (Option Reply)) → reply_text o ≡ flat_map reply_word (there (option_to_list o))
 one_text None = refl

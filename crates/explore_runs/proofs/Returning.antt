@@ -27,7 +27,7 @@ use Rattle.explore.specs.declared.programs.Choice.{Choice}
 use Rattle.explore.specs.Replies.{replies_of}
 use Rattle.explore.specs.States.{ProgramState, played, thread_of}
 use Rattle.explore_runs.specs.Steps.{empty_world, granted, replies_told, reply_told, script_moves, script_steps}
-use Rattle.explore_runs.specs.JavaRuns.{AreBytes, returned_by, returns_in}
+use Rattle.explore_java.specs.JavaRuns.{AreBytes, returned_by, returns_in}
 use Rattle.explore_runs.proofs.Leading.{script_replies, silent_told}
 
 -- what is no label is no return

@@ -1,50 +1,39 @@
 -- Where no choice changes a state, the Java machine is stuck.
 use native.Mathlib.Omega.{arith}
-use Rattle.std.proofs.Common.{◌≡◌, ◌∙◌, ◌⊎◌, inl, inr, sym, ap, refl, subst, ℕ, ◌+◌, ◌-◌, ◌<◌, ◌≤◌, Bool, true, false, if◌then◌else◌, nat_lt, List, [], ◌++◌, length, map, take, Option, Some, None, Result, Ok, Err}
+use Rattle.std.proofs.Common.{◌≡◌, ◌∙◌, ◌⊎◌, inl, inr, sym, ap, refl, subst, ℕ, ◌+◌, ◌-◌, ◌<◌, ◌≤◌, Bool, true, false, if◌then◌else◌, nat_lt, List, length, Option, Some, None, Ok}
 use Rattle.std.specs.Prelude.{IfSome, IsSome, MatchOption, slice_get, slice_index_or, slice_set}
 use Rattle.std.specs.Option.{unwrap_or}
 use Rattle.std.proofs.lemmas.Bool.{cases_lt, le-ltb, lt-ltb}
 use Rattle.std.proofs.lemmas.List.{get_or-set_same}
-use Rattle.std.proofs.lemmas.List.Elements.{filter_map-append}
-use Rattle.std.proofs.lemmas.Option.{get_or_from_slice_get, same_Some}
+use Rattle.std.proofs.lemmas.Option.{same_Some}
 use Rattle.lock_word.specs.declared.ThreadId.{ThreadId}
 use Rattle.lock_word.specs.declared.ObjectId.{ObjectId}
 use Rattle.lock_word.specs.declared.Lock.{Lock}
-use Rattle.lock_word.specs.declared.Lock.TheVariants.{Free, Thin, Fat}
-use Rattle.fat_monitor.specs.Acting.{Outcome, after_removal, after_sending_back, after_settling, answers, granted_by_removal, not_due, reply_back, collect_outcome, expire_outcome, outcome_of, spurious_outcome}
-use Rattle.fat_monitor.specs.FatState.{FatState, flag_at, monitor_at, with_moment, owns_one, post_at, post_of, with_owner}
-use Rattle.fat_monitor.specs.declared.actions.ActFault.{ActFault}
-use Rattle.fat_monitor.specs.declared.actions.Action.{Action}
+use Rattle.lock_word.specs.declared.Lock.TheVariants.{Thin}
+use Rattle.fat_monitor.specs.Acting.{Outcome, after_removal, answers, granted_by_removal, not_due, collect_outcome, expire_outcome, outcome_of, spurious_outcome}
+use Rattle.fat_monitor.specs.FatState.{flag_at, monitor_at, with_moment, owns_one, post_at, post_of}
 use Rattle.fat_monitor.specs.declared.actions.Action.TheVariants as action
-use Rattle.fat_monitor.specs.declared.actions.Answer.{Answer}
 use Rattle.fat_monitor.specs.declared.actions.Answer.TheVariants as answer
 use Rattle.fat_monitor.specs.declared.actions.Cause.{Cause}
 use Rattle.fat_monitor.specs.declared.actions.Cause.TheVariants as cause
-use Rattle.fat_monitor.specs.declared.actions.Done.{Done}
 use Rattle.fat_monitor.specs.declared.actions.Post.{Post}
 use Rattle.fat_monitor.specs.declared.actions.Post.TheVariants.{Out, Entering, Waiting, Back, Granted}
 use Rattle.fat_monitor.specs.declared.actions.Reply.{Reply}
 use Rattle.fat_monitor.specs.declared.actions.Reply.TheVariants as reply
-use Rattle.fat_monitor.specs.declared.actions.Why.{Why}
 use Rattle.fat_monitor.specs.declared.actions.Why.TheVariants as why
-use Rattle.fat_monitor.proofs.LineEffects.{post-with_post_same}
 use Rattle.fast_path.proofs.Tables.{spin_fact}
 use Rattle.fast_path.specs.Calls.{call_about, call_of, call_on, object_of, subject_of}
 use Rattle.fast_path.specs.Table.{next_of}
 use Rattle.fast_path.specs.declared.Next.{Next}
-use Rattle.fast_path.specs.declared.Next.TheVariants as next
 use Rattle.fast_path.specs.declared.calls.Call.{Call}
 use Rattle.fast_path.specs.declared.calls.Call.TheVariants as call
 use Rattle.fast_path.specs.declared.calls.MonitorCall.{MonitorCall}
 use Rattle.fast_path.specs.declared.calls.Operation.{Operation}
-use Rattle.fast_path.specs.declared.calls.Operation.TheVariants as op
 use Rattle.fast_path.specs.declared.calls.Subject.{Subject}
 use Rattle.fast_path.specs.declared.calls.Subject.TheVariants as subject
 use Rattle.thread_index.specs.Indices.{berth_of, holder_at}
-use Rattle.step_core.specs.Go.{AfterGo, action_about, action_on, after_act, after_bind, after_load, after_look_as, after_publish, after_stage, after_take, after_told, bind_cause, entering, place_after, with_go}
-use Rattle.step_core.specs.Machine.{Calls, Exists, Is, IsAnswer, MayRefuse, OwnedBy, Run, State, Steps, Thread, Unowned, opening as opening_state, owner_only}
-use Rattle.step_core.specs.Labels.{labels_after}
-use Rattle.step_core.specs.Requests.{moves_after}
+use Rattle.step_core.specs.Go.{AfterGo, action_about, action_on, after_act, after_bind, after_load, after_look_as, after_publish, after_stage, after_take, bind_cause, entering, with_go}
+use Rattle.step_core.specs.Machine.{Calls, Exists, Is, IsAnswer, MayRefuse, OwnedBy, State, Steps, Thread, Unowned, owner_only}
 use Rattle.step_core.specs.Shown.{act_of, doing_in, monitor_of, shown, thread_of as shown_thread}
 use Rattle.step_core.specs.Sound.{Agrees, Fitting, IsPublished, MayShow, bound_by}
 use Rattle.step_core.specs.Step.{AfterStep, accept, after_begin, after_begin_at, after_begin_on, after_collect, after_go_at, after_look, after_wait_end, after_wait_end_as, first_place, refuse, step_of, time_over, wake_up}
@@ -62,125 +51,26 @@ use Rattle.step_core.specs.declared.steps.Atomic.TheVariants.{Label}
 use Rattle.step_core.specs.declared.steps.Did.{Did}
 use Rattle.step_core.specs.declared.steps.Fault.TheVariants as fault
 use Rattle.step_core.specs.declared.steps.Step.TheVariants as step
-use Rattle.step_core.proofs.Lists.Reached.{reached_run}
-use Rattle.step_core.proofs.Sound.Opening.{opened_sound}
 use Rattle.step_core.proofs.Facts.Cases.{collected_as, ended_as}
 use Rattle.explore.specs.declared.programs.Program.{Program}
-use Rattle.explore.specs.declared.programs.Choice.{Choice}
 use Rattle.explore.specs.declared.programs.Choice.TheVariants as choice
 use Rattle.explore.proofs.Busy.{is_busy, is_busy_berth, is_busy_place}
-use Rattle.explore.proofs.Serving.{next_of as next_of_thread}
 use Rattle.explore.specs.Found.{IsEnd}
-use Rattle.explore.specs.States.{ProgramState, after, after_answer, after_step, begin_of, call_below, moved, opening, played, start_of, step_at, step_for, step_of_thread, thread_of, tick_of}
-use Rattle.explore_runs.specs.Steps.{empty_world, granted, script_moves, script_steps, steps_from}
-use Rattle.explore_runs.specs.JavaRuns.{AreBytes, BeginsWith, IsBlocked, IsLeft, IsOutcomeOf, IsRunOf, Rests, attached_by, attached_in, called_by, calls_in, calls_of, moments_in, threads_below, told_by, woken_in}
-use Rattle.explore_runs.proofs.Leading.{moves_first, script_leads}
-use Rattle.explore_runs.proofs.Called.{Told, begun, call_back, front_next, front_of, one_if, picks_attach, picks_call, picks_moment, script_told, way_played}
-use Rattle.explore_runs.proofs.Labelled.{attach_moves, attached_back, attaches_moved, nothing_more, script_picked, within_limits}
-use Rattle.explore_runs.proofs.Waking.{script_wakes, steps_wake}
-use Rattle.explore_runs.proofs.Ended.{IsKept, kept_played, next_there, go_rests, own, place_rests, step_rests, thread_means, within}
+use Rattle.explore.specs.States.{ProgramState, after, after_answer, after_step, begin_of, call_below, moved, step_at, step_for, step_of_thread, tick_of}
+use Rattle.explore_java.specs.JavaRuns.{IsBlocked, Rests}
+use Rattle.explore_runs.proofs.Ended.{IsKept, go_rests, own, place_rests, step_rests, thread_means, within}
+use Rattle.explore_runs.proofs.Spinning.{place_number, loaded_words, acted_number, taken_number, bound_number, published_number, neither, Spins, loaded_spin, removal_moves}
 
 -- what the program leaves to the machine in a state of the core: the next call of thread t has this position
-abbrev HasNext : Program → ProgramState → ℕ → ℕ → Type 0
+abbrev pub HasNext : Program → ProgramState → ℕ → ℕ → Type 0
 HasNext p s t n = (slice_get s.nexts t ≡ Some n) × (t < length p.starts.items)
 
-abbrev IsLeftIn : Program → ProgramState → Move → Type 0
+abbrev pub IsLeftIn : Program → ProgramState → Move → Type 0
 IsLeftIn p s (move.Attach t) = ⊥
 IsLeftIn p s (move.Call t c) = (is_busy s.world t ≡ false) → (n : ℕ) × HasNext p s t.0 n × (call_below p t.0 n ≡ Some c)
 IsLeftIn p s (move.Spurious t) = p.spurious ≡ true
 IsLeftIn p s (move.Time now) = slice_get p.moments.items s.told ≡ Some now
 IsLeftIn p s m = Unit {0}
-
--- ---- places, told apart
-
-abbrev stage_number : Stage → ℕ
-stage_number (Begun c b) = 3
-stage_number (Taking o b) = 4
-stage_number (Storing c l) = 5
-stage_number (Binding c n) = 6
-stage_number (Acting c m) = 7
-stage_number (Won o) = 8
-stage_number (Bound c won m) = 9
-stage_number (Inflated c m) = 10
-stage_number (Direct c) = 11
-
-abbrev place_number : Place → ℕ
-place_number Idle = 0
-place_number AtPost = 1
-place_number (Ending n) = 2
-place_number (InCall s) = stage_number s
-
--- how many words were loaded by a thread that is to end
-abbrev loaded_words : Place → ℕ
-loaded_words (Ending n) = n
-loaded_words Idle = 0
-loaded_words (InCall x) = 0
-loaded_words AtPost = 0
-
--- an action leaves its thread in no call, or at its post
-acted_number : (w : WorldState) (t : ThreadId) (c : Call) (a : Action) → place_number (after_act w t c a).place < 2
-acted_number w t c a = by (outcome_of w.fats t a).answer (outcome_of w.fats t a).after
-  where
-    answered : (x : Answer) → place_number (place_after x) < 2
-    answered (answer.Reply r) = omega arith
-    answered answer.Parked = omega arith
-    answered answer.Quiet = omega arith
-
-    by : (r : Result Done ActFault) (f : FatState) → place_number (after_told w t c a r f).place < 2
-    by (Ok d) f = answered d.answer
-    by (Err e) f = omega arith
-
-taken_number : (w : WorldState) (k : ℕ) (t : ThreadId) (o : ObjectId) (b : Bool) (l : Lock) → place_number (after_take w k t o b l).place ≡ 4 → ⊥
-taken_number w k t o true Free e = absurd (omega (arith, e))
-taken_number w k t o false Free e = absurd (omega (arith, e))
-taken_number w k t o b (Thin i c) e = absurd (omega (arith, e))
-taken_number w k t o b (Fat m) e = absurd (omega (arith, e))
-
-bound_number : (w : WorldState) (t : ThreadId) (c : MonitorCall) (won : Bool) (n : ℕ) (x : Option Cause)
-    → (place_number (after_bind w t c won n x).place ≡ 0) ⊎ (place_number (after_bind w t c won n x).place ≡ 9)
-bound_number w t c won n None = inr refl
-bound_number w t c true n (Some x) = inl refl
-bound_number w t c false n (Some x) = inl refl
-
-published_number : (w : WorldState) (t : ThreadId) (c : MonitorCall) (won : Bool) (m : ℕ) → place_number (after_publish w t c won m).place ≡ 9 → ⊥
-published_number w t c true m e = absurd (omega (arith, e))
-published_number w t c false m e = absurd (omega (arith, e))
-
-neither : {x : ℕ} (n : ℕ) → (x ≡ 0) ⊎ (x ≡ 9) → x ≡ n → (n ≡ 0 → ⊥) → (n ≡ 9 → ⊥) → ⊥
-neither n (inl none) e not_none not_bound = not_none (sym e ∙ none)
-neither n (inr bound) e not_none not_bound = not_bound (sym e ∙ bound)
-
--- ---- a load that leaves its thread where it is
-
--- it found the thin word of another thread, for an enter
-abbrev Spins : Operation → Lock → ℕ → Type 0
-Spins o l me = (o ≡ op.Enter) × ((i n : ℕ) × (l ≡ Thin i n) × (i ≡ me → ⊥))
-
-loaded_spin : (w : WorldState) (t : ThreadId) (c : MonitorCall) (b : Bool) (n : Next) → place_number (after_load w t c b n).place ≡ 3 → n ≡ next.Spin
-loaded_spin w t c b (next.Reply r) e = absurd (omega (arith, e))
-loaded_spin w t c b (next.Cas l) e = absurd (omega (arith, e))
-loaded_spin w t c b (next.Store l) e = absurd (omega (arith, e))
-loaded_spin w t c b next.Bind e = absurd (omega (arith, e))
-loaded_spin w t c b (next.Fat m) e = absurd (omega (arith, e))
-loaded_spin w t c b next.Spin e = refl
-
--- ---- posts
-
--- who is taken out of a wait set has another post
-removal_moves : (f : FatState) (t : ThreadId) (y : Why) (m n : ℕ) (d : Option ℕ) → post_of f t ≡ Some (Waiting m n d)
-    → after_removal f t y (Waiting m n d) ≡ f → ⊥
-removal_moves f t y m n d post same = by (monitor_at f m).owner same
-  where
-    by : (o : Option ThreadId) → after_sending_back f t m (Back m n y) o ≡ f → ⊥
-    by (Some u) e =
-        let there : post_of (after_sending_back f t m (Back m n y) (Some u)) t ≡ Some (Back m n y) = post-with_post_same f t (Back m n y) in
-        let never = sym there ∙ ap (λ (g : FatState). post_of g t) e ∙ post in
-        cc
-    by None e =
-        let freed : FatState = with_owner (after_settling f t (Back m n y)) m (Some t) n in
-        let there : post_of (after_sending_back f t m (Back m n y) None) t ≡ Some (Granted (reply_back y)) = post-with_post_same freed t (Granted (reply_back y)) in
-        let never = sym there ∙ ap (λ (g : FatState). post_of g t) e ∙ post in
-        cc
 
 -- ---- a state that no choice changes
 
@@ -450,7 +340,7 @@ module _ (p : Program) (s : ProgramState) (kept : IsKept p s) (end : IsEnd p s) 
 
   -- ---- what is shown
 
-  is_rests : (t : ThreadId) (flag : Bool) (act : Doing) → Is (shown w) t flag act → Rests p (shown w) t act
+  pub is_rests : (t : ThreadId) (flag : Bool) (act : Doing) → Is (shown w) t flag act → Rests p (shown w) t act
   is_rests t flag act is = by (berth_of w.berths t) refl is
     where
       by : (b : Option ℕ) → berth_of w.berths t ≡ b → shown_thread w t b ≡ Some (record { flag = flag; act = act }) → Rests p (shown w) t act
@@ -542,86 +432,3 @@ module _ (p : Program) (s : ProgramState) (kept : IsKept p s) (end : IsEnd p s) 
   stuck (move.Refuse t why) x left (flag, c, calls, may, e) = refuses t flag c why calls may
   stuck (move.Time now) x left (le, e) = ticks now left le
   stuck (move.End t) x left (flag, calls, none, e) = enters_never t flag call.End calls (λ q same. cc)
-
--- ---- the moves of a script
-
--- they are a run of the machine, which leads to what the state of the choices shows
-script_runs : (p : Program) (cs : List Choice) (s : ProgramState) → AreBytes p.lows.items → played p cs ≡ Some s
-    → Run (opening_state (length p.lows.items)) (script_moves p cs) (shown s.world)
-script_runs p cs s bytes h =
-    let lead = script_leads p cs s h in
-    subst (λ (v : WorldState). Run (opening_state (length p.lows.items)) (script_moves p cs) (shown v)) lead.leads
-    (reached_run p.lows.items p.monitors p.indices p.split (granted (script_steps p cs)) (within_limits p bytes))
-
--- what they tell by their labels
-module _ (p : Program) (cs : List Choice) (s : ProgramState) (bytes : AreBytes p.lows.items) (leads : played p cs ≡ Some s) where
-  told : Told p s (attach_moves (length p.starts.items) ++ labels_after (opening p).world (granted (steps_from p (Some (opening p)) cs)))
-  told = script_told p cs s bytes leads
-
-  attaches_told : attached_in (script_moves p cs) ≡ threads_below (length p.starts.items)
-  attaches_told = script_picked attached_by picks_attach p cs bytes ∙ told.attaches
-
-  -- the threads of the program are attached before anything else
-  attaches_first : BeginsWith (threads_below (length p.starts.items)) (script_moves p cs)
-  attaches_first =
-      let threads : List ThreadId = threads_below (length p.starts.items) in
-      let rest : List Move = moves_after (opening p).world (granted (steps_from p (Some (opening p)) cs)) in
-      let begins : script_moves p cs ≡ map (λ (t : ThreadId). move.Attach t) threads ++ rest =
-      moves_first p cs ∙ ap (λ (ms : List Move). ms ++ rest) (attaches_moved p (length p.starts.items) (omega arith)) in
-      let no_more : threads ++ attached_in rest ≡ threads =
-      ap (λ (ts : List ThreadId). ts ++ attached_in rest) (sym (attached_back threads))
-      ∙ sym (filter_map-append attached_by (map (λ (t : ThreadId). move.Attach t) threads) rest) ∙ ap attached_in (sym begins) ∙ attaches_told in
-      (rest, begins, nothing_more threads (attached_in rest) no_more)
-
-  moments_told : moments_in (script_moves p cs) ≡ take s.told p.moments.items
-  moments_told = script_picked told_by picks_moment p cs bytes ∙ told.moments
-
-  calls_told : (k : ℕ) → k < length p.starts.items → calls_in (thread_of k) (script_moves p cs) ≡ take (begun p s k) (calls_of p k)
-  calls_told k lt = script_picked (called_by (thread_of k)) (picks_call (thread_of k)) p cs bytes ∙ told.calls k lt
-
-  never_woken : p.spurious ≡ false → woken_in (script_moves p cs) ≡ []
-  never_woken never =
-      steps_wake (empty_world p) (script_steps p cs)
-      (opened_sound p.lows.items p.monitors p.indices p.split (λ k lt. bytes k) (let most = p.objects_fit in omega (arith, most)) p.indices_fit p.monitors_fit)
-      (script_wakes p never cs)
-
-  -- So they are a run that the program may make.
-  pub script_is_run : IsRunOf p (script_moves p cs) (shown s.world)
-  script_is_run = record {
-    run = script_runs p cs s bytes leads;
-    attaches = attaches_first;
-    calls = λ k lt. front_of (calls_in (thread_of k) (script_moves p cs)) (calls_of p k) (begun p s k) (calls_told k lt);
-    moments = front_of (moments_in (script_moves p cs)) p.moments.items s.told moments_told;
-    woken = never_woken;
-  }
-
-  -- what they leave is left in the state
-  left_in : (m : Move) → IsLeft p (script_moves p cs) m → IsLeftIn p s m
-  left_in (move.Attach t) left = left
-  left_in (move.Call t c) left = λ idle.
-      let kept = kept_played p cs s bytes leads in
-      let each = kept.each in
-      let way = way_played p cs s leads in
-      let k : ℕ = t.0 in
-      let next = next_there s.nexts k (let lt = left.0 in omega (arith, lt, each)) in
-      let at : next_of_thread s k ≡ next.0 = get_or_from_slice_get s.nexts k next.0 0 next.1 in
-      let count : begun p s k ≡ next.0 - start_of p k =
-      ap (λ (b : Bool). (next_of_thread s k - start_of p k) + one_if b) idle ∙ ap (λ (n : ℕ). (n - start_of p k) + 0) at ∙ omega arith in
-      let here : slice_get (calls_of p k) (next.0 - start_of p k) ≡ Some c =
-      ap (λ (n : ℕ). slice_get (calls_of p k) n) (sym count)
-      ∙ front_next (begun p s k) (calls_of p k) c (ap (λ (cs : List Call). slice_get (calls_of p k) (length cs)) (sym (calls_told k left.0)) ∙ left.1) in
-      let from = (way.threads k left.0).from in
-      (next.0, (next.1, left.0), call_back p k next.0 c (omega (arith, from, at)) here)
-  left_in (move.Spurious t) left = left
-  left_in (move.Time now) left = front_next s.told p.moments.items now (ap (λ (ns : List ℕ). slice_get p.moments.items (length ns)) (sym moments_told) ∙ left)
-  left_in m left = tt
-
-  -- And where no choice changes the state it is an outcome of the machine.
-  pub script_is_outcome : IsEnd p s → IsOutcomeOf p (script_moves p cs) (shown s.world)
-  script_is_outcome end = record {
-    of = script_is_run;
-    stuck = λ m x left steps. stuck p s (kept_played p cs s bytes leads) end m x (left_in m left) steps;
-  }
-
-  pub script_rests : (t : ThreadId) (flag : Bool) (d : Doing) → IsEnd p s → Is (shown s.world) t flag d → Rests p (shown s.world) t d
-  script_rests t flag d end is = is_rests p s (kept_played p cs s bytes leads) end t flag d is

@@ -11,11 +11,11 @@ use Rattle.explore_runs.specs.Reports.{EndsAs, outcome_parts, text_at}
 use Rattle.explore_runs.specs.Tallies.{AreTallied, OutcomeTally, tallied, tally_parts, with_end}
 use Rattle.explore_runs.proofs.Tallied.{parts_tallied, tallied_below, tallied_few}
 
--- These are the outcomes of the first ends.
-pub record AreTalliedTo (names : NameLists) (p : Program) (f : FoundStates) (n : ℕ) (ts : List OutcomeTally) : Type 0 where
+-- These are the outcomes of the first ends, each of which has a text.
+pub record AreTalliedTo (Ends : ℕ → List ℕ → Type 0) (n : ℕ) (ts : List OutcomeTally) : Type 0 where
   pub texts : List (List ℕ)
   pub long : length texts ≡ n
-  pub each : (i : ℕ) → i < n → EndsAs names p f i (text_at texts i)
+  pub each : (i : ℕ) → i < n → Ends i (text_at texts i)
   pub counted : ts ≡ tallied texts n
 
 -- a text more changes none before it
@@ -25,32 +25,32 @@ tallied_before texts us (suc n) le =
     ap (λ (ts : List OutcomeTally). with_end ts (text_at (texts ++ us) n) n) (tallied_before texts us n (omega (arith, le)))
     ∙ ap (λ (t : List ℕ). with_end (tallied texts n) t n) (get_or_append_left texts us [] n (omega (arith, le)))
 
-pub none_tallied : (names : NameLists) (p : Program) (f : FoundStates) → AreTalliedTo names p f 0 []
-none_tallied names p f = record { texts = []; long = refl; each = λ i lt. absurd (omega (arith, lt)); counted = refl }
+pub none_tallied : (Ends : ℕ → List ℕ → Type 0) → AreTalliedTo Ends 0 []
+none_tallied Ends = record { texts = []; long = refl; each = λ i lt. absurd (omega (arith, lt)); counted = refl }
 
 text_last : (texts : List (List ℕ)) (text : List ℕ) (n : ℕ) → length texts ≡ n → text_at (texts ++ text ∷ []) n ≡ text
 text_last texts text n long =
     ap (λ (k : ℕ). text_at (texts ++ text ∷ []) k) (sym long) ∙ get_or-append_seam texts text [] []
 
-each_more : (names : NameLists) (p : Program) (f : FoundStates) (texts : List (List ℕ)) (text : List ℕ) (n : ℕ) → length texts ≡ n
-    → ((i : ℕ) → i < n → EndsAs names p f i (text_at texts i)) → EndsAs names p f n text
-    → (i : ℕ) → i < n + 1 → EndsAs names p f i (text_at (texts ++ text ∷ []) i)
-each_more names p f texts text n long each new i lt = by (cases_lt i n)
+each_more : (Ends : ℕ → List ℕ → Type 0) (texts : List (List ℕ)) (text : List ℕ) (n : ℕ) → length texts ≡ n
+    → ((i : ℕ) → i < n → Ends i (text_at texts i)) → Ends n text
+    → (i : ℕ) → i < n + 1 → Ends i (text_at (texts ++ text ∷ []) i)
+each_more Ends texts text n long each new i lt = by (cases_lt i n)
   where
-    by : (i < n) ⊎ (n ≤ i) → EndsAs names p f i (text_at (texts ++ text ∷ []) i)
+    by : (i < n) ⊎ (n ≤ i) → Ends i (text_at (texts ++ text ∷ []) i)
     by (inl below) =
-        subst (EndsAs names p f i) (sym (get_or_append_left texts (text ∷ []) [] i (omega (arith, below, long)))) (each i below)
+        subst (Ends i) (sym (get_or_append_left texts (text ∷ []) [] i (omega (arith, below, long)))) (each i below)
     by (inr past) =
         let at : n ≡ i = omega (arith, lt, past) in
-        subst (λ (k : ℕ). EndsAs names p f k (text_at (texts ++ text ∷ []) k)) at
-        (subst (EndsAs names p f n) (sym (text_last texts text n long)) new)
+        subst (λ (k : ℕ). Ends k (text_at (texts ++ text ∷ []) k)) at
+        (subst (Ends n) (sym (text_last texts text n long)) new)
 
-pub one_tallied : (names : NameLists) (p : Program) (f : FoundStates) (n : ℕ) (ts : List OutcomeTally) (text : List ℕ)
-    → AreTalliedTo names p f n ts → EndsAs names p f n text → AreTalliedTo names p f (n + 1) (with_end ts text n)
-one_tallied names p f n ts text h new = record {
+pub one_tallied : (Ends : ℕ → List ℕ → Type 0) (n : ℕ) (ts : List OutcomeTally) (text : List ℕ)
+    → AreTalliedTo Ends n ts → Ends n text → AreTalliedTo Ends (n + 1) (with_end ts text n)
+one_tallied Ends n ts text h new = record {
   texts = h.texts ++ text ∷ [];
   long = let l = length-append h.texts (text ∷ []) in let long = h.long in omega (arith, l, long);
-  each = each_more names p f h.texts text n h.long h.each new;
+  each = each_more Ends h.texts text n h.long h.each new;
   counted =
       let long = h.long in
       let le : n ≤ length h.texts = omega (arith, long) in
@@ -59,7 +59,7 @@ one_tallied names p f n ts text h new = record {
       ∙ ap (λ (k : ℕ). tallied (h.texts ++ text ∷ []) k) (sym (add-one n));
 }
 
-pub all_tallied : (names : NameLists) (p : Program) (f : FoundStates) (n : ℕ) (ts : List OutcomeTally) → n ≡ length f.ends → AreTalliedTo names p f n ts → AreTallied names p f ts
+pub all_tallied : (names : NameLists) (p : Program) (f : FoundStates) (n : ℕ) (ts : List OutcomeTally) → n ≡ length f.ends → AreTalliedTo (EndsAs names p f) n ts → AreTallied names p f ts
 all_tallied names p f n ts all h = record {
   texts = h.texts;
   outcomes = record {
@@ -69,8 +69,8 @@ all_tallied names p f n ts all h = record {
   counted = h.counted ∙ ap (λ (k : ℕ). tallied h.texts k) (sym h.long);
 }
 
-pub few_tallied : (names : NameLists) (p : Program) (f : FoundStates) (n : ℕ) (ts : List OutcomeTally) → AreTalliedTo names p f n ts → All (λ t. t.ends ≤ n) ts
-few_tallied names p f n ts h = subst (All (λ t. t.ends ≤ n)) (sym h.counted) (tallied_few h.texts n)
+pub few_tallied : (Ends : ℕ → List ℕ → Type 0) (n : ℕ) (ts : List OutcomeTally) → AreTalliedTo Ends n ts → All (λ t. t.ends ≤ n) ts
+few_tallied Ends n ts h = subst (All (λ t. t.ends ≤ n)) (sym h.counted) (tallied_few h.texts n)
 
 pub below_tallied : (names : NameLists) (p : Program) (f : FoundStates) (ts : List OutcomeTally) → AreTallied names p f ts → All (λ t. t.first < length f.ends) ts
 below_tallied names p f ts h =

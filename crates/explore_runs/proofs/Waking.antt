@@ -54,7 +54,7 @@ use Rattle.explore.specs.declared.programs.Choice.{Choice}
 use Rattle.explore.specs.declared.programs.Choice.TheVariants as choice
 use Rattle.explore.specs.States.{ProgramState, after, begin_of, call_below, opening, step_for, thread_of, tick_of}
 use Rattle.explore.proofs.Making.{meant}
-use Rattle.explore_runs.specs.JavaRuns.{woken_by, woken_in}
+use Rattle.explore_java.specs.JavaRuns.{woken_by, woken_in}
 use Rattle.explore_runs.specs.Steps.{attaches, granted, script_steps, step_in, steps_from}
 
 -- none of these moves ends a wait for no reason

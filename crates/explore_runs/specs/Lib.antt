@@ -1,9 +1,10 @@
 pub mod Scripts
 pub mod Steps
-pub mod JavaRuns
 pub mod Outcomes
 pub mod Reports
 pub mod Tallies
 pub mod Runs
 pub mod Faults
 pub mod Replays
+pub mod JavaOutcomes
+pub mod JavaReports

@@ -1,12 +1,12 @@
 //! Writing the history of some choices: the moves that they hand out.
 
-ghost use Rattle.std.specs.Prelude.{◌≡◌, ◌≤◌, ◌++◌, ◌∷◌, [], IfOk, IfSome, OnOk, is_some, length};
-ghost use Rattle.step_core.specs.Requests.{moves_after};
+ghost use Rattle.std.specs.Prelude.{◌≡◌, ◌≤◌, ◌++◌, ◌∷◌, [], IfOk, IfSome, OnOk, is_some};
 ghost use Rattle.step_core.specs.Step.{moves_made};
 ghost use Rattle.history.specs.Histories.{moves_text, objects_text};
 ghost use Rattle.explore.specs.States.{played};
 ghost use Rattle.explore_runs.specs.Reports.{history_text};
-ghost use Rattle.explore_runs.specs.Steps.{attaches, empty_world, granted, script_moves};
+ghost use Rattle.explore_java.specs.JavaRuns.{attaches_of};
+ghost use Rattle.explore_runs.specs.Steps.{script_moves};
 
 use explore::{Choice, Program, State};
 use history_moves::{first_line, push_move};
@@ -38,10 +38,8 @@ pub fn moves_of(
 }
 
 /// The moves of the attaches with which a program begins.
-#[tactic(auto, using(crate::proofs::Leading::attach_moves))]
-fn attaches_of(alloc: Global, program: &Program) -> Result<Vec<Move>, Memory>
-    ensures { IfOk result (λ moves. moves.items ≡ moves_after (empty_world program.now)
-        (granted (attaches (length program.now.starts.items)))) }
+pub(crate) fn attaches_of(alloc: Global, program: &Program) -> Result<Vec<Move>, Memory>
+    ensures { IfOk result (λ moves. moves.items ≡ attaches_of program.now) }
 {
     let mut moves = Vec::new(alloc);
     'threads: for thread in 0..program.starts.len() {

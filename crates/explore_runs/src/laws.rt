@@ -16,7 +16,12 @@ ghost use Rattle.program_text.specs.Programs.{IsProgramIn};
 ghost use Rattle.program_text.specs.declared.numbering.NamedProgram.{
   NamedProgram as NamedProgramData,
 };
-ghost use Rattle.explore_runs.specs.JavaRuns.{AreBytes, IsOutcomeOf, IsRunOf, Rests, returns_in};
+ghost use Rattle.jls_check.specs.MachineState.{state};
+ghost use Rattle.explore_java.specs.JavaFound.{FindsAll, FoundJavaStates, IsAt, end_at};
+ghost use Rattle.explore_java.specs.JavaRuns.{AreBytes, IsOutcomeOf, IsRunOf, Rests};
+ghost use Rattle.explore_java.specs.JavaRuns.{NoneForWant, returns_in};
+ghost use Rattle.explore_java.specs.JavaStates.{JavaProgramState};
+ghost use Rattle.explore_java.specs.JavaStates.{replies_of as java_replies_of};
 ghost use Rattle.explore_runs.specs.Outcomes.{replies_text, reply_word};
 ghost use Rattle.explore_runs.specs.Replays.{HasFewStrangers, IsNamed, Replays};
 ghost use Rattle.explore_runs.specs.Steps.{LeadTo, empty_world, replies_told};
@@ -55,8 +60,8 @@ pub fn a_script_leads_to_its_state()
 /// and in which the calls of each thread return with the replies that the state has; and behind it
 /// the machine can make no move that the program leaves to it, not even a refusal for want of a
 /// monitor or of memory. So who is stuck in an outcome is stuck by the rules of JLS SE 8, chapter
-/// 17, and not by how locks are kept, as long as the clock tells no more moments and no wait ends
-/// for no reason that the program has not allowed. The machine may have other outcomes, too.
+/// 17, and not by how locks are kept, as long as the clock tells no more moments and waits end
+/// for no reason only where the program allows it. The machine may have other outcomes, too.
 pub fn an_outcome_is_one_of_the_machine()
     // The moves of any witness.
     ensures run { (p : Program) (cs : List Choice) (s : ProgramState)
@@ -75,4 +80,17 @@ pub fn an_outcome_is_one_of_the_machine()
         (t : ThreadId) (flag : Bool) (d : Doing)
         → AreBytes p.lows.items → played p cs ≡ Some s → IsEnd p s
         → Is (shown s.world) t flag d → Rests p (shown s.world) t d }
+{}
+
+/// An outcome of the core is among those that are found on the Java machine, for the same program,
+/// where nothing was refused for want of a monitor or of memory on the way: an end is found there
+/// that shows the same machine, and in which the calls of each thread have the same replies.
+pub fn an_outcome_is_found_on_the_java_machine()
+    ensures { (p : Program) (f : FoundJavaStates) (cs : List Choice) (s : ProgramState)
+        → AreBytes p.lows.items → FindsAll p f → played p cs ≡ Some s → IsEnd p s
+        → NoneForWant (script_moves p cs)
+        → (i : ℕ) × (i < length f.ends) × (t : JavaProgramState)
+        × IsAt p f.witnesses (end_at f i) t × (state t.machine ≡ shown s.world)
+        × ((k : ℕ) → k < length p.starts.items
+        → java_replies_of p t k ≡ replies_of p s k) }
 {}

@@ -4,7 +4,6 @@ ghost use Rattle.std.specs.Prelude.{◌≡◌, ◌≤◌, ◌<◌, ◌+◌, ◌-
 ghost use Rattle.std.specs.Prelude.{vec_items, ℕ, List, codes, slice_get};
 ghost use Rattle.std.specs.List.{flat_map};
 ghost use Rattle.dump.specs.Reports.{cycle_text};
-ghost use Rattle.explore.specs.States.{end_of, start_of};
 ghost use Rattle.history.specs.NameLists.{name_at};
 ghost use Rattle.step_core.specs.Shown.{shown};
 ghost use Rattle.explore_runs.specs.Outcomes.{IsOutcome, doing_text, interrupt_text, object_line};
@@ -70,25 +69,14 @@ fn put_thread_line(
     let id = ThreadId(thread as u32);
     write!(text, "thread {}", names.name_of_thread(id))?;
     let start = program.starts[thread];
-    let end = end_of(program, thread);
+    let end = program.end_of(id);
     put_replies(text, state.replies(), start, end.saturating_sub(start))?;
     put_doing(text, names, state.world(), id)?;
     text.push_str("\n")
 }
 
-/// Where the calls of a thread end.
-fn end_of(program: &Program, thread: usize) -> usize
-    requires { thread < length program.now.starts.items }
-    ensures { result ≡ end_of program.now thread }
-{
-    match program.starts.get(thread + 1) {
-        Some(end) => *end,
-        None => program.calls.len(),
-    }
-}
-
 /// Writes the replies of so many calls, from this one on.
-fn put_replies(
+pub(crate) fn put_replies(
     text: &mut String,
     replies: &[Option<Reply>],
     start: usize,
@@ -149,14 +137,14 @@ fn put_doing(
     text.push_str(interrupt_text(is_interrupted))
 }
 
-fn interrupt_text(is_interrupted: bool) -> &'static str
+pub(crate) fn interrupt_text(is_interrupted: bool) -> &'static str
     ensures { result.now ≡ interrupt_text is_interrupted }
 {
     if is_interrupted { " interrupted" } else { "" }
 }
 
 /// Writes where a thread is stuck in a call, if it is in one.
-fn put_stuck(text: &mut String, names: &Names, doing: Doing) -> Result<(), AllocError>
+pub(crate) fn put_stuck(text: &mut String, names: &Names, doing: Doing) -> Result<(), AllocError>
     ensures { OnOk result (string_bytes text.new
         ≡ string_bytes text.old ++ stuck_text names.now doing) }
 {
@@ -221,7 +209,7 @@ fn put_object_line(
 }
 
 /// Writes the line of each cycle of owners.
-fn put_cycle_lines(
+pub(crate) fn put_cycle_lines(
     text: &mut String,
     names: &Names,
     cycles: &[Vec<ThreadId>],

@@ -88,7 +88,12 @@ fn text_of(
 }
 
 /// Writes how many states and steps there are.
-fn put_counts(alloc: Global, report: &mut Vec<u8>, states: usize, steps: u64) -> Result<(), Memory>
+pub(crate) fn put_counts(
+    alloc: Global,
+    report: &mut Vec<u8>,
+    states: usize,
+    steps: u64,
+) -> Result<(), Memory>
     ensures { OnOk result (report.new.items ≡ report.old.items ++ counts_part states steps) }
 {
     let line = format!(in alloc; "states {states} steps {steps}\n")?;
@@ -158,7 +163,12 @@ fn put_part(
 }
 
 /// Writes the number of an outcome, and how many ends have it.
-fn put_head(alloc: Global, report: &mut Vec<u8>, number: usize, ends: usize) -> Result<(), Memory>
+pub(crate) fn put_head(
+    alloc: Global,
+    report: &mut Vec<u8>,
+    number: usize,
+    ends: usize,
+) -> Result<(), Memory>
     ensures { OnOk result (report.new.items ≡ report.old.items ++ (codes "outcome "
         ++ decimal number ++ codes " ends " ++ decimal ends ++ 10 ∷ [])) }
 {

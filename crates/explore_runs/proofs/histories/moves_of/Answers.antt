@@ -1,5 +1,5 @@
 use native.Mathlib.Omega.{arith}
-use Rattle.std.proofs.Common.{◌≡◌, ◌∙◌, List, ◌++◌, ◌+◌, None, Some, Option, ap, sym, get_or, drop, suc, drop-cons, refl, append_assoc}
+use Rattle.std.proofs.Common.{◌≡◌, ◌∙◌, List, ◌++◌, ◌+◌, None, Some, Option, ap, sym, get_or, drop, suc, drop-cons, refl, append_assoc, length}
 use Rattle.std.specs.Prelude.{is_some}
 use Rattle.step_core.specs.declared.machine.Move.{Move}
 use Rattle.step_core.specs.Requests.{moves_after}
@@ -9,12 +9,14 @@ use Rattle.explore.specs.declared.programs.Choice.TheVariants as choice
 use Rattle.explore.specs.States.{ProgramState, after, did_of, played_from}
 use Rattle.explore_runs.specs.Steps.{granted, steps_from}
 use Rattle.explore_runs.proofs.Choices.{state_end}
+use Rattle.explore_runs.proofs.Labelled.{attaches_moved}
 use Rattle.explore_runs.proofs.Leading.{moves_first, moves_next, moves_last}
 use Rattle.explore_runs.proofs.histories.moves_of.Goals as goal
 
 pub choices-init : goal.choices-init
 choices-init c = record {
-  moves = rw (c.in_ok-moves.ensures, c.in_ok-state.ensures) (moves_first c.args.program.now c.args.choices.now);
+  moves = rw (c.in_ok-moves.ensures ∙ sym (attaches_moved c.args.program.now (length c.args.program.now.starts.items) (omega arith)), c.in_ok-state.ensures)
+      (moves_first c.args.program.now c.args.choices.now);
   state = rw c.in_ok-state.ensures refl;
 }
 

@@ -1,5 +1,5 @@
 use Rattle.explore_runs.proofs.Returning.{script_returns}
-use Rattle.explore_runs.proofs.Stuck.{script_is_outcome, script_is_run, script_rests}
+use Rattle.explore_runs.proofs.ScriptRuns.{script_is_outcome, script_is_run, script_rests}
 use Rattle.explore_runs.proofs.laws.an_outcome_is_one_of_the_machine.Goals as goal
 
 pub returns-clause-run : goal.returns-clause-run

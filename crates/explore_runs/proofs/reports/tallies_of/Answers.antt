@@ -13,12 +13,12 @@ use Rattle.explore_runs.proofs.reports.tallies_of.Goals as goal
 
 pub ends-init : goal.ends-init
 ends-init c =
-    subst (λ (es : List (String Global × Tally)). AreTalliedTo c.args.named.now.names c.args.named.now.program c.args.found.now 0 (outcome_tallies es))
-    (sym c.new-tallies.ensures.empty) (none_tallied c.args.named.now.names c.args.named.now.program c.args.found.now)
+    subst (λ (es : List (String Global × Tally)). AreTalliedTo (EndsAs c.args.named.now.names c.args.named.now.program c.args.found.now) 0 (outcome_tallies es))
+    (sym c.new-tallies.ensures.empty) (none_tallied (EndsAs c.args.named.now.names c.args.named.now.program c.args.found.now))
 
 pub count_end-requires-clause-few : goal.count_end-requires-clause-few
 count_end-requires-clause-few c =
-    few_tallied c.args.named.now.names c.args.named.now.program c.args.found.now c.ends.at (outcome_tallies c.ends.tallies.entries) c.ends.invariant
+    few_tallied (EndsAs c.args.named.now.names c.args.named.now.program c.args.found.now) c.ends.at (outcome_tallies c.ends.tallies.entries) c.ends.invariant
 
 pub ends-preserved : goal.ends-preserved
 ends-preserved c =
@@ -28,8 +28,8 @@ ends-preserved c =
     let text = c.in_ok-text.text in
     let new : EndsAs names p f c.ends.at (string_bytes text) =
     subst (λ (k : ℕ). (s : ProgramState) × IsAt p f.witnesses k s × IsOutcome names p s (string_bytes text)) c.end_in.ensures.end c.in_ok-text.ensures in
-    subst (λ (ts : List OutcomeTally). AreTalliedTo names p f (c.ends.at + 1) ts) (sym c.in_ok-count_end.ensures)
-    (one_tallied names p f c.ends.at (outcome_tallies c.ends.tallies.entries) (string_bytes text) c.ends.invariant new)
+    subst (λ (ts : List OutcomeTally). AreTalliedTo (EndsAs names p f) (c.ends.at + 1) ts) (sym c.in_ok-count_end.ensures)
+    (one_tallied (EndsAs names p f) c.ends.at (outcome_tallies c.ends.tallies.entries) (string_bytes text) c.ends.invariant new)
 
 pub returns : goal.returns
 returns c =

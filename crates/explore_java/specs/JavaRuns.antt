@@ -1,5 +1,5 @@
 -- The runs of the Java machine that a program may make, and their outcomes.
-use Rattle.std.specs.Prelude.{◌≡◌, ℕ, zero, suc, ◌-◌, ◌<◌, ◌==◌, true, false}
+use Rattle.std.specs.Prelude.{◌≡◌, ℕ, zero, suc, ◌-◌, ◌<◌, ◌==◌, Bool, true, false}
 use Rattle.std.specs.Prelude.{if◌then◌else◌, List, [], ◌∷◌, ◌++◌, length}
 use Rattle.std.specs.Prelude.{map, take, drop, slice_get, slice_index_or, Option, Some, None, IfSome}
 use Rattle.std.specs.List.{filter_map}
@@ -15,6 +15,8 @@ use Rattle.step_core.specs.declared.machine.Move.TheVariants as move
 use Rattle.step_core.specs.Machine.{Run, State, Steps, opening}
 use Rattle.explore.specs.declared.programs.Program.{Program}
 use Rattle.explore.specs.States.{end_of, start_of, thread_of}
+use Rattle.jls_check.specs.MachineState.{state}
+use Rattle.explore_java.specs.JavaStates.{JavaProgramState, is_want, replies_of}
 
 -- the low bytes of objects are bytes
 abbrev pub AreBytes : List ℕ → Type 0
@@ -77,22 +79,23 @@ calls_of p k = take (end_of p k - start_of p k) (drop (start_of p k) p.calls.ite
 abbrev pub IsFront : {A : Type 0} → List A → List A → Type 0
 IsFront xs ys = xs ≡ take (length xs) ys
 
--- these threads are attached by the first moves, and by no others
-abbrev pub BeginsWith : List ThreadId → List Move → Type 0
-BeginsWith ts ms = (rest : List Move) × (ms ≡ map (λ t. move.Attach t) ts ++ rest) × (attached_in rest ≡ [])
+-- the first moves attach these threads, each once and in their order, and no other move attaches any
+abbrev pub BeginsWithAttaches : List ThreadId → List Move → Type 0
+BeginsWithAttaches ts ms = (rest : List Move) × (ms ≡ map (λ t. move.Attach t) ts ++ rest) × (attached_in rest ≡ [])
 
--- A run of the machine that the program may make. Its threads are attached, in their order, before anything else. Each
--- makes its own calls in their order, all of them or fewer; so does the clock tell the program's moments. No wait ends
--- for no reason, unless the program says that it may.
+-- A run of the machine that the program may make. Its threads are attached before anything else, in their order, each
+-- once, and nothing else ever. Each makes its own calls in their order, from the first on, and skips none; so does the
+-- clock tell the program's moments. No wait ends for no reason, unless the program says that it may.
 pub record IsRunOf (p : Program) (ms : List Move) (x : State) : Type 0 where
   pub run : Run (opening (length p.lows.items)) ms x
-  pub attaches : BeginsWith (threads_below (length p.starts.items)) ms
+  pub attaches : BeginsWithAttaches (threads_below (length p.starts.items)) ms
   pub calls : (k : ℕ) → k < length p.starts.items → IsFront (calls_in (thread_of k) ms) (calls_of p k)
   pub moments : IsFront (moments_in ms) p.moments.items
   pub woken : p.spurious ≡ false → woken_in ms ≡ []
 
--- the moves that the program leaves to the machine behind these: the next call of each thread, the next moment of the
--- clock, and any other move but an attach
+-- the moves that the program leaves to the machine behind these: the next call of each thread; a wake-up for no reason
+-- where the program says so; the next moment of the clock; and any other move but an attach, refusals for want among
+-- them
 abbrev pub IsLeft : Program → List Move → Move → Type 0
 IsLeft p ms (move.Attach t) = ⊥
 IsLeft p ms (move.Call t c) =
@@ -120,3 +123,24 @@ Rests p x t (doing.Wants c) = (o : ObjectId) × (c ≡ call.Enter o) × IsBlocke
 Rests p x t (doing.Waits o n d) = IfSome d (λ over. x.moment < over) × (p.spurious ≡ true → ⊥)
 Rests p x t (doing.Back o n why) = IsBlocked x t o
 Rests p x t (doing.Has r) = ⊥
+
+-- ---- what the machine itself does
+
+-- a refusal for want of a monitor or of memory: the machine allows it, and the Java specification knows nothing of it
+abbrev pub is_for_want : Move → Bool
+is_for_want (move.Refuse t c) = is_want c
+is_for_want m = false
+
+-- none of these moves is such a refusal
+abbrev pub NoneForWant : List Move → Type 0
+NoneForWant [] = Unit {0}
+NoneForWant (m ∷ ms) = (is_for_want m ≡ false) × NoneForWant ms
+
+-- the moves by which the threads of a program are attached
+abbrev pub attaches_of : Program → List Move
+attaches_of p = map (λ t. move.Attach t) (threads_below (length p.starts.items))
+
+-- the state shows what these moves lead to: the machine, and the replies with which the calls of each thread return
+pub record Shows (p : Program) (ms : List Move) (x : State) (t : JavaProgramState) : Type 0 where
+  pub machine : state t.machine ≡ x
+  pub replies : (k : ℕ) → k < length p.starts.items → returns_in (thread_of k) ms ≡ replies_of p t k

@@ -1,0 +1,12 @@
+mod Choosing
+mod Coding
+mod Finding
+mod Locks
+mod Resting
+pub mod Making
+mod Searching
+mod Trying
+pub mod CallFronts
+mod Returning
+mod Playing
+pub mod Running

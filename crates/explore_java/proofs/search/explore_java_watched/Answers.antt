@@ -1,0 +1,5 @@
+use Rattle.std.proofs.Common.{rules}
+use Rattle.explore_java.proofs.search.explore_java_watched.Goals as goal
+
+pub returns-clause-reason : goal.returns-clause-reason
+returns-clause-reason g c = search rules

@@ -1,0 +1,62 @@
+//! What the states that are found have to do with the runs of the Java machine.
+
+ghost use Rattle.std.specs.Prelude.{◌≡◌, ◌<◌, ◌++◌, ℕ, List, Bool, Some, length};
+ghost use Rattle.lock_word.specs.declared.ThreadId.{ThreadId};
+ghost use Rattle.step_core.specs.declared.machine.Doing.{Doing};
+ghost use Rattle.step_core.specs.declared.machine.Move.{Move};
+ghost use Rattle.step_core.specs.Machine.{Is, State};
+ghost use Rattle.jls_check.specs.MachineState.{state};
+ghost use Rattle.explore.specs.declared.programs.Program.{Program};
+ghost use Rattle.explore_java.specs.JavaFound.{FindsAll, FoundJavaStates, IsAt, end_at, move_at};
+ghost use Rattle.explore_java.specs.JavaFound.{witness_at};
+ghost use Rattle.explore_java.specs.Moves.{moves_in};
+ghost use Rattle.explore_java.specs.JavaRuns.{IsOutcomeOf, IsRunOf, Rests, Shows};
+ghost use Rattle.explore_java.specs.JavaRuns.{NoneForWant, returns_in};
+ghost use Rattle.explore_java.specs.JavaRuns.{attaches_of};
+ghost use Rattle.explore_java.specs.JavaStates.{JavaProgramState, after, count_of, replies_of};
+ghost use Rattle.explore.specs.States.{thread_of};
+
+/// The states that a search finds are just those that runs of the Java machine lead to, which the
+/// program may make and in which nothing is refused for want of a monitor or of memory; and its
+/// ends are the outcomes among them.
+pub fn the_states_are_those_of_the_machine()
+    // The moves that lead to a state are such a run, behind the attaches of the program's threads.
+    ensures run { (p : Program) (f : FoundJavaStates) (k : ℕ) (t : JavaProgramState)
+        → FindsAll p f → k < length f.witnesses → IsAt p f.witnesses k t
+        → IsRunOf p (attaches_of p ++ witness_at f.witnesses k) (state t.machine) }
+    // Nothing is refused in it for want.
+    ensures wants { (p : Program) (f : FoundJavaStates) (k : ℕ) (t : JavaProgramState)
+        → FindsAll p f → k < length f.witnesses → IsAt p f.witnesses k t
+        → NoneForWant (attaches_of p ++ witness_at f.witnesses k) }
+    // The moves that lead to an end are an outcome: behind them the machine can make none that the
+    // program leaves to it, not even such a refusal.
+    ensures end { (p : Program) (f : FoundJavaStates) (i : ℕ) (t : JavaProgramState)
+        → FindsAll p f → i < length f.ends → IsAt p f.witnesses (end_at f i) t
+        → IsOutcomeOf p (attaches_of p ++ witness_at f.witnesses (end_at f i))
+        (state t.machine) }
+    // What each thread is doing there.
+    ensures rests { (p : Program) (f : FoundJavaStates) (i : ℕ) (t : JavaProgramState)
+        (u : ThreadId) (flag : Bool) (d : Doing)
+        → FindsAll p f → i < length f.ends → IsAt p f.witnesses (end_at f i) t
+        → Is (state t.machine) u flag d → Rests p (state t.machine) u d }
+    // The calls of each thread return in the run with the replies that the state has for them.
+    ensures returns { (p : Program) (f : FoundJavaStates) (k j : ℕ) (t : JavaProgramState)
+        → FindsAll p f → k < length f.witnesses → IsAt p f.witnesses k t → j < count_of p
+        → returns_in (thread_of j) (attaches_of p ++ witness_at f.witnesses k)
+        ≡ replies_of p t j }
+    // Whatever such a run leads to is found.
+    ensures found { (p : Program) (f : FoundJavaStates) (ms : List Move) (x : State)
+        → FindsAll p f → IsRunOf p ms x → NoneForWant ms
+        → (k : ℕ) × (k < length f.witnesses) × (t : JavaProgramState)
+        × IsAt p f.witnesses k t × Shows p ms x t }
+    // And an outcome of the machine is found among the ends.
+    ensures outcome { (p : Program) (f : FoundJavaStates) (ms : List Move) (x : State)
+        → FindsAll p f → IsOutcomeOf p ms x → NoneForWant ms
+        → (i : ℕ) × (i < length f.ends) × (t : JavaProgramState)
+        × IsAt p f.witnesses (end_at f i) t × Shows p ms x t }
+    // Each move that can be made in a state is among those that are counted there.
+    ensures counted { (p : Program) (f : FoundJavaStates) (k : ℕ) (t u : JavaProgramState)
+        (m : Move) → FindsAll p f → k < length f.witnesses → IsAt p f.witnesses k t
+        → after p t m ≡ Some u
+        → (i : ℕ) × (i < length (moves_in p t)) × (move_at (moves_in p t) i ≡ m) }
+{}

@@ -1,0 +1,19 @@
+//! Every run that a small program leaves to the Java machine itself: the states that its moves lead
+//! to, each with a list of moves that leads there.
+//!
+//! It knows no header word, no thread index and no fat monitor. Any waiting thread may be notified,
+//! any thread may lock an object that is free, and nothing is refused for want of a monitor or of
+//! memory.
+#![tactic(auto)]
+
+mod codes;
+mod found;
+mod laws;
+mod moves;
+mod search;
+mod states;
+
+pub use found::JavaFound;
+pub use laws::the_states_are_those_of_the_machine;
+pub use search::{explore_java, explore_java_watched};
+pub use states::{JavaState, replay};

@@ -1,0 +1,7 @@
+use Rattle.explore_runs.specs.JavaReports.{JavaEndsAs}
+use Rattle.explore_runs.specs.Tallies.{outcome_tallies}
+use Rattle.explore_runs.proofs.Tallying.{AreTalliedTo}
+use Rattle.explore_runs.proofs.java_reports.java_tallies_of.Given as goal
+
+abbrev pub invariant-ends : goal.invariant-ends
+invariant-ends l = AreTalliedTo (JavaEndsAs l.named.names l.named.program l.found) l.at (outcome_tallies l.tallies.entries)
