@@ -12,7 +12,8 @@ use Rattle.clap.specs.declared.builder.value_parser.ValueParser.TheVariants.{Uns
 use Rattle.drawing.specs.declared.windows.Window.{Window}
 use Rattle.explore_runs.specs.declared.reports.WitnessForm.TheVariants.{History, Script}
 use Rattle.command_line.specs.declared.orders.Task.{Task}
-use Rattle.command_line.specs.declared.orders.Task.TheVariants.{Run, Moves, Check, Dump, Live, Explore, Draw, DrawMoves}
+use Rattle.command_line.specs.declared.orders.Task.TheVariants.{Run, Moves, Check, Dump, Live, Explore}
+use Rattle.command_line.specs.declared.orders.Task.TheVariants.{ExploreJava, Draw, DrawMoves}
 
 -- ---- the program, as far as it is read from words
 
@@ -23,6 +24,10 @@ file_rule = record (new_rule (codes "file")) { action = Some Set; value_names = 
 -- the flag `--moves`
 abbrev pub moves_rule : Rule
 moves_rule = record (new_rule (codes "moves")) { long = Some (codes "moves"); action = Some SetTrue }
+
+-- the flag `--any`
+abbrev pub any_rule : Rule
+any_rule = record (new_rule (codes "any")) { long = Some (codes "any"); action = Some SetTrue }
 
 -- an option that tells a number of 32 bits, from 1 on
 abbrev pub count_rule : Text → Rule
@@ -45,7 +50,8 @@ moves_words name = with_rule (with_rule (new_app name) moves_rule) file_rule
 -- the subcommand that explores, and the one that draws
 abbrev pub explore_words : App
 explore_words =
-    with_rule (with_rule (with_rule (new_app (codes "explore")) (count_rule (codes "states"))) moves_rule) file_rule
+    with_rule (with_rule (with_rule (with_rule (new_app (codes "explore"))
+    (count_rule (codes "states"))) any_rule) moves_rule) file_rule
 
 abbrev pub draw_words : App
 draw_words =
@@ -75,9 +81,13 @@ abbrev pub most_states : ℕ
 most_states = 10000000
 
 -- outcomes come with scripts, or with `--moves` with histories
-abbrev pub exploring_with : Bool → Option ℕ → Task
-exploring_with moves states =
-    Explore (record { most = unwrap_or states most_states; witness = if moves then History else Script })
+abbrev pub core_exploring : Bool → ℕ → Task
+core_exploring moves most = Explore (record { most = most; witness = if moves then History else Script })
+
+-- with `--any` they are those of the Java machine itself, which come with histories
+abbrev pub exploring_with : Bool → Bool → Option ℕ → Task
+exploring_with any moves states =
+    if any then ExploreJava (unwrap_or states most_states) else core_exploring moves (unwrap_or states most_states)
 
 -- a script is drawn, or with `--moves` a history: from one column to another, or all that there are
 abbrev pub window_of : Option ℕ → Option ℕ → Window
@@ -86,13 +96,13 @@ window_of from to = record { first = unwrap_or from 1; last = to }
 abbrev pub drawing_with : Bool → Option ℕ → Option ℕ → Task
 drawing_with moves from to = if moves then DrawMoves (window_of from to) else Draw (window_of from to)
 
--- the task of a subcommand, with `--moves` or without, and with the numbers that were told
-abbrev pub task_of : Text → Bool → Option ℕ → Option ℕ → Option ℕ → Task
-task_of name moves states from to =
+-- the task of a subcommand, with `--any` and `--moves` or without, and with the numbers that were told
+abbrev pub task_of : Text → Bool → Bool → Option ℕ → Option ℕ → Option ℕ → Task
+task_of name any moves states from to =
     if bytes_eq name (codes "check") then Check
     else (if bytes_eq name (codes "dump") then Dump
     else (if bytes_eq name (codes "live") then Live
-    else (if bytes_eq name (codes "explore") then exploring_with moves states
+    else (if bytes_eq name (codes "explore") then exploring_with any moves states
     else (if bytes_eq name (codes "draw") then drawing_with moves from to
     else (if moves then Moves else Run)))))
 
@@ -115,8 +125,8 @@ count_told id rows = count_in (first_of id rows)
 -- the task and the file of a subcommand, of which these matches were read
 abbrev pub order_of : Text → List Row → Task × Option Text
 order_of name rows = (
-  task_of name (is_set (first_of (codes "moves") rows)) (count_told (codes "states") rows)
-      (count_told (codes "from") rows) (count_told (codes "to") rows),
+  task_of name (is_set (first_of (codes "any") rows)) (is_set (first_of (codes "moves") rows))
+      (count_told (codes "states") rows) (count_told (codes "from") rows) (count_told (codes "to") rows),
   first_of (codes "file") rows,
 )
 

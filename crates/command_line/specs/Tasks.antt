@@ -9,22 +9,25 @@ use Rattle.history.specs.Reports.{IsReportOf}
 use Rattle.history.specs.declared.plans.Plan.{Plan}
 use Rattle.dump.specs.Dumps.{IsDumpOf}
 use Rattle.explore_runs.specs.Faults.{HasTooMany}
+use Rattle.explore_runs.specs.JavaReports.{HasTooManyJava, IsJavaReportOfText}
 use Rattle.explore_runs.specs.Runs.{IsReportOfText}
 use Rattle.live_runs.specs.Runs.{IsTextOfRun}
 use Rattle.drawing.specs.Drawings.{IsHistoryDrawing, IsScriptDrawing}
 use Rattle.command_line.specs.declared.orders.Task.{Task}
-use Rattle.command_line.specs.declared.orders.Task.TheVariants.{Run, Moves, Check, Dump, Live, Explore, Draw, DrawMoves}
+use Rattle.command_line.specs.declared.orders.Task.TheVariants.{Run, Moves, Check, Dump, Live, Explore}
+use Rattle.command_line.specs.declared.orders.Task.TheVariants.{ExploreJava, Draw, DrawMoves}
 
 -- the program has more states than the order lets it have, and this is how many those are
 abbrev pub HasTooManyStates : Task → List ℕ → ℕ → Type 0
 HasTooManyStates (Explore x) input n = HasTooMany input x.most n
+HasTooManyStates (ExploreJava most) input n = HasTooManyJava input most n
 HasTooManyStates task input n = ⊥
 
 -- Of the bytes that were left before and after, how many were given, and those that are held before and
 -- after: a script was read, and a report written; or its history; or a history was read whose moves are a
 -- run, and their number written; or a script was read, and a dump of the world that it leads to written; or a
 -- live script was read, and the text of a run of it written; or a program was read, and the report of its outcomes
--- written; or a script, or a history, was read, and a picture of it written.
+-- written, of the core or of the Java machine itself; or a script, or a history, was read, and a picture of it written.
 abbrev pub IsDone : Task → Option (List ℕ) → Option (List ℕ) → ℕ → Option (List ℕ) → Option (List ℕ)
     → Type 0
 IsDone Run left rest given held holds =
@@ -41,6 +44,8 @@ IsDone Live left rest given held holds =
     (text : List ℕ) × IfSome left (λ input. IsTextOfRun input text) × Appends held holds text
 IsDone (Explore x) left rest given held holds =
     (text : List ℕ) × IfSome left (λ input. IsReportOfText input x.most x.witness text) × Appends held holds text
+IsDone (ExploreJava most) left rest given held holds =
+    (text : List ℕ) × IfSome left (λ input. IsJavaReportOfText input most text) × Appends held holds text
 IsDone (Draw window) left rest given held holds =
     (text : List ℕ) × IfSome left (λ input. IsScriptDrawing window input text) × Appends held holds text
 IsDone (DrawMoves window) left rest given held holds =

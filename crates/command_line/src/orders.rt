@@ -9,7 +9,7 @@ ghost use Rattle.clap.specs.Faults.{fault_of};
 ghost use Rattle.clap.specs.Kinds.{FailsBy};
 ghost use Rattle.clap.specs.declared.builder.command.Command.TheViews.{out-Command};
 ghost use Rattle.std.specs.Option.{option_and_then};
-ghost use Rattle.command_line.specs.Orders.{bare_program, file_rule, file_words, is_set, order_in};
+ghost use Rattle.command_line.specs.Orders.{any_rule, bare_program, file_rule, file_words, is_set, order_in};
 ghost use Rattle.command_line.specs.Orders.{count_in, count_of, count_rule, drawing_with, draw_words};
 ghost use Rattle.command_line.specs.Orders.{explore_words, exploring_with, moves_rule, moves_words, order_of};
 ghost use Rattle.command_line.specs.Orders.{program_words, task_of};
@@ -41,6 +41,9 @@ pub enum Task {
     Live,
     /// Explore a program, and write every outcome of it.
     Explore(Exploration),
+    /// Explore a program on the Java machine itself, with at most so many states, and write every
+    /// outcome of it.
+    ExploreJava(u32),
     /// Draw these columns of a script.
     Draw(Window),
     /// Draw these columns of a history.
@@ -100,12 +103,13 @@ fn order_of<'a>(name: &str, matches: &ArgMatches<'a>) -> Order<'a>
     ensures file { option_map (λ file. file.now) result.file
         ≡ (order_of name.now (rows_of (found_of matches.now))).1 }
 {
+    let any = is_set(matches.get_str("any"));
     let moves = is_set(matches.get_str("moves"));
     let states = count_in(matches.get_str("states"));
     let from = count_in(matches.get_str("from"));
     let to = count_in(matches.get_str("to"));
     Order {
-        task: task_of(name, moves, states, from, to),
+        task: task_of(name, any, moves, states, from, to),
         file: matches.get_str("file"),
     }
 }
@@ -137,9 +141,16 @@ fn count_of(text: &str) -> Option<u32>
     text.parse().ok()
 }
 
-/// The task of a subcommand, with `--moves` or without, and with these numbers.
-fn task_of(name: &str, moves: bool, states: Option<u32>, from: Option<u32>, to: Option<u32>) -> Task
-    ensures { result ≡ task_of name.now moves states from to }
+/// The task of a subcommand, with `--any` and `--moves` or without, and with these numbers.
+fn task_of(
+    name: &str,
+    any: bool,
+    moves: bool,
+    states: Option<u32>,
+    from: Option<u32>,
+    to: Option<u32>,
+) -> Task
+    ensures { result ≡ task_of name.now any moves states from to }
 {
     if name == "check" {
         Task::Check
@@ -148,7 +159,7 @@ fn task_of(name: &str, moves: bool, states: Option<u32>, from: Option<u32>, to: 
     } else if name == "live" {
         Task::Live
     } else if name == "explore" {
-        exploring_with(moves, states)
+        exploring_with(any, moves, states)
     } else if name == "draw" {
         drawing_with(moves, from, to)
     } else if moves {
@@ -158,12 +169,16 @@ fn task_of(name: &str, moves: bool, states: Option<u32>, from: Option<u32>, to: 
     }
 }
 
-/// What is explored, with `--moves` or without, and of how many states at most.
-fn exploring_with(moves: bool, states: Option<u32>) -> Task
-    ensures { result ≡ exploring_with moves states }
+/// What is explored, with `--any` and `--moves` or without, and of how many states at most.
+fn exploring_with(any: bool, moves: bool, states: Option<u32>) -> Task
+    ensures { result ≡ exploring_with any moves states }
 {
+    let most = states.unwrap_or(MOST_STATES);
+    if any {
+        return Task::ExploreJava(most);
+    }
     Task::Explore(Exploration {
-        most: states.unwrap_or(MOST_STATES),
+        most,
         witness: if moves {
             WitnessForm::History
         } else {
@@ -317,6 +332,7 @@ fn explore_command<'a>(alloc: Global) -> Result<Command<'a>, AllocError>
             "states",
             "The most states; 10000000 where it is left out",
         ))?
+        .arg(any(alloc))?
         .arg(moves(alloc, "Prints a history for each outcome and no script"))?
         .arg(file(alloc, "The program; standard input where it is left out"))
 }
@@ -370,6 +386,17 @@ fn count<'a>(alloc: Global, id: &'a str, help: &'a str) -> Arg<'a>
         .action(ArgAction::Set)
         .value_parser(ValueParser::Unsigned(1, 4_294_967_295))
         .help(help)
+}
+
+/// The flag that orders the Java machine itself.
+fn any<'a>(alloc: Global) -> Arg<'a>
+    ensures rule { rule_of result ≡ any_rule }
+    ensures local { result.global ≡ false }
+{
+    Arg::new(alloc, "any")
+        .long("any")
+        .action(ArgAction::SetTrue)
+        .help("Explores the Java machine itself, which may notify any waiter, and prints histories")
 }
 
 /// The flag that orders the moves.

@@ -15,7 +15,7 @@ use crate::orders::{Exploration, Order, Task, read_words};
 use crate::progress::Progress;
 use drawing::{draw_moves, draw_script};
 use dump::dump_script;
-use explore_runs::explore_text;
+use explore_runs::{explore_java_text, explore_text};
 use history::{FileFault, ReaderSource, Sink, Source, WriterSink, moves, replay, run};
 use live_runs::{RunFault, run_live};
 use std::process::ExitCode;
@@ -138,6 +138,10 @@ where
             let Exploration { most, witness } = exploration;
             let mut progress = Progress::new(rt, is_terminal);
             explore_text(alloc, source, sink, most, witness, &mut progress)?;
+        }
+        Task::ExploreJava(most) => {
+            let mut progress = Progress::new(rt, is_terminal);
+            explore_java_text(alloc, source, sink, most, &mut progress)?;
         }
         Task::Draw(window) => draw_script(alloc, window, source, sink)?,
         Task::DrawMoves(window) => draw_moves(alloc, window, source, sink)?,

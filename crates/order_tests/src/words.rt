@@ -19,7 +19,7 @@ pub(crate) fn words_of(alloc: Global, line: &str) -> Result<Vec<String>, AllocEr
 }
 
 /// A line of words, and the order that it is read as: its task and its file.
-const ORDERS: [(&str, Task, Option<&str>); 16] = [
+const ORDERS: [(&str, Task, Option<&str>); 20] = [
     ("run", Task::Run, None),
     ("run x.script", Task::Run, Some("x.script")),
     ("run -", Task::Run, Some("-")),
@@ -36,6 +36,14 @@ const ORDERS: [(&str, Task, Option<&str>); 16] = [
     ("dump dump", Task::Dump, Some("dump")),
     ("live", Task::Live, None),
     ("live x.script", Task::Live, Some("x.script")),
+    ("explore --any", Task::ExploreJava(10_000_000), None),
+    ("explore --any x", Task::ExploreJava(10_000_000), Some("x")),
+    ("explore --moves --any", Task::ExploreJava(10_000_000), None),
+    (
+        "explore x --states 20 --any",
+        Task::ExploreJava(20),
+        Some("x"),
+    ),
 ];
 
 /// A line of words that order to explore, the most states, what is shown of a witness, and the

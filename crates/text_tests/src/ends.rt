@@ -9,7 +9,7 @@ use super::streams::{HISTORY, REPORT, SCRIPT};
 use drawing::{DrawFault, Window, draw_moves, draw_script};
 use dump::dump_script;
 use explore::Nobody;
-use explore_runs::{ExploreTextFault, WitnessForm, explore_text};
+use explore_runs::{ExploreTextFault, WitnessForm, explore_java_text, explore_text};
 use history::{FileFault, ReaderSource, WriterSink, moves, replay, run};
 use live_runs::{RunFault, run_live};
 use std::alloc::Global;
@@ -36,6 +36,7 @@ enum Task {
     Dump,
     Live,
     Explore(WitnessForm),
+    ExploreJava,
     Draw,
     DrawMoves,
 }
@@ -48,7 +49,7 @@ struct Row {
     outcome: Result<&'static [u8], FileFault>,
 }
 
-const ROWS: [Row; 15] = [
+const ROWS: [Row; 16] = [
     Row {
         task: Task::Run,
         text: SCRIPT,
@@ -81,6 +82,11 @@ const ROWS: [Row; 15] = [
     },
     Row {
         task: Task::Explore(WitnessForm::History),
+        text: ONE_ENTER,
+        outcome: Ok(ONE_HISTORY),
+    },
+    Row {
+        task: Task::ExploreJava,
         text: ONE_ENTER,
         outcome: Ok(ONE_HISTORY),
     },
@@ -146,20 +152,25 @@ fn do_task<R: Threads + Wait + Clock + Sync + Abort>(
             Err(RunFault::File(fault)) => Err(fault),
             Err(RunFault::Torn) => panic!(rt; "torn"),
         },
-        Task::Explore(witness) => match explore_text(
-            alloc,
-            source,
-            sink,
-            MOST_STATES,
-            witness,
-            &mut Nobody,
-        ) {
-            Ok(()) => Ok(()),
-            Err(ExploreTextFault::File(fault)) => Err(fault),
-            Err(ExploreTextFault::TooManyStates(most)) => panic!(rt; "more than {most} states"),
-        },
+        Task::Explore(witness) => fault_of_text(
+            rt,
+            explore_text(alloc, source, sink, MOST_STATES, witness, &mut Nobody),
+        ),
+        Task::ExploreJava => fault_of_text(
+            rt,
+            explore_java_text(alloc, source, sink, MOST_STATES, &mut Nobody),
+        ),
         Task::Draw => fault_of_files(rt, draw_script(alloc, WHOLE, source, sink)),
         Task::DrawMoves => fault_of_files(rt, draw_moves(alloc, WHOLE, source, sink))
+    }
+}
+
+/// How an exploration ends that has few states.
+fn fault_of_text(rt: &impl Abort, ending: Result<(), ExploreTextFault>) -> Result<(), FileFault> {
+    match ending {
+        Ok(()) => Ok(()),
+        Err(ExploreTextFault::File(fault)) => Err(fault),
+        Err(ExploreTextFault::TooManyStates(most)) => panic!(rt; "more than {most} states"),
     }
 }
 

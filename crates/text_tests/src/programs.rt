@@ -1,8 +1,8 @@
-//! Programs that are explored: the first bad line of a text, how many states are asked for, and want
-//! of memory.
+//! Programs that are explored: the first bad line of a text, how many states are asked for, and
+//! want of memory.
 
 use explore::Nobody;
-use explore_runs::{ExploreTextFault, WitnessForm, explore_text};
+use explore_runs::{ExploreTextFault, WitnessForm, explore_java_text, explore_text};
 use history::{FileFault, ReaderSource, WriterSink};
 use program_text::read_program;
 use std::alloc::Global;
@@ -144,38 +144,58 @@ history 8
 {\"move\":\"Return\",\"reply\":\"Exited\",\"thread\":0}
 ";
 
+/// What is explored: the core, with this behind each outcome, or the Java machine itself.
+#[derive(Clone, Copy)]
+enum Explored {
+    Core(WitnessForm),
+    Machine,
+}
+
+/// Explores the program with at most so many states.
+fn explore_one(
+    alloc: Global,
+    explored: Explored,
+    most: u32,
+    sink: &mut WriterSink<Vec<u8>>,
+) -> Result<(), ExploreTextFault> {
+    let mut source = ReaderSource::new(ONE_ENTER);
+    match explored {
+        Explored::Core(form) => explore_text(alloc, &mut source, sink, most, form, &mut Nobody),
+        Explored::Machine => explore_java_text(alloc, &mut source, sink, most, &mut Nobody),
+    }
+}
+
 /// Whether the program ends so where this many states are asked for, and this is written.
 fn ends_so(
     alloc: Global,
     most: u32,
-    witness: WitnessForm,
+    explored: Explored,
     ending: Result<(), ExploreTextFault>,
     text: &[u8],
 ) -> bool {
     let mut sink = WriterSink::new(Vec::new(alloc));
-    let mut source = ReaderSource::new(ONE_ENTER);
-    let outcome = explore_text(alloc, &mut source, &mut sink, most, witness, &mut Nobody);
+    let outcome = explore_one(alloc, explored, most, &mut sink);
     outcome == ending && sink.into_inner().as_slice() == text
 }
 
 #[test]
 fn states_that_are_enough_and_one_less(rt: HostRuntime) {
     let few = Err(ExploreTextFault::TooManyStates(6));
-    for (witness, report) in [
-        (WitnessForm::Script, ONE_REPORT),
-        (WitnessForm::History, ONE_HISTORY),
+    for (explored, report) in [
+        (Explored::Core(WitnessForm::Script), ONE_REPORT),
+        (Explored::Core(WitnessForm::History), ONE_HISTORY),
+        (Explored::Machine, ONE_HISTORY),
     ] {
-        assert!(rt; ends_so(rt.alloc(), 7, witness, Ok(()), report));
-        assert!(rt; ends_so(rt.alloc(), 6, witness, few, b""));
+        assert!(rt; ends_so(rt.alloc(), 7, explored, Ok(()), report));
+        assert!(rt; ends_so(rt.alloc(), 6, explored, few, b""));
     }
 }
 
 /// Whether a program is explored. Where it is not, memory was refused, and nothing was written; or
 /// the writer was refused some, which has a front of the report.
-fn explores(rt: &impl Abort, alloc: Global, witness: WitnessForm, report: &[u8]) -> bool {
+fn explores(rt: &impl Abort, alloc: Global, explored: Explored, report: &[u8]) -> bool {
     let mut sink = WriterSink::new(Vec::new(alloc));
-    let mut source = ReaderSource::new(ONE_ENTER);
-    let outcome = explore_text(alloc, &mut source, &mut sink, 7, witness, &mut Nobody);
+    let outcome = explore_one(alloc, explored, 7, &mut sink);
     let bytes = sink.into_inner();
     let is_right = match outcome {
         Ok(()) => bytes.as_slice() == report,
@@ -189,13 +209,23 @@ fn explores(rt: &impl Abort, alloc: Global, witness: WitnessForm, report: &[u8])
 #[test]
 fn a_refused_exploration_succeeds_when_tried_again(rt: HostRuntime) {
     let (rt, alloc) = (&rt, rt.alloc());
-    let form = WitnessForm::Script;
-    assert!(rt; explores(rt, alloc, form, ONE_REPORT) || explores(rt, alloc, form, ONE_REPORT));
+    let core = Explored::Core(WitnessForm::Script);
+    assert!(rt; explores(rt, alloc, core, ONE_REPORT) || explores(rt, alloc, core, ONE_REPORT));
 }
 
 #[test]
 fn a_refused_exploration_with_histories_succeeds_when_tried_again(rt: HostRuntime) {
     let (rt, alloc) = (&rt, rt.alloc());
-    let form = WitnessForm::History;
-    assert!(rt; explores(rt, alloc, form, ONE_HISTORY) || explores(rt, alloc, form, ONE_HISTORY));
+    let core = Explored::Core(WitnessForm::History);
+    assert!(rt; explores(rt, alloc, core, ONE_HISTORY) || explores(rt, alloc, core, ONE_HISTORY));
+}
+
+// The machine makes the moves of that history, one in each state.
+#[test]
+fn a_refused_exploration_of_the_machine_succeeds_when_tried_again(rt: HostRuntime) {
+    let (rt, alloc) = (&rt, rt.alloc());
+    let machine = Explored::Machine;
+    assert!(rt;
+        explores(rt, alloc, machine, ONE_HISTORY) || explores(rt, alloc, machine, ONE_HISTORY)
+    );
 }
