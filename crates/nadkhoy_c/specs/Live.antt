@@ -1,5 +1,6 @@
 -- What the calls on a seat of a live service answer and leave.
-use Rattle.std.specs.Prelude.{◌≡◌, ◌⊎◌, ◌≤◌, ℕ, Bool, true, false, ◌||◌, nat_lt, List, length, Option, Some, None}
+use Rattle.std.specs.Prelude.{◌≡◌, ◌⊎◌, ◌≤◌, ℕ, Bool, true, false, ◌||◌, nat_lt, List, length}
+use Rattle.std.specs.Prelude.{Option, Some, None}
 use Rattle.lock_word.specs.declared.ThreadId.{ThreadId}
 use Rattle.fast_path.specs.declared.calls.Call.{Call}
 use Rattle.fast_path.specs.declared.calls.Subject.{Subject}
@@ -113,14 +114,14 @@ number_out told.Memory x = x
 number_out told.Left x = x
 
 -- an order that a seat carried out: what is answered of it, the slot then, and what stands where the call writes
-abbrev pub HasAnswered : {X : Type 0} → (Told → X → X) → SeatOrder → Option SeatState → X → ℕ → Option SeatState → X
-    → Type 0
+abbrev pub HasAnswered : {X : Type 0} → (Told → X → X) → SeatOrder → Option SeatState → X → ℕ
+    → Option SeatState → X → Type 0
 HasAnswered write o s x n s' x' = (t : Told) × HasServed s o t s' None × (n ≡ told_status t) × (x' ≡ write t x)
 
 -- An order of the seat in a slot, if the numbers name one: what is answered, what the slot has then, and what stands
 -- where the call writes. write says what is written of what the seat tells.
-abbrev pub Answers : {X : Type 0} → (Told → X → X) → Option SeatOrder → Option SeatState → X → ℕ → Option SeatState → X
-    → Type 0
+abbrev pub Answers : {X : Type 0} → (Told → X → X) → Option SeatOrder → Option SeatState → X → ℕ
+    → Option SeatState → X → Type 0
 Answers write o None x n s' x' = (n ≡ status_number status.Closed) × (s' ≡ None) × (x' ≡ x)
 Answers write None (Some v) x n s' x' = (n ≡ status_number status.NoStep) × (s' ≡ Some v) × (x' ≡ x)
 Answers write (Some o) (Some v) x n s' x' = HasAnswered write o (Some v) x n s' x'
@@ -165,7 +166,8 @@ Opens None lows monitors passes places n s' =
     OpensWithin (is_out_of_range (length lows) monitors passes places) lows monitors passes n s'
 
 -- One more seat of the service of a slot, for an empty one: what is answered, and the seats in the two then.
-abbrev pub SharesSeat : Option SeatState → Option SeatState → ℕ → Option SeatState → Option SeatState → Type 0
+abbrev pub SharesSeat : Option SeatState → Option SeatState → ℕ → Option SeatState
+    → Option SeatState → Type 0
 SharesSeat None u n s' u' = (n ≡ status_number status.Closed) × (s' ≡ None) × (u' ≡ u)
 SharesSeat (Some v) (Some u) n s' u' = (n ≡ status_number status.InUse) × (s' ≡ Some v) × (u' ≡ Some u)
 SharesSeat (Some v) None n s' u' = (t : Told) × HasServed (Some v) order.Share t s' u' × (n ≡ told_status t)

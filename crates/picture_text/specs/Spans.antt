@@ -1,5 +1,6 @@
 -- What a thread is doing, drawn from column to column.
-use Rattle.std.specs.Prelude.{ℕ, zero, suc, ◌+◌, ◌-◌, Bool, true, false, List, [], ◌∷◌, Option, None, Some, codes, min}
+use Rattle.std.specs.Prelude.{ℕ, zero, suc, ◌+◌, ◌-◌, Bool, true, false, List, [], ◌∷◌}
+use Rattle.std.specs.Prelude.{Option, None, Some, codes, min}
 use Rattle.std.specs.Prelude.{slice_get, nat_lt, if◌then◌else◌}
 use Rattle.lock_word.specs.declared.ObjectId.{ObjectId}
 use Rattle.lock_word.specs.declared.ThreadId.{ThreadId}
@@ -57,7 +58,8 @@ doing_node naming (Back o n w) = back_node naming o n w
 doing_node naming (Has r) = has_node r
 
 unfoldable pub span_title : Naming → Layout → ThreadId → Doing → Stretch → Node
-span_title naming l t act s = title (in_turn (thread_node naming t ∷ doing_node naming act ∷ columns_node l s ∷ []))
+span_title naming l t act s =
+    title (in_turn (thread_node naming t ∷ doing_node naming act ∷ columns_node l s ∷ []))
 
 -- how a box looks, and the word in it
 abbrev pub doing_look : Doing → List ℕ
@@ -95,7 +97,8 @@ unfoldable pub flag_mark : ℕ → ℕ → ℕ → Node
 flag_mark x y width = if nat_lt width 8 then Nothing else label (codes "mark") (x + width - 8) y (Words (codes "!"))
 
 unfoldable pub flag_title : Naming → Layout → ThreadId → Stretch → Node
-flag_title naming l t s = title (in_turn (thread_node naming t ∷ Words (codes " interrupted") ∷ columns_node l s ∷ []))
+flag_title naming l t s =
+    title (in_turn (thread_node naming t ∷ Words (codes " interrupted") ∷ columns_node l s ∷ []))
 
 unfoldable pub flag_node : Naming → Layout → ThreadId → Bool → Stretch → ℕ → Node
 flag_node naming l t false s top = Nothing

@@ -1,5 +1,6 @@
 -- Who owns the objects: a strip for each object, and a bar in the lane of each owner.
-use Rattle.std.specs.Prelude.{ℕ, zero, suc, ◌+◌, ◌-◌, ◌*◌, ◌/◌, ◌%◌, ◌++◌, List, [], ◌∷◌, Option, None, Some}
+use Rattle.std.specs.Prelude.{ℕ, zero, suc, ◌+◌, ◌-◌, ◌*◌, ◌/◌, ◌%◌, ◌++◌, List, [], ◌∷◌}
+use Rattle.std.specs.Prelude.{Option, None, Some}
 use Rattle.std.specs.Prelude.{codes, decimal, length}
 use Rattle.std.specs.Prelude.{min, slice_get, nat_lt, nat_le, if◌then◌else◌}
 use Rattle.lock_word.specs.declared.ObjectId.{ObjectId}
@@ -40,7 +41,8 @@ bar_node naming l n o t count s k = in_turn (
     ∷ count_node (x_at l s.from + 2) (lane_top l k + 46 + 8 * n) (width_of l s) count ∷ [])
 
 -- nothing for a thread that has no lane
-unfoldable pub bar_where : Naming → Layout → ℕ → ObjectId → ThreadId → ℕ → Stretch → Option ℕ → Node
+unfoldable pub bar_where : Naming → Layout → ℕ → ObjectId → ThreadId → ℕ → Stretch → Option ℕ
+    → Node
 bar_where naming l n o t count s None = Nothing
 bar_where naming l n o t count s (Some k) = bar_node naming l n o t count s k
 
@@ -57,7 +59,8 @@ owned_node naming l n o t count s = in_turn (
     (owner_words naming t count) ∷ [])
 
 unfoldable pub free_title : Naming → Layout → ObjectId → Stretch → Node
-free_title naming l o s = title (in_turn (object_node naming o ∷ Words (codes " is free") ∷ columns_node l s ∷ []))
+free_title naming l o s =
+    title (in_turn (object_node naming o ∷ Words (codes " is free") ∷ columns_node l s ∷ []))
 
 unfoldable pub free_node : Naming → Layout → ℕ → ObjectId → Stretch → Node
 free_node naming l n o s = in_turn (
@@ -65,7 +68,8 @@ free_node naming l n o s = in_turn (
     ∷ cut_label (codes "label") (x_at l s.from + 2) (strip_top l n + 18) (room_in (width_of l s)) (codes "free") ∷ [])
 
 -- a strip's span, and the bar of the owner if there is one
-unfoldable pub held_node : Naming → Layout → List Lane → ℕ → ObjectId → Option ThreadId → ℕ → Stretch → Node
+unfoldable pub held_node : Naming → Layout → List Lane → ℕ → ObjectId → Option ThreadId → ℕ
+    → Stretch → Node
 held_node naming l lanes n o None count s = free_node naming l n o s
 held_node naming l lanes n o (Some t) count s =
     Then (owned_node naming l n o t count s) (bar_where naming l n o t count s (position_of lanes t))

@@ -2,7 +2,7 @@
 //! judged otherwise. Run with each allocation refused in turn, this meets every refusal that there
 //! is.
 
-use super::*;
+use super::crowds::{Act, plays};
 use std::test::Fail;
 
 const STEP: u32 = 2_654_435_769;
