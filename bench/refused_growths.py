@@ -68,6 +68,7 @@ TESTS = {
         "programs": [
             "a_refused_exploration_succeeds_when_tried_again",
             "a_refused_exploration_with_histories_succeeds_when_tried_again",
+            "a_refused_exploration_of_the_machine_succeeds_when_tried_again",
         ],
     },
 }

@@ -3,16 +3,32 @@
 
 python3 orders/explored.py THINMON
 
-The programs are those of `crates/explored_programs/data/classic.programs`, and those of
-`orders/strangers.programs`, whose calls name threads that the program has not. The second explorer is
+The programs are those of `crates/explored_programs/data/classic.programs`, those of
+`orders/strangers.programs`, whose calls name threads that the program has not, and those of
+`orders/choices.programs`, where the Java machine may choose what the service never does. The second explorer is
 `bench/explored.py`, which was written from the rules and not from the code. Of each program are compared how
-many states and steps it has, its outcomes with how many ends have each, and how long the script of each is: no
-other leads there with fewer steps. Each script is then played by `thinmon run`, and has to come to that outcome.
+many states and steps it has, its outcomes in their order with how many ends have each, and how long the script of
+each is: no other leads there with fewer steps. Each script is then played by `thinmon run`, and has to come to the
+replies and the objects of that outcome.
+
 With `--moves` the same outcomes have to be told, each with the history that `thinmon run --moves` writes of its
 script, but for the numbers of threads that the program has not, and `thinmon check` has to find the moves of that
-history a run. In the histories of the second file such threads have the numbers of the program, and in what is
-written of the scripts other ones.
+history a run. In the histories of `orders/strangers.programs` such threads have the numbers of the program, and in
+what is written of the scripts other ones.
+
+With `--any` the second explorer is `bench/explored_any.py`, which explores the Java machine itself. Compared are how
+many states and steps there are, the outcomes in their order with how many ends have each, and how long the history of
+each is: no other leads there with fewer moves. No script is played, since there is none. `thinmon check` has to find
+the moves of each history a run, and the calls have to return in it with the replies of its outcome. The second
+explorer makes the same moves, which it has to find among those that the program leaves to the machine, and has to come
+to an end with that outcome. Threads that the program has not stand there with the numbers of the program.
+
+Each outcome of the core in which nothing was refused for want of a monitor or of memory has to be among those of the
+machine. Where the core never refuses anything so, the machine has outcomes that the core has not just in the programs
+of `orders/choices.programs`.
 """
+import itertools
+import json
 import pathlib
 import re
 import subprocess
@@ -23,9 +39,11 @@ sys.dont_write_bytecode = True
 ROOT = pathlib.Path(__file__).resolve().parent.parent
 sys.path.insert(0, str(ROOT / "bench"))
 import explored  # noqa: E402
+import explored_any  # noqa: E402
 
 STRANGERS = ROOT / "orders/strangers.programs"
-PROGRAMS = (ROOT / "crates/explored_programs/data/classic.programs", STRANGERS)
+CHOICES = ROOT / "orders/choices.programs"
+PROGRAMS = (ROOT / "crates/explored_programs/data/classic.programs", STRANGERS, CHOICES)
 
 
 def texts(programs):
@@ -146,6 +164,33 @@ def parts_of(report, form):
     return counts, parts
 
 
+def compare_outcomes(parts, outcomes):
+    """The outcomes of a report are those of a second explorer, and in the order in which they are found.
+
+    So none stands behind one to which a longer way leads (docs/FORMATS.md#what-comes-of-a-program). Of equally long
+    ones that comes first whose choices or moves do: both explorers try those of each thread in turn, and then that of
+    the clock.
+    """
+    assert [number for number, _, _, _ in parts] == list(range(1, len(outcomes) + 1)), "not so many outcomes"
+    assert {told: ends for _, ends, told, _ in parts} == {told: ends for told, (ends, _) in outcomes.items()}
+    fewest = [outcomes[told][1] for _, _, told, _ in parts]
+    assert fewest == sorted(fewest), f"an outcome stands behind one to which a longer way leads: {fewest}"
+    assert [told for _, _, told, _ in parts] == list(outcomes), "outcomes with equally long ways in another order"
+
+
+def replies_of(line):
+    """The replies that the line of a thread tells: all that stands before where it is stuck, or interrupted."""
+    return list(itertools.takewhile(lambda word: word not in ("stuck", "interrupted"), line.split()[2:]))
+
+
+def compare_replies(program, told, replies):
+    """The lines of an outcome tell just these replies of each thread."""
+    lines = [line for line in told if line.startswith("thread ")]
+    assert [line.split()[1] for line in lines] == program.threads, lines
+    for line in lines:
+        assert replies_of(line) == replies[line.split()[1]], line
+
+
 def played(thinmon, script):
     """What a script comes to: the replies of each thread, and the lines of the objects without their words."""
     done = subprocess.run([thinmon, "run"], input="".join(line + "\n" for line in script), text=True,
@@ -204,24 +249,80 @@ def compare_histories(thinmon, program, text, counts, parts):
     return others
 
 
+def returned(program, history):
+    """The replies with which the calls of each thread return in a history."""
+    replies = {name: [] for name in program.threads}
+    for line in map(json.loads, history[1:]):
+        if line["move"] == "Return":
+            cause = f"/{line['cause']}" if "cause" in line else ""
+            replies[program.threads[line["thread"]]].append(line["reply"] + cause)
+    return replies
+
+
+def compare_targets(text, names, history):
+    """The calls of a history name just the threads that those of the program do, by their numbers in these names."""
+    calls = []
+    for words in map(str.split, text.splitlines()):
+        if words[0] == "thread":
+            calls.append([])
+        elif words[0] == "call":
+            calls[-1].append(words[1:])
+    unmade = [iter(of_thread) for of_thread in calls]
+    for line in map(json.loads, history[1:]):
+        if line["move"] == "Call":
+            call = next(unmade[line["thread"]])
+            assert "target" not in line or names[line["target"]] == call[1], f"another target: {line}"
+
+
+def is_refused_for_want(told):
+    """Whether a call was refused in an outcome for want of a monitor or of memory."""
+    return any(f"Refused/{cause}" in line.split() for line in told for cause in ("NoMonitor", "Memory"))
+
+
+def compare_any(thinmon, program, text, core):
+    """Compares what is told of a program on the Java machine; `core` has the outcomes of the core, by their lines.
+
+    Whether the machine has outcomes that the core has not, though the core refuses nothing for want."""
+    done = subprocess.run([thinmon, "explore", "--any"], input=text, text=True, capture_output=True, check=True)
+    again = subprocess.run([thinmon, "explore", "--any", "--moves"], input=text, text=True, capture_output=True,
+                           check=True)
+    assert again.stdout == done.stdout, "--moves changes what --any tells"
+    counts, parts = parts_of(done.stdout, "history")
+    states, steps, outcomes = explored_any.explore(program)
+    assert counts == f"states {states} steps {steps}", counts
+    compare_outcomes(parts, outcomes)
+    names = program.threads + strangers_in(text.splitlines(), program.threads)
+    for _, _, told, history in parts:
+        assert len(history) == 1 + len(program.threads) + outcomes[told][1], "a history is not a shortest one"
+        assert written([thinmon, "check"], history) == f"run of {len(history) - 1} moves\n"
+        compare_replies(program, told, returned(program, history))
+        state = explored_any.followed(program, history)
+        assert explored_any.outcome(program, state) == told, f"a history leads to another outcome: {told}"
+        assert not any(explored_any.moves(program, state)), f"a history does not lead to an end: {told}"
+        compare_targets(text, names, history)
+    for told in core:
+        assert told in outcomes or is_refused_for_want(told), f"an outcome of the core is none of the machine: {told}"
+    return not any(map(is_refused_for_want, core)) and any(told not in core for told in outcomes)
+
+
 def compare(thinmon, program, text):
-    """Compares what is told of a program. Whether all its histories have other numbers than their scripts."""
+    """Compares what is told of a program.
+
+    Whether all its histories have other numbers than their scripts, and whether the machine has outcomes that the core
+    has not, though the core refuses nothing for want."""
     done = subprocess.run([thinmon, "explore"], input=text, text=True, capture_output=True, check=True)
     counts, parts = parts_of(done.stdout, "script")
     states, steps, outcomes = explore(program)
     assert counts == f"states {states} steps {steps}", counts
-    assert [number for number, _, _, _ in parts] == list(range(1, len(outcomes) + 1))
-    assert {told: ends for _, ends, told, _ in parts} == {told: ends for told, (ends, _) in outcomes.items()}
+    compare_outcomes(parts, outcomes)
     opening = 1 + len(program.objects) + len(program.threads)
     for _, _, told, script in parts:
         assert len(script) == opening + outcomes[told][1], "a script is not a shortest one"
         replies, objects = played(thinmon, script)
-        for line in told:
-            words = line.split()
-            if words[0] == "thread":
-                assert words[2:2 + len(replies[words[1]])] == replies[words[1]], line
+        compare_replies(program, told, replies)
         assert objects == [line for line in told if line.startswith("object ")], objects
-    return compare_histories(thinmon, program, text, counts, parts)
+    more = compare_any(thinmon, program, text, outcomes)
+    return compare_histories(thinmon, program, text, counts, parts), more
 
 
 def main():
@@ -230,9 +331,10 @@ def main():
     for file in PROGRAMS:
         for program, text in zip(explored.read(str(file)), texts(file), strict=True):
             try:
-                others = compare(thinmon, program, text)
+                others, more = compare(thinmon, program, text)
                 assert others == (file == STRANGERS), "whether strangers have other numbers in a script"
-            except AssertionError as error:
+                assert more == (file == CHOICES), "whether the machine chooses what the core never does"
+            except (AssertionError, ValueError) as error:
                 raise SystemExit(f"explored: {program.name}: {error}")
             count += 1
     print(f"explored: {count} programs as the second explorer finds them")
