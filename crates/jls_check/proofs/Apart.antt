@@ -1,13 +1,13 @@
 -- The numbers of a machine tell it apart.
-use Rattle.std.proofs.Common.{◌≡◌, ◌≤◌, ◌<◌, ℕ, zero, suc, ◌+◌, Bool, true, false, List, [], ◌∷◌, ◌++◌, length, ℤ, pos, negsuc, ◌⊎◌}
-use Rattle.std.proofs.Common.{get_or, Option, Some, None, refl, sym, ◌∙◌, ap, arith, inl, inr}
+use Rattle.std.proofs.Common.{◌≡◌, ◌≤◌, ◌<◌, ℕ, zero, suc, Bool, false, List, [], ◌∷◌, ◌++◌, length, ℤ, pos, negsuc, ◌⊎◌}
+use Rattle.std.proofs.Common.{get_or, Some, None, refl, sym, ◌∙◌, ap, arith, inl, inr}
 use Rattle.std.proofs.lemmas.Bool.{cases_lt}
 use Rattle.std.specs.Cmp.{nat_cmp_total}
 use Rattle.std.specs.FinMap as map
 use Rattle.std.specs.FinMap.{same_map, nat_cmp-IsAntisymmetric}
 use Rattle.fat_monitor.specs.declared.actions.Post.{Post}
 use Rattle.fat_monitor.specs.declared.actions.Post.TheVariants as post
-use Rattle.fat_monitor.specs.Numbers.{truth_number, owner_number, post_numbers}
+use Rattle.fat_monitor.specs.Numbers.{truth_number, post_numbers}
 use Rattle.fat_monitor.proofs.Fronts.{first, behind}
 use Rattle.fat_monitor.proofs.Apart.{IsApart, IsReadBack, read_apart, record_apart, truth_of, truth_back, owner_of, owner_back, regrouped}
 use Rattle.fast_path.specs.declared.calls.Call.{Call}
@@ -15,7 +15,6 @@ use Rattle.fast_path.specs.declared.calls.Call.TheVariants as call
 use Rattle.step_core.specs.declared.machine.Doing.{Doing}
 use Rattle.step_core.specs.declared.machine.Doing.TheVariants.{Idle, Wants, Waits, Back, Has}
 use Rattle.jls_check.specs.declared.monitors.ObjectRecord.{ObjectRecord}
-use Rattle.jls_check.specs.declared.threads.ThreadRecord.{ThreadRecord}
 use Rattle.jls_check.specs.LiveThreads.{LiveThreads}
 use Rattle.jls_check.specs.MachineState.{MachineState}
 use Rattle.jls_check.specs.Numbers.{call_numbers, doing_numbers, record_numbers, threads_numbers, object_numbers, objects_numbers, numbers_of, AreBelow}

@@ -1,7 +1,7 @@
-use Rattle.std.proofs.Common.{◌≡◌, ◌<◌, ◌≤◌, ◌∙◌, ◌++◌, ◌+◌, ◌∷◌, ℕ, List, add-one, ap, drop, get_or, length, suc, sym}
+use Rattle.std.proofs.Common.{◌≡◌, ◌<◌, ◌≤◌, ◌∙◌, ◌++◌, ◌+◌, ℕ, List, add-one, ap, drop, get_or, length, sym}
 use Rattle.std.proofs.Math.Seq.{drop-cons}
 use Rattle.std.proofs.lemmas.List.{append_assoc, append-nil, drop_all}
-use Rattle.fat_monitor.proofs.Fronts.{front_same, front_then}
+use Rattle.fat_monitor.proofs.Fronts.{front_then}
 use Rattle.jls_check.specs.declared.monitors.ObjectRecord.{ObjectRecord}
 use Rattle.jls_check.specs.Numbers.{object_numbers, objects_numbers}
 use Rattle.jls_check.proofs.numbers.push_objects.Goals as goal

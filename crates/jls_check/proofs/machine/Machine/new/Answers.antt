@@ -1,7 +1,6 @@
 use Rattle.std.proofs.Common.{List, ap, rules, arith}
 use Rattle.std.specs.FinMap as map
 use Rattle.jls_check.specs.declared.monitors.ObjectRecord.{ObjectRecord}
-use Rattle.jls_check.specs.MachineState.{MachineState}
 use Rattle.jls_check.proofs.Soundness.{opening_sound}
 use Rattle.jls_check.proofs.States.{state-opening}
 use Rattle.jls_check.proofs.machine.Machine.new.Goals as goal
