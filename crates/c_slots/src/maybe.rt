@@ -24,9 +24,9 @@ impl<T, A: Allocator> Model for MaybeParts<T, A> {
 }
 
 impl<T, A: Allocator> MaybeParts<T, A> {
-    /// Those of a box: the same pointer.
+    /// Those of a box.
     pub fn of(parts: Parts<T, A>) -> MaybeParts<T, A>
-        ensures { (result.value ≡ Some parts.value) × (result.ptr ≡ parts.ptr) }
+        ensures { result.value ≡ Some parts.value }
     {
         let Parts { ptr, alloc } = parts;
         MaybeParts { ptr, alloc }
