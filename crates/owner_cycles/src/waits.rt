@@ -3,14 +3,14 @@
 ghost use Rattle.std.specs.Prelude.{◌≡◌, ℕ, IfOk, OnOk, length, map};
 ghost use Rattle.std.specs.List.{Contains};
 ghost use Rattle.std.specs.List.Sorted.{IsStrictlyIncreasing};
-ghost use Rattle.step_core.specs.Cycles.{next, object_wanted};
+ghost use Rattle.step_core.specs.Cycles.{next};
 ghost use Rattle.step_core.specs.Shown.{shown};
 ghost use Rattle.owner_cycles.specs.Threads.{AreLiveThreads, Ascend, HasPositions, HaveBerths};
 ghost use Rattle.owner_cycles.specs.Threads.{IsPosition, threads_numbered, with_holder};
 
-use lock_word::{ObjectId, ThreadId};
+use lock_word::ThreadId;
 use std::alloc::{AllocError, Global};
-use step_core::{Call, Doing, World};
+use step_core::World;
 
 /// The live threads of a world, by rising number.
 pub fn live_threads(alloc: Global, world: &World) -> Result<Vec<ThreadId>, AllocError>
@@ -112,17 +112,7 @@ fn position_of(threads: &[ThreadId], thread: Option<ThreadId>) -> Option<usize>
 fn next_of(world: &World, thread: ThreadId) -> Option<ThreadId>
     ensures { result ≡ next (shown world.now) thread }
 {
-    let object = wanted(world.doing(thread)?)?;
+    let object = world.doing(thread)?.object_wanted()?;
     let owner = world.owner(object)?;
     if owner == thread { None } else { Some(owner) }
-}
-
-/// The object that a thread wants to enter or comes back to.
-fn wanted(doing: Doing) -> Option<ObjectId>
-    ensures { result ≡ object_wanted doing }
-{
-    match doing {
-        Doing::Wants(Call::Enter(object)) | Doing::Back { object, .. } => Some(object),
-        Doing::Idle | Doing::Wants(_) | Doing::Waits { .. } | Doing::Has(_) => None,
-    }
 }

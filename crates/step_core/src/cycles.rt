@@ -1,7 +1,7 @@
-//! The law of cycles of owners: of threads each of which waits for an object that the next one
-//! owns.
+//! Cycles of owners: threads each of which waits for an object that the next one owns. What a
+//! thread wants, and the law of cycles.
 
-ghost use Rattle.std.specs.Prelude.{ℕ, List, Bool};
+ghost use Rattle.std.specs.Prelude.{◌≡◌, ℕ, List, Bool};
 ghost use Rattle.std.specs.List.{Contains};
 ghost use Rattle.lock_word.specs.declared.ThreadId.{ThreadId};
 ghost use Rattle.fat_monitor.specs.declared.actions.Reply.{Reply};
@@ -13,11 +13,27 @@ ghost use Rattle.step_core.specs.Shown.{shown};
 ghost use Rattle.step_core.specs.Requests.{world_after};
 ghost use Rattle.step_core.specs.Lasting.{NeverReturns};
 ghost use Rattle.step_core.specs.Laws.{OfEveryList};
-ghost use Rattle.step_core.specs.Cycles.{IsCycle};
+ghost use Rattle.step_core.specs.Cycles.{IsCycle, object_wanted};
+
+use crate::machine::Doing;
+use fast_path::Call;
+use lock_word::ObjectId;
+
+impl Doing {
+    /// The object that a thread which does this wants to enter, or comes back to.
+    pub fn object_wanted(self) -> Option<ObjectId>
+        ensures { result ≡ object_wanted self }
+    {
+        match self {
+            Doing::Wants(Call::Enter(object)) | Doing::Back { object, .. } => Some(object),
+            Doing::Idle | Doing::Wants(_) | Doing::Waits { .. } | Doing::Has(_) => None,
+        }
+    }
+}
 
 /// A cycle of owners stays the same cycle, whatever move the abstract machine makes, so over every
 /// run and every list of steps; and none of its threads returns from its call.
-#[tactic(auto, using(crate::proofs::Lists::Rings::cycle_stays, crate::proofs::Lists::Rings::none_returns, crate::proofs::Lists::Rings::cycle_lasts, crate::proofs::Lists::Rings::reached_silent))]
+#[tactic(auto, using(crate::proofs::Lists::Rings::cycle_laws))]
 pub fn a_cycle_of_owners_stays()
     ensures stays { (s s' : State) (m : Move) (c : List ThreadId)
         → IsCycle s c → Steps s m s' → IsCycle s' c }

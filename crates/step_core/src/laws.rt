@@ -69,7 +69,7 @@ pub fn every_call_is_patient()
 /// wait is over, and so does one whose time was over, or that woke spuriously; one that an
 /// interrupt took out of the wait set stays so until its call has the reply Interrupted; and a
 /// reply, however it was given, is kept until the thread's own Go returns with it.
-#[tactic(auto, using(crate::proofs::Lists::Reached::reached_notified, crate::proofs::Lists::Reached::reached_interrupted, crate::proofs::Lists::Reached::reached_elapsed, crate::proofs::Lists::Reached::reached_spurious, crate::proofs::Lists::Reached::reached_kept))]
+#[tactic(auto, using(crate::proofs::Lists::Reached::reached_lasts))]
 pub fn no_notification_is_lost()
     ensures notified { OfEveryList (λ lows w steps v.
         (u : ThreadId) (o : ObjectId) (n : ℕ) (more : List (Request × Bool))
@@ -102,7 +102,7 @@ pub fn no_notification_is_lost()
 /// to another member of the set, if there is one, and the wait throws, when the interrupt is
 /// forgotten. Where the notification comes first, the wait returns normally, with the interrupt
 /// pending. It never returns normally with its interrupt forgotten.
-#[tactic(auto, using(crate::proofs::Lists::Waiters::first_interrupted, crate::proofs::Lists::Waiters::not_chosen, crate::proofs::Lists::Waiters::another, crate::proofs::Lists::Waiters::thrown, crate::proofs::Lists::Waiters::first_notified, crate::proofs::Lists::Waiters::pending, crate::proofs::Lists::Waiters::returned, crate::proofs::Lists::Waiters::never_lost))]
+#[tactic(auto, using(crate::proofs::Lists::Waiters::both_orders))]
 pub fn a_waiter_throws_or_keeps_its_interrupt()
     ensures first_interrupted { (s s' : State) (t u : ThreadId) (mine theirs : Bool)
         (o : ObjectId) (n : ℕ) (d : Option ℕ)

@@ -143,3 +143,6 @@ module _ (lows : List ℕ) (monitors indices : ℕ) (split : Split) (steps : Lis
   pub reached_kept : (u : ThreadId) (r : Reply) (more : List (Request × Bool)) → HasReply (shown (reached lows monitors indices split steps)) u r
       → NeverReturns (reached lows monitors indices split steps) u r more → HasReply (shown (world_after (reached lows monitors indices split steps) more)) u r
   reached_kept u r more has never = all_replied (reached lows monitors indices split steps) reached_sound u r more has never
+
+-- what lasts, whatever steps come: a notification, each other reason to be back, and a reply
+pub ruleset reached_lasts = (reached_notified, reached_interrupted, reached_elapsed, reached_spurious, reached_kept)

@@ -402,3 +402,6 @@ module _ (lows : List ℕ) (monitors indices : ℕ) (split : Split) (steps : Lis
   pub reached_silent : (c : List ThreadId) (u : ThreadId) (r : Reply) (more : List (Request × Bool)) → IsCycle (shown (reached lows monitors indices split steps)) c → Contains c u
       → NeverReturns (reached lows monitors indices split steps) u r more
   reached_silent c u r more is in' = never_returns (reached lows monitors indices split steps) (reached_sound lows monitors indices split steps limits) c u r more is in'
+
+-- what holds of a cycle, by one move, by a run, and by a list of steps
+pub ruleset cycle_laws = (cycle_stays, none_returns, cycle_lasts, reached_silent)

@@ -130,3 +130,6 @@ never_lost s s' m u o n w one is over = by_case (one_step s u true (Back o n w) 
         let x = same_Some _ _ (sym over ∙ set_stays s' u (Back o n w) stays) in let never : false ≡ true = ap (λ (z : Thread). z.flag) x in absurd (cc)
     by_case (inr (inl (p, k, y, e, h))) = by_reason y h
     by_case (inr (inr (v, q, e, same, h))) = absurd (cc)
+
+-- both orders of a notify and an interrupt
+pub ruleset both_orders = (first_interrupted, not_chosen, another, thrown, first_notified, pending, returned, never_lost)
