@@ -3,7 +3,7 @@
 /// Who is told how far an exploration has come. What is found rests on nothing that it does.
 pub trait Watch {
     /// So many states were found by now, and so many of them are still to be visited: told each
-    /// time that a state was visited.
+    /// time that a state was visited, unless there are too many then.
     fn tell(&mut self, found: usize, waiting: usize);
 
     /// The exploration is over, whatever came of it: told once.

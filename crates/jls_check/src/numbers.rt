@@ -27,18 +27,19 @@ pub fn numbers_tell_machines_apart()
 {}
 
 impl Machine {
-    /// Puts the numbers of the machine behind those that are there: the moment; of each object its
-    /// owner, how often it is locked and how many threads wait on it; and each thread below this
-    /// number. Two machines without other threads have the same numbers exactly where they are the
-    /// same, as the law [`numbers_tell_machines_apart`] says.
+    /// Puts the numbers of the machine behind those that are there: the moment, and how many objects
+    /// there are; of each object its owner, how often it is locked and how many threads wait on it;
+    /// and each thread below this number. Two machines without other threads have the same numbers
+    /// exactly where they are the same, as the law [`numbers_tell_machines_apart`] says.
     ///
-    /// On want of memory the list has its old content, and some of these numbers behind it.
+    /// On want of memory the list begins with its old content, and may have some of these numbers
+    /// behind it.
     #[tactic(auto, using(fat_monitor::proofs::Fronts::fronts))]
     pub fn push_numbers(&self, threads: u32, numbers: &mut Vec<u64>) -> Result<(), Memory>
         ensures written { OnOk result
             (numbers.new.items ≡ numbers.old.items ++ numbers_of threads self.now) }
         ensures front { BeginsWith numbers.new.items numbers.old.items }
-        // By the invariant of the machine, for those who see the numbers alone.
+        // It holds of every machine; a caller that has its value alone learns it here.
         ensures sound { IsSound self.now }
     {
         numbers.extend_from_slice(&[self.moment, self.objects.len() as u64])?;

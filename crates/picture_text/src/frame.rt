@@ -81,7 +81,8 @@ fn begin_root(text: &mut String, width: u64, height: u64) -> Result<(), AllocErr
     let zero = 0u64;
     write!(
         text,
-        "<svg xmlns=\"http://www.w3.org/2000/svg\" version=\"1.1\" width=\"{width}\" height=\"{height}\" viewBox=\"{zero} {zero} {width} {height}\">"
+        "<svg xmlns=\"http://www.w3.org/2000/svg\" version=\"1.1\" width=\"{width}\" \
+         height=\"{height}\" viewBox=\"{zero} {zero} {width} {height}\">"
     )
 }
 
@@ -106,7 +107,8 @@ fn begin_pattern(text: &mut String, number: u64) -> Result<(), AllocError>
     let size = 6u64;
     write!(
         text,
-        "<pattern id=\"p{number}\" patternUnits=\"userSpaceOnUse\" width=\"{size}\" height=\"{size}\">"
+        "<pattern id=\"p{number}\" patternUnits=\"userSpaceOnUse\" \
+         width=\"{size}\" height=\"{size}\">"
     )
 }
 
@@ -154,7 +156,8 @@ fn begin_marker(text: &mut String, number: u64) -> Result<(), AllocError>
 {
     write!(
         text,
-        "<marker id=\"a{number}\" viewBox=\"0 0 10 10\" refX=\"9\" refY=\"5\" markerWidth=\"7\" markerHeight=\"7\" orient=\"auto\">"
+        "<marker id=\"a{number}\" viewBox=\"0 0 10 10\" refX=\"9\" refY=\"5\" \
+         markerWidth=\"7\" markerHeight=\"7\" orient=\"auto\">"
     )
 }
 
