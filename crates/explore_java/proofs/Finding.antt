@@ -310,7 +310,7 @@ length_from ws (n ∷ ns) =
 pub length_witnesses : (ns : List Node) → length (witnesses ns) ≡ length ns + 1
 length_witnesses ns = let h = length_from ([] ∷ []) ns in omega (arith, h)
 
--- the witness of a state is that of its parent, and its choice
+-- the witness of a state is that of its parent, and its move
 back_from : (ws : List (List Move)) (ns : List Node) (k : ℕ) → k < length ns → (node_at ns k).parent < length ws + k
     → witness_at (witnesses_from ws ns) (length ws + k) ≡ witness_at (witnesses_from ws ns) (node_at ns k).parent ++ (node_at ns k).made ∷ []
 back_from ws [] k lt below = absurd (omega (arith, lt))

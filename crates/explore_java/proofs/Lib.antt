@@ -1,4 +1,5 @@
 mod Choosing
+mod Once
 mod Coding
 mod Finding
 mod Locks

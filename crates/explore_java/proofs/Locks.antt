@@ -1,5 +1,5 @@
--- How objects are locked in the runs of the machine: 65,535 times at most, and by no thread that waits for a notify or
--- comes back.
+-- How objects are locked in the runs of the machine: 65,535 times at most, and no object by a thread that waits on it
+-- or is to come back to it.
 use native.Mathlib.Omega.{arith}
 use Rattle.std.proofs.Common.{◌≡◌, ◌∙◌, ◌⊎◌, inl, inr, subst, sym, ap, refl, ℕ, ◌<◌, ◌≤◌, ◌==◌, List, [], ◌∷◌, Option, Some, None, Bool, true, false, if◌then◌else◌}
 use Rattle.std.proofs.lemmas.Bool.{cases_lt, eq-eqb, eqb-true}
@@ -38,7 +38,8 @@ IsAway (Waits o n d) q = q.0 ≡ o.0
 IsAway (Back o n w) q = q.0 ≡ o.0
 IsAway (Has r) q = ⊥
 
--- who has given up an object does not own it
+-- What holds behind every run: monitors are counted; who waits on an object or comes back to it is to lock it 1 to
+-- 65,535 times, and does not own it.
 pub record AreRight (x : State) : Type 0 where
   pub counts : (o : ObjectId) → IsCounted (x.monitor o)
   pub again : (t : ThreadId) (y : Thread) → x.thread t ≡ Some y → WillLock y.act
@@ -171,7 +172,7 @@ away_interrupted (Waits o n d) q a = a
 away_interrupted (Back o n w) q a = a
 away_interrupted (Has r) q a = a
 
--- a thread that does nothing, has made a call or has its reply, and one that comes back
+-- a thread that has its reply, and one that does nothing
 right_plain : (x : State) (t : ThreadId) (flag : Bool) (r : Reply) → AreRight x → AreRight (with_reply x t flag r)
 right_plain x t flag r right = right_now x t flag (Has r) right tt (λ q away own. away)
 

@@ -52,6 +52,15 @@ pub record IsPlay (p : Program) (ms : List Move) (s : JavaProgramState) : Type 0
   pub attaches : attached_in ms ≡ []
   pub wants : NoneForWant ms
 
+-- what the program leaves to the machine here is no refusal for want
+pub not_for_want : (p : Program) (s : JavaProgramState) (m : Move) → is_left p s m ≡ true → is_for_want m ≡ false
+not_for_want p s (move.Refuse t c) left = by (is_want c) left
+  where
+    by : (b : Bool) → (if b then false else true) ≡ true → b ≡ false
+    by false e = refl
+    by true e = absurd (cc)
+not_for_want p s m left = refl
+
 pub wants_more : (ms : List Move) (m : Move) → NoneForWant ms → is_for_want m ≡ false → NoneForWant (ms ++ m ∷ [])
 wants_more [] m h e = (e, tt)
 wants_more (n ∷ ms) m h e = (h.0, wants_more ms m h.1 e)
@@ -215,11 +224,7 @@ module _ (p : Program) (ms : List Move) (s : JavaProgramState) (play : IsPlay p 
   by_move (move.Spurious t) v left leads =
       other_next (noted s (move.Spurious t) v) (move.Spurious t) leads refl refl (λ u. refl) refl refl (λ never. absurd (let f = sym never ∙ left in cc)) refl
   by_move (move.Refuse t c) v left leads =
-      other_next (noted s (move.Refuse t c) v) (move.Refuse t c) leads refl refl (λ u. refl) refl refl (λ never. refl) (no_want (is_want c) left)
-    where
-      no_want : (b : Bool) → (if b then false else true) ≡ true → b ≡ false
-      no_want false e = refl
-      no_want true e = absurd (cc)
+      other_next (noted s (move.Refuse t c) v) (move.Refuse t c) leads refl refl (λ u. refl) refl refl (λ never. refl) (not_for_want p s (move.Refuse t c) left)
   by_move m v left leads = other_next (noted s m v) m leads refl refl (λ u. refl) refl refl (λ never. refl) refl
 
 -- where a program begins

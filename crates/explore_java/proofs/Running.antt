@@ -1,6 +1,6 @@
 -- What is played is a run that the program leaves to the machine, and every such run is played.
 use native.Mathlib.Omega.{arith}
-use Rattle.std.proofs.Common.{◌≡◌, ◌∙◌, subst, sym, ap, refl, ℕ, zero, suc, ◌-◌, ◌<◌, ◌==◌, List, [], ◌∷◌, ◌++◌, length, Option, Some, None, Bool, true, false, if◌then◌else◌, take, append_assoc, append-nil}
+use Rattle.std.proofs.Common.{◌≡◌, ◌∙◌, subst, sym, ap, refl, ℕ, zero, suc, ◌-◌, ◌<◌, ◌==◌, List, [], ◌∷◌, ◌++◌, length, Option, Some, None, Bool, true, false, if◌then◌else◌, take, append_assoc, append-nil, length-append, ◌≤◌}
 use Rattle.std.specs.Prelude.{◌&&◌, nat_lt, map, slice_get, slice_set}
 use Rattle.std.specs.List.{cons_option, filter_map}
 use Rattle.std.specs.Option.{unwrap_or}
@@ -34,7 +34,7 @@ use Rattle.explore_java.specs.Moves.{moves_in}
 use Rattle.explore_java.proofs.Choosing.{HasMove, after_taken, covers}
 use Rattle.explore_java.proofs.Making.{below_out, live_below, noted_machine, opening_out}
 use Rattle.explore_java.proofs.Returning.{AreReturned, call_returned, in_call, inside_returned, is_busy, next_of, opening_returned, return_returned}
-use Rattle.explore_java.proofs.Playing.{IsPlay, attach_more, attaches_run, attaches_want, begin_play, call_left, first_machine, left_call, play_next, reply_nexts, told_behind}
+use Rattle.explore_java.proofs.Playing.{IsPlay, attach_more, attaches_run, attaches_want, begin_play, call_left, first_machine, left_call, not_for_want, play_next, reply_nexts, told_behind}
 
 no_lead : (p : Program) (ms : List Move) (t : JavaProgramState) → played_from p ms None ≡ Some t → ⊥
 no_lead p [] t e = cc
@@ -315,14 +315,31 @@ module _ (p : Program) (f : FoundJavaStates) (finds : FindsAll p f) where
   pub play_returns : (ms : List Move) (t : JavaProgramState) (k : ℕ) → played p ms ≡ Some t → k < count_of p → returns_in (thread_of k) (attaches_of p ++ ms) ≡ replies_of p t k
   play_returns ms t k e lt = told_behind (returned_by (thread_of k)) (λ u. refl) p ms ∙ ((played_run ms t e).returned.threads k lt).said
 
+  -- Behind it each move can be made that the machine may make and the program leaves to it, but for refusals for want,
+  pub lawful_is_made : (ms : List Move) (t : JavaProgramState) → played p ms ≡ Some t → (m : Move) (y : State)
+      → IsLeft p (attaches_of p ++ ms) m → is_for_want m ≡ false → Steps (state t.machine) m y → (u : JavaProgramState) × (after p t m ≡ Some u) × (state u.machine ≡ y)
+  lawful_is_made ms t e m y left want h =
+      let play = (played_run ms t e).play in
+      let proper = proper_of ms t e in
+      leads_on p ms t play proper m y (behind_left p ms t play proper m left want) h
+
+  -- and no other.
+  pub made_is_lawful : (ms : List Move) (t u : JavaProgramState) → played p ms ≡ Some t → (m : Move) → after p t m ≡ Some u
+      → IsLeft p (attaches_of p ++ ms) m × (is_for_want m ≡ false) × Steps (state t.machine) m (state u.machine)
+  made_is_lawful ms t u e m made =
+      let play = (played_run ms t e).play in
+      let proper = proper_of ms t e in
+      let x = after_taken p t m u made in (
+        left_behind p ms t play proper m x.left,
+        not_for_want p t m x.left,
+        subst (λ (v : State). Steps (state t.machine) m v) (sym (ap (λ (q : JavaProgramState). state q.machine) x.noted ∙ ap state (noted_machine t m x.machine)))
+            (takes_right t.machine m x.machine proper.sound x.takes),
+      )
+
   -- and where it is an end, the machine can do nothing more that the program leaves to it
   pub end_is_stuck : (ms : List Move) (t : JavaProgramState) → played p ms ≡ Some t → IsEnd p t
       → (m : Move) (y : State) → IsLeft p (attaches_of p ++ ms) m → is_for_want m ≡ false → Steps (state t.machine) m y → ⊥
-  end_is_stuck ms t e end m y left want h =
-      let play = (played_run ms t e).play in
-      let proper = proper_of ms t e in
-      let u = leads_on p ms t play proper m y (behind_left p ms t play proper m left want) h in
-      end m u.0 u.1
+  end_is_stuck ms t e end m y left want h = let u = lawful_is_made ms t e m y left want h in end m u.0 u.1
 
   -- ---- a run is played
   record IsPlayed (done todo : List Move) (x : State) : Type 0 where
@@ -378,17 +395,28 @@ module _ (p : Program) (f : FoundJavaStates) (finds : FindsAll p f) where
     replies = λ k lt. ap (returns_in (thread_of k)) r.1 ∙ play_returns r.0 r.2.to k r.2.play.leads lt;
   }
 
+  -- what is found is found with no more moves
+  no_longer : (ms rest : List Move) → ms ≡ attaches_of p ++ rest → (k : ℕ) → length (witness_at f.witnesses k) ≤ length rest
+      → length (attaches_of p ++ witness_at f.witnesses k) ≤ length ms
+  no_longer ms rest e k le =
+      let all = ap (λ (l : List Move). length l) e in
+      let one = length-append (attaches_of p) (witness_at f.witnesses k) in
+      let two = length-append (attaches_of p) rest in
+      omega (arith, all, one, two, le)
+
   -- Whatever run of the machine a program may make, without a refusal for want, leads to what is found.
   pub run_is_found : (ms : List Move) (x : State) → IsRunOf p ms x → NoneForWant ms
       → (k : ℕ) × (k < length f.witnesses) × (t : JavaProgramState) × IsAt p f.witnesses k t × Shows p ms x t
+      × (length (attaches_of p ++ witness_at f.witnesses k) ≤ length ms)
   run_is_found ms x of wants =
       let r = run_played ms x of wants in
       let k = finds.complete r.0 r.2.to r.2.play.leads in
-      (k.0, k.1, r.2.to, k.2, shows_run ms x r)
+      (k.0, k.1, r.2.to, k.2, shows_run ms x r, no_longer ms r.0 r.1 k.0 (finds.shortest k.0 r.0 r.2.to k.1 k.2 r.2.play.leads))
 
   -- and where the machine can do nothing more, it is found among the ends
   pub outcome_is_end : (ms : List Move) (x : State) → IsOutcomeOf p ms x → NoneForWant ms
       → (i : ℕ) × (i < length f.ends) × (t : JavaProgramState) × IsAt p f.witnesses (end_at f i) t × Shows p ms x t
+      × (length (attaches_of p ++ witness_at f.witnesses (end_at f i)) ≤ length ms)
   outcome_is_end ms x out wants =
       let r = run_played ms x out.of wants in
       let to = r.2.to in
@@ -400,7 +428,14 @@ module _ (p : Program) (f : FoundJavaStates) (finds : FindsAll p f) where
       out.stuck m (state taken_so.machine) (subst (λ (l : List Move). IsLeft p l m) (sym r.1) (left_behind p r.0 to play proper m taken_so.left))
       (subst (λ (v : State). Steps v m (state taken_so.machine)) r.2.shows (takes_right to.machine m taken_so.machine proper.sound taken_so.takes))) in
       let i = finds.ends.every k.0 to k.1 k.2 end in
-      (i.0, i.1, to, subst (λ (n : ℕ). IsAt p f.witnesses n to) (sym i.2) k.2, shows_run ms x r)
+      let le = no_longer ms r.0 r.1 k.0 (finds.shortest k.0 r.0 to k.1 k.2 play.leads) in (
+        i.0,
+        i.1,
+        to,
+        subst (λ (n : ℕ). IsAt p f.witnesses n to) (sym i.2) k.2,
+        shows_run ms x r,
+        subst (λ (n : ℕ). length (attaches_of p ++ witness_at f.witnesses n) ≤ length ms) (sym i.2) le,
+      )
 
   -- a move that can be made in a state is among those that are counted there
   pub move_is_counted : (ms : List Move) (t u : JavaProgramState) (m : Move) → played p ms ≡ Some t → after p t m ≡ Some u → HasMove (moves_in p t) m

@@ -1,18 +1,18 @@
 //! What the states that are found have to do with the runs of the Java machine.
 
-ghost use Rattle.std.specs.Prelude.{◌≡◌, ◌<◌, ◌++◌, ℕ, List, Bool, Some, length};
+ghost use Rattle.std.specs.Prelude.{◌≡◌, ◌<◌, ◌≤◌, ◌++◌, ℕ, List, Bool, Some, false, length};
 ghost use Rattle.lock_word.specs.declared.ThreadId.{ThreadId};
 ghost use Rattle.step_core.specs.declared.machine.Doing.{Doing};
 ghost use Rattle.step_core.specs.declared.machine.Move.{Move};
-ghost use Rattle.step_core.specs.Machine.{Is, State};
+ghost use Rattle.step_core.specs.Machine.{Is, State, Steps};
 ghost use Rattle.jls_check.specs.MachineState.{state};
 ghost use Rattle.explore.specs.declared.programs.Program.{Program};
 ghost use Rattle.explore_java.specs.JavaFound.{FindsAll, FoundJavaStates, IsAt, end_at, move_at};
 ghost use Rattle.explore_java.specs.JavaFound.{witness_at};
 ghost use Rattle.explore_java.specs.Moves.{moves_in};
-ghost use Rattle.explore_java.specs.JavaRuns.{IsOutcomeOf, IsRunOf, Rests, Shows};
+ghost use Rattle.explore_java.specs.JavaRuns.{IsLeft, IsOutcomeOf, IsRunOf, Rests, Shows};
 ghost use Rattle.explore_java.specs.JavaRuns.{NoneForWant, returns_in};
-ghost use Rattle.explore_java.specs.JavaRuns.{attaches_of};
+ghost use Rattle.explore_java.specs.JavaRuns.{attaches_of, is_for_want};
 ghost use Rattle.explore_java.specs.JavaStates.{JavaProgramState, after, count_of, replies_of};
 ghost use Rattle.explore.specs.States.{thread_of};
 
@@ -44,19 +44,38 @@ pub fn the_states_are_those_of_the_machine()
         → FindsAll p f → k < length f.witnesses → IsAt p f.witnesses k t → j < count_of p
         → returns_in (thread_of j) (attaches_of p ++ witness_at f.witnesses k)
         ≡ replies_of p t j }
-    // Whatever such a run leads to is found.
+    // Whatever such a run leads to is found, with moves that are no more than those of the run.
     ensures found { (p : Program) (f : FoundJavaStates) (ms : List Move) (x : State)
         → FindsAll p f → IsRunOf p ms x → NoneForWant ms
         → (k : ℕ) × (k < length f.witnesses) × (t : JavaProgramState)
-        × IsAt p f.witnesses k t × Shows p ms x t }
+        × IsAt p f.witnesses k t × Shows p ms x t
+        × (length (attaches_of p ++ witness_at f.witnesses k) ≤ length ms) }
     // And an outcome of the machine is found among the ends.
     ensures outcome { (p : Program) (f : FoundJavaStates) (ms : List Move) (x : State)
         → FindsAll p f → IsOutcomeOf p ms x → NoneForWant ms
         → (i : ℕ) × (i < length f.ends) × (t : JavaProgramState)
-        × IsAt p f.witnesses (end_at f i) t × Shows p ms x t }
-    // Each move that can be made in a state is among those that are counted there.
+        × IsAt p f.witnesses (end_at f i) t × Shows p ms x t
+        × (length (attaches_of p ++ witness_at f.witnesses (end_at f i)) ≤ length ms) }
+    // The moves that can be made in a state are those that the machine may make and the program
+    // leaves to it, but for refusals for want: each of these can be made,
+    ensures made { (p : Program) (f : FoundJavaStates) (k : ℕ) (t : JavaProgramState)
+        (m : Move) (y : State) → FindsAll p f → k < length f.witnesses → IsAt p f.witnesses k t
+        → IsLeft p (attaches_of p ++ witness_at f.witnesses k) m → is_for_want m ≡ false
+        → Steps (state t.machine) m y
+        → (u : JavaProgramState) × (after p t m ≡ Some u) × (state u.machine ≡ y) }
+    // and no other.
+    ensures lawful { (p : Program) (f : FoundJavaStates) (k : ℕ) (t u : JavaProgramState)
+        (m : Move) → FindsAll p f → k < length f.witnesses → IsAt p f.witnesses k t
+        → after p t m ≡ Some u
+        → IsLeft p (attaches_of p ++ witness_at f.witnesses k) m × (is_for_want m ≡ false)
+        × Steps (state t.machine) m (state u.machine) }
+    // Each is among those that are counted there,
     ensures counted { (p : Program) (f : FoundJavaStates) (k : ℕ) (t u : JavaProgramState)
         (m : Move) → FindsAll p f → k < length f.witnesses → IsAt p f.witnesses k t
         → after p t m ≡ Some u
         → (i : ℕ) × (i < length (moves_in p t)) × (move_at (moves_in p t) i ≡ m) }
+    // and it is counted once.
+    ensures once { (p : Program) (t : JavaProgramState) (i j : ℕ)
+        → i < j → j < length (moves_in p t)
+        → move_at (moves_in p t) i ≡ move_at (moves_in p t) j → ⊥ }
 {}

@@ -1,7 +1,7 @@
 //! The search: states are visited in the order in which they were found.
 
 ghost use Rattle.std.specs.Prelude.{◌≡◌, ◌+◌, ◌<◌, ◌≤◌, ◌++◌, ◌∷◌, [], length, true, false, None};
-ghost use Rattle.std.specs.Prelude.{IfErr, IfOk, OnOk, Some, if◌then◌else◌};
+ghost use Rattle.std.specs.Prelude.{IfErr, IfOk, IfSome, OnOk, Some, if◌then◌else◌, is_none};
 ghost use Rattle.explore_java.specs.JavaFound.{witnesses, witness_at, IsAt, FindsAll, IsReason};
 ghost use Rattle.explore_java.specs.JavaFound.{AreParents};
 ghost use Rattle.explore_java.specs.JavaStates.{after, count_of, is_left, played};
@@ -24,7 +24,7 @@ use crate::states::JavaState;
 use explore::{ExploreFault, Nobody, Program, Watch};
 use indexmap::IndexSet;
 use lock_word::Memory;
-use std::alloc::Global;
+use std::alloc::{AllocError, Global};
 use std::collections::VecDeque;
 use step_core::Move;
 
@@ -34,6 +34,8 @@ struct Search {
     codes: IndexSet<Code>,
     nodes: Vec<Node>,
     queue: VecDeque<JavaState>,
+    /// Room for the numbers of a state, kept from one to the next.
+    room: Vec<u64>,
     ghost parents: { AreParents nodes.items },
 }
 
@@ -92,7 +94,7 @@ impl Search {
             (behind (witnesses self.new.nodes.items) parent)) }
     {
         codes_tell_states_apart();
-        let code = state.code(alloc, program)?;
+        let code = state.code(alloc, program, &mut self.room)?;
         let (_number, is_new) = self.codes.insert_full(code)?;
         if is_new {
             self.nodes.push(Node { parent, made })?;
@@ -100,34 +102,36 @@ impl Search {
         Ok(is_new)
     }
 
-    /// Tries a move in a copy of the state whose number is `at`. Answers whether it can be made.
+    /// Tries a move in the state whose number is `at`. The state comes back where it cannot be
+    /// made.
     fn try_move(
         &mut self,
         alloc: Global,
         program: &Program,
-        state: &JavaState,
+        mut state: JavaState,
         at: u32,
         made: Move,
-    ) -> Result<bool, Memory>
+    ) -> Result<Option<JavaState>, Memory>
         requires search { IsSearch program.now self.old.codes.keys (witnesses self.old.nodes.items)
             self.old.queue.items (at + 1) }
-        requires here { IsAt program.now (witnesses self.old.nodes.items) at state.now }
-        requires left { is_left program.now state.now made ≡ true }
+        requires here { IsAt program.now (witnesses self.old.nodes.items) at state }
+        requires left { is_left program.now state made ≡ true }
         ensures search { OnOk result (IsSearch program.now self.new.codes.keys
             (witnesses self.new.nodes.items) self.new.queue.items (at + 1)) }
         ensures stays { OnOk result (StaysIn (witnesses self.old.nodes.items)
             (witnesses self.new.nodes.items)) }
-        ensures none { IfOk result (λ yes. yes ≡ false → after program.now state.now made ≡ None) }
-        ensures some { IfOk result (λ yes. yes ≡ true → Leads program.now
+        ensures back { IfOk result (λ back. IfSome back (λ s. s ≡ state)) }
+        ensures none { IfOk result (λ back. is_none back ≡ false
+            → after program.now state made ≡ None) }
+        ensures some { IfOk result (λ back. is_none back ≡ true → Leads program.now
             (witnesses self.new.nodes.items) (behind (witnesses self.new.nodes.items) at)
-            state.now made) }
+            state made) }
     {
-        let mut next = state.clone()?;
-        if !next.make(program, made) {
-            return Ok(false);
+        if !state.make(program, made) {
+            return Ok(Some(state));
         }
-        self.add(alloc, program, next, at, made)?;
-        Ok(true)
+        self.add(alloc, program, state, at, made)?;
+        Ok(None)
     }
 
     /// Tries moves in copies of the state whose number is `at`, and answers how many can be made.
@@ -151,8 +155,11 @@ impl Search {
             (behind (witnesses self.new.nodes.items) at) state.now moves.now (length moves.now)) }
     {
         let mut count = 0;
+        let mut spare = None;
         'trying: for made in moves {
-            if self.try_move(alloc, program, state, at, *made)? {
+            let copy = copy_of(state, spare.take())?;
+            spare = self.try_move(alloc, program, copy, at, *made)?;
+            if spare.is_none() {
                 count += 1;
             }
         }
@@ -167,13 +174,15 @@ impl Search {
         let first = JavaState::open(alloc, program)?;
         let mut codes = IndexSet::new(alloc);
         let mut queue = VecDeque::new(alloc);
-        let code = first.code(alloc, program)?;
+        let mut room = Vec::new(alloc);
+        let code = first.code(alloc, program, &mut room)?;
         queue.push_back(first)?;
         codes.insert_full(code)?;
         Ok(Search {
             codes,
             nodes: Vec::new(alloc),
             queue,
+            room,
         })
     }
 
@@ -220,6 +229,17 @@ impl Search {
     }
 }
 
+/// A copy of a state: the one that is at hand, or else a new one.
+fn copy_of(state: &JavaState, at_hand: Option<JavaState>) -> Result<JavaState, AllocError>
+    requires { IfSome at_hand (λ s. s ≡ state.now) }
+    ensures { IfOk result (λ s. s ≡ state.now) }
+{
+    match at_hand {
+        Some(copy) => Ok(copy),
+        None => state.clone(),
+    }
+}
+
 /// Notes the number of a state that is an end.
 fn note_end(ends: &mut Vec<u32>, is_end: bool, at: u32) -> Result<(), Memory>
     ensures { OnOk result (ends.new.items
@@ -232,8 +252,7 @@ fn note_end(ends: &mut Vec<u32>, is_end: bool, at: u32) -> Result<(), Memory>
 }
 
 /// All states of a program on the Java machine itself, each once, where there are at most this
-/// many: whatever list of moves that the program leaves to the machine leads to a state, it is
-/// found.
+/// many: each state to which moves lead that the program leaves to the machine.
 pub fn explore_java(alloc: Global, program: &Program, most: u32) -> Result<JavaFound, ExploreFault>
     ensures all { IfOk result (FindsAll program.now) }
     ensures few { IfOk result (λ f. length f.witnesses ≤ most) }
@@ -285,8 +304,8 @@ fn find_all<W: Watch>(
         }
         watch.tell(search.nodes.len().saturating_add(1), search.queue.len());
     }
-    // As many states were visited as were asked for: where one is left, there are more. Of none,
-    // where the program begins is left.
+    // As many states were visited as were asked for: where one is left, there are more. Where none
+    // was asked for, the first one is left.
     if !search.is_done() {
         return Err(ExploreFault::TooManyStates);
     }

@@ -152,18 +152,26 @@ impl JavaState {
         }
     }
 
-    /// The numbers that stand for the state, and for no other of the program.
-    pub(crate) fn code(&self, alloc: Global, program: &Program) -> Result<Code, Memory>
+    /// The numbers that stand for the state, and for no other of the program. They are written
+    /// into `room` first, so that the code has no place to spare.
+    pub(crate) fn code(
+        &self,
+        alloc: Global,
+        program: &Program,
+        room: &mut Vec<u64>,
+    ) -> Result<Code, Memory>
         ensures code { IfOk result (λ code. code.numbers.items ≡ code_of program.now self.now) }
         ensures sound { OnOk result (IsSound self.now.machine) }
     {
-        let mut numbers = Vec::new(alloc);
+        room.clear();
         self.machine
-            .push_numbers(program.starts.len() as u32, &mut numbers)?;
-        numbers.extend_from_slice(&[self.told as u64, self.nexts.len() as u64])?;
-        push_positions(&self.nexts, &mut numbers)?;
-        push_replies(&self.replies, &mut numbers)?;
-        Ok(Code { numbers })
+            .push_numbers(program.starts.len() as u32, room)?;
+        room.extend_from_slice(&[self.told as u64, self.nexts.len() as u64])?;
+        push_positions(&self.nexts, room)?;
+        push_replies(&self.replies, room)?;
+        Ok(Code {
+            numbers: Vec::from_slice(alloc, room)?,
+        })
     }
 }
 
@@ -207,7 +215,8 @@ fn first_machine(alloc: Global, program: &Program) -> Result<Machine, Memory>
     'attaching: for number in 0..program.starts.len() {
         let thread = ThreadId(number as u32);
         match machine.take(Move::Attach { thread }) {
-            // No attach is unlawful here, since no two threads have one number.
+            // No attach is unlawful here, since no two threads have one number; one that were would
+            // change nothing, as `attached` has it.
             Ok(()) | Err(MoveFault::Broken) => {}
             Err(MoveFault::Memory) => return Err(Memory),
         }

@@ -23,6 +23,7 @@ pub mod Stuck
 mod ScriptRuns
 pub mod Requests
 pub mod ReplyTexts
+mod SameTexts
 pub mod Rereading
 pub mod LinesRead
 pub mod Drafted

@@ -9,6 +9,8 @@ use Rattle.fat_monitor.specs.declared.actions.Reply.{Reply}
 use Rattle.explore.specs.declared.programs.Program.{Program}
 use Rattle.explore.specs.Replies.{replies_of}
 use Rattle.explore.specs.States.{ProgramState, end_of, start_of}
+use Rattle.explore_java.specs.JavaStates.{JavaProgramState}
+use Rattle.explore_java.specs.JavaStates.{replies_of as java_replies_of}
 use Rattle.explore_java.proofs.CallFronts.{get_behind, take_more}
 use Rattle.explore_runs.specs.Outcomes.{replies_text, reply_text, reply_word}
 
@@ -36,3 +38,8 @@ texts_from rs m (suc n) =
 pub replies_told_of : (p : Program) (s : ProgramState) (k : ℕ)
     → replies_text s.replies (start_of p k) (end_of p k - start_of p k) ≡ flat_map reply_word (replies_of p s k)
 replies_told_of p s k = texts_from s.replies (start_of p k) (end_of p k - start_of p k)
+
+-- So it is on the Java machine.
+pub java_replies_told_of : (p : Program) (t : JavaProgramState) (k : ℕ)
+    → replies_text t.replies (start_of p k) (end_of p k - start_of p k) ≡ flat_map reply_word (java_replies_of p t k)
+java_replies_told_of p t k = texts_from t.replies (start_of p k) (end_of p k - start_of p k)

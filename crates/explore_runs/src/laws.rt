@@ -22,7 +22,8 @@ ghost use Rattle.explore_java.specs.JavaRuns.{AreBytes, IsOutcomeOf, IsRunOf, Re
 ghost use Rattle.explore_java.specs.JavaRuns.{NoneForWant, returns_in};
 ghost use Rattle.explore_java.specs.JavaStates.{JavaProgramState};
 ghost use Rattle.explore_java.specs.JavaStates.{replies_of as java_replies_of};
-ghost use Rattle.explore_runs.specs.Outcomes.{replies_text, reply_word};
+ghost use Rattle.explore_runs.specs.JavaOutcomes.{IsJavaOutcome};
+ghost use Rattle.explore_runs.specs.Outcomes.{IsOutcome, replies_text, reply_word};
 ghost use Rattle.explore_runs.specs.Replays.{HasFewStrangers, IsNamed, Replays};
 ghost use Rattle.explore_runs.specs.Steps.{LeadTo, empty_world, replies_told};
 ghost use Rattle.explore_runs.specs.Steps.{script_moves, script_steps};
@@ -84,13 +85,26 @@ pub fn an_outcome_is_one_of_the_machine()
 
 /// An outcome of the core is among those that are found on the Java machine, for the same program,
 /// where nothing was refused for want of a monitor or of memory on the way: an end is found there
-/// that shows the same machine, and in which the calls of each thread have the same replies.
+/// that shows the same machine, and in which the calls of each thread have the same replies. So its
+/// text is an outcome there, too.
 pub fn an_outcome_is_found_on_the_java_machine()
-    ensures { (p : Program) (f : FoundJavaStates) (cs : List Choice) (s : ProgramState)
+    // The end that is found.
+    ensures found { (p : Program) (f : FoundJavaStates) (cs : List Choice) (s : ProgramState)
         → AreBytes p.lows.items → FindsAll p f → played p cs ≡ Some s → IsEnd p s
         → NoneForWant (script_moves p cs)
         → (i : ℕ) × (i < length f.ends) × (t : JavaProgramState)
         × IsAt p f.witnesses (end_at f i) t × (state t.machine ≡ shown s.world)
         × ((k : ℕ) → k < length p.starts.items
         → java_replies_of p t k ≡ replies_of p s k) }
+    // Its text.
+    ensures texts { (names : NameLists) (p : Program) (f : FoundJavaStates) (cs : List Choice)
+        (s : ProgramState) (text : List ℕ)
+        → IsNamed names p → FindsAll p f → played p cs ≡ Some s → IsEnd p s
+        → NoneForWant (script_moves p cs) → IsOutcome names p s text
+        → (i : ℕ) × (i < length f.ends) × (t : JavaProgramState)
+        × IsAt p f.witnesses (end_at f i) t × IsJavaOutcome names p t text }
+    // The line of a thread tells the replies that the state has for its calls.
+    ensures told { (p : Program) (t : JavaProgramState) (k : ℕ)
+        → replies_text t.replies (start_of p k) (end_of p k - start_of p k)
+        ≡ flat_map reply_word (java_replies_of p t k) }
 {}

@@ -14,6 +14,7 @@ pub trying-init : goal.trying-init
 trying-init c = record {
   search = c.requires.search;
   stays = stays_still (witnesses c.args.self.now.nodes.items);
+  spare = tt;
   tried = none_tried c.args.program.now (witnesses c.args.self.now.nodes.items) (behind (witnesses c.args.self.now.nodes.items) c.args.at) c.args.state.now c.args.moves.now;
 }
 
