@@ -1,10 +1,11 @@
 #!/usr/bin/env python3
 """Explores every interleaving of small programs of Java monitor calls on thin locks.
 
-python3 bench/explored.py crates/explored_programs/data/classic.programs
+python3 bench/explored.py crates/explored_programs/data/*.program
 
-An end is a state that nothing changes any more: no choice can be made, or each that can leads back to
-it. Of each program are told how many states and ends it has, and what the threads have come to there.
+Each file has one program (docs/FORMATS.md#programs), whose name is that of the file, without its number and its
+extension. An end is a state that nothing changes any more: no choice can be made, or each that can leads back to it.
+Of each program are told how many states and ends it has, and what the threads have come to there.
 
 A state is a tuple (words, threads, monitors, now, told):
   words     for each object its lock: ("Free",), ("Thin", index, count) or ("Fat", monitor)
@@ -13,6 +14,8 @@ A state is a tuple (words, threads, monitors, now, told):
   now       the moment; told: how many moments of the clock were told
 """
 import itertools
+import pathlib
+import re
 import sys
 
 FREE = ("Free",)
@@ -29,68 +32,76 @@ SHAPES = {"enter": "o", "exit": "o", "wait": "onn", "notify": "o", "notifyall": 
 
 
 class Program:
+    """A program. Behind its threads stand in `names` its strangers, in the order of the lines: threads that its calls
+    name, and that it has not. `opening` has the lines in front of the threads, and `lines` the words of each call."""
+
     def __init__(self, name):
         self.name, self.monitors, self.indices = name, 0, 0
         self.top = 255  # the highest count of a thin word
-        self.objects, self.threads, self.calls, self.clock = [], [], [], []
+        self.objects, self.threads, self.clock = [], [], []
+        self.opening, self.lines = [], []
         self.spurious = False
 
-    def take_line(self, head, rest):
+    def take_line(self, line):
+        head, *rest = line.split(" ")
         if head == "world" and rest[2:] in ([], ["deep"]):
             self.monitors, self.indices = int(rest[0]), int(rest[1])
             self.top = 4095 if rest[2:] else 255
+            self.opening.append(line)
         elif head == "object":
-            name, low = rest  # the low byte never changes, so no state has to hold it
+            name, _ = rest  # the low byte never changes, so no state has to hold it
             self.objects.append(name)
+            self.opening.append(line)
         elif head == "thread":
             (name,) = rest
             self.threads.append(name)
-            self.calls.append([])
-        elif head == "call":
-            times = 1
-            if rest[-2:-1] == ["*"]:
-                rest, times = rest[:-2], int(rest[-1])
-            if len(rest) != 1 + len(SHAPES[rest[0]]):
-                raise ValueError
-            self.calls[-1] += [rest] * times
-        elif head == "clock":
+            self.lines.append([])
+        elif head == "call" and len(rest) == 1 + len(SHAPES[rest[0]]):
+            self.lines[-1].append(rest)
+        elif head == "clock" and rest:
             self.clock += [int(word) for word in rest]
-        elif head == "spurious" and not rest:
-            self.spurious = True
+        elif head == "spurious":
+            (times,) = rest
+            self.spurious = int(times) > 0
         else:
             raise ValueError
 
+    def take_calls(self):
+        """The calls of each thread, with numbers for names."""
+        self.names, self.calls = list(self.threads), []
+        for lines in self.lines:
+            self.calls.append([self.number(call) for call in lines])
+
     def number(self, call):
-        """A call with numbers for names. A target that is no thread is a number that none has."""
         def operand(kind, word):
             if kind == "n":
                 return int(word)
             if kind == "o":
                 return self.objects.index(word)
-            return self.threads.index(word) if word in self.threads else len(self.threads)
+            if word not in self.names:
+                self.names.append(word)
+            return self.names.index(word)
         return (call[0], *map(operand, SHAPES[call[0]], call[1:]))
 
 
 def read(path):
-    programs = []
-    with open(path, encoding="ascii") as file:
+    """The program of a file."""
+    program = Program(re.sub("^[0-9]+_", "", pathlib.Path(path).stem))
+    with open(path, encoding="ascii", newline="\n") as file:
         for number, line in enumerate(file, 1):
-            head, *rest = line.split() or [""]
             try:
-                if head == "program":
-                    programs.append(Program(*rest))
-                elif head:
-                    programs[-1].take_line(head, rest)
-            except (ValueError, LookupError, TypeError):
-                sys.exit(f"explored: bad line {number}: {line.strip()}")
-    for p in programs:
-        if len(p.threads) > p.indices or len(set(p.threads)) + len(set(p.objects)) != len(p.threads + p.objects):
-            sys.exit(f"explored: {p.name} has too few indices, or a name twice")
-        try:
-            p.calls = [[p.number(call) for call in calls] for calls in p.calls]
-        except ValueError:
-            sys.exit(f"explored: {p.name} has a call with an unknown object or a bad number")
-    return programs
+                program.take_line(line.removesuffix("\n"))
+            except (ValueError, LookupError):
+                sys.exit(f"explored: {path}: bad line {number}: {line.strip()}")
+    if not 0 < len(program.threads) <= program.indices:
+        sys.exit(f"explored: {path}: no thread, or too few indices")
+    if any(len(set(names)) < len(names) for names in (program.threads, program.objects)):
+        sys.exit(f"explored: {path}: a name twice")
+    try:
+        program.take_calls()
+    except ValueError:
+        sys.exit(f"explored: {path}: a call with an unknown object or a bad number")
+    return program
 
 
 # ---- what a loaded word calls for ----
@@ -333,25 +344,38 @@ def choices(program, state):
 
 
 def explore(program):
+    """The ways to the states, how many steps there are between them, and the ends in the order in which they are found.
+
+    The way to a state is the state before it with the choice that is made there, or None where the program begins.
+    States are visited in the order in which they are found, and choices tried in that of `choices`. So no way is longer
+    than it has to be, and of equally short ones that is kept whose choices come first.
+    """
     thread = (IDLE, OUT, False, 0, ())
     first = ((FREE,) * len(program.objects), (thread,) * len(program.threads), (), 0, 0)
-    seen, line, ends = {first}, [first], []
-    while line:
-        following = []
-        for state in line:
-            moved = False
-            for step, *arguments in choices(program, state):
-                world = World(program, state)
-                step(world, *arguments)
-                after = world.state()
-                moved = moved or after != state
-                if after not in seen:
-                    seen.add(after)
-                    following.append(after)
-            if not moved:
-                ends.append(state)
-        line = following
-    return len(seen), ends
+    ways, line, steps, ends = {first: None}, [first], 0, []
+    for state in line:  # which grows meanwhile
+        moved = False
+        for choice in choices(program, state):
+            step, *arguments = choice
+            world = World(program, state)
+            step(world, *arguments)
+            after, steps = world.state(), steps + 1
+            moved = moved or after != state
+            if after not in ways:
+                ways[after] = state, choice
+                line.append(after)
+        if not moved:
+            ends.append(state)
+    return ways, steps, ends
+
+
+def way_to(ways, state):
+    """The way to a state, from where the program begins: each state on it, and what is done there."""
+    way = []
+    while ways[state] is not None:
+        way.append(ways[state])
+        state = ways[state][0]
+    return way[::-1]
 
 
 # ---- telling ----
@@ -389,14 +413,14 @@ def text(program, state):
 
 
 def main():
-    (path,) = sys.argv[1:]
-    for program in read(path):
-        states, ends = explore(program)
+    for path in sys.argv[1:]:
+        program = read(path)
+        ways, _, ends = explore(program)
         outcomes = {}
         for state in ends:
             told = text(program, state)
             outcomes[told] = outcomes.get(told, 0) + 1
-        print(f"program {program.name}: {states} states, {len(ends)} ends")
+        print(f"program {program.name}: {len(ways)} states, {len(ends)} ends")
         for told in sorted(outcomes, key=str.encode):
             print(f"  {outcomes[told]} x {told}")
 

@@ -1,7 +1,7 @@
 #!/usr/bin/env python3
 """Explores every run of the Java machine itself that small programs of monitor calls leave to it.
 
-python3 bench/explored_any.py crates/explored_programs/data/classic.programs
+python3 bench/explored_any.py crates/explored_programs/data/*.program
 
 It was written from the table of moves in docs/MACHINE.md, and reads the programs as bench/explored.py does. A
 refusal for want of a monitor or of memory is no move here. Of each program are told how many states, steps and
@@ -16,7 +16,7 @@ A move is a dict: the members of its line in a history (docs/FORMATS.md#historie
 import json
 import sys
 
-from explored import read
+from explored import read, way_to
 
 IDLE = ("Idle",)
 DEEPEST = 65535
@@ -185,29 +185,6 @@ def beginning(program):
     return (thread,) * len(program.threads), ((None, 0),) * len(program.objects), 0, 0
 
 
-def followed(program, history):
-    """The state that the lines of a history lead to, whose moves are all among those of the program.
-
-    First the history tells the number of objects and attaches the threads, in their order. Each move behind that has to
-    be one of `moves` in the state that it finds; the first that is none is told by a ValueError. A target that is no
-    thread of the program may have any number that no thread has.
-    """
-    lines = [json.loads(line) for line in history]
-    opening = [{"objects": len(program.objects)}]
-    opening += [{"move": "Attach", "thread": t} for t in range(len(program.threads))]
-    if lines[:len(opening)] != opening:
-        raise ValueError("a history that does not attach just the threads of the program first")
-    state = beginning(program)
-    for number, line in enumerate(lines[len(opening):], len(opening) + 1):
-        if "target" in line:
-            line["target"] = min(line["target"], len(program.threads))
-        after = [after for move, after in moves(program, state) if move == line]
-        if not after:
-            raise ValueError(f"line {number} of a history is no move of the program there: {line}")
-        (state,) = after
-    return state
-
-
 # ---- telling ----
 
 def call_text(program, call):
@@ -216,7 +193,7 @@ def call_text(program, call):
     for operand in operands:
         is_object = kind in (*OWNERS_CALLS, "enter", "holds") and len(words) == 1
         is_thread = kind in ("interrupt", "isinterrupted")
-        words.append(program.objects[operand] if is_object else program.threads[operand] if is_thread else str(operand))
+        words.append(program.objects[operand] if is_object else program.names[operand] if is_thread else str(operand))
     return " ".join(words)
 
 
@@ -262,30 +239,40 @@ def outcome(program, state):
     return tuple([*lines, *cycles(program, state)])
 
 
+def history(program, way):
+    """The lines of a history: how many objects there are, the attaches, and the moves of a way to a state."""
+    lines = [{"objects": len(program.objects)}]
+    lines += [{"move": "Attach", "thread": t} for t in range(len(program.threads))]
+    lines += [move for _, move in way]
+    return [json.dumps(line, sort_keys=True, separators=(",", ":")) for line in lines]
+
+
 def explore(program):
-    """How many states and steps there are, and of each outcome how many ends have it, and the fewest moves."""
+    """How many states and steps there are, and of each outcome how many ends have it, and the history of the first.
+
+    States are visited in the order in which they are found, and moves tried in that of `moves`. So no history is longer
+    than it has to be, and of equally short ones that is told whose moves come first.
+    """
     first = beginning(program)
-    seen, line, steps, depth, outcomes = {first}, [first], 0, 0, {}
-    while line:
-        following = []
-        for state in line:
-            made = 0
-            for _, after in moves(program, state):
-                made += 1
-                if after not in seen:
-                    seen.add(after)
-                    following.append(after)
-            steps += made
-            if not made:
-                ends, fewest = outcomes.get(outcome(program, state), (0, depth))
-                outcomes[outcome(program, state)] = (ends + 1, fewest)
-        line, depth = following, depth + 1
-    return len(seen), steps, outcomes
+    ways, line, steps, outcomes = {first: None}, [first], 0, {}
+    for state in line:  # which grows meanwhile
+        made = 0
+        for move, after in moves(program, state):
+            made += 1
+            if after not in ways:
+                ways[after] = state, move
+                line.append(after)
+        steps += made
+        if not made:
+            told = outcome(program, state)
+            ends, lines = outcomes.get(told) or (0, history(program, way_to(ways, state)))
+            outcomes[told] = ends + 1, lines
+    return len(ways), steps, outcomes
 
 
 def main():
-    (path,) = sys.argv[1:]
-    for program in read(path):
+    for path in sys.argv[1:]:
+        program = read(path)
         states, steps, outcomes = explore(program)
         print(f"program {program.name} states {states} steps {steps} ends {sum(n for n, _ in outcomes.values())}")
         for told, (ends, _) in sorted(outcomes.items()):

@@ -3,29 +3,27 @@
 
 python3 orders/explored.py THINMON
 
-The programs are those of `crates/explored_programs/data/classic.programs`, those of
-`orders/strangers.programs`, whose calls name threads that the program has not, and those of
-`orders/choices.programs`, where the Java machine may choose what the service never does. The second explorer is
-`bench/explored.py`, which was written from the rules and not from the code. Of each program are compared how
-many states and steps it has, its outcomes in their order with how many ends have each, and how long the script of
-each is: no other leads there with fewer steps. Each script is then played by `thinmon run`, and has to come to the
-replies and the objects of that outcome.
+The programs are those of `crates/explored_programs/data`, those of `orders/strangers`, whose calls name threads that
+the program has not, and those of `orders/choices`, where the Java machine may choose what the service never does; each
+is a file. The second explorer is `bench/explored.py`, which was written from the rules and not from the code. Of each
+program are compared how many states and steps it has, its outcomes in their order with how many ends have each, and the
+script of each, line by line: of the shortest ones that whose choices come first. Each script is then played by
+`thinmon run`, and has to come to the replies and the objects of that outcome.
 
 With `--moves` the same outcomes have to be told, each with the history that `thinmon run --moves` writes of its
 script, but for the numbers of threads that the program has not, and `thinmon check` has to find the moves of that
-history a run. In the histories of `orders/strangers.programs` such threads have the numbers of the program, and in
-what is written of the scripts other ones.
+history a run. In the histories of `orders/strangers` such threads have the numbers of the program, and in what is
+written of the scripts other ones.
 
 With `--any` the second explorer is `bench/explored_any.py`, which explores the Java machine itself. Compared are how
-many states and steps there are, the outcomes in their order with how many ends have each, and how long the history of
-each is: no other leads there with fewer moves. No script is played, since there is none. `thinmon check` has to find
-the moves of each history a run, and the calls have to return in it with the replies of its outcome. The second
-explorer makes the same moves, which it has to find among those that the program leaves to the machine, and has to come
-to an end with that outcome. Threads that the program has not stand there with the numbers of the program.
+many states and steps there are, the outcomes in their order with how many ends have each, and the history of each, line
+by line: of the shortest ones that whose moves come first. No script is played, since there is none. `thinmon check` has
+to find the moves of each history a run, and the calls have to return in it with the replies of its outcome. Threads
+that the program has not stand there with the numbers of the program.
 
 Each outcome of the core in which nothing was refused for want of a monitor or of memory has to be among those of the
 machine. Where the core never refuses anything so, the machine has outcomes that the core has not just in the programs
-of `orders/choices.programs`.
+of `orders/choices`.
 """
 import itertools
 import json
@@ -41,24 +39,9 @@ sys.path.insert(0, str(ROOT / "bench"))
 import explored  # noqa: E402
 import explored_any  # noqa: E402
 
-STRANGERS = ROOT / "orders/strangers.programs"
-CHOICES = ROOT / "orders/choices.programs"
-PROGRAMS = (ROOT / "crates/explored_programs/data/classic.programs", STRANGERS, CHOICES)
-
-
-def texts(programs):
-    """The text of each program, without its name, and with each call as often as it is made."""
-    for block in programs.read_text().split("program ")[1:]:
-        lines = []
-        for line in block.split("\n")[1:]:
-            words = line.split()
-            if words[-2:-1] == ["*"]:
-                lines += [" ".join(words[:-2])] * int(words[-1])
-            elif words == ["spurious"]:
-                lines.append("spurious 1")
-            elif words:
-                lines.append(line)
-        yield "".join(line + "\n" for line in lines)
+STRANGERS = ROOT / "orders/strangers"
+CHOICES = ROOT / "orders/choices"
+FOLDERS = (ROOT / "crates/explored_programs/data", STRANGERS, CHOICES)
 
 
 def thread_line(program, thread, monitors, name):
@@ -124,28 +107,35 @@ def outcome(program, state):
     return tuple(lines + cycles(program, state))
 
 
+def step_line(program, state, choice):
+    """The line of a script for the step that a choice means in a state."""
+    step, *arguments = choice
+    if step == explored.World.tick:
+        return f"tick {program.clock[state[4]]}"
+    t, *why = arguments
+    name = program.threads[t]
+    if step == explored.World.begin:
+        return f"begin {name} {' '.join(program.lines[t][state[1][t][3]])}"
+    if step == explored.World.go:
+        return f"go {name}"
+    return f"{'expire' if why == ['Elapsed'] else 'spurious'} {name}"
+
+
+def script(program, way):
+    """The lines of a script: the world with its objects, the attaches, and the steps of a way to a state."""
+    attaches = [f"attach {name}" for name in program.threads]
+    return [*program.opening, *attaches, *(step_line(program, state, choice) for state, choice in way)]
+
+
 def explore(program):
-    """How many states and steps there are, and of each outcome how many ends have it, and the fewest steps."""
-    thread = (explored.IDLE, explored.OUT, False, 0, ())
-    first = ((explored.FREE,) * len(program.objects), (thread,) * len(program.threads), (), 0, 0)
-    seen, line, steps, depth, outcomes = {first}, [first], 0, 0, {}
-    while line:
-        following = []
-        for state in line:
-            moved = False
-            for step, *arguments in explored.choices(program, state):
-                world = explored.World(program, state)
-                step(world, *arguments)
-                after, steps = world.state(), steps + 1
-                moved = moved or after != state
-                if after not in seen:
-                    seen.add(after)
-                    following.append(after)
-            if not moved:
-                ends, fewest = outcomes.get(outcome(program, state), (0, depth))
-                outcomes[outcome(program, state)] = (ends + 1, fewest)
-        line, depth = following, depth + 1
-    return len(seen), steps, outcomes
+    """How many states and steps there are, and of each outcome how many ends have it, and the script of the first."""
+    ways, steps, ends = explored.explore(program)
+    outcomes = {}
+    for state in ends:
+        told = outcome(program, state)
+        count, lines = outcomes.get(told) or (0, script(program, explored.way_to(ways, state)))
+        outcomes[told] = count + 1, lines
+    return len(ways), steps, outcomes
 
 
 def parts_of(report, form):
@@ -161,21 +151,18 @@ def parts_of(report, form):
         count = int(lines[at].split()[1])
         parts.append((int(head[1]), int(head[3]), tuple(told), lines[at + 1:at + 1 + count]))
         at += 1 + count
+    assert lines[at:] == [""], f"more behind the last outcome: {lines[at:]}"
     return counts, parts
 
 
 def compare_outcomes(parts, outcomes):
-    """The outcomes of a report are those of a second explorer, and in the order in which they are found.
-
-    So none stands behind one to which a longer way leads (docs/FORMATS.md#what-comes-of-a-program). Of equally long
-    ones that comes first whose choices or moves do: both explorers try those of each thread in turn, and then that of
-    the clock.
-    """
+    """The outcomes of a report are those of a second explorer, each with how many ends have it, and with its script or
+    history; and they stand in the order in which they are found (docs/FORMATS.md#what-comes-of-a-program)."""
     assert [number for number, _, _, _ in parts] == list(range(1, len(outcomes) + 1)), "not so many outcomes"
     assert {told: ends for _, ends, told, _ in parts} == {told: ends for told, (ends, _) in outcomes.items()}
-    fewest = [outcomes[told][1] for _, _, told, _ in parts]
-    assert fewest == sorted(fewest), f"an outcome stands behind one to which a longer way leads: {fewest}"
-    assert [told for _, _, told, _ in parts] == list(outcomes), "outcomes with equally long ways in another order"
+    assert [told for _, _, told, _ in parts] == list(outcomes), "outcomes in another order"
+    for _, _, told, lines in parts:
+        assert lines == outcomes[told][1], f"another script or history of {told}: {lines}"
 
 
 def replies_of(line):
@@ -191,38 +178,39 @@ def compare_replies(program, told, replies):
         assert replies_of(line) == replies[line.split()[1]], line
 
 
-def played(thinmon, script):
+def written(words, text):
+    """What a program writes that reads this text."""
+    return subprocess.run(words, input=text, text=True, capture_output=True, check=True, timeout=300).stdout
+
+
+def text_of(lines):
+    return "".join(line + "\n" for line in lines)
+
+
+def played(thinmon, lines):
     """What a script comes to: the replies of each thread, and the lines of the objects without their words."""
-    done = subprocess.run([thinmon, "run"], input="".join(line + "\n" for line in script), text=True,
-                          capture_output=True, check=True)
     replies, objects = {}, []
-    for line in done.stdout.split("\n"):
+    for line in written([thinmon, "run"], text_of(lines)).split("\n"):
         words = line.split()
         if words[:1] == ["attach"]:
             replies[words[1]] = []
         elif words[:1] == ["object"]:
             objects.append(" ".join(words[:2] + words[3:]))
         elif words[:1] == ["fault"]:
-            raise SystemExit(f"a step of the script is refused: {line}")
+            raise ValueError(f"a step of the script is refused: {line}")
         elif " = " in line and not line.endswith(" = parked"):
             replies[words[1]].append("/".join(line.split(" = ")[1].split()))
     return replies, objects
 
 
-def written(words, lines):
-    """What a program writes that reads these lines."""
-    return subprocess.run(words, input="".join(line + "\n" for line in lines), text=True, capture_output=True,
-                          check=True).stdout
-
-
-def strangers_in(lines, threads):
-    """The threads that the calls of some lines name, and that are none of these, in the order in which they come."""
-    strangers = []
+def names_of(program, lines):
+    """The names of the threads by the numbers of a script: in the order in which its lines have them."""
+    names = list(program.threads)
     for words in map(str.split, lines):
-        call = {"call": words[1:], "begin": words[2:]}.get(words[0], [])
-        if call and explored.SHAPES[call[0]] == "t" and call[1] not in threads + strangers:
-            strangers.append(call[1])
-    return strangers
+        call = words[2:] if words[0] == "begin" else []
+        if call and explored.SHAPES[call[0]] == "t" and call[1] not in names:
+            names.append(call[1])
+    return names
 
 
 def renumbered(line, from_names, to_names):
@@ -233,19 +221,17 @@ def renumbered(line, from_names, to_names):
 def compare_histories(thinmon, program, text, counts, parts):
     """The same outcomes with histories: those of the scripts, but that strangers have the numbers of the program; and
     each a run. Whether all have other numbers than their scripts."""
-    done = subprocess.run([thinmon, "explore", "--moves"], input=text, text=True, capture_output=True, check=True)
-    told, histories = parts_of(done.stdout, "history")
+    told, histories = parts_of(written([thinmon, "explore", "--moves"], text), "history")
     assert told == counts, told
     assert [part[:3] for part in histories] == [part[:3] for part in parts], "other outcomes with histories"
-    names = program.threads + strangers_in(text.splitlines(), program.threads)
     others = True
-    for (_, _, _, script), (_, _, _, history) in zip(parts, histories, strict=True):
-        again = written([thinmon, "run", "--moves"], script).split("\n")
+    for (_, _, _, lines), (_, _, _, history) in zip(parts, histories, strict=True):
+        again = written([thinmon, "run", "--moves"], text_of(lines)).split("\n")
         assert again.pop() == "", "a last line without its end"
-        script_names = program.threads + strangers_in(script, program.threads)
-        assert [renumbered(line, script_names, names) for line in again] == history, "another history"
+        names = names_of(program, lines)
+        assert [renumbered(line, names, program.names) for line in again] == history, "another history"
         others = others and again != history
-        assert written([thinmon, "check"], history) == f"run of {len(history) - 1} moves\n"
+        assert written([thinmon, "check"], text_of(history)) == f"run of {len(history) - 1} moves\n"
     return others
 
 
@@ -259,21 +245,6 @@ def returned(program, history):
     return replies
 
 
-def compare_targets(text, names, history):
-    """The calls of a history name just the threads that those of the program do, by their numbers in these names."""
-    calls = []
-    for words in map(str.split, text.splitlines()):
-        if words[0] == "thread":
-            calls.append([])
-        elif words[0] == "call":
-            calls[-1].append(words[1:])
-    unmade = [iter(of_thread) for of_thread in calls]
-    for line in map(json.loads, history[1:]):
-        if line["move"] == "Call":
-            call = next(unmade[line["thread"]])
-            assert "target" not in line or names[line["target"]] == call[1], f"another target: {line}"
-
-
 def is_refused_for_want(told):
     """Whether a call was refused in an outcome for want of a monitor or of memory."""
     return any(f"Refused/{cause}" in line.split() for line in told for cause in ("NoMonitor", "Memory"))
@@ -283,23 +254,15 @@ def compare_any(thinmon, program, text, core):
     """Compares what is told of a program on the Java machine; `core` has the outcomes of the core, by their lines.
 
     Whether the machine has outcomes that the core has not, though the core refuses nothing for want."""
-    done = subprocess.run([thinmon, "explore", "--any"], input=text, text=True, capture_output=True, check=True)
-    again = subprocess.run([thinmon, "explore", "--any", "--moves"], input=text, text=True, capture_output=True,
-                           check=True)
-    assert again.stdout == done.stdout, "--moves changes what --any tells"
-    counts, parts = parts_of(done.stdout, "history")
+    report = written([thinmon, "explore", "--any"], text)
+    assert written([thinmon, "explore", "--any", "--moves"], text) == report, "--moves changes what --any tells"
+    counts, parts = parts_of(report, "history")
     states, steps, outcomes = explored_any.explore(program)
     assert counts == f"states {states} steps {steps}", counts
     compare_outcomes(parts, outcomes)
-    names = program.threads + strangers_in(text.splitlines(), program.threads)
     for _, _, told, history in parts:
-        assert len(history) == 1 + len(program.threads) + outcomes[told][1], "a history is not a shortest one"
-        assert written([thinmon, "check"], history) == f"run of {len(history) - 1} moves\n"
+        assert written([thinmon, "check"], text_of(history)) == f"run of {len(history) - 1} moves\n"
         compare_replies(program, told, returned(program, history))
-        state = explored_any.followed(program, history)
-        assert explored_any.outcome(program, state) == told, f"a history leads to another outcome: {told}"
-        assert not any(explored_any.moves(program, state)), f"a history does not lead to an end: {told}"
-        compare_targets(text, names, history)
     for told in core:
         assert told in outcomes or is_refused_for_want(told), f"an outcome of the core is none of the machine: {told}"
     return not any(map(is_refused_for_want, core)) and any(told not in core for told in outcomes)
@@ -310,34 +273,43 @@ def compare(thinmon, program, text):
 
     Whether all its histories have other numbers than their scripts, and whether the machine has outcomes that the core
     has not, though the core refuses nothing for want."""
-    done = subprocess.run([thinmon, "explore"], input=text, text=True, capture_output=True, check=True)
-    counts, parts = parts_of(done.stdout, "script")
+    counts, parts = parts_of(written([thinmon, "explore"], text), "script")
     states, steps, outcomes = explore(program)
     assert counts == f"states {states} steps {steps}", counts
     compare_outcomes(parts, outcomes)
-    opening = 1 + len(program.objects) + len(program.threads)
-    for _, _, told, script in parts:
-        assert len(script) == opening + outcomes[told][1], "a script is not a shortest one"
-        replies, objects = played(thinmon, script)
+    for _, _, told, lines in parts:
+        replies, objects = played(thinmon, lines)
         compare_replies(program, told, replies)
         assert objects == [line for line in told if line.startswith("object ")], objects
     more = compare_any(thinmon, program, text, outcomes)
     return compare_histories(thinmon, program, text, counts, parts), more
 
 
+def compare_file(thinmon, file):
+    """Compares what is told of the program of a file, or tells the program in which something differs."""
+    program = explored.read(file)
+    try:
+        others, more = compare(thinmon, program, file.read_text())
+        assert others == (file.parent == STRANGERS), "whether strangers have other numbers in a script"
+        assert more == (file.parent == CHOICES), "whether the machine chooses what the core never does"
+    except subprocess.CalledProcessError as error:
+        raise SystemExit(f"explored: {program.name}: {error}\n{error.stderr}")
+    except (AssertionError, LookupError, ValueError, subprocess.TimeoutExpired) as error:
+        raise SystemExit(f"explored: {program.name}: {error}")
+
+
 def main():
     (thinmon,) = sys.argv[1:]
     count = 0
-    for file in PROGRAMS:
-        for program, text in zip(explored.read(str(file)), texts(file), strict=True):
-            try:
-                others, more = compare(thinmon, program, text)
-                assert others == (file == STRANGERS), "whether strangers have other numbers in a script"
-                assert more == (file == CHOICES), "whether the machine chooses what the core never does"
-            except (AssertionError, ValueError) as error:
-                raise SystemExit(f"explored: {program.name}: {error}")
-            count += 1
+    for folder in FOLDERS:
+        files = sorted(folder.glob("*.program"))
+        if not files:
+            raise SystemExit(f"explored: no program in {folder}")
+        for file in files:
+            compare_file(thinmon, file)
+        count += len(files)
     print(f"explored: {count} programs as the second explorer finds them")
 
 
-main()
+if __name__ == "__main__":
+    main()

@@ -2,8 +2,8 @@
 # Runs `thinmon`, as `rt ci` has just left it by each of its two compilers, and compares what `rt ci`
 # does not: what it writes on standard error, and how it ends on more than one order.
 #
-# A folder here is an order: `args` has the words behind the program's name, one a line, `stdin` what it
-# reads there, `stdout` and `stderr` what it has to write (nothing, where there is no such file), and
+# A folder here that has `args` is an order: `args` has the words behind the program's name, one a line, `stdin`
+# what it reads there, `stdout` and `stderr` what it has to write (nothing, where there is no such file), and
 # `status` its exit status (0, where there is none). Its other files lie where the program runs.
 #
 # A line of `words` is an order that finds no file: the status, the words, and texts that have to be in
@@ -42,8 +42,8 @@ file_or() {
 
 run_folders() {
     local folder words wanted
-    for folder in */; do
-        folder=${folder%/}
+    for folder in */args; do
+        folder=${folder%/args}
         mapfile -t words <"$folder/args"
         wanted=$(cat "$(file_or "$folder/status" /dev/null)")
         order "$folder" "$(file_or "$folder/stdin" /dev/null)" "${words[@]}"
