@@ -1,4 +1,5 @@
-//! The programs. `data/classic.programs` has the same as a text, which `bench/explored.py` reads.
+//! The programs. The files of `data` have the same as texts, one each and in the same order, which
+//! `bench/explored.py` and `thinmon explore` read.
 
 use step_core::{Call, ObjectId, ThreadId};
 
@@ -18,6 +19,10 @@ const A: ObjectId = ObjectId(0);
 const B: ObjectId = ObjectId(1);
 
 const X: ThreadId = ThreadId(0);
+
+const Y: ThreadId = ThreadId(1);
+
+const Z: ThreadId = ThreadId(2);
 
 const ENTER: (Call, u16) = (Call::Enter(A), 1);
 
@@ -49,7 +54,15 @@ const END: (Call, u16) = (Call::End, 1);
 
 const INTERRUPT_X: (Call, u16) = (Call::Interrupt(X), 1);
 
-pub(crate) const CLASSICS: [Classic; 15] = [
+const INTERRUPT_Y: (Call, u16) = (Call::Interrupt(Y), 1);
+
+const INTERRUPT_Z: (Call, u16) = (Call::Interrupt(Z), 1);
+
+const ASK_Y: (Call, u16) = (Call::IsInterrupted(Y), 1);
+
+const ASK_Z: (Call, u16) = (Call::IsInterrupted(Z), 1);
+
+pub(crate) const CLASSICS: [Classic; 19] = [
     Classic {
         name: "two_enters",
         lows: &[0xA5],
@@ -188,6 +201,54 @@ pub(crate) const CLASSICS: [Classic; 15] = [
         lows: &[0xA5],
         monitors: 4,
         threads: &[&[ENTER, END, EXIT, END], &[INTERRUPT_X]],
+        moments: &[],
+        spurious: false,
+    },
+    Classic {
+        name: "notify_and_interrupt_with_a_second_waiter",
+        lows: &[0xA5],
+        monitors: 4,
+        threads: &[
+            &[ENTER, WAIT, EXIT],
+            &[ENTER, ASK_Z, WAIT, EXIT],
+            &[ENTER, INTERRUPT_Z, NOTIFY, EXIT],
+            &[INTERRUPT_X],
+        ],
+        moments: &[],
+        spurious: false,
+    },
+    Classic {
+        name: "a_wait_in_a_loop",
+        lows: &[0xA5],
+        monitors: 4,
+        threads: &[
+            &[ENTER, WAIT, ASK_Y, WAIT, ASK_Y, EXIT],
+            &[ENTER, INTERRUPT_Y, NOTIFY_ALL, EXIT],
+        ],
+        moments: &[],
+        spurious: true,
+    },
+    Classic {
+        name: "producer_and_consumer",
+        lows: &[0xA5],
+        monitors: 4,
+        threads: &[
+            &[ENTER, ASK_Z, WAIT, NOTIFY, EXIT],
+            &[ENTER, ASK_Z, WAIT, EXIT],
+            &[ENTER, INTERRUPT_Z, NOTIFY, EXIT],
+        ],
+        moments: &[],
+        spurious: false,
+    },
+    Classic {
+        name: "producer_and_consumer_notifyall",
+        lows: &[0xA5],
+        monitors: 4,
+        threads: &[
+            &[ENTER, ASK_Z, WAIT, NOTIFY_ALL, EXIT],
+            &[ENTER, ASK_Z, WAIT, EXIT],
+            &[ENTER, INTERRUPT_Z, NOTIFY_ALL, EXIT],
+        ],
         moments: &[],
         spurious: false,
     },
