@@ -40,6 +40,7 @@ class Program:
         self.top = 255  # the highest count of a thin word
         self.objects, self.threads, self.clock = [], [], []
         self.opening, self.lines = [], []
+        self.names, self.calls = [], []
         self.spurious = False
 
     def take_line(self, line):
@@ -68,9 +69,8 @@ class Program:
 
     def take_calls(self):
         """The calls of each thread, with numbers for names."""
-        self.names, self.calls = list(self.threads), []
-        for lines in self.lines:
-            self.calls.append([self.number(call) for call in lines])
+        self.names += self.threads
+        self.calls += [[self.number(call) for call in lines] for lines in self.lines]
 
     def number(self, call):
         def operand(kind, word):
