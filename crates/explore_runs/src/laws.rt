@@ -31,8 +31,8 @@ ghost use Rattle.explore_runs.specs.Steps.{script_moves, script_steps};
 /// The script of choices that lead to a state is a script, and whatever it is read as plays to the
 /// world of that state: each of its steps is accepted, with all memory granted, and they hand out
 /// to each thread the replies that the state has for its calls. The names have to be those of the
-/// program. Of a state that some choice changes, as none changes that of an outcome, it is asked
-/// too that the calls name at most one thread that the program has not.
+/// program. For a state that is no outcome, the calls may name at most one thread that the program
+/// has not.
 pub fn a_script_leads_to_its_state()
     // The text of an outcome, read as a script and played.
     ensures outcomes { (names : NameLists) (p : Program) (cs : List Choice) (s : ProgramState)
