@@ -22,7 +22,7 @@ ROOT = pathlib.Path(__file__).resolve().parent.parent
 FIRST_MOST = 64
 MET_NONE = "it met no refusal"
 BEHIND = f"""    if Vec::<u8>::with_capacity(rt.alloc(), 1).is_err() {{
-        return Err(Fail::from("{MET_NONE}"));
+        return Err(std::test::Fail::from("{MET_NONE}"));
     }}
 """
 
@@ -52,6 +52,14 @@ TESTS = {
             "a_refused_drawing_succeeds_when_tried_again",
             "a_refused_drawing_of_moves_succeeds_when_tried_again",
         ],
+        "explorations": [
+            "a_refused_exploration_of_a_deadlock_succeeds_when_tried_again",
+            "a_refused_exploration_of_a_deadlock_with_histories_succeeds_when_tried_again",
+            "a_refused_exploration_of_a_deadlock_on_the_machine_succeeds_when_tried_again",
+            "a_refused_exploration_of_a_timed_wait_succeeds_when_tried_again",
+            "a_refused_exploration_of_a_timed_wait_with_histories_succeeds_when_tried_again",
+            "a_refused_exploration_of_a_timed_wait_on_the_machine_succeeds_when_tried_again",
+        ],
         "memory": [
             "a_refused_run_succeeds_when_tried_again",
             "a_refused_history_succeeds_when_tried_again",
@@ -76,7 +84,7 @@ TESTS = {
 
 def copies(text, test, most):
     """The test in the text of a module, once for each of its first allocations, which is refused there."""
-    head, end = f"fn {test}(rt: HostRuntime) -> Result<(), Fail> {{\n", "    Ok(())\n}\n"
+    head, end = f"fn {test}(rt: HostRuntime) -> Result<(), std::test::Fail> {{\n", "    Ok(())\n}\n"
     # (a test that hands no fault out returns nothing)
     found = rf"^fn {test}\(rt: HostRuntime\)(?: -> Result<\(\), Fail>)? {{\n(.*?)(?:    Ok\(\(\)\)\n)?^}}\n"
     body = re.search(found, text, re.DOTALL | re.MULTILINE).group(1)

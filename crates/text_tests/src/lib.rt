@@ -1,7 +1,8 @@
 //! Tests of what reads and writes texts: the moves of histories (`moves`), their checks (`checks`),
 //! dumps (`dumps`), the lines of a script (`lines`) and its first bad one (`bad_lines`), programs
-//! that are explored (`programs`), and pictures (`drawings`); readers and writers that fail
-//! (`streams`, `histories`) or do not (`ends`), and want of memory (`memory`).
+//! that are explored (`programs`), what a watch is told meanwhile (`watches`), and pictures
+//! (`drawings`); readers and writers that fail (`streams`, `histories`) or do not (`ends`), and want
+//! of memory (`memory`, `explorations`).
 #![tactic(auto)]
 
 #[cfg(test)]
@@ -14,6 +15,8 @@ mod drawings;
 mod dumps;
 #[cfg(test)]
 mod ends;
+#[cfg(test)]
+mod explorations;
 #[cfg(test)]
 mod histories;
 #[cfg(test)]
@@ -28,3 +31,5 @@ mod pieces;
 mod programs;
 #[cfg(test)]
 mod streams;
+#[cfg(test)]
+mod watches;

@@ -146,19 +146,20 @@ history 8
 
 /// What is explored: the core, with this behind each outcome, or the Java machine itself.
 #[derive(Clone, Copy)]
-enum Explored {
+pub(crate) enum Explored {
     Core(WitnessForm),
     Machine,
 }
 
-/// Explores the program with at most so many states.
+/// Explores a program with at most so many states.
 fn explore_one(
     alloc: Global,
+    program: &[u8],
     explored: Explored,
     most: u32,
     sink: &mut WriterSink<Vec<u8>>,
 ) -> Result<(), ExploreTextFault> {
-    let mut source = ReaderSource::new(ONE_ENTER);
+    let mut source = ReaderSource::new(program);
     match explored {
         Explored::Core(form) => explore_text(alloc, &mut source, sink, most, form, &mut Nobody),
         Explored::Machine => explore_java_text(alloc, &mut source, sink, most, &mut Nobody),
@@ -174,7 +175,7 @@ fn ends_so(
     text: &[u8],
 ) -> bool {
     let mut sink = WriterSink::new(Vec::new(alloc));
-    let outcome = explore_one(alloc, explored, most, &mut sink);
+    let outcome = explore_one(alloc, ONE_ENTER, explored, most, &mut sink);
     outcome == ending && sink.into_inner().as_slice() == text
 }
 
@@ -191,11 +192,18 @@ fn states_that_are_enough_and_one_less(rt: HostRuntime) {
     }
 }
 
-/// Whether a program is explored. Where it is not, memory was refused, and nothing was written; or
-/// the writer was refused some, which has a front of the report.
-fn explores(rt: &impl Abort, alloc: Global, explored: Explored, report: &[u8]) -> bool {
+/// Whether a program of so many states is explored. Where it is not, memory was refused, and
+/// nothing was written; or the writer was refused some, which has a front of the report.
+pub(crate) fn explores(
+    rt: &impl Abort,
+    alloc: Global,
+    program: &[u8],
+    explored: Explored,
+    states: u32,
+    report: &[u8],
+) -> bool {
     let mut sink = WriterSink::new(Vec::new(alloc));
-    let outcome = explore_one(alloc, explored, 7, &mut sink);
+    let outcome = explore_one(alloc, program, explored, states, &mut sink);
     let bytes = sink.into_inner();
     let is_right = match outcome {
         Ok(()) => bytes.as_slice() == report,
@@ -206,18 +214,26 @@ fn explores(rt: &impl Abort, alloc: Global, explored: Explored, report: &[u8]) -
     outcome.is_ok()
 }
 
+fn explores_one(rt: &impl Abort, alloc: Global, explored: Explored, report: &[u8]) -> bool {
+    explores(rt, alloc, ONE_ENTER, explored, 7, report)
+}
+
 #[test]
 fn a_refused_exploration_succeeds_when_tried_again(rt: HostRuntime) {
     let (rt, alloc) = (&rt, rt.alloc());
     let core = Explored::Core(WitnessForm::Script);
-    assert!(rt; explores(rt, alloc, core, ONE_REPORT) || explores(rt, alloc, core, ONE_REPORT));
+    assert!(rt;
+        explores_one(rt, alloc, core, ONE_REPORT) || explores_one(rt, alloc, core, ONE_REPORT)
+    );
 }
 
 #[test]
 fn a_refused_exploration_with_histories_succeeds_when_tried_again(rt: HostRuntime) {
     let (rt, alloc) = (&rt, rt.alloc());
     let core = Explored::Core(WitnessForm::History);
-    assert!(rt; explores(rt, alloc, core, ONE_HISTORY) || explores(rt, alloc, core, ONE_HISTORY));
+    assert!(rt;
+        explores_one(rt, alloc, core, ONE_HISTORY) || explores_one(rt, alloc, core, ONE_HISTORY)
+    );
 }
 
 // The machine makes the moves of that history, one in each state.
@@ -226,6 +242,7 @@ fn a_refused_exploration_of_the_machine_succeeds_when_tried_again(rt: HostRuntim
     let (rt, alloc) = (&rt, rt.alloc());
     let machine = Explored::Machine;
     assert!(rt;
-        explores(rt, alloc, machine, ONE_HISTORY) || explores(rt, alloc, machine, ONE_HISTORY)
+        explores_one(rt, alloc, machine, ONE_HISTORY)
+            || explores_one(rt, alloc, machine, ONE_HISTORY)
     );
 }
