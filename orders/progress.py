@@ -3,10 +3,12 @@
 
 python3 orders/progress.py THINMON
 
-The program is large enough for an exploration of some seconds. It is explored with standard error at a pseudo-terminal,
-and the same with a pipe, where nothing is to be told; the report is to be the same. At the terminal a line has to come
-for every other second at least, so there is at least one wherever the exploration takes two seconds or longer.
+The core is explored, and with `--any` the Java machine itself. The program is made larger until its exploration takes
+some four seconds, with a pipe as standard error, where nothing is to be told. It is explored again with standard error
+at a pseudo-terminal: the report is to be the same, and a line has to come for every other second at least. Last it is
+explored there with fewer states than it has: the line is to be gone before the fault is told.
 """
+import collections
 import os
 import pty
 import re
@@ -15,22 +17,68 @@ import sys
 import threading
 import time
 
-# How many threads enter an object once and leave it, and how many enter it twice and leave it once.
-SHORT, LONG = 4, 2
-# Each thread has an object of its own. An enter or an exit has three steps: it begins, loads the word, and exchanges or
-# stores it. So a short thread has 7 states, and 6 steps between them, and a long one 10, and 9 steps. No thread meets
-# another: each state of one comes beside each state of the others, and the next step may be that of any thread that has
-# one left. `bench/explored.py` finds as many states.
-CALLS = ["call enter {0}\ncall exit {0}\n"] * SHORT + ["call enter {0}\ncall enter {0}\ncall exit {0}\n"] * LONG
-PROGRAM = (
-    f"world 0 {len(CALLS)}\n"
-    + "".join(f"object o{n} A5\n" for n in range(len(CALLS)))
-    + "".join(f"thread t{n}\n" + calls.format(f"o{n}") for n, calls in enumerate(CALLS))
-)
-STATES = 7**SHORT * 10**LONG
-STEPS = SHORT * 6 * 7 ** (SHORT - 1) * 10**LONG + LONG * 9 * 10 ** (LONG - 1) * 7**SHORT
+# How many seconds an exploration is to take, and from how many on it is taken.
+WANTED, ENOUGH = 4, 3
+# From how many states on a program is not made larger, since each of them takes memory.
+MOST_STATES = 2_000_000
+# How many calls each thread of the first program makes, two at least.
+FIRST = [2] * 6
 TOLD = re.compile(r"\rthinmon: (\d+) states, (\d+) to visit, (\d+) a second\x1b\[K")
 GONE = "\r\x1b[K"
+
+# What came of an exploration: its status, its report, what it told, and how many seconds it took.
+Run = collections.namedtuple("Run", "status report told seconds")
+
+
+def text_of(calls):
+    """A program whose threads make so many calls each: all of them but the last enter an object, which is exited then.
+
+    Each thread has an object of its own, so none meets another.
+    """
+    text = f"world 0 {len(calls)}\n" + "".join(f"object o{n} A5\n" for n in range(len(calls)))
+    for n, count in enumerate(calls):
+        text += f"thread t{n}\n" + f"call enter o{n}\n" * (count - 1) + f"call exit o{n}\n"
+    return text
+
+
+def states_of(calls):
+    """How many states such a program has.
+
+    A call has three steps. On the core it begins, loads the word, and exchanges or stores it; on the Java machine it is
+    made, the lock is taken or given up, and it returns. So a thread that makes N calls has 3 * N + 1 states, each of
+    which comes beside each state of the others. `bench/explored.py` and `bench/explored_any.py` find as many.
+    """
+    states = 1
+    for count in calls:
+        states *= 3 * count + 1
+    return states
+
+
+def steps_of(calls):
+    """How many steps there are between them: the next one may be that of any thread that has one left."""
+    return sum(3 * count * (states_of(calls) // (3 * count + 1)) for count in calls)
+
+
+def grown(calls, times):
+    """A program that has this many times as many states, or MOST_STATES, or somewhat more."""
+    wanted = min(times * states_of(calls), MOST_STATES)
+    calls = sorted(calls)
+    while states_of(calls) < wanted:
+        calls = sorted([calls[0] + 1, *calls[1:]])
+    return calls
+
+
+def explore(thinmon, options, calls, told):
+    """Explores a program, with this as standard error. What came of it, and how many seconds it took."""
+    began = time.monotonic()
+    done = subprocess.run([thinmon, "explore", *options], input=text_of(calls).encode(), stdout=subprocess.PIPE,
+                          stderr=told, timeout=300)
+    return done, time.monotonic() - began
+
+
+def at_a_pipe(thinmon, options, calls):
+    done, seconds = explore(thinmon, options, calls, subprocess.PIPE)
+    return Run(done.returncode, done.stdout.decode(), done.stderr.decode(), seconds)
 
 
 def read_all(end, parts):
@@ -45,28 +93,18 @@ def read_all(end, parts):
         parts.append(part)
 
 
-def explore(program, told):
-    """Explores the program, with this as standard error."""
-    return subprocess.run(
-        [program, "explore"], input=PROGRAM.encode(), stdout=subprocess.PIPE, stderr=told, check=True, timeout=300
-    )
-
-
-def at_a_terminal(program):
-    """The report, what was told, and how many seconds it took."""
+def at_a_terminal(thinmon, options, calls):
     master, slave = pty.openpty()
     parts = []
     reader = threading.Thread(target=read_all, args=(master, parts), daemon=True)
     reader.start()
-    began = time.monotonic()
     try:
-        report = explore(program, slave).stdout
+        done, seconds = explore(thinmon, options, calls, slave)
     finally:
-        seconds = time.monotonic() - began
         os.close(slave)
         reader.join(10)
         os.close(master)
-    return report, b"".join(parts).decode(), seconds
+    return Run(done.returncode, done.stdout.decode(), b"".join(parts).decode(), seconds)
 
 
 def has_terminals():
@@ -79,26 +117,70 @@ def has_terminals():
     return True
 
 
-def main(program):
-    plain = explore(program, subprocess.PIPE)
-    assert plain.stderr == b"", plain.stderr
-    assert plain.stdout.startswith(b"states %d steps %d\n" % (STATES, STEPS)), plain.stdout[:80]
+def check_whole(run, calls):
+    """Whether this is the report of a program, of which there is only one outcome."""
+    assert run.status == 0, (run.status, run.told[-200:])
+    head = f"states {states_of(calls)} steps {steps_of(calls)}\noutcome 1 ends 1\n"
+    assert run.report.startswith(head), run.report[:80]
+    assert "\noutcome 2 " not in run.report
+
+
+def check_lines(run, most, fault):
+    """Whether these lines of progress, of at most so many states, and then this fault are told. How many lines."""
+    lines = list(TOLD.finditer(run.told))
+    wanted = "".join(line.group(0) for line in lines) + (GONE if lines else "") + fault
+    assert run.told == wanted, run.told[-400:]
+    # The lines come a second or longer one after the other, and the first so long after the beginning. There is one for
+    # each second but for what the start takes, and the visits between two looks at the clock.
+    assert int(run.seconds / 2) <= len(lines) <= run.seconds, (len(lines), run.seconds)
+    found, waiting, rates = ([int(line.group(n)) for line in lines] for n in (1, 2, 3))
+    assert found == sorted(found) and all(0 < number <= most for number in found), found
+    visited = [number - left for number, left in zip(found, waiting)]
+    assert visited == sorted(set(visited)) and all(0 < number for number in visited), visited
+    for second, (number, rate) in enumerate(zip(found, rates), 1):
+        assert number / run.seconds - 1 <= rate <= number / second, (number, rate, run.seconds)
+    return len(lines)
+
+
+def large_enough(thinmon, options):
+    """A program whose exploration takes some seconds, and what came of it with a pipe as standard error."""
+    calls = FIRST
+    while True:
+        run = at_a_pipe(thinmon, options, calls)
+        check_whole(run, calls)
+        assert run.told == "", run.told
+        larger = grown(calls, WANTED / run.seconds)
+        if run.seconds >= ENOUGH or larger == calls:
+            return calls, run
+        calls = larger
+
+
+def compare(thinmon, options):
+    """Compares what is told of an exploration with these options at a terminal and elsewhere."""
+    calls, plain = large_enough(thinmon, options)
+    states = states_of(calls)
+    whole = at_a_terminal(thinmon, options, calls)
+    check_whole(whole, calls)
+    assert whole.report == plain.report
+    lines = check_lines(whole, states, "")
+    # So many are found in some three seconds. A terminal has a carriage return before each line feed.
+    most = states * 3 // 4
+    cut = at_a_terminal(thinmon, [*options, "--states", str(most)], calls)
+    assert (cut.status, cut.report) == (1, ""), (cut.status, cut.report[:80])
+    some = check_lines(cut, most, f"thinmon: too many states: more than {most}\r\n")
+    told = f"{states} states, {lines} lines of progress, {some} before a fault"
+    print(" ".join(["explore", *options]) + f": {told}, {plain.seconds:.1f} s")
+
+
+def main(thinmon):
     if not has_terminals():
+        run = at_a_pipe(thinmon, [], FIRST)
+        check_whole(run, FIRST)
+        assert run.told == "", run.told
         print("skipped: progress at a terminal, since there is none to be had")
         return
-    report, told, seconds = at_a_terminal(program)
-    assert plain.stdout == report
-    lines = list(TOLD.finditer(told))
-    assert told == "".join(line.group(0) for line in lines) + (GONE if lines else ""), told
-    found = [int(line.group(1)) for line in lines]
-    assert found == sorted(set(found)) and all(0 < number <= STATES for number in found), found
-    assert all(0 < int(line.group(2)) <= int(line.group(1)) for line in lines), told
-    # One line a second, of as many states as were found by then. A second may lack its line: the start and the report
-    # are timed here too, and the program looks at its clock only when 4,096 more states were found.
-    assert seconds // 2 <= len(lines) <= seconds + 1, (len(lines), seconds)
-    for number, line in enumerate(lines, 1):
-        assert int(line.group(3)) <= int(line.group(1)) // number, line.group(0)
-    print(f"{STATES} states, {len(lines)} lines of progress")
+    for options in ([], ["--any"]):
+        compare(thinmon, options)
 
 
 if __name__ == "__main__":
