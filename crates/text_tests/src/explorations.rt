@@ -139,9 +139,53 @@ history 27
 {\"move\":\"Return\",\"reply\":\"Exited\",\"thread\":1}
 ";
 
-/// What comes of it on the Java machine, as the second explorer of that finds it.
-const DEADLOCK_OF_THE_MACHINE: &[u8] = b"states 115 steps 186
+/// Two threads that do so and exit nothing, for the machine, which asks for memory more often.
+const DEADLOCK_SMALL: &[u8] = b"world 0 2
+object a 00
+object b 00
+thread x
+call enter a
+call enter b
+thread y
+call enter b
+call enter a
+";
+
+/// What comes of that on the Java machine, as the second explorer of the machine finds it.
+const DEADLOCK_OF_THE_MACHINE: &[u8] = b"states 33 steps 52
 outcome 1 ends 1
+thread x Entered Entered
+thread y stuck enter b
+object a owner x holds 1 waiting -
+object b owner x holds 1 waiting -
+history 10
+{\"objects\":2}
+{\"move\":\"Attach\",\"thread\":0}
+{\"move\":\"Attach\",\"thread\":1}
+{\"call\":\"Enter\",\"move\":\"Call\",\"object\":0,\"thread\":0}
+{\"move\":\"Lock\",\"thread\":0}
+{\"move\":\"Return\",\"reply\":\"Entered\",\"thread\":0}
+{\"call\":\"Enter\",\"move\":\"Call\",\"object\":1,\"thread\":0}
+{\"move\":\"Lock\",\"thread\":0}
+{\"move\":\"Return\",\"reply\":\"Entered\",\"thread\":0}
+{\"call\":\"Enter\",\"move\":\"Call\",\"object\":1,\"thread\":1}
+outcome 2 ends 1
+thread x stuck enter a
+thread y Entered Entered
+object a owner y holds 1 waiting -
+object b owner y holds 1 waiting -
+history 10
+{\"objects\":2}
+{\"move\":\"Attach\",\"thread\":0}
+{\"move\":\"Attach\",\"thread\":1}
+{\"call\":\"Enter\",\"move\":\"Call\",\"object\":0,\"thread\":0}
+{\"call\":\"Enter\",\"move\":\"Call\",\"object\":1,\"thread\":1}
+{\"move\":\"Lock\",\"thread\":1}
+{\"move\":\"Return\",\"reply\":\"Entered\",\"thread\":1}
+{\"call\":\"Enter\",\"move\":\"Call\",\"object\":0,\"thread\":1}
+{\"move\":\"Lock\",\"thread\":1}
+{\"move\":\"Return\",\"reply\":\"Entered\",\"thread\":1}
+outcome 3 ends 1
 thread x Entered stuck enter b
 thread y Entered stuck enter a
 object a owner x holds 1 waiting -
@@ -159,44 +203,11 @@ history 11
 {\"move\":\"Lock\",\"thread\":1}
 {\"move\":\"Return\",\"reply\":\"Entered\",\"thread\":1}
 {\"call\":\"Enter\",\"move\":\"Call\",\"object\":0,\"thread\":1}
-outcome 2 ends 1
-thread x Entered Entered Exited Exited
-thread y Entered Entered Exited Exited
-object a owner - holds 0 waiting -
-object b owner - holds 0 waiting -
-history 27
-{\"objects\":2}
-{\"move\":\"Attach\",\"thread\":0}
-{\"move\":\"Attach\",\"thread\":1}
-{\"call\":\"Enter\",\"move\":\"Call\",\"object\":0,\"thread\":0}
-{\"move\":\"Lock\",\"thread\":0}
-{\"move\":\"Return\",\"reply\":\"Entered\",\"thread\":0}
-{\"call\":\"Enter\",\"move\":\"Call\",\"object\":1,\"thread\":0}
-{\"move\":\"Lock\",\"thread\":0}
-{\"move\":\"Return\",\"reply\":\"Entered\",\"thread\":0}
-{\"call\":\"Exit\",\"move\":\"Call\",\"object\":1,\"thread\":0}
-{\"move\":\"Unlock\",\"thread\":0}
-{\"move\":\"Return\",\"reply\":\"Exited\",\"thread\":0}
-{\"call\":\"Exit\",\"move\":\"Call\",\"object\":0,\"thread\":0}
-{\"move\":\"Unlock\",\"thread\":0}
-{\"move\":\"Return\",\"reply\":\"Exited\",\"thread\":0}
-{\"call\":\"Enter\",\"move\":\"Call\",\"object\":1,\"thread\":1}
-{\"move\":\"Lock\",\"thread\":1}
-{\"move\":\"Return\",\"reply\":\"Entered\",\"thread\":1}
-{\"call\":\"Enter\",\"move\":\"Call\",\"object\":0,\"thread\":1}
-{\"move\":\"Lock\",\"thread\":1}
-{\"move\":\"Return\",\"reply\":\"Entered\",\"thread\":1}
-{\"call\":\"Exit\",\"move\":\"Call\",\"object\":0,\"thread\":1}
-{\"move\":\"Unlock\",\"thread\":1}
-{\"move\":\"Return\",\"reply\":\"Exited\",\"thread\":1}
-{\"call\":\"Exit\",\"move\":\"Call\",\"object\":1,\"thread\":1}
-{\"move\":\"Unlock\",\"thread\":1}
-{\"move\":\"Return\",\"reply\":\"Exited\",\"thread\":1}
 ";
 
 /// A thread that waits for a time, and then interrupts one that is not there; and one that notifies
 /// it, or comes too early, or too late.
-pub(crate) const TIMED: &[u8] = b"world 1 2
+const TIMED: &[u8] = b"world 1 2
 object a 00
 thread x
 call enter a
@@ -339,63 +350,51 @@ history 16
 {\"cause\":\"NoThread\",\"move\":\"Return\",\"reply\":\"Refused\",\"thread\":0}
 ";
 
-/// What comes of it on the Java machine, as the second explorer of that finds it.
-const TIMED_OF_THE_MACHINE: &[u8] = b"states 76 steps 130
+/// A thread that waits for a time, notifies nobody, and interrupts one that is not there; or the
+/// moment comes before it waits, and no other.
+const TIMED_SMALL: &[u8] = b"world 1 1
+object a 00
+thread x
+call enter a
+call wait a 0 5
+call notify a
+call interrupt s
+clock 5
+";
+
+/// What comes of that on the Java machine, as the second explorer of the machine finds it.
+const TIMED_OF_THE_MACHINE: &[u8] = b"states 22 steps 25
 outcome 1 ends 1
-thread x stuck enter a
-thread y Entered Notified
-object a owner y holds 1 waiting -
-history 11
+thread x Entered stuck waits a 1
+object a owner - holds 0 waiting x
+history 8
 {\"objects\":1}
 {\"move\":\"Attach\",\"thread\":0}
-{\"move\":\"Attach\",\"thread\":1}
-{\"call\":\"Enter\",\"move\":\"Call\",\"object\":0,\"thread\":0}
-{\"call\":\"Enter\",\"move\":\"Call\",\"object\":0,\"thread\":1}
-{\"move\":\"Lock\",\"thread\":1}
-{\"move\":\"Return\",\"reply\":\"Entered\",\"thread\":1}
-{\"call\":\"Notify\",\"move\":\"Call\",\"object\":0,\"thread\":1}
-{\"chosen\":null,\"move\":\"Notify\",\"thread\":1}
-{\"move\":\"Return\",\"reply\":\"Notified\",\"thread\":1}
-{\"move\":\"Time\",\"now\":5}
-outcome 2 ends 2
-thread x Entered stuck back a 1
-thread y Entered Notified
-object a owner y holds 1 waiting -
-history 15
-{\"objects\":1}
-{\"move\":\"Attach\",\"thread\":0}
-{\"move\":\"Attach\",\"thread\":1}
 {\"call\":\"Enter\",\"move\":\"Call\",\"object\":0,\"thread\":0}
 {\"move\":\"Lock\",\"thread\":0}
 {\"move\":\"Return\",\"reply\":\"Entered\",\"thread\":0}
 {\"call\":\"Wait\",\"millis\":0,\"move\":\"Call\",\"nanos\":5,\"object\":0,\"thread\":0}
-{\"move\":\"Wait\",\"thread\":0}
-{\"call\":\"Enter\",\"move\":\"Call\",\"object\":0,\"thread\":1}
-{\"move\":\"Lock\",\"thread\":1}
-{\"move\":\"Return\",\"reply\":\"Entered\",\"thread\":1}
-{\"call\":\"Notify\",\"move\":\"Call\",\"object\":0,\"thread\":1}
-{\"chosen\":0,\"move\":\"Notify\",\"thread\":1}
-{\"move\":\"Return\",\"reply\":\"Notified\",\"thread\":1}
 {\"move\":\"Time\",\"now\":5}
-outcome 3 ends 1
-thread x Entered WaitOver Refused/NoThread
-thread y stuck enter a
+{\"move\":\"Wait\",\"thread\":0}
+outcome 2 ends 1
+thread x Entered WaitOver Notified Refused/NoThread
 object a owner x holds 1 waiting -
-history 16
+history 17
 {\"objects\":1}
 {\"move\":\"Attach\",\"thread\":0}
-{\"move\":\"Attach\",\"thread\":1}
 {\"call\":\"Enter\",\"move\":\"Call\",\"object\":0,\"thread\":0}
 {\"move\":\"Lock\",\"thread\":0}
 {\"move\":\"Return\",\"reply\":\"Entered\",\"thread\":0}
 {\"call\":\"Wait\",\"millis\":0,\"move\":\"Call\",\"nanos\":5,\"object\":0,\"thread\":0}
 {\"move\":\"Wait\",\"thread\":0}
-{\"call\":\"Enter\",\"move\":\"Call\",\"object\":0,\"thread\":1}
 {\"move\":\"Time\",\"now\":5}
 {\"move\":\"Expire\",\"thread\":0}
 {\"move\":\"Relock\",\"thread\":0}
 {\"move\":\"Return\",\"reply\":\"WaitOver\",\"thread\":0}
-{\"call\":\"Interrupt\",\"move\":\"Call\",\"target\":2,\"thread\":0}
+{\"call\":\"Notify\",\"move\":\"Call\",\"object\":0,\"thread\":0}
+{\"chosen\":null,\"move\":\"Notify\",\"thread\":0}
+{\"move\":\"Return\",\"reply\":\"Notified\",\"thread\":0}
+{\"call\":\"Interrupt\",\"move\":\"Call\",\"target\":1,\"thread\":0}
 {\"cause\":\"NoThread\",\"move\":\"Refuse\",\"thread\":0}
 {\"cause\":\"NoThread\",\"move\":\"Return\",\"reply\":\"Refused\",\"thread\":0}
 ";
@@ -439,9 +438,9 @@ fn explores_deadlock_on_the_machine(rt: &impl Abort, alloc: Global) -> bool {
     explores(
         rt,
         alloc,
-        DEADLOCK,
+        DEADLOCK_SMALL,
         Explored::Machine,
-        115,
+        33,
         DEADLOCK_OF_THE_MACHINE,
     )
 }
@@ -493,9 +492,9 @@ fn explores_timed_on_the_machine(rt: &impl Abort, alloc: Global) -> bool {
     explores(
         rt,
         alloc,
-        TIMED,
+        TIMED_SMALL,
         Explored::Machine,
-        76,
+        22,
         TIMED_OF_THE_MACHINE,
     )
 }
