@@ -8,7 +8,8 @@ was handed in comes back, and the same succeeds when it is tried again. Each is 
 `rt try --test --fail-alloc M` refuses the Mth allocation of every test. So each test is written M times into a copy of
 the crates: the Nth makes M - N allocations first, so that the Nth of the test itself is refused, and one more at its
 end. Where that last one is refused, and says so, the test itself made just N - 1, each of which was refused before.
-Where none says so, M is doubled. The script runs for some minutes, and proves nothing.
+Where none says so, M is doubled, and what was refused already is left out. The script runs for some minutes, and proves
+nothing.
 """
 
 import pathlib
@@ -82,29 +83,31 @@ TESTS = {
 }
 
 
-def copies(text, test, most):
-    """The test in the text of a module, once for each of its first allocations, which is refused there."""
+def copies(text, test, tried, most):
+    """The test in the text of a module, once for each of its allocations behind those tried, which is refused there."""
     head, end = f"fn {test}(rt: HostRuntime) -> Result<(), std::test::Fail> {{\n", "    Ok(())\n}\n"
     # (a test that hands no fault out returns nothing)
     found = rf"^fn {test}\(rt: HostRuntime\)(?: -> Result<\(\), Fail>)? {{\n(.*?)(?:    Ok\(\(\)\)\n)?^}}\n"
     body = re.search(found, text, re.DOTALL | re.MULTILINE).group(1)
-    for refused in range(1, most + 1):
+    for refused in range(tried + 1, most + 1):
         before = f"    for _ in 0..{most - refused} {{\n        Vec::<u8>::with_capacity(rt.alloc(), 1)?;\n    }}\n"
         name = head.replace(test, f"{test}_{refused}")
         yield f"\n#[test]\n{name}{before}{body}{BEHIND}{end}"
 
 
-def results(crate, most):
-    """What is said of each test of a crate, by name, where the tests below are written so many times."""
+def results(crate, left, tried, most):
+    """What is said of each test of a crate, by name, where those that are left are written once for each allocation
+    behind those tried."""
     with tempfile.TemporaryDirectory() as folder:
         top = pathlib.Path(folder)
         shutil.copytree(ROOT / "crates", top / "crates", ignore=shutil.ignore_patterns("out"))
         for file in ("crates.txt", "HANDLES"):
             shutil.copy(ROOT / file, top)
-        for module, tests in TESTS[crate].items():
+        for module in TESTS[crate]:
+            tests = [test for where, test in left if where == module]
             file = top / "crates" / crate / "src" / (module.replace("::", "/") + ".rt")
             text = file.read_text()
-            file.write_text(text + "".join(it for test in tests for it in copies(text, test, most)))
+            file.write_text(text + "".join(it for test in tests for it in copies(text, test, tried, most)))
         words = ["rt", "try", "--test", "--fail-alloc", str(most)]
         run = subprocess.run(words, cwd=top / "crates" / crate, capture_output=True, text=True)
     said = re.split(r"^test (\S+) \.\.\. ", run.stdout + run.stderr, flags=re.MULTILINE)
@@ -113,9 +116,9 @@ def results(crate, most):
     return dict(zip(said[1::2], said[2::2]))
 
 
-def ends_well(crate, test, said, most):
+def ends_well(crate, test, said, tried, most):
     """Whether a test passes with each of its allocations refused; None where there may be more of them."""
-    for refused in range(1, most + 1):
+    for refused in range(tried + 1, most + 1):
         words = said[f"{test}_{refused}"]
         if MET_NONE in words:
             print(f"{crate}: {test} passes with each of its {refused - 1} allocations refused")
@@ -129,14 +132,14 @@ def ends_well(crate, test, said, most):
 def main():
     wrong = 0
     for crate in sys.argv[1:] or TESTS:
-        left = [f"{module}::{test}" for module, tests in TESTS[crate].items() for test in tests]
-        most = FIRST_MOST
+        left = [(module, test) for module, tests in TESTS[crate].items() for test in tests]
+        tried, most = 0, FIRST_MOST
         while left:
-            said = results(crate, most)
-            found = {test: ends_well(crate, test, said, most) for test in left}
+            said = results(crate, left, tried, most)
+            found = {(module, test): ends_well(crate, f"{module}::{test}", said, tried, most) for module, test in left}
             wrong += sum(end is False for end in found.values())
             left = [test for test, end in found.items() if end is None]
-            most *= 2
+            tried, most = most, 2 * most
     sys.exit(1 if wrong else 0)
 
 
