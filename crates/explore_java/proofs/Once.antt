@@ -1,6 +1,6 @@
 -- No move is tried twice in a state: moves have numbers, which rise along those that are tried.
 use native.Mathlib.Omega.{arith}
-use Rattle.std.proofs.Common.{◌≡◌, ap, refl, ℕ, zero, suc, ◌+◌, ◌<◌, ◌≤◌, List, [], ◌∷◌, ◌++◌, length, Option, Some, None, Bool, true, false, if◌then◌else◌, cc}
+use Rattle.std.proofs.Common.{◌≡◌, ap, ℕ, zero, suc, ◌+◌, ◌<◌, ◌≤◌, List, [], ◌∷◌, ◌++◌, length, Option, Some, None, Bool, true, false, if◌then◌else◌}
 use Rattle.std.specs.Prelude.{slice_get}
 use Rattle.lock_word.specs.declared.ThreadId.{ThreadId}
 use Rattle.fast_path.specs.declared.calls.Call.{Call}
@@ -19,7 +19,7 @@ use Rattle.explore_java.specs.Moves.{begin_moves, call_moves, clock_moves, doing
 
 module _ (n : ℕ) where
   -- where the numbers of thread k begin: each thread has as many
-  base : ℕ → ℕ
+  abbrev base : ℕ → ℕ
   base zero = 0
   base (suc k) = base k + (n + 4)
 
@@ -117,26 +117,26 @@ module _ (n : ℕ) where
       (omega arith, omega arith)
 
   calls_rise : (t : ThreadId) (c : Call) → Rise (base t.0) (base t.0 + (n + 4)) (call_moves n t c)
-  calls_rise t (call.Enter o) = (omega arith, omega arith, omega arith)
-  calls_rise t (call.Exit o) = (omega arith, omega arith, omega arith)
-  calls_rise t (call.Wait o millis nanos) = (omega arith, omega arith, omega arith, omega arith, omega arith)
+  calls_rise t (call.Enter o) = (omega arith, (omega arith, omega arith))
+  calls_rise t (call.Exit o) = (omega arith, (omega arith, omega arith))
+  calls_rise t (call.Wait o millis nanos) = (omega arith, (omega arith, (omega arith, (omega arith, omega arith))))
   calls_rise t (call.Notify o) =
       let lo : ℕ = base t.0 + 2 + 1 in
       let more : Rise (base t.0 + 3) (base t.0 + (n + 4)) (notifies t n) = to_higher (base t.0 + 3) (base t.0 + 3 + n) (base t.0 + (n + 4)) (notifies t n) (omega arith) (notifies_rise t n) in
-      (omega arith, omega arith, from_lower lo (base t.0 + 3) (base t.0 + (n + 4)) (notifies t n) (omega arith) more)
-  calls_rise t (call.NotifyAll o) = (omega arith, omega arith, omega arith)
+      (omega arith, (omega arith, from_lower lo (base t.0 + 3) (base t.0 + (n + 4)) (notifies t n) (omega arith) more))
+  calls_rise t (call.NotifyAll o) = (omega arith, (omega arith, omega arith))
   calls_rise t (call.Holds o) = (omega arith, omega arith)
-  calls_rise t (call.Interrupt u) = (omega arith, omega arith, omega arith)
+  calls_rise t (call.Interrupt u) = (omega arith, (omega arith, omega arith))
   calls_rise t call.Interrupted = (omega arith, omega arith)
-  calls_rise t (call.IsInterrupted u) = (omega arith, omega arith, omega arith)
-  calls_rise t call.End = (omega arith, omega arith, omega arith)
+  calls_rise t (call.IsInterrupted u) = (omega arith, (omega arith, omega arith))
+  calls_rise t call.End = (omega arith, (omega arith, omega arith))
 
   begins_rise : (t : ThreadId) (o : Option Call) → Rise (base t.0) (base t.0 + (n + 4)) (begin_moves t o)
   begins_rise t None = omega arith
   begins_rise t (Some c) = (omega arith, omega arith)
 
   wakes_rise : (t : ThreadId) (spurious : Bool) → Rise (base t.0) (base t.0 + (n + 4)) (move.Expire t ∷ (if spurious then move.Spurious t ∷ [] else []))
-  wakes_rise t true = (omega arith, omega arith, omega arith)
+  wakes_rise t true = (omega arith, (omega arith, omega arith))
   wakes_rise t false = (omega arith, omega arith)
 
   clocks_rise : (o : Option ℕ) → Rise (base n) (base n + 1) (clock_moves o)

@@ -1,7 +1,7 @@
 //! The search: states are visited in the order in which they were found.
 
 ghost use Rattle.std.specs.Prelude.{◌≡◌, ◌+◌, ◌<◌, ◌≤◌, ◌++◌, ◌∷◌, [], length, true, false, None};
-ghost use Rattle.std.specs.Prelude.{IfErr, IfOk, IfSome, OnOk, Some, if◌then◌else◌, is_none};
+ghost use Rattle.std.specs.Prelude.{IfErr, IfOk, IfSome, OnOk, Some, if◌then◌else◌, is_some};
 ghost use Rattle.explore_java.specs.JavaFound.{witnesses, witness_at, IsAt, FindsAll, IsReason};
 ghost use Rattle.explore_java.specs.JavaFound.{AreParents};
 ghost use Rattle.explore_java.specs.JavaStates.{after, count_of, is_left, played};
@@ -121,9 +121,9 @@ impl Search {
         ensures stays { OnOk result (StaysIn (witnesses self.old.nodes.items)
             (witnesses self.new.nodes.items)) }
         ensures back { IfOk result (λ back. IfSome back (λ s. s ≡ state)) }
-        ensures none { IfOk result (λ back. is_none back ≡ false
+        ensures none { IfOk result (λ back. is_some back ≡ true
             → after program.now state made ≡ None) }
-        ensures some { IfOk result (λ back. is_none back ≡ true → Leads program.now
+        ensures some { IfOk result (λ back. is_some back ≡ false → Leads program.now
             (witnesses self.new.nodes.items) (behind (witnesses self.new.nodes.items) at)
             state made) }
     {
