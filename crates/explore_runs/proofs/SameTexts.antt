@@ -26,7 +26,7 @@ use Rattle.explore_java.specs.JavaStates.{JavaProgramState}
 use Rattle.explore_java.specs.JavaStates.{replies_of as java_replies_of}
 use Rattle.explore_runs.specs.JavaOutcomes.{IsJavaOutcome, java_object_line, java_object_lines, java_thread_line, java_thread_lines, java_waiter, java_waiters}
 use Rattle.explore_runs.specs.Outcomes.{IsOutcome, doing_text, object_line, object_lines, replies_text, reply_word, thread_line, thread_lines}
-use Rattle.explore_runs.specs.Steps.{empty_world, granted, script_steps}
+use Rattle.explore_runs.specs.Steps.{granted, script_steps}
 use Rattle.explore_runs.proofs.Berthed.{IsManned}
 use Rattle.explore_runs.proofs.Ended.{kept_played}
 use Rattle.explore_runs.proofs.Labelled.{within_limits}
@@ -59,14 +59,14 @@ same_waiters w o (suc n) = ap (λ (ts : List ThreadId). ts ++ waiter w o (record
 
 -- no thread from number n on is there, so none waits
 no_more_wait : (x : State) (o : ObjectId) (n : ℕ) → ((u : ThreadId) → n ≤ u.0 → x.thread u ≡ None) → (m : ℕ) → n ≤ m → java_waiters x o m ≡ java_waiters x o n
-no_more_wait x o n nobody zero le = ap (java_waiters x o) (omega (arith, le))
-no_more_wait x o n nobody (suc m) le = by (cases_eq (suc m) n)
+no_more_wait x o n nobody zero le = let none : zero ≡ n = omega (arith, le) in ap (java_waiters x o) none
+no_more_wait x o n nobody (suc m) le = by (cases_eq (suc m) n) (λ past. no_more_wait x o n nobody m past)
   where
-    by : (suc m ≡ n) ⊎ (suc m ≡ n → ⊥) → java_waiters x o (suc m) ≡ java_waiters x o n
-    by (inl e) = ap (java_waiters x o) e
-    by (inr other) =
+    by : (suc m ≡ n) ⊎ (suc m ≡ n → ⊥) → (n ≤ m → java_waiters x o m ≡ java_waiters x o n) → java_waiters x o (suc m) ≡ java_waiters x o n
+    by (inl e) rest = ap (java_waiters x o) e
+    by (inr other) rest =
         let last : ThreadId = record { 0 = m } in
-        ap (λ (ts : List ThreadId). ts ++ java_waiter x o last) (no_more_wait x o n nobody m (omega (arith, le, other)))
+        ap (λ (ts : List ThreadId). ts ++ java_waiter x o last) (rest (omega (arith, le, other)))
         ∙ ap (λ (y : Option Thread). java_waiters x o n ++ (if is_waiting y o then last ∷ [] else [])) (nobody last (omega (arith, le, other)))
         ∙ append-nil (java_waiters x o n)
 

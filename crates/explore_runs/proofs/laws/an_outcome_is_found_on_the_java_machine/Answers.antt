@@ -19,8 +19,7 @@ returns-clause-texts c = λ names p f cs s text named finds leads end wants is.
     let bytes = named.lows in
     let found = outcome_is_end p f finds (script_moves p cs) (shown s.world) (script_is_outcome p cs s bytes leads end) wants in
     let shows = found.4 in
-    let replies = λ k lt. sym (shows.replies k lt) ∙ script_returns p cs s k bytes leads lt in
-    (found.0, found.1, found.2, found.3, same_text p cs s bytes leads names found.2 text named.each_thread shows.machine replies is)
+    (found.0, found.1, found.2, found.3, same_text p cs s bytes leads names found.2 text named.each_thread shows.machine (λ k lt. sym (shows.replies k lt) ∙ script_returns p cs s k bytes leads lt) is)
 
 pub returns-clause-told : goal.returns-clause-told
 returns-clause-told c = λ p t k. java_replies_told_of p t k
