@@ -57,7 +57,7 @@ IsFound p ws s = (k : ℕ) × (k < length ws) × IsAt p ws k s
 abbrev pub end_at : FoundJavaStates → ℕ → ℕ
 end_at f i = slice_index_or f.ends i 0
 
--- The machine can make no move here that the program leaves to it.
+-- The machine can make no move here that the program leaves to it and that is no refusal for want.
 abbrev pub IsEnd : Program → JavaProgramState → Type 0
 IsEnd p s = (m : Move) (t : JavaProgramState) → after p s m ≡ Some t → ⊥
 

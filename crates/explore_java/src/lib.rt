@@ -1,5 +1,5 @@
-//! Every state that the runs which a small program leaves to the Java machine itself lead to, each
-//! with moves that lead there.
+//! The states of a small program on the Java machine itself: each that its runs lead to, with moves
+//! that lead there.
 //!
 //! It knows no header word, no thread index and no fat monitor. Any waiting thread may be notified,
 //! any thread may lock an object that is free, and nothing is refused for want of a monitor or of

@@ -252,7 +252,8 @@ fn note_end(ends: &mut Vec<u32>, is_end: bool, at: u32) -> Result<(), Memory>
 }
 
 /// All states of a program on the Java machine itself, each once, where there are at most this
-/// many: each state to which moves lead that the program leaves to the machine.
+/// many: each state to which moves lead that the program leaves to the machine and that are no
+/// refusals for want.
 pub fn explore_java(alloc: Global, program: &Program, most: u32) -> Result<JavaFound, ExploreFault>
     ensures all { IfOk result (FindsAll program.now) }
     ensures few { IfOk result (λ f. length f.witnesses ≤ most) }

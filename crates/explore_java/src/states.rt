@@ -96,8 +96,8 @@ impl JavaState {
         program.moments.get(self.told).copied()
     }
 
-    /// Makes a move that the program leaves to the machine. False: it is not lawful here, and
-    /// nothing changes.
+    /// Makes a move that the program leaves to the machine and that is no refusal for want. False:
+    /// it is not lawful here, and nothing changes.
     pub(crate) fn make(&mut self, program: &Program, made: Move) -> bool
         requires left { is_left program.now self.old made ≡ true }
         requires below { AreBelow (count_of program.now) self.old.machine }
@@ -215,8 +215,8 @@ fn first_machine(alloc: Global, program: &Program) -> Result<Machine, Memory>
     'attaching: for number in 0..program.starts.len() {
         let thread = ThreadId(number as u32);
         match machine.take(Move::Attach { thread }) {
-            // No attach is unlawful here, since no two threads have one number; one that were would
-            // change nothing, as `attached` has it.
+            // No two threads have one number, so no attach is unlawful here. An unlawful one would
+            // change nothing, and `attached` says the same.
             Ok(()) | Err(MoveFault::Broken) => {}
             Err(MoveFault::Memory) => return Err(Memory),
         }

@@ -85,8 +85,8 @@ pub fn an_outcome_is_one_of_the_machine()
 
 /// An outcome of the core is among those that are found on the Java machine, for the same program,
 /// where nothing was refused for want of a monitor or of memory on the way: an end is found there
-/// that shows the same machine, and in which the calls of each thread have the same replies. So its
-/// text is an outcome there, too.
+/// that shows the same machine, and in which the calls of each thread have the same replies. Such
+/// an end has the same text.
 pub fn an_outcome_is_found_on_the_java_machine()
     // The end that is found.
     ensures found { (p : Program) (f : FoundJavaStates) (cs : List Choice) (s : ProgramState)
@@ -96,13 +96,12 @@ pub fn an_outcome_is_found_on_the_java_machine()
         × IsAt p f.witnesses (end_at f i) t × (state t.machine ≡ shown s.world)
         × ((k : ℕ) → k < length p.starts.items
         → java_replies_of p t k ≡ replies_of p s k) }
-    // Its text.
-    ensures texts { (names : NameLists) (p : Program) (f : FoundJavaStates) (cs : List Choice)
-        (s : ProgramState) (text : List ℕ)
-        → IsNamed names p → FindsAll p f → played p cs ≡ Some s → IsEnd p s
-        → NoneForWant (script_moves p cs) → IsOutcome names p s text
-        → (i : ℕ) × (i < length f.ends) × (t : JavaProgramState)
-        × IsAt p f.witnesses (end_at f i) t × IsJavaOutcome names p t text }
+    // The text of any state that shows the same so.
+    ensures texts { (names : NameLists) (p : Program) (cs : List Choice) (s : ProgramState)
+        (t : JavaProgramState) (text : List ℕ)
+        → IsNamed names p → played p cs ≡ Some s → state t.machine ≡ shown s.world
+        → ((k : ℕ) → k < length p.starts.items → java_replies_of p t k ≡ replies_of p s k)
+        → IsOutcome names p s text → IsJavaOutcome names p t text }
     // The line of a thread tells the replies that the state has for its calls.
     ensures told { (p : Program) (t : JavaProgramState) (k : ℕ)
         → replies_text t.replies (start_of p k) (end_of p k - start_of p k)

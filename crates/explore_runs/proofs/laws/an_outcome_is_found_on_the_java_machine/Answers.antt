@@ -15,11 +15,8 @@ returns-clause-found c = λ p f cs s bytes finds leads end wants.
     (found.0, found.1, found.2, found.3, shows.machine, λ k lt. sym (shows.replies k lt) ∙ script_returns p cs s k bytes leads lt)
 
 pub returns-clause-texts : goal.returns-clause-texts
-returns-clause-texts c = λ names p f cs s text named finds leads end wants is.
-    let bytes = named.lows in
-    let found = outcome_is_end p f finds (script_moves p cs) (shown s.world) (script_is_outcome p cs s bytes leads end) wants in
-    let shows = found.4 in
-    (found.0, found.1, found.2, found.3, same_text p cs s bytes leads names found.2 text named.each_thread shows.machine (λ k lt. sym (shows.replies k lt) ∙ script_returns p cs s k bytes leads lt) is)
+returns-clause-texts c = λ names p cs s t text named leads shows same is.
+    same_text p cs s named.lows leads names t text named.each_thread shows same is
 
 pub returns-clause-told : goal.returns-clause-told
 returns-clause-told c = λ p t k. java_replies_told_of p t k
