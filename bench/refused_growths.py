@@ -8,8 +8,8 @@ was handed in comes back, and the same succeeds when it is tried again. Each is 
 `rt try --test --fail-alloc M` refuses the Mth allocation of every test. So each test is written M times into a copy of
 the crates: the Nth makes M - N allocations first, so that the Nth of the test itself is refused, and one more at its
 end. Where that last one is refused, and says so, the test itself made just N - 1, each of which was refused before.
-Where none says so, M is doubled, and what was refused already is left out. The script runs for some minutes, and proves
-nothing.
+Where none says so, M is doubled, and what was refused already is left out. The script runs for some minutes, and for
+hours over the larger explorations of text_tests; it proves nothing.
 """
 
 import pathlib

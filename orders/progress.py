@@ -4,9 +4,10 @@
 python3 orders/progress.py THINMON
 
 The core is explored, and with `--any` the Java machine itself. The program is made larger until its exploration takes
-some four seconds, with a pipe as standard error, where nothing is to be told. It is explored again with standard error
-at a pseudo-terminal: the report is to be the same, and a line has to come for every other second at least. Last it is
-explored there with fewer states than it has: the line is to be gone before the fault is told.
+some four seconds, or until it has as many states as MOST_STATES says; standard error is a pipe then, where nothing is
+to be told. It is explored again with standard error at a pseudo-terminal: the report is to be the same, and a line has
+to come for every other second at least. Last it is explored there with fewer states than it has: the line is to be
+gone before the fault is told.
 """
 import collections
 import os
@@ -19,8 +20,9 @@ import time
 
 # How many seconds an exploration is to take, and from how many on it is taken.
 WANTED, ENOUGH = 4, 3
-# From how many states on a program is not made larger, since each of them takes memory.
-MOST_STATES = 2_000_000
+# From how many states on a program is not made larger, since each of them takes memory: of the core some 200 bytes, and
+# with --any more than a thousand.
+MOST_STATES = {(): 2_000_000, ("--any",): 500_000}
 # How many calls each thread of the first program makes, two at least.
 FIRST = [2] * 6
 TOLD = re.compile(r"\rthinmon: (\d+) states, (\d+) to visit, (\d+) a second\x1b\[K")
@@ -59,9 +61,9 @@ def steps_of(calls):
     return sum(3 * count * (states_of(calls) // (3 * count + 1)) for count in calls)
 
 
-def grown(calls, times):
-    """A program that has this many times as many states, or MOST_STATES, or somewhat more."""
-    wanted = min(times * states_of(calls), MOST_STATES)
+def grown(calls, times, most):
+    """A program that has this many times as many states, or so many, or somewhat more."""
+    wanted = min(times * states_of(calls), most)
     calls = sorted(calls)
     while states_of(calls) < wanted:
         calls = sorted([calls[0] + 1, *calls[1:]])
@@ -126,13 +128,17 @@ def check_whole(run, calls):
 
 
 def check_lines(run, most, fault):
-    """Whether these lines of progress, of at most so many states, and then this fault are told. How many lines."""
+    """Whether a run tells only lines of progress, each of at most `most` states, and at its end the text `fault`.
+
+    How many lines there are."""
     lines = list(TOLD.finditer(run.told))
     wanted = "".join(line.group(0) for line in lines) + (GONE if lines else "") + fault
     assert run.told == wanted, run.told[-400:]
-    # The lines come a second or longer one after the other, and the first so long after the beginning. There is one for
-    # each second but for what the start takes, and the visits between two looks at the clock.
-    assert int(run.seconds / 2) <= len(lines) <= run.seconds, (len(lines), run.seconds)
+    # The lines come a second or longer one after the other, and the first so long after the beginning. So there is at
+    # most one for each second, and fewer by what the start takes, the visits between two looks at the clock, and the
+    # report. An exploration that is over sooner than ENOUGH seconds may have none.
+    least = max(int(run.seconds / 2) - 1, int(run.seconds >= ENOUGH))
+    assert least <= len(lines) <= run.seconds, (len(lines), run.seconds)
     found, waiting, rates = ([int(line.group(n)) for line in lines] for n in (1, 2, 3))
     assert found == sorted(found) and all(0 < number <= most for number in found), found
     visited = [number - left for number, left in zip(found, waiting)]
@@ -149,7 +155,7 @@ def large_enough(thinmon, options):
         run = at_a_pipe(thinmon, options, calls)
         check_whole(run, calls)
         assert run.told == "", run.told
-        larger = grown(calls, WANTED / run.seconds)
+        larger = grown(calls, WANTED / run.seconds, MOST_STATES[options])
         if run.seconds >= ENOUGH or larger == calls:
             return calls, run
         calls = larger
@@ -174,12 +180,11 @@ def compare(thinmon, options):
 
 def main(thinmon):
     if not has_terminals():
-        run = at_a_pipe(thinmon, [], FIRST)
-        check_whole(run, FIRST)
-        assert run.told == "", run.told
+        for options in MOST_STATES:
+            large_enough(thinmon, options)
         print("skipped: progress at a terminal, since there is none to be had")
         return
-    for options in ([], ["--any"]):
+    for options in MOST_STATES:
         compare(thinmon, options)
 
 

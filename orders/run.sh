@@ -4,7 +4,8 @@
 #
 # A folder here that has `args` is an order: `args` has the words behind the program's name, one a line, `stdin`
 # what it reads there, `stdout` and `stderr` what it has to write (nothing, where there is no such file), and
-# `status` its exit status (0, where there is none). Its other files lie where the program runs.
+# `status` its exit status (0, where there is none). Its other files lie where the program runs. Any other folder has
+# programs, which `explored.py` explores.
 #
 # A line of `words` is an order that finds no file: the status, the words, and texts that have to be in
 # what is written, which is on standard output for status 0, and else on standard error.
@@ -42,8 +43,16 @@ file_or() {
 
 run_folders() {
     local folder words wanted
-    for folder in */args; do
-        folder=${folder%/args}
+    for folder in */; do
+        folder=${folder%/}
+        if [ ! -f "$folder/args" ]; then
+            if ! compgen -G "$folder/*.program" >"$made/written"; then
+                : >"$made/told"
+                status=none
+                judge wrong "the folder $folder, which has no order and no program,"
+            fi
+            continue
+        fi
         mapfile -t words <"$folder/args"
         wanted=$(cat "$(file_or "$folder/status" /dev/null)")
         order "$folder" "$(file_or "$folder/stdin" /dev/null)" "${words[@]}"
