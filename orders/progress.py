@@ -5,9 +5,9 @@ python3 orders/progress.py THINMON
 
 The core is explored, and with `--any` the Java machine itself. The program is made larger until its exploration takes
 some four seconds, or until it has as many states as MOST_STATES says; standard error is a pipe then, where nothing is
-to be told. It is explored again with standard error at a pseudo-terminal: the report is to be the same, and a line has
-to come for every other second at least. Last it is explored there with fewer states than it has: the line is to be
-gone before the fault is told.
+to be told. It is explored again with standard error at a pseudo-terminal: the report is to be the same, and there have
+to be half as many lines as seconds, less one, and one at least from ENOUGH seconds on. Last it is explored there with
+fewer states than it has: the line is to be gone before the fault is told.
 """
 import collections
 import os
@@ -22,7 +22,7 @@ import time
 WANTED, ENOUGH = 4, 3
 # From how many states on a program is not made larger, since each of them takes memory: of the core some 200 bytes, and
 # with --any more than a thousand.
-MOST_STATES = {(): 2_000_000, ("--any",): 500_000}
+MOST_STATES = {(): 2_000_000, ("--any",): 490_000}
 # How many calls each thread of the first program makes, two at least.
 FIRST = [2] * 6
 TOLD = re.compile(r"\rthinmon: (\d+) states, (\d+) to visit, (\d+) a second\x1b\[K")
@@ -62,7 +62,7 @@ def steps_of(calls):
 
 
 def grown(calls, times, most):
-    """A program that has this many times as many states, or so many, or somewhat more."""
+    """A program with `times` as many states, or with `most` where that is fewer, or with somewhat more."""
     wanted = min(times * states_of(calls), most)
     calls = sorted(calls)
     while states_of(calls) < wanted:
@@ -136,8 +136,9 @@ def check_lines(run, most, fault):
     assert run.told == wanted, run.told[-400:]
     # The lines come a second or longer one after the other, and the first so long after the beginning. So there is at
     # most one for each second, and fewer by what the start takes, the visits between two looks at the clock, and the
-    # report. An exploration that is over sooner than ENOUGH seconds may have none.
-    least = max(int(run.seconds / 2) - 1, int(run.seconds >= ENOUGH))
+    # report. The clock is looked at whenever 4,096 more states were visited. An exploration that is over sooner than
+    # ENOUGH seconds may have no line.
+    least = max(min(int(run.seconds / 2), most // 4096) - 1, int(run.seconds >= ENOUGH))
     assert least <= len(lines) <= run.seconds, (len(lines), run.seconds)
     found, waiting, rates = ([int(line.group(n)) for line in lines] for n in (1, 2, 3))
     assert found == sorted(found) and all(0 < number <= most for number in found), found
@@ -176,6 +177,8 @@ def compare(thinmon, options):
     some = check_lines(cut, most, f"thinmon: too many states: more than {most}\r\n")
     told = f"{states} states, {lines} lines of progress, {some} before a fault"
     print(" ".join(["explore", *options]) + f": {told}, {plain.seconds:.1f} s")
+    if not lines:
+        print(f"skipped: lines of progress of {states} states, since they took only {whole.seconds:.1f} s")
 
 
 def main(thinmon):

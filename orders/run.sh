@@ -4,8 +4,8 @@
 #
 # A folder here that has `args` is an order: `args` has the words behind the program's name, one a line, `stdin`
 # what it reads there, `stdout` and `stderr` what it has to write (nothing, where there is no such file), and
-# `status` its exit status (0, where there is none). Its other files lie where the program runs. Any other folder has
-# programs, which `explored.py` explores.
+# `status` its exit status (0, where there is none). Its other files lie where the program runs. Any other folder is
+# one that `explored.py` names: it has programs to be explored.
 #
 # A line of `words` is an order that finds no file: the status, the words, and texts that have to be in
 # what is written, which is on standard output for status 0, and else on standard error.
@@ -46,10 +46,11 @@ run_folders() {
     for folder in */; do
         folder=${folder%/}
         if [ ! -f "$folder/args" ]; then
-            if ! compgen -G "$folder/*.program" >"$made/written"; then
+            if ! grep -qF "\"orders/$folder\"" explored.py; then
+                : >"$made/written"
                 : >"$made/told"
                 status=none
-                judge wrong "the folder $folder, which has no order and no program,"
+                judge wrong "the folder $folder, which has no args and no programs for explored.py,"
             fi
             continue
         fi
@@ -170,7 +171,12 @@ run_progress() {
     command -v python3 >/dev/null || { echo "skipped: progress, since there is no python3"; return; }
     status=0
     python3 progress.py "$program" >"$made/written" 2>"$made/told" || status=$?
-    if [ "$status" = 0 ]; then judge well; else judge wrong "progress"; fi
+    if [ "$status" = 0 ]; then
+        grep '^skipped' "$made/written" || true
+        judge well
+    else
+        judge wrong "progress"
+    fi
 }
 
 # The examples, drawn, and read by another reader of XML, where there is a Python to run it.
