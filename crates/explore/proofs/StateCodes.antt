@@ -9,11 +9,7 @@ use Rattle.std.specs.Prelude.{map}
 use Rattle.std.specs.Int.{w32, w64, to_le_bytes, from_le_bytes}
 use Rattle.std.proofs.lemmas.Nat.{from_le_bytes-to_le_bytes_4, from_le_bytes-to_le_bytes_8}
 use Rattle.std.proofs.lemmas.Bool.{ltb-true}
-use Rattle.fat_monitor.specs.declared.actions.Cause.{Cause}
-use Rattle.fat_monitor.specs.declared.actions.Cause.TheVariants as cause
 use Rattle.fat_monitor.specs.declared.actions.Reply.{Reply}
-use Rattle.fat_monitor.specs.declared.actions.Reply.TheVariants as reply
-use Rattle.fat_monitor.specs.Names.{cause_number}
 use Rattle.fat_monitor.specs.Numbers.{reply_number}
 use Rattle.step_core.specs.World.{WorldState}
 use Rattle.step_core.specs.Numbers.{numbers_of, IsNumbered}
@@ -31,35 +27,6 @@ rest (n ∷ ns) = ns
 pub small_all : (xs : List ℕ) → ((k : ℕ) → get_or xs k 0 < 2 ^ 64) → AreSmall xs
 small_all [] h = tt
 small_all (x ∷ xs) h = (h 0, small_all xs (λ k. h (suc k)))
-
-cause_byte : (c : Cause) → cause_number c + 1 < 17
-cause_byte cause.NoMonitor = omega arith
-cause_byte cause.Memory = omega arith
-cause_byte cause.TooDeep = omega arith
-cause_byte cause.StillOwner = omega arith
-cause_byte cause.NoThread = omega arith
-
-reply_byte : (r : Reply) → reply_number r + 1 < 17
-reply_byte reply.Entered = omega arith
-reply_byte reply.Exited = omega arith
-reply_byte reply.WaitOver = omega arith
-reply_byte reply.Interrupted = omega arith
-reply_byte reply.Notified = omega arith
-reply_byte reply.Yes = omega arith
-reply_byte reply.No = omega arith
-reply_byte reply.Done = omega arith
-reply_byte reply.Ended = omega arith
-reply_byte reply.IllegalMonitorState = omega arith
-reply_byte reply.IllegalArgument = omega arith
-reply_byte (reply.Refused c) = cause_byte c
-
-answer_small : (o : Option Reply) → answer_number o < 17
-answer_small None = omega arith
-answer_small (Some r) = reply_byte r
-
-small_answers : (os : List (Option Reply)) → AreSmall (map answer_number os)
-small_answers [] = tt
-small_answers (o ∷ os) = (let lt = answer_small o in omega (arith, lt), small_answers os)
 
 -- ---- numbers one behind the other
 
@@ -306,13 +273,11 @@ answers_apart h (x ∷ xs) (y ∷ ys) e =
 -- a code is of one state
 pub states_apart : RepliesApart → WorldsApart → (s t : ProgramState) → IsCoded s → IsCoded t → code_of s ≡ code_of t → s ≡ t
 states_apart replies worlds s t hs ht e =
-    let numbers = dense_split (front_numbers s) (front_numbers t) (dense (map answer_number s.replies)) (dense (map answer_number t.replies)) hs.small ht.small e in
+    let numbers = dense_split (front_numbers s) (front_numbers t) (map answer_number s.replies) (map answer_number t.replies) hs.small ht.small e in
     let w = worlds s.world t.world _ _ hs.numbered ht.numbered numbers.0 in
     let told : s.told ≡ t.told = ap first w.1 in
     let nexts : s.nexts ≡ t.nexts = ap (λ (ns : List ℕ). rest (rest ns)) w.1 in
-    let last = dense_split (map answer_number s.replies) (map answer_number t.replies) [] [] (small_answers s.replies) (small_answers t.replies)
-    (ap (λ (ns : List ℕ). ns ++ 255 ∷ []) numbers.1) in
-    let answers = answers_apart replies s.replies t.replies last.0 in
+    let answers = answers_apart replies s.replies t.replies numbers.1 in
     ap (λ (x : WorldState). record { world = x; nexts = s.nexts; replies = s.replies; told = s.told }) w.0
     ∙ ap (λ (x : List ℕ). record { world = t.world; nexts = x; replies = s.replies; told = s.told }) nexts
     ∙ ap (λ (x : List (Option Reply)). record { world = t.world; nexts = t.nexts; replies = x; told = s.told }) answers

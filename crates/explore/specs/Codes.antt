@@ -39,9 +39,9 @@ dense [] = []
 dense (a ∷ []) = alone a
 dense (a ∷ b ∷ ns) = if shares a b then (16 * a + b) ∷ dense ns else alone a ++ dense (b ∷ ns)
 
--- the bytes of the numbers, an end that none of them begins with, and those of the replies
+-- the bytes of the numbers, an end that none of them begins with, and a byte for each reply
 abbrev pub code_of : ProgramState → List ℕ
-code_of s = dense (front_numbers s) ++ 255 ∷ dense (map answer_number s.replies)
+code_of s = dense (front_numbers s) ++ 255 ∷ map answer_number s.replies
 
 abbrev pub AreSmall : List ℕ → Type 0
 AreSmall [] = Unit {0}

@@ -1,6 +1,6 @@
 //! The bytes that stand for a state.
 
-ghost use Rattle.std.specs.Prelude.{◌≡◌, ◌++◌, ◌∷◌, slice_get, OnOk};
+ghost use Rattle.std.specs.Prelude.{◌≡◌, ◌++◌, ◌∷◌, OnOk};
 ghost use Rattle.explore.specs.Codes.{AreSmall, IsCoded, alone, code_of, dense, pair_of};
 ghost use Rattle.explore.specs.States.{ProgramState};
 
@@ -73,34 +73,13 @@ pub(crate) fn put_dense(numbers: &[u64], bytes: &mut Vec<u8>) -> Result<(), Memo
 }
 
 /// Puts 255, with which no number begins, behind the bytes that are there, and then the numbers of
-/// replies.
+/// replies, a byte each: these are copied all at once.
 pub(crate) fn push_replies(numbers: &[u8], bytes: &mut Vec<u8>) -> Result<(), Memory>
-    ensures bytes { OnOk result (bytes.new.items ≡ bytes.old.items ++ 255 ∷ dense numbers.now) }
+    ensures { OnOk result (bytes.new.items ≡ bytes.old.items ++ 255 ∷ numbers.now) }
 {
     bytes.push(255)?;
-    let mut at = 0;
-    'replies: while at < numbers.len() {
-        let number = u64::from(numbers[at]);
-        match pair_of(number, number_at(numbers, at + 1)) {
-            Some(both) => {
-                bytes.push(both)?;
-                at += 2;
-            }
-            None => {
-                push_alone(number, bytes)?;
-                at += 1;
-            }
-        }
-    }
+    bytes.extend_from_slice(numbers)?;
     Ok(())
-}
-
-/// The number that stands at a position, if there is one.
-#[inline(always)]
-fn number_at(numbers: &[u8], at: usize) -> Option<u64>
-    ensures { result ≡ slice_get numbers.now at }
-{
-    Some(u64::from(*numbers.get(at)?))
 }
 
 /// The byte that a number shares with the next one, where both are small.

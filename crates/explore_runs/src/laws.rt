@@ -96,7 +96,7 @@ pub fn an_outcome_is_found_on_the_java_machine()
         × IsAt p f.witnesses (end_at f i) t × (state t.machine ≡ shown s.world)
         × ((k : ℕ) → k < length p.starts.items
         → java_replies_of p t k ≡ replies_of p s k) }
-    // The text of any state that shows the same so.
+    // Any state that shows the same machine and has the same replies has the text of the outcome.
     ensures texts { (names : NameLists) (p : Program) (cs : List Choice) (s : ProgramState)
         (t : JavaProgramState) (text : List ℕ)
         → IsNamed names p → played p cs ≡ Some s → state t.machine ≡ shown s.world
