@@ -20,7 +20,7 @@ import time
 
 # How many seconds an exploration is to take, and from how many on it is taken.
 WANTED, ENOUGH = 4, 3
-# From how many states on a program is not made larger, since each of them takes memory: less than 200 bytes of the
+# From how many states on a program is not made larger, since each of them takes memory: less than 200 bytes on the
 # core, and some 700 with --any.
 MOST_STATES = {(): 2_000_000, ("--any",): 490_000}
 # How many calls each thread of the first program makes, two at least.
