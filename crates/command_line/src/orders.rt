@@ -1,6 +1,6 @@
 //! What the words of the command line order.
 
-ghost use Rattle.std.specs.Prelude.{◌≡◌, IfOk, Some, codes, false, map, option_map, string_bytes};
+ghost use Rattle.std.specs.Prelude.{◌≡◌, IfOk, Some, false, map, option_map, string_bytes};
 ghost use Rattle.std.specs.Prelude.{true};
 ghost use Rattle.clap.specs.Walk.{rows_of, rule_of};
 ghost use Rattle.clap.specs.Matches.{found_of, has_subcommand};
@@ -8,7 +8,6 @@ ghost use Rattle.clap.specs.Simple.{app_of, subcommand_rows_of, with_subcommand}
 ghost use Rattle.clap.specs.Faults.{fault_of};
 ghost use Rattle.clap.specs.Kinds.{FailsBy};
 ghost use Rattle.clap.specs.declared.builder.command.Command.TheViews.{out-Command};
-ghost use Rattle.std.specs.Option.{option_and_then};
 ghost use Rattle.command_line.specs.Orders.{any_rule, bare_program, file_rule, file_words, is_set, order_in};
 ghost use Rattle.command_line.specs.Orders.{count_in, count_of, count_rule, drawing_with, draw_words};
 ghost use Rattle.command_line.specs.Orders.{explore_words, exploring_with, moves_rule, moves_words, order_of};

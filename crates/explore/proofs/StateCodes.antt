@@ -1,10 +1,7 @@
 -- A code is of one state.
 use native.Mathlib.Omega.{arith}
 use Rattle.std.proofs.Common.{◌≡◌, ◌∙◌, sym, ap, refl, ℕ, ◌<◌, ◌^◌, nat_lt, suc, Bool, true, false, if◌then◌else◌, List, [], ◌∷◌, ◌++◌, length, take, drop, get_or, ◌+◌, Option, Some, None}
-use Rattle.std.proofs.Common.{append_assoc, append-nil, ◌≤◌, ◌*◌, ◌&&◌, zero}
-use Rattle.std.specs.Option.{unwrap_or}
-use Rattle.std.specs.Prelude.{slice_get}
-use Rattle.std.proofs.lemmas.Option.{slice_get_within}
+use Rattle.std.proofs.Common.{append_assoc, append-nil, ◌≤◌, ◌*◌, ◌&&◌}
 use Rattle.std.specs.Prelude.{map}
 use Rattle.std.specs.Int.{w32, w64, to_le_bytes, from_le_bytes}
 use Rattle.std.proofs.lemmas.Nat.{from_le_bytes-to_le_bytes_4, from_le_bytes-to_le_bytes_8}
@@ -14,7 +11,7 @@ use Rattle.fat_monitor.specs.Numbers.{reply_number}
 use Rattle.step_core.specs.World.{WorldState}
 use Rattle.step_core.specs.Numbers.{numbers_of, IsNumbered}
 use Rattle.explore.specs.States.{ProgramState}
-use Rattle.explore.specs.Codes.{answer_number, front_numbers, shares, pair_of, alone_long, alone, dense, code_of, AreSmall, IsCoded}
+use Rattle.explore.specs.Codes.{answer_number, front_numbers, shares, alone_long, alone, dense, code_of, AreSmall, IsCoded}
 
 abbrev first : List ℕ → ℕ
 first [] = 0
@@ -29,80 +26,6 @@ small_all [] h = tt
 small_all (x ∷ xs) h = (h 0, small_all xs (λ k. h (suc k)))
 
 -- ---- numbers one behind the other
-
-dense_pair : (a b c : ℕ) (ns : List ℕ) → pair_of a (Some b) ≡ Some c → dense (a ∷ b ∷ ns) ≡ c ∷ dense ns
-dense_pair a b c ns e = by (shares a b) e
-  where
-    by : (q : Bool) → (if q then Some (16 * a + b) else None) ≡ Some c
-        → (if q then (16 * a + b) ∷ dense ns else alone a ++ dense (b ∷ ns)) ≡ c ∷ dense ns
-    by true g = ap (λ (o : Option ℕ). unwrap_or o c ∷ dense ns) g
-    by false g = absurd (cc)
-
-dense_alone : (a b : ℕ) (ns : List ℕ) → pair_of a (Some b) ≡ None → dense (a ∷ b ∷ ns) ≡ alone a ++ dense (b ∷ ns)
-dense_alone a b ns e = by (shares a b) e
-  where
-    by : (q : Bool) → (if q then Some (16 * a + b) else None) ≡ None
-        → (if q then (16 * a + b) ∷ dense ns else alone a ++ dense (b ∷ ns)) ≡ alone a ++ dense (b ∷ ns)
-    by true g = absurd (cc)
-    by false g = refl
-
-no_pair : (a c : ℕ) (o : Option ℕ) → o ≡ None → pair_of a o ≡ Some c → ⊥
-no_pair a c o e g = absurd (let h : None ≡ Some c = sym (ap (pair_of a) e) ∙ g in cc)
-
-shares_from : (ns : List ℕ) (i a c : ℕ) (o : Option ℕ) → i < length ns → a ≡ get_or ns i 0 → o ≡ slice_get ns (suc i)
-    → pair_of a o ≡ Some c → dense (drop i ns) ≡ c ∷ dense (drop (suc (suc i)) ns)
-shares_from [] i a c o lt e f g = absurd (omega (arith, lt))
-shares_from (x ∷ []) zero a c o lt e f g = absurd (no_pair a c o f g)
-shares_from (x ∷ y ∷ ns) zero a c o lt e f g =
-    dense_pair x y c ns (ap (λ (n : ℕ). pair_of n (Some y)) (sym e) ∙ ap (pair_of a) (sym f) ∙ g)
-shares_from (x ∷ ns) (suc i) a c o lt e f g = shares_from ns i a c o (omega (arith, lt)) e f g
-
-alone_from : (ns : List ℕ) (i a : ℕ) (o : Option ℕ) → i < length ns → a ≡ get_or ns i 0 → o ≡ slice_get ns (suc i)
-    → pair_of a o ≡ None → dense (drop i ns) ≡ alone a ++ dense (drop (suc i) ns)
-alone_from [] i a o lt e f g = absurd (omega (arith, lt))
-alone_from (x ∷ []) zero a o lt e f g = ap alone (sym e) ∙ sym (append-nil (alone a))
-alone_from (x ∷ y ∷ ns) zero a o lt e f g =
-    dense_alone x y ns (ap (λ (n : ℕ). pair_of n (Some y)) (sym e) ∙ ap (pair_of a) (sym f) ∙ g)
-    ∙ ap (λ (n : ℕ). alone n ++ dense (y ∷ ns)) (sym e)
-alone_from (x ∷ ns) (suc i) a o lt e f g = alone_from ns i a o (omega (arith, lt)) e f g
-
--- the next number shares its byte with the one behind it
-next_shares : (ns : List ℕ) (i a c : ℕ) (o : Option ℕ) → i < length ns → a ≡ get_or ns i 0 → o ≡ slice_get ns (i + 1)
-    → pair_of a o ≡ Some c → dense (drop i ns) ≡ c ∷ dense (drop (i + 2) ns)
-next_shares ns i a c o lt e f g =
-    let one : i + 1 ≡ suc i = omega arith in
-    let two : i + 2 ≡ suc (suc i) = omega arith in
-    shares_from ns i a c o lt e (f ∙ ap (slice_get ns) one) g ∙ ap (λ (n : ℕ). c ∷ dense (drop n ns)) (sym two)
-
--- it shares none
-next_alone : (ns : List ℕ) (i a : ℕ) (o : Option ℕ) → i < length ns → a ≡ get_or ns i 0 → o ≡ slice_get ns (i + 1)
-    → pair_of a o ≡ None → dense (drop i ns) ≡ alone a ++ dense (drop (i + 1) ns)
-next_alone ns i a o lt e f g =
-    let one : i + 1 ≡ suc i = omega arith in
-    alone_from ns i a o lt e (f ∙ ap (slice_get ns) one) g ∙ ap (λ (n : ℕ). alone a ++ dense (drop n ns)) (sym one)
-
-pair_within : (ns : List ℕ) (k a c : ℕ) (o : Option ℕ) → o ≡ slice_get ns k → pair_of a o ≡ Some c → k < length ns
-pair_within ns k a c None e g = absurd (cc)
-pair_within ns k a c (Some b) e g = slice_get_within ns k b (sym e)
-
--- the bytes of one step more
-wrote : (old new step all before after : List ℕ) → old ++ before ≡ all → before ≡ step ++ after → new ≡ old ++ step → new ++ after ≡ all
-wrote old new step all before after h e f =
-    ap (λ (b : List ℕ). b ++ after) f ∙ append_assoc old step after ∙ ap (λ (b : List ℕ). old ++ b) (sym e) ∙ h
-
--- the numbers up to a position are written, and then two more in one byte, or one by itself
-pub both_written : (old new all ns : List ℕ) (i a c : ℕ) (o : Option ℕ) → i < length ns
-    → old ++ dense (drop i ns) ≡ all → a ≡ get_or ns i 0 → o ≡ slice_get ns (i + 1) → pair_of a o ≡ Some c → new ≡ old ++ c ∷ []
-    → (i + 2 ≤ length ns) × (new ++ dense (drop (i + 2) ns) ≡ all)
-both_written old new all ns i a c o lt h e f g is =
-    let within = pair_within ns (i + 1) a c o f g in
-    (omega (arith, within), wrote old new (c ∷ []) all (dense (drop i ns)) (dense (drop (i + 2) ns)) h (next_shares ns i a c o lt e f g) is)
-
-pub one_written : (old new all ns : List ℕ) (i a : ℕ) (o : Option ℕ) → i < length ns
-    → old ++ dense (drop i ns) ≡ all → a ≡ get_or ns i 0 → o ≡ slice_get ns (i + 1) → pair_of a o ≡ None → new ≡ old ++ alone a
-    → (i + 1 ≤ length ns) × (new ++ dense (drop (i + 1) ns) ≡ all)
-one_written old new all ns i a o lt h e f g is =
-    (omega (arith, lt), wrote old new (alone a) all (dense (drop i ns)) (dense (drop (i + 1) ns)) h (next_alone ns i a o lt e f g) is)
 
 bytes_apart : (x y : ℕ) (a b : List ℕ) → x < 2 ^ 64 → y < 2 ^ 64 → to_le_bytes w64 x ++ a ≡ to_le_bytes w64 y ++ b → (x ≡ y) × (a ≡ b)
 bytes_apart x y a b hx hy e =

@@ -39,7 +39,7 @@ dense [] = []
 dense (a ∷ []) = alone a
 dense (a ∷ b ∷ ns) = if shares a b then (16 * a + b) ∷ dense ns else alone a ++ dense (b ∷ ns)
 
--- the bytes of the numbers, an end that none of them begins with, and a byte for each reply
+-- the bytes of the numbers, an end that none of them begins with, and for each call a byte: the number of its reply
 abbrev pub code_of : ProgramState → List ℕ
 code_of s = dense (front_numbers s) ++ 255 ∷ map answer_number s.replies
 

@@ -38,9 +38,6 @@ use Rattle.explore_java.specs.JavaSearches.{AllFoundFrom, AreFoundFrom}
 abbrev pub HasMove : List Move → Move → Type 0
 HasMove ms m = (i : ℕ) × (i < length ms) × (move_at ms i ≡ m)
 
-has_here : (m : Move) (ms : List Move) → HasMove (m ∷ ms) m
-has_here m ms = (0, omega arith, refl)
-
 has_next : (n m : Move) (ms : List Move) → HasMove ms m → HasMove (n ∷ ms) m
 has_next n m ms h = let lt = h.1 in (suc h.0, omega (arith, lt), h.2)
 

@@ -42,11 +42,6 @@ closed_next p a b n s closed stays lt here all = λ k r below leads c t made. pi
         let one : s ≡ r = ap (λ (o : Option JavaProgramState). unwrap_or o r) (sym now ∙ subst (λ (m : ℕ). IsAt p b m r) same leads) in
         subst (λ (m : ℕ). IsNear p b t (behind b m)) (sym same) (all c t (subst (λ (x : JavaProgramState). after p x c ≡ Some t) (sym one) made))
 
-pub closed_stays : (p : Program) (a b : List (List Move)) (n : ℕ) → IsClosed p a n → StaysIn a b → n ≤ length a → IsClosed p b n
-closed_stays p a b n closed stays le = λ k r below leads c t made.
-    subst (λ (d : ℕ). IsNear p b t d) (behind_stays a b k stays (omega (arith, below, le)))
-    (found_stays p a b (behind a k) t stays (closed k r below (rw (sym (stays.same k (omega (arith, below, le)))) leads) c t made))
-
 -- a state that is no end leaves the ends that there were
 pub ends_stay : (p : Program) (a b : List (List Move)) (n : ℕ) (ends : List ℕ) (s : JavaProgramState)
     → AreEnds p a n ends → StaysIn a b → n < length a → IsAt p a n s → (IsEnd p s → ⊥) → AreEnds p b (n + 1) ends

@@ -10,4 +10,6 @@ mod Trying
 pub mod CallFronts
 mod Returning
 mod Playing
+mod Leaving
+mod Replying
 pub mod Running

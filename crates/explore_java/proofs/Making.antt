@@ -58,20 +58,10 @@ ok_taken : (v w : MachineState) (o : Option MachineState) → answered (Ok tt) w
 ok_taken v w None e = absurd (let g = ap (λ (a : AfterMove). a.answer) e in cc)
 ok_taken v w (Some x) e = ap (λ (a : AfterMove). Some a.after) (sym e)
 
-broken_taken : (v w : MachineState) (o : Option MachineState) → answered (Err Broken) w ≡ taken v o → o ≡ None
-broken_taken v w None e = refl
-broken_taken v w (Some x) e = absurd (let g = ap (λ (a : AfterMove). a.answer) e in cc)
-
 pub made : (p : Program) (s : JavaProgramState) (m : Move) (room : Bool) (w : MachineState) → is_left p s m ≡ true
     → answered (Ok tt) w ≡ after_move room s.machine m → after p s m ≡ Some (noted s m w)
 made p s m room w left e =
     let o = ok_taken s.machine w (takes s.machine m) (e ∙ left_taken p s m room s.machine left) in
-    rw (left, o) refl
-
-pub not_made : (p : Program) (s : JavaProgramState) (m : Move) (room : Bool) (w : MachineState) → is_left p s m ≡ true
-    → answered (Err Broken) w ≡ after_move room s.machine m → after p s m ≡ None
-not_made p s m room w left e =
-    let o = broken_taken s.machine w (takes s.machine m) (e ∙ left_taken p s m room s.machine left) in
     rw (left, o) refl
 
 -- ---- only threads of the program are live

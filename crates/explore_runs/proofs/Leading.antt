@@ -30,10 +30,6 @@ use Rattle.explore_runs.proofs.Attaching.{attach_goes}
 
 -- ---- lists of steps
 
-granted_append : (xs ys : List Step) → granted (xs ++ ys) ≡ granted xs ++ granted ys
-granted_append [] ys = refl
-granted_append (x ∷ xs) ys = ap (λ t. granted (x ∷ []) ++ t) (granted_append xs ys)
-
 world_append : (w : WorldState) (xs ys : List Step) → world_after w (granted (xs ++ ys)) ≡ world_after (world_after w (granted xs)) (granted ys)
 world_append w [] ys = refl
 world_append w (x ∷ xs) ys = world_append (step_of true w x).after xs ys

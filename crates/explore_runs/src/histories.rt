@@ -1,6 +1,6 @@
 //! Writing the history of some choices: the moves that they hand out.
 
-ghost use Rattle.std.specs.Prelude.{◌≡◌, ◌≤◌, ◌++◌, ◌∷◌, [], IfOk, IfSome, OnOk, is_some};
+ghost use Rattle.std.specs.Prelude.{◌≡◌, ◌++◌, ◌∷◌, [], IfOk, IfSome, OnOk, is_some};
 ghost use Rattle.step_core.specs.Step.{moves_made};
 ghost use Rattle.history.specs.Histories.{moves_text, objects_text};
 ghost use Rattle.explore.specs.States.{played};

@@ -1,10 +1,9 @@
 //! Writing what the threads and objects of a program have come to.
 
-ghost use Rattle.std.specs.Prelude.{◌≡◌, ◌≤◌, ◌<◌, ◌+◌, ◌-◌, ◌^◌, ◌++◌, ◌∷◌, [], IfOk, OnOk, length, map, string_bytes};
-ghost use Rattle.std.specs.Prelude.{vec_items, ℕ, List, codes, slice_get};
+ghost use Rattle.std.specs.Prelude.{◌≡◌, ◌<◌, ◌+◌, ◌-◌, ◌^◌, ◌++◌, IfOk, OnOk, length, map, string_bytes};
+ghost use Rattle.std.specs.Prelude.{vec_items, slice_get};
 ghost use Rattle.std.specs.List.{flat_map};
 ghost use Rattle.dump.specs.Reports.{cycle_text};
-ghost use Rattle.history.specs.NameLists.{name_at};
 ghost use Rattle.step_core.specs.Shown.{shown};
 ghost use Rattle.explore_runs.specs.Outcomes.{IsOutcome, doing_text, interrupt_text, object_line};
 ghost use Rattle.explore_runs.specs.Outcomes.{object_lines, replies_text, reply_text, reply_word};

@@ -1,7 +1,6 @@
 //! Writing the script that makes some choices.
 
 ghost use Rattle.std.specs.Prelude.{◌≡◌, ◌≤◌, ◌<◌, ◌+◌, ◌++◌, ◌∷◌, [], Some, IfOk, OnOk, length, string_bytes};
-ghost use Rattle.lock_word.specs.Layout.{greatest_index};
 ghost use Rattle.lock_word.specs.Names.{hex_digit};
 ghost use Rattle.explore.specs.States.{opening, played, step_for};
 ghost use Rattle.explore_runs.specs.Scripts.{attach_lines, choice_line, choice_lines};
@@ -9,7 +8,6 @@ ghost use Rattle.explore_runs.specs.Scripts.{object_lines_from, script_of, step_
 ghost use Rattle.script_text.specs.declared.lines.Line.TheVariants as line;
 ghost use Rattle.script_text.specs.Lines.{line_text};
 ghost use Rattle.step_core.specs.declared.steps.Step.TheVariants as step;
-ghost use Rattle.history.specs.NameLists.{name_at};
 
 use dump::put_call;
 use explore::{Choice, Program, State};

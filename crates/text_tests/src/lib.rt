@@ -2,13 +2,15 @@
 //! dumps (`dumps`), the lines of a script (`lines`) and its first bad one (`bad_lines`), programs
 //! that are explored (`programs`), what a watch is told meanwhile (`watches`), and pictures
 //! (`drawings`); readers and writers that fail (`streams`, `histories`) or do not (`ends`), and want
-//! of memory (`memory`, `explorations`).
+//! of memory (`memory`, and `explorations` with the reports that `deadlock` and `timed_wait` want).
 #![tactic(auto)]
 
 #[cfg(test)]
 mod bad_lines;
 #[cfg(test)]
 mod checks;
+#[cfg(test)]
+mod deadlock;
 #[cfg(test)]
 mod drawings;
 #[cfg(test)]
@@ -31,5 +33,7 @@ mod pieces;
 mod programs;
 #[cfg(test)]
 mod streams;
+#[cfg(test)]
+mod timed_wait;
 #[cfg(test)]
 mod watches;

@@ -1,6 +1,6 @@
 //! What a watch is told of an exploration.
 
-use super::explorations::DEADLOCK;
+use super::deadlock::DEADLOCK;
 use super::programs::ONE_ENTER;
 use explore::{ExploreFault, Program, Watch, explore_watched};
 use explore_java::explore_java_watched;
