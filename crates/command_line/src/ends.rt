@@ -24,7 +24,7 @@ pub enum TaskFault {
     /// A picture has more columns than 20,000.
     #[error("too many columns: more than 20000")]
     TooManyColumns,
-    /// A picture has more lanes than 200: more threads, or more objects.
+    /// A picture has more lanes than 200: more threads, objects or cycles of owners.
     #[error("too many lanes: more than 200")]
     TooManyLanes,
     /// What is to be drawn has no column with this number.

@@ -1,7 +1,6 @@
 //! Why nothing was drawn.
 
 use lock_word::Memory;
-use pictures::PictureFault;
 use std::alloc::AllocError;
 use text_streams::FileFault;
 use thiserror::Error;
@@ -15,7 +14,8 @@ pub enum DrawFault {
     /// There are more columns than [`MOST_COLUMNS`](pictures::MOST_COLUMNS).
     #[error("too many columns: more than 20000")]
     TooManyColumns,
-    /// There are more threads, or more objects, than [`MOST_LANES`](pictures::MOST_LANES).
+    /// There are more threads, objects or cycles of owners than
+    /// [`MOST_LANES`](pictures::MOST_LANES).
     #[error("too many lanes: more than 200")]
     TooManyLanes,
     /// The window begins with this column, and the last one stands in front of it.
@@ -53,20 +53,5 @@ impl From<AllocError> for DrawFault {
 
     fn from(_: AllocError) -> Self {
         DrawFault::File(FileFault::Memory)
-    }
-}
-
-impl From<PictureFault> for DrawFault {
-    ghost use Rattle.std.specs.Prelude.{◌≡◌};
-    ghost use Rattle.drawing.specs.Faults.{fault_in};
-
-    ghost from_gives = { λ cause fault. fault ≡ fault_in cause };
-
-    fn from(fault: PictureFault) -> Self {
-        match fault {
-            PictureFault::TooManyColumns => DrawFault::TooManyColumns,
-            PictureFault::TooManyLanes => DrawFault::TooManyLanes,
-            PictureFault::Memory => DrawFault::File(FileFault::Memory),
-        }
     }
 }

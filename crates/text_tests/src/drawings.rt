@@ -1,5 +1,5 @@
-//! Pictures: what is drawn of a script and of a history, windows of them, readers that fail, and
-//! want of memory.
+//! Pictures: what is drawn of a script and of a history, windows of them, too many columns, refused
+//! steps, and want of memory.
 
 use super::checks::LOCKS_TWICE;
 use super::streams::{HISTORY, SCRIPT};

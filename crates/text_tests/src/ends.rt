@@ -21,12 +21,6 @@ use std::time::Clock;
 /// No program here has more states.
 const MOST_STATES: u32 = 100;
 
-/// All columns.
-const WHOLE: Window = Window {
-    first: 1,
-    last: None,
-};
-
 /// What is done with a text.
 #[derive(Clone, Copy)]
 enum Task {
@@ -152,21 +146,21 @@ fn do_task<R: Threads + Wait + Clock + Sync + Abort>(
             Err(RunFault::File(fault)) => Err(fault),
             Err(RunFault::Torn) => panic!(rt; "torn"),
         },
-        Task::Explore(witness) => fault_of_text(
+        Task::Explore(witness) => explored_ending(
             rt,
             explore_text(alloc, source, sink, MOST_STATES, witness, &mut Nobody),
         ),
-        Task::ExploreJava => fault_of_text(
+        Task::ExploreJava => explored_ending(
             rt,
             explore_java_text(alloc, source, sink, MOST_STATES, &mut Nobody),
         ),
-        Task::Draw => fault_of_files(rt, draw_script(alloc, WHOLE, source, sink)),
-        Task::DrawMoves => fault_of_files(rt, draw_moves(alloc, WHOLE, source, sink))
+        Task::Draw => drawn_ending(rt, draw_script(alloc, Window::whole(), source, sink)),
+        Task::DrawMoves => drawn_ending(rt, draw_moves(alloc, Window::whole(), source, sink))
     }
 }
 
 /// How an exploration ends that has few states.
-fn fault_of_text(rt: &impl Abort, ending: Result<(), ExploreTextFault>) -> Result<(), FileFault> {
+fn explored_ending(rt: &impl Abort, ending: Result<(), ExploreTextFault>) -> Result<(), FileFault> {
     match ending {
         Ok(()) => Ok(()),
         Err(ExploreTextFault::File(fault)) => Err(fault),
@@ -175,7 +169,7 @@ fn fault_of_text(rt: &impl Abort, ending: Result<(), ExploreTextFault>) -> Resul
 }
 
 /// How a drawing ends that is small enough.
-fn fault_of_files(rt: &impl Abort, ending: Result<(), DrawFault>) -> Result<(), FileFault> {
+fn drawn_ending(rt: &impl Abort, ending: Result<(), DrawFault>) -> Result<(), FileFault> {
     match ending {
         Ok(()) => Ok(()),
         Err(DrawFault::File(fault)) => Err(fault),
@@ -191,9 +185,9 @@ fn length_of(row: Row) -> usize {
     }
 }
 
-/// A reader of so many bytes of the text, and a writer of so much room: a task that has them tells
-/// a failed read and a failed write exactly where they failed, and else comes to what its row says.
-/// Whether neither failed.
+/// Gives a task so many bytes of its text, and a writer with so much room. A failed read or write is
+/// told exactly where the reader or the writer failed; where neither did, the task comes to what
+/// its row says. Whether neither failed.
 fn goes_well<R: Threads + Wait + Clock + Sync + Abort>(
     rt: &R,
     alloc: Global,
@@ -220,8 +214,8 @@ fn goes_well<R: Threads + Wait + Clock + Sync + Abort>(
     true
 }
 
-/// A reader that would fail if it were asked once more behind its end, and a writer with room for
-/// the text and no more, which would fail if there is none: neither does.
+/// The reader would fail if it were asked again behind its end, and the writer if it were handed a
+/// byte more than the text: neither happens.
 #[test]
 fn no_more_is_asked_than_a_task_needs(rt: HostRuntime) {
     for (number, &row) in ROWS.iter().enumerate() {
@@ -251,5 +245,38 @@ fn a_failed_write_is_one_of_the_writer(rt: HostRuntime) {
             let all = (row.text.len(), Then::Ends);
             assert!(rt; !goes_well(&rt, rt.alloc(), row, all, room));
         }
+    }
+}
+
+/// How many bytes a drawing writes that has so much room for them, if it comes to its end. A write
+/// is told to have failed exactly where one did, and nothing else goes wrong.
+fn drawn_length<R: Threads + Wait + Clock + Sync + Abort>(
+    rt: &R,
+    alloc: Global,
+    (task, text): (Task, &[u8]),
+    room: usize,
+) -> Option<usize> {
+    let mut reader = PiecesReader::new(text, 7, Then::Ends);
+    let mut writer = FullWriter::new(alloc, room, false);
+    let outcome = do_task(rt, alloc, task, &mut reader, &mut writer);
+    let has_failed = outcome == Err(FileFault::Write);
+    assert!(rt; has_failed == writer.has_failed && has_failed == outcome.is_err());
+    if has_failed {
+        return None;
+    }
+    Some(writer.taken.len())
+}
+
+/// The writer of a drawing has no room, or too little, or just enough.
+#[test]
+fn a_failed_write_of_a_drawing_is_one_of_the_writer(rt: HostRuntime) {
+    for drawing in [(Task::Draw, SCRIPT), (Task::DrawMoves, HISTORY)] {
+        let Some(length) = drawn_length(&rt, rt.alloc(), drawing, 100_000) else {
+            panic!(rt; "no room");
+        };
+        for room in [0, 1, 1_000, length / 2, length.saturating_sub(1)] {
+            assert!(rt; drawn_length(&rt, rt.alloc(), drawing, room).is_none());
+        }
+        assert!(rt; drawn_length(&rt, rt.alloc(), drawing, length) == Some(length));
     }
 }

@@ -77,6 +77,7 @@ fn a_live_script_whose_reader_fails(rt: HostRuntime) {
         );
     }
     assert!(rt; is_failed_live_read(&rt, rt.alloc(), b"go\n", Then::GoesOn));
+    assert!(rt; is_failed_live_read(&rt, rt.alloc(), LINES, Then::GoesOn));
 }
 
 /// Texts that are no script, each with a bad line of another kind or in another place, and some
