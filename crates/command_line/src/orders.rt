@@ -83,16 +83,13 @@ pub fn read_words<'a>(alloc: Global, words: &'a [String]) -> Result<Order<'a>, E
 
 /// The order of the subcommand that was met. The program requires one, so there is one.
 fn order_from<'a>(matches: &ArgMatches<'a>) -> Order<'a>
-    ensures { has_subcommand matches.now ≡ true
-        → option_map (λ p. order_of p.0 p.1) (subcommand_rows_of matches.now)
+    requires { has_subcommand matches.now ≡ true }
+    ensures { option_map (λ p. order_of p.0 p.1) (subcommand_rows_of matches.now)
         ≡ Some (result.task, option_map (λ file. file.now) result.file) }
 {
     match matches.subcommand() {
         Some((name, inner)) => order_of(name, inner),
-        None => Order {
-            task: Task::Run,
-            file: None,
-        },
+        None => unreachable!(),
     }
 }
 

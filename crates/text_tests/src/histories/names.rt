@@ -2,7 +2,7 @@
 
 use super::is_judged_alike;
 use history::{ReaderSource, WriterSink, read_script, run};
-use std::alloc::Global;
+use std::alloc::{AllocError, Global};
 use std::fmt::Write;
 use std::test::Fail;
 
@@ -15,6 +15,16 @@ enum Kind {
     Joined,
 }
 
+/// Writes a letter for each of the eight lowest bits of a number.
+fn push_bits(name: &mut String, bits: u32, zero: &str, one: &str) -> Result<(), AllocError> {
+    let mut left = bits;
+    for _ in 0..8 {
+        name.push_str(if left % 2 == 0 { zero } else { one })?;
+        left /= 2;
+    }
+    Ok(())
+}
+
 /// The name with this number, of 300, 26 or 256.
 fn name_of(alloc: Global, kind: Kind, number: u32) -> Result<String, Fail> {
     match kind {
@@ -25,29 +35,41 @@ fn name_of(alloc: Global, kind: Kind, number: u32) -> Result<String, Fail> {
         }
         Kind::Joined => {
             let mut name = String::new(alloc);
-            let mut bits = number;
-            for _ in 0..8 {
-                name.push_str(if bits % 2 == 0 { "a" } else { "i" })?;
-                bits /= 2;
-            }
-            let mut bits = number / 16 + number % 16 * 16;
-            for _ in 0..8 {
-                name.push_str(if bits % 2 == 0 { "b" } else { "c" })?;
-                bits /= 2;
-            }
+            push_bits(&mut name, number, "a", "i")?;
+            push_bits(&mut name, number / 16 + number % 16 * 16, "b", "c")?;
             Ok(name)
         }
     }
+}
+
+/// Declares so many objects in a script.
+fn put_objects(alloc: Global, kind: Kind, count: u32, script: &mut String) -> Result<(), Fail> {
+    for number in 0..count {
+        let name = name_of(alloc, kind, number)?;
+        write!(script, "object {name} A5\n")?;
+    }
+    Ok(())
+}
+
+/// Tells so many objects in a report.
+fn put_told_objects(
+    alloc: Global,
+    kind: Kind,
+    count: u32,
+    report: &mut String,
+) -> Result<(), Fail> {
+    for number in 0..count {
+        let name = name_of(alloc, kind, number)?;
+        write!(report, "object {name} 000000A5 owner - holds 0 waiting -\n")?;
+    }
+    Ok(())
 }
 
 /// A script of so many objects and threads with names of this kind, and its report.
 fn told_names(alloc: Global, kind: Kind, count: u32) -> Result<(String, String), Fail> {
     let mut script = format!(in alloc; "world 1 {count}\n")?;
     let mut report = String::new(alloc);
-    for number in 0..count {
-        let name = name_of(alloc, kind, number)?;
-        write!(script, "object {name} A5\n")?;
-    }
+    put_objects(alloc, kind, count, &mut script)?;
     for number in 0..count {
         let name = name_of(alloc, kind, number)?;
         let index = u64::from(number) + 1;
@@ -58,10 +80,7 @@ fn told_names(alloc: Global, kind: Kind, count: u32) -> Result<(String, String),
         write!(report, "attach {name} index {index}\nbegin {name}\n")?;
         write!(report, "go {name} load {name} 000000A5 = No\n")?;
     }
-    for number in 0..count {
-        let name = name_of(alloc, kind, number)?;
-        write!(report, "object {name} 000000A5 owner - holds 0 waiting -\n")?;
-    }
+    put_told_objects(alloc, kind, count, &mut report)?;
     Ok((script, report))
 }
 
@@ -83,10 +102,7 @@ fn names_of_each_kind(rt: HostRuntime) -> Result<(), Fail> {
 /// Some objects, and one of them again.
 fn with_one_again(alloc: Global, kind: Kind, count: u32, again: u32) -> Result<String, Fail> {
     let mut script = format!(in alloc; "world 1 1\n")?;
-    for number in 0..count {
-        let name = name_of(alloc, kind, number)?;
-        write!(script, "object {name} A5\n")?;
-    }
+    put_objects(alloc, kind, count, &mut script)?;
     let name = name_of(alloc, kind, again)?;
     write!(script, "object {name} A5\n")?;
     Ok(script)

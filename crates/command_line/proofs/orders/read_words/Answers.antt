@@ -2,7 +2,6 @@ use Rattle.std.proofs.Common.{rules, ap, sym, refl, true, ◌≡◌, ◌∙◌, 
 use Rattle.clap.specs.Kinds.{FailsBy}
 use Rattle.clap.specs.Faults.{fault_of, is_simple_and_free}
 use Rattle.clap.proofs.OnLiterals.{clap_on_literals}
-use Rattle.clap.specs.Matches.{has_subcommand}
 use Rattle.clap.specs.Simple.{is_simple, subcommand_of}
 use Rattle.command_line.specs.Orders.{order_of, program_words}
 use Rattle.command_line.proofs.orders.read_words.Goals as goal
@@ -27,9 +26,12 @@ is_plain : is_simple program_words ≡ true
 unfolding clap_on_literals
 is_plain = refl
 
+-- The program requires a subcommand, so words that are read have one.
+pub order_from-requires : goal.order_from-requires
+order_from-requires c = search (rules, c.in_ok-program.ensures.words)
+
 pub returns-clause-order : goal.returns-clause-order
 returns-clause-order c =
     let rows = (c.in_ok-matches.ensures.matches (ap is_simple c.in_ok-program.ensures.words ∙ is_plain)).1
     ∙ ap (λ a. subcommand_of a (map string_bytes c.args.words.now)) c.in_ok-program.ensures.words in
-    let has : has_subcommand c.in_ok-matches.matches ≡ true = search (rules, c.in_ok-program.ensures.words) in
-    ap (option_map (λ p. order_of p.0 p.1)) (sym rows) ∙ c.order_from.ensures has
+    ap (option_map (λ p. order_of p.0 p.1)) (sym rows) ∙ c.order_from.ensures
