@@ -78,9 +78,6 @@ pub record AreTold (drawn : List ℕ) (w : WorldState) (rs : List Request) (v : 
   pub through : AreColumnsThrough w rs v worlds cs
   pub have : HaveWords drawn worlds rows
 
-pub told_none : (drawn : List ℕ) (w : WorldState) → AreTold drawn w [] w [] []
-told_none drawn w = record { worlds = []; through = refl; have = tt }
-
 pub told_next : (drawn : List ℕ) (w v x : WorldState) (rs : List Request) (i : ℕ) (d : Request) (cs : List Column) (c : Column) (rows : List (Vec Word Global)) (row : Vec Word Global)
     → i < length rs → AreTold drawn w (take i rs) v cs rows → IsColumn v (get_or rs i d) x c → row.items ≡ words_of x drawn
     → AreTold drawn w (take (i + 1) rs) x (cs ++ c ∷ []) (rows ++ row ∷ [])

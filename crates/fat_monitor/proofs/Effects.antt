@@ -25,7 +25,7 @@ use Rattle.fat_monitor.specs.Acting.{Outcome, outcome_of, enter_outcome, exit_ou
 use Rattle.fat_monitor.proofs.PostMaps.{get-insert_by, get-remove_by}
 use Rattle.fat_monitor.proofs.SoundGrants.{after_grant-is}
 use Rattle.fat_monitor.proofs.MonitorEffects.{either}
-pub use Rattle.fat_monitor.proofs.MonitorEffects.{named, monitors-after_removals, moment-after_removals, length-outcome_of, object-outcome_of, other-outcome_of, moment-outcome_of}
+pub use Rattle.fat_monitor.proofs.MonitorEffects.{named, monitors-after_removals, moment-after_removals, length-outcome_of, object-outcome_of, other-outcome_of}
 pub use Rattle.fat_monitor.proofs.LineEffects.{post-with_post_same, post-with_post_other, first_entering, first_waiting, nobody_waiting, called_back, post-after_removals}
 
 -- ---- posts

@@ -60,9 +60,6 @@ flag-after_settling_other f u v (Granted r) other = refl
 pub threads-after_settling : (f : FatState) (u : ThreadId) (p : Post) → (after_settling f u p).threads ≡ f.threads
 threads-after_settling f u p = ap (λ (g : FatState). g.threads) (after_settling-is f u p)
 
-pub standing-after_settling : (f : FatState) (u : ThreadId) (p : Post) → (after_settling f u p).standing ≡ f.standing
-standing-after_settling f u p = ap (λ (g : FatState). g.standing) (after_settling-is f u p)
-
 -- a notifyAll of a monitor with an owner changes no flag
 flags-queued : (f : FatState) (u : ThreadId) (w : Why) (p : Post) → (queued f u w p).flags ≡ f.flags
 flags-queued f u w Out = refl

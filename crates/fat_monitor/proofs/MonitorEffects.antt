@@ -1,11 +1,10 @@
 -- What an action changes of the monitors, and what it leaves.
-use Rattle.std.specs.Prelude.{◌≡◌, ◌≢◌, ◌⊎◌, ℕ, ◌<◌, ◌≤◌, ◌+◌, ◌-◌, ◌==◌, Bool, true, false, if◌then◌else◌, nat_lt, List, [], ◌∷◌, ◌++◌, suc, length, map as list_map, Result, slice_index_or, slice_set, Option, Some, None, IsSome, is_some}
+use Rattle.std.specs.Prelude.{◌≡◌, ◌≢◌, ◌⊎◌, ℕ, ◌<◌, ◌≤◌, ◌+◌, ◌-◌, ◌==◌, Bool, true, false, if◌then◌else◌, nat_lt, List, [], ◌∷◌, suc, length, map as list_map, Result, slice_index_or, slice_set, Option, Some, None, IsSome, is_some}
 use Rattle.std.proofs.Common.{refl, sym, ap, ◌∙◌, inl, inr, arith, length-set, get_or-set_same, get_or-set_other}
 use Rattle.std.proofs.lemmas.Bool.{cases_eq, cases_lt}
-use Rattle.std.proofs.lemmas.List.{set_past, map-append}
+use Rattle.std.proofs.lemmas.List.{set_past}
 use Rattle.std.proofs.lemmas.Option.{same_Some}
 use Rattle.lock_word.specs.declared.ThreadId.{ThreadId}
-use Rattle.lock_word.specs.declared.ObjectId.{ObjectId}
 use Rattle.wait_lines.specs.declared.Role.{Role}
 use Rattle.wait_lines.specs.declared.Role.TheVariants.{Entry, Waiting as WaitSet}
 use Rattle.fat_monitor.specs.declared.actions.Post.{Post}
@@ -17,7 +16,7 @@ use Rattle.fat_monitor.specs.declared.actions.Action.TheVariants as action
 use Rattle.fat_monitor.specs.declared.actions.ActFault.{ActFault}
 use Rattle.fat_monitor.specs.declared.actions.Done.{Done}
 use Rattle.fat_monitor.specs.declared.monitors.Monitor.{Monitor}
-use Rattle.fat_monitor.specs.FatState.{FatState, IsSound, monitor_at, unbound, objects_of, bound_with, post_of, post_at, line_of, first_of, with_owner, with_post, with_flag, without_thread, flag_at, flag_of, is_owned_by, owns_one}
+use Rattle.fat_monitor.specs.FatState.{FatState, IsSound, monitor_at, unbound, objects_of, post_of, post_at, line_of, first_of, with_owner, with_post, with_flag, without_thread, flag_at, flag_of, is_owned_by, owns_one}
 use Rattle.fat_monitor.proofs.SoundGrants.{after_settling-is}
 use Rattle.fat_monitor.proofs.WaitSets.{wait_set-queued, monitors-all_queued}
 use Rattle.fat_monitor.specs.Acting.{Outcome, outcome_of, enter_outcome, exit_outcome, wait_outcome, notify_outcome, collect_outcome, are_good, after_hand_on, after_removals, after_parking, after_removal, after_sending_back, after_grant, after_settling, interrupt_outcome, flag_outcome, expire_outcome, spurious_outcome, holds_granted}
@@ -247,10 +246,6 @@ object-outcome_of f t a j = (KeepsMonitors-outcome_of f t a).2 j
 pub other-outcome_of : (f : FatState) (t : ThreadId) (a : Action) (j : ℕ) → named a ≢ Some j → IsSome (monitor_at f j).owner → monitor_at (outcome_of f t a).after j ≡ monitor_at f j
 other-outcome_of f t a j other owned = (KeepsMonitors-outcome_of f t a).3 j other owned
 
--- no action moves the moment
-pub moment-outcome_of : (f : FatState) (t : ThreadId) (a : Action) → (outcome_of f t a).after.moment ≡ f.moment
-moment-outcome_of f t a = (KeepsMonitors-outcome_of f t a).4
-
 -- nor does one take or make room for a bind
 pub spare-outcome_of : (f : FatState) (t : ThreadId) (a : Action) → (outcome_of f t a).after.spare ≡ f.spare
 spare-outcome_of f t a = (KeepsMonitors-outcome_of f t a).5
@@ -271,10 +266,6 @@ objects-outcome_of f t a = same_objects (outcome_of f t a).after.monitors f.moni
 
 pub objects_after : (f : FatState) (t : ThreadId) (a : Action) (r : Result Done ActFault) (after : FatState) → record { answer = r; after = after } ≡ outcome_of f t a → objects_of after ≡ objects_of f
 objects_after f t a r after e = ap (λ (o : Outcome). objects_of o.after) e ∙ objects-outcome_of f t a
-
--- a bind adds its object
-pub objects-bound_with : (f g : FatState) (o : ObjectId) (t : ThreadId) (n : ℕ) → g ≡ bound_with f o t n → objects_of g ≡ objects_of f ++ o ∷ []
-objects-bound_with f g o t n e = ap (λ (x : FatState). objects_of x) e ∙ map-append (λ (b : Monitor). b.object) f.monitors _
 
 pub moment-after_removals : (f : FatState) (us : List ThreadId) → (after_removals f us).moment ≡ f.moment
 moment-after_removals f us = (KeepsMonitors-after_removals f us).4

@@ -60,10 +60,6 @@ snoc_cons (x ∷ xs) y = (x, xs ++ y ∷ [], refl)
 pub all_mid : (P : PassValue → Type 0) (xs ys : List PassValue) (x : PassValue) → All P (xs ++ x ∷ ys) → P x
 all_mid P xs ys x h = subst P (get_or-append_seam xs x ys x) (h (length xs) x (let e : length (xs ++ x ∷ ys) ≡ length xs + length (x ∷ ys) = length-append xs (x ∷ ys) in omega arith))
 
--- the last pass alone
-pub joining_start : (all left : List PassValue) (x : PassValue) (v : View) → all ≡ left ++ x ∷ [] → v.parts ≡ part x.index x.mine ∷ [] → v.seen ≡ x.seen → v.has_gate ≡ false → Joining all left v
-joining_start all left x v e h saw plain = record { first = x; taken = []; split = e; has = h; saw = (inl saw, tt); plain = plain }
-
 -- one pass more
 pub joining_next : (all left now : List PassValue) (x : PassValue) (v w u : View) → left ≡ now ++ x ∷ [] → Joining all left v → w.parts ≡ part x.index x.mine ∷ [] → w.seen ≡ x.seen → u ≡ joined_view v w → Joining all now u
 joining_next all left now x v w u e j h saw is = subst (λ (y : View). Joining all now y) (sym is) record {
@@ -77,12 +73,6 @@ joining_next all left now x v w u e j h saw is = subst (λ (y : View). Joining a
   );
   plain = refl;
 }
-
--- no pass is left
-pub joining_end : (all left : List PassValue) (v : View) → left ≡ [] → Joining all left v → TookAll all v
-joining_end all left v e j =
-    let is : all ≡ j.first ∷ j.taken = j.split ∙ ap (λ (l : List PassValue). l ++ j.first ∷ j.taken) e in
-    record { plain = j.plain; parts = j.has ∙ ap parts_of (sym is); saw = subst (λ (ps : List PassValue). Each (λ p. Within p.seen (seen_lists v)) ps) (sym is) j.saw }
 
 -- the seat may take in one more
 pub joins_more : {B : Type 0} (bound : B → List ObjectId) (key : Layout) (id other : ℕ) (v w : View) (all left : List PassValue) → Joining all left v → w.has_gate ≡ false → Joins (Ruled bound key.lows.items key.count) id v other w (joined_view v w) spent_view

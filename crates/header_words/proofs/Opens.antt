@@ -65,10 +65,6 @@ opens {B} bound lows count words slots b is bytes few kept = record {
 abbrev pub left_view : List ℕ → ℕ → ℕ → View
 left_view lows count done = with_parts (opening_view lows count) done (new_parts (suc done) (count - done))
 
--- at first nothing has been cut off
-pub left_start : (lows : List ℕ) (count : ℕ) → left_view lows count 0 ≡ opening_view lows count
-left_start lows count = ap (λ (n : ℕ). with_parts (opening_view lows count) 0 (new_parts 1 n)) (let e : count - 0 ≡ count = omega arith in e)
-
 -- the next index comes first
 left_parts : (lows : List ℕ) (count done : ℕ) → done < count → (left_view lows count done).parts ≡ part (suc done) [] ∷ new_parts (suc (suc done)) (count - suc done)
 left_parts lows count done lt = ap (new_parts (suc done)) (let e : count - done ≡ suc (count - suc done) = omega arith in e)

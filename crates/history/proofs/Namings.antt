@@ -36,9 +36,6 @@ past_end false m n is fits e = let above : n ≤ m = ltb-false m n is in omega (
 pub absent_number : (name : List ℕ) (texts : List (String Global)) → None ≡ position (is_text name) texts → length texts ≡ position_of (map string_bytes texts) name
 absent_number name texts e = past_end (nat_lt (position_or_len (is_text name) texts) (length texts)) _ _ refl (prefix_len-le-length (λ text. not (is_text name text)) texts) e ∙ position_named name texts
 
-pub names_stay : (names : List (List ℕ)) (name : List ℕ) → is_named names name ≡ true → names ≡ with_name names name
-names_stay names name e = rw e refl
-
 map-append : (xs ys : List (String Global)) → map string_bytes (xs ++ ys) ≡ map string_bytes xs ++ map string_bytes ys
 map-append [] ys = refl
 map-append (x ∷ xs) ys = ap (λ (l : List (List ℕ)). string_bytes x ∷ l) (map-append xs ys)

@@ -6,14 +6,12 @@ use Rattle.step_core.specs.declared.steps.Did.{Did}
 use Rattle.step_core.specs.declared.steps.Fault.{Fault}
 use Rattle.step_core.specs.declared.steps.Fault.TheVariants as fault
 use Rattle.step_core.specs.declared.steps.Request.{Request}
-use Rattle.step_core.specs.declared.steps.Request.TheVariants as request
 use Rattle.step_core.specs.declared.steps.Step.{Step}
 use Rattle.step_core.specs.declared.worlds.relayout.RelayoutFault.{RelayoutFault}
-use Rattle.step_core.specs.declared.worlds.relayout.RelayoutFault.TheVariants as relayout
 use Rattle.lock_word.specs.declared.Split.{Split}
 use Rattle.step_core.specs.Machine.{State, Run, opening}
 use Rattle.step_core.specs.Shown.{shown}
-use Rattle.step_core.specs.Step.{AfterStep, step_of, moves_made, moves_of}
+use Rattle.step_core.specs.Step.{AfterStep, step_of, moves_made}
 use Rattle.step_core.specs.Relayout.{AfterRelayout, after_relayout}
 use Rattle.step_core.specs.Requests.{world_then, moves_then, moves_after, world_after}
 use Rattle.step_core.specs.World.{WorldState, opening_world}
@@ -64,9 +62,6 @@ pub memory-one : (ts : List (Request × Bool)) (w : WorldState) (t : Request × 
 memory-one [] w t p q = (q, tt)
 memory-one (u ∷ ts) w t p q = (p.0, memory-one ts (world_then w u) t p.1 q)
 
-pub Tells-none : (w : WorldState) (old : List ℕ) → Tells w [] w old old
-Tells-none w old = record { done = []; these = refl; memory = tt; leads = refl; run = refl; text = sym (append-nil old) }
-
 pub Run-append : (ms ns : List Move) (a b c : State) → Run a ms b → Run b ns c → Run a (ms ++ ns) c
 Run-append [] ns a b c p q = subst (λ (s : State). Run s ns c) p q
 Run-append (m ∷ ms) ns a b c p q = (p.0, p.1, Run-append ms ns p.0 b c p.2 q)
@@ -75,29 +70,9 @@ Run-append (m ∷ ms) ns a b c p q = (p.0, p.1, Run-append ms ns p.0 b c p.2 q)
 abbrev pub Stepped : WorldState → Step → Result Did Fault → WorldState → Type 0
 Stepped v s answer u = (room : Bool) × (◌≡◌ {A = AfterStep} (record { answer = answer; after = u }) (step_of room v s))
 
-pub told_step : (v u : WorldState) (s : Step) (old new : List ℕ) (answer : Result Did Fault) → Stepped v s answer u → Run (shown v) (moves_of answer) (shown u)
-    → new ≡ old ++ moves_text (moves_of answer) → (answer ≡ Err fault.Memory → ⊥) → TellsOne v (request.Step s) u old new
-told_step v u s old new answer e run text memory = record {
-  room = e.0;
-  memory = λ wrong. memory (ap (λ (a : AfterStep). a.answer) e.1 ∙ wrong);
-  leads = ap (λ (a : AfterStep). a.after) e.1;
-  run = subst (λ (a : AfterStep). Run (shown v) (moves_of a.answer) (shown u)) e.1 run;
-  text = text ∙ ap (λ (a : AfterStep). old ++ moves_text (moves_of a.answer)) e.1;
-}
-
 -- and a relayout
 abbrev pub Relaid : WorldState → Split → Result ℕ RelayoutFault → WorldState → Type 0
 Relaid v s answer u = (room : Bool) × (◌≡◌ {A = AfterRelayout} (record { answer = answer; after = u }) (after_relayout room v s))
-
-pub told_relayout : (v u : WorldState) (s : Split) (old new : List ℕ) (answer : Result ℕ RelayoutFault) → Relaid v s answer u → shown u ≡ shown v
-    → new ≡ old → (answer ≡ Err relayout.Memory → ⊥) → TellsOne v (request.Relayout s) u old new
-told_relayout v u s old new answer e shows text memory = record {
-  room = e.0;
-  memory = λ wrong. memory (ap (λ (a : AfterRelayout). a.answer) e.1 ∙ wrong);
-  leads = ap (λ (a : AfterRelayout). a.after) e.1;
-  run = shows;
-  text = text ∙ sym (append-nil old);
-}
 
 pub Tells-one : (w v u : WorldState) (rs : List Request) (r : Request) (old mid new : List ℕ) → Tells w rs v old mid → TellsOne v r u mid new → Tells w (rs ++ r ∷ []) u old new
 Tells-one w v u rs r old mid new t one =

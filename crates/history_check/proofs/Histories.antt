@@ -31,9 +31,6 @@ LeadTo-one (first ∷ ls) l (Some s) (Some next) p fits f =
 
 -- ---- what stands
 
-pub IsRightSoFar-none : IsRightSoFar [] 0 None []
-IsRightSoFar-none = record { whole = []; number = refl; right = tt; parts = refl; short = (tt, omega arith) }
-
 pub IsRightSoFar-more : (came : List ℕ) (count : ℕ) (reached : Option State) (line piece : List ℕ) → IsRightSoFar came count reached line
     → NoFeed piece → length line + length piece < 4096 → IsRightSoFar (came ++ piece) count reached (line ++ piece)
 IsRightSoFar-more came count reached line piece s clean small = record {
@@ -161,9 +158,6 @@ pub record Fed (count : ℕ) (reached : Option State) (line bytes : List ℕ) (c
   pub parts : bytes ≡ seen ++ rest
   pub stands : (came : List ℕ) → IsRightSoFar came count reached line → IsRightSoFar (came ++ seen) count' reached' line'
 
-pub Fed-none : (count : ℕ) (reached : Option State) (line bytes : List ℕ) → Fed count reached line bytes count reached line bytes
-Fed-none count reached line bytes = record { seen = []; parts = refl; stands = λ came s. subst (λ (l : List ℕ). IsRightSoFar l count reached line) (sym (append-nil came)) s }
-
 -- a piece more, and the line feed behind it
 pub Fed-line : (count : ℕ) (reached : Option State) (line bytes : List ℕ) (count' : ℕ) (reached' : Option State) (line' rest piece after : List ℕ) (next : Option State)
     → Fed count reached line bytes count' reached' line' rest → NoFeed piece → rest ≡ piece ++ (10 ∷ after) → length line' + length piece < 4096 → LineLeads reached' (line' ++ piece) next
@@ -229,13 +223,6 @@ finish_ok came count None line none there s = absurd (no_some there)
 finish_ok came count (Some state) (x ∷ line) none there s = absurd (omega arith)
 finish_ok came count (Some state) [] none there s = let p = ends_whole came count state s in (p.0, p.1, omega (arith, p.2))
 
-pub finish_none : (came : List ℕ) (count : ℕ) (reached : Option State) (line : List ℕ) → is_some reached ≡ false → IsRightSoFar came count reached line → IsBadMove came (Unit {0}) (count + 1)
-finish_none came count None line none s = ends_bad came count None line (Unit {0}) s (inr refl) tt
-finish_none came count (Some state) line none s = absurd (no_none none)
-  where
-    no_none : true ≡ false → ⊥
-    no_none e = cc
-
 -- the line was ended by a piece, or not
 pub fed_ended : (count : ℕ) (reached : Option State) (line bytes : List ℕ) (count' : ℕ) (reached' : Option State) (line' rest piece after : List ℕ) (e : FileFault)
     → Fed count reached line bytes count' reached' line' rest → NoFeed piece × (rest ≡ piece ++ (10 ∷ after))
@@ -250,6 +237,3 @@ pub Fed-ended : (count : ℕ) (reached : Option State) (line bytes : List ℕ) (
     → Fed count reached line bytes count2 next line2 after
 Fed-ended count reached line bytes count' reached' line' rest piece after count2 next line2 f cut small r =
     rw (r.1, r.2) (Fed-line count reached line bytes count' reached' line' rest piece after next f cut.0 cut.1 small r.0)
-
-pub counted_line : (count bytes count' rest piece after : ℕ) → count' + rest ≤ count + bytes → rest ≡ piece + (1 + after) → (count' + 1) + after ≤ count + bytes
-counted_line count bytes count' rest piece after le e = omega arith

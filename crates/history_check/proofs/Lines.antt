@@ -1,5 +1,5 @@
 -- Bytes without a line feed, and the first line of bytes.
-use Rattle.std.proofs.Common.{◌≡◌, ℕ, zero, suc, ◌+◌, ◌<◌, ◌≤◌, List, [], ◌∷◌, ◌++◌, length, get_or, take, drop, Bool, true, false, ◌==◌, nat_lt, cond, Option, None, Some, refl, sym, ap, ◌∙◌, subst, arith, append_assoc}
+use Rattle.std.proofs.Common.{◌≡◌, ℕ, suc, ◌+◌, ◌<◌, ◌≤◌, List, [], ◌∷◌, ◌++◌, length, get_or, take, drop, Bool, true, false, ◌==◌, nat_lt, cond, Option, None, Some, refl, sym, ap, ◌∙◌, subst, arith, append_assoc}
 use Rattle.std.specs.List.{position, position_or_len}
 use Rattle.std.proofs.lemmas.Bool.{eqb-true, eq-eqb, ltb-true, ltb-false}
 use Rattle.std.proofs.lemmas.List.Sums.{split_at_first, fails_before_first, passes_at_first}
@@ -10,11 +10,6 @@ use Rattle.history_check.specs.Histories.{NoFeed, lines_text}
 pub NoFeed-append : (xs ys : List ℕ) → NoFeed xs → NoFeed ys → NoFeed (xs ++ ys)
 NoFeed-append [] ys p q = q
 NoFeed-append (x ∷ xs) ys p q = (p.0, NoFeed-append xs ys p.1 q)
-
-pub NoFeed-take : (n : ℕ) (xs : List ℕ) → NoFeed xs → NoFeed (take n xs)
-NoFeed-take zero xs p = tt
-NoFeed-take (suc n) [] p = tt
-NoFeed-take (suc n) (x ∷ xs) p = (p.0, NoFeed-take n xs p.1)
 
 head_same : (x y : ℕ) (xs ys : List ℕ) → x ∷ xs ≡ y ∷ ys → x ≡ y
 head_same x y xs ys e = cc

@@ -9,7 +9,7 @@ use Rattle.text_streams.specs.declared.faults.FileFault.TheVariants as faults
 use Rattle.step_core.specs.Machine.{State}
 use Rattle.history_check.specs.Histories.{IsRightSoFar, IsOpen, IsRunOf, IsFaultOf}
 use Rattle.history_check.specs.Replays.{IsReadAsRun, IsFaulty, IsOpenBefore}
-use Rattle.text_streams.proofs.Pieces.{Consumes-none, Consumes-more}
+use Rattle.text_streams.proofs.Pieces.{Consumes-more}
 
 -- so many bytes came, and they stand so
 pub record Reads (old new : Option (List ℕ)) (given count : ℕ) (reached : Option State) (line : List ℕ) : Type 0 where
@@ -17,9 +17,6 @@ pub record Reads (old new : Option (List ℕ)) (given count : ℕ) (reached : Op
   pub counted : length came ≡ given
   pub took : Consumes old new came
   pub stands : IsRightSoFar came count reached line
-
-pub Reads-none : (a : Option (List ℕ)) (count : ℕ) (reached : Option State) (line : List ℕ) → IsRightSoFar [] count reached line → Reads a a 0 count reached line
-Reads-none a count reached line s = record { came = []; counted = refl; took = Consumes-none a; stands = s }
 
 -- a fault stays one, if what it says of the end does
 pub weaken : (came : List ℕ) (ended lost ended' lost' : Type 0) (e : FileFault) → (ended → ended') → (lost → lost') → IsFaultOf came ended lost e → IsFaultOf came ended' lost' e

@@ -55,9 +55,6 @@ enter_one o p e = cc
 exit_one : (o p : ObjectId) → call.Exit o ≡ call.Exit p → o ≡ p
 exit_one o p e = cc
 
-notify_one : (o p : ObjectId) → call.Notify o ≡ call.Notify p → o ≡ p
-notify_one o p e = cc
-
 notify_all_one : (o p : ObjectId) → call.NotifyAll o ≡ call.NotifyAll p → o ≡ p
 notify_all_one o p e = cc
 

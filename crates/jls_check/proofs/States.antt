@@ -97,13 +97,6 @@ live-with_held v o h u = by (nat_lt o.0 (length v.objects))
     by true = live-written v o h u
     by false = refl
 
-pub length-with_held : (v : MachineState) (o : ObjectId) (h : Held) → length (with_held v o h).objects ≡ length v.objects
-length-with_held v o h = by (nat_lt o.0 (length v.objects))
-  where
-    by : (b : Bool) → length (if b then written v o h else v).objects ≡ length v.objects
-    by true = length-set v.objects o.0 (record { held = h; waiting = waiting_in v.objects o })
-    by false = refl
-
 -- ---- before all moves
 
 pub all_untouched : (n k : ℕ) → get_or (replicate n untouched) k untouched ≡ untouched

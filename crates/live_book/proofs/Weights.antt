@@ -1,5 +1,5 @@
 -- What the parts of an action change of the kept places.
-use Rattle.std.specs.Prelude.{◌≡◌, ◌⊎◌, ℕ, ◌+◌, ◌<◌, ◌≤◌, List, [], ◌∷◌, length, Option, Some, None, slice_index_or}
+use Rattle.std.specs.Prelude.{◌≡◌, ◌⊎◌, ℕ, ◌+◌, ◌<◌, List, [], ◌∷◌, length, Option, Some, None, slice_index_or}
 use Rattle.std.specs.Ordering.{nat_cmp}
 use Rattle.std.specs.FinMap as map
 use Rattle.std.proofs.Common.{refl, sym, ap, ◌∙◌, arith, subst, inl, inr}
@@ -10,7 +10,7 @@ use Rattle.wait_lines.specs.declared.Role.{Role}
 use Rattle.wait_lines.specs.declared.Role.TheVariants.{Entry}
 use Rattle.fat_monitor.specs.declared.actions.Why.{Why}
 use Rattle.fat_monitor.specs.declared.actions.Post.{Post}
-use Rattle.fat_monitor.specs.declared.actions.Post.TheVariants.{Out, Entering, Back, Granted}
+use Rattle.fat_monitor.specs.declared.actions.Post.TheVariants.{Entering, Back, Granted}
 use Rattle.fat_monitor.specs.declared.monitors.Monitor.{Monitor}
 use Rattle.fat_monitor.specs.FatState.{FatState, IsSound, IsHeld, monitor_at, post_of, first_of, with_owner, with_post, bound_with, unbound}
 use Rattle.fat_monitor.specs.Acting.{after_grant, after_hand_on, after_settling, holds_granted, reply_granted}
@@ -60,10 +60,3 @@ kept-after_hand_on f m sound lt = by_first (first_of f m Entry) refl
         by_post : (post_of f u ≡ Some (Entering m)) ⊎ ((n : ℕ) × (w : Why) × (post_of f u ≡ Some (Back m n w)) × IsHeld n) → kept_of (after_hand_on f m (Some u)) + (monitor_at f m).holds ≡ kept_of f
         by_post (inl is) = rw is (let k = kept-after_grant f m u (Entering m) (Entering m) Entry lt is in omega arith)
         by_post (inr x) = rw x.2 (let k = kept-after_grant f m u (Back m x.0 x.1) (Back m x.0 x.1) Entry lt x.2 in omega arith)
-
--- a thread keeps its places out of all that is kept, and so does an owner its holds
-pub kept-of_post : (f : FatState) (t : ThreadId) (p : Post) → post_of f t ≡ Some p → kept_by p ≤ kept_of f
-kept-of_post f t p is = let k = kept-with_post f t Out p is in omega arith
-
-pub kept-of_holds : (f : FatState) (m : ℕ) → m < length f.monitors → (monitor_at f m).holds ≤ kept_of f
-kept-of_holds f m lt = let k = kept-with_owner f m None 0 lt in omega arith

@@ -14,15 +14,9 @@ use Rattle.script_text.specs.declared.lines.StepLine.{StepLine}
 use Rattle.script_text.specs.declared.lines.StepLine.TheVariants.{Attach, Begin, Go, Expire, Spurious, Tick, Relayout}
 use Rattle.script_text.specs.Names.{is_named}
 use Rattle.live_scripts.specs.Rules.{IsLiveScript, Runs, attached_threads, is_live_call, may_do, may_run, most_threads}
-use Rattle.live_scripts.specs.Plans.{call_in, calls_in, calls_of, lows_of, monitors_in, objects_of}
+use Rattle.live_scripts.specs.Plans.{call_in, calls_in, calls_of, lows_of, objects_of}
 use Rattle.live_scripts.proofs.Few.{few_objects, few_threads}
 use Rattle.live_threads.specs.Driving.{IsLive}
-
-pub few_monitors : (ls : List Line) → IsLiveScript ls → monitors_in ls ≤ 8388608
-few_monitors [] live = omega arith
-few_monitors (World m k s ∷ ls) live = live.0.1.0.0
-few_monitors (Object name low ∷ ls) live = omega arith
-few_monitors (Step s ∷ ls) live = omega arith
 
 live_call : (objects threads : List (List ℕ)) (c : CallLine) → is_live_call c ≡ true → IsLive (call_in objects threads c)
 live_call objects threads (line.Enter o) live e = absurd (cc)

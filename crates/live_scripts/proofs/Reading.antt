@@ -120,17 +120,6 @@ some_lines : (ls : List Line) → 0 < length (attached_threads ls) → 0 < lengt
 some_lines [] some = some
 some_lines (l ∷ ls) some = omega arith
 
-no_bytes : (rest : List ℕ) → length rest ≡ 0 → rest ≡ []
-no_bytes [] h = refl
-no_bytes (b ∷ bs) h = absurd (omega (arith, h))
-
-pub live_found : (bytes rest : List ℕ) (ls : List Line) (n : ℕ) (threads : List (List ℕ)) → IsBeginning bytes ls rest → IsRunning ls n threads → n ≡ length ls → length rest ≡ 0 → 0 < length threads
-    → IsLiveScript ls × (bytes ≡ script_text ls)
-live_found bytes rest ls n threads b r whole none some =
-    let all = take_all ls n whole in
-    let has : 0 < length (attached_threads ls) = subst (λ (l : List (List ℕ)). 0 < length l) (r.attached ∙ ap attached_threads all) some in
-    (((some_lines ls has, b.right), subst (Runs []) all r.runs, has), b.parts ∙ ap (λ (p : List ℕ). script_text ls ++ p) (no_bytes rest none) ∙ append-nil (script_text ls))
-
 continues_front : (xs ys earlier : List Line) → Continues earlier (xs ++ ys) → Continues earlier xs
 continues_front [] ys earlier c = tt
 continues_front (x ∷ xs) ys earlier c = (c.0, c.1, continues_front xs ys (earlier ++ x ∷ []) c.2)

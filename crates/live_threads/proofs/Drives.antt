@@ -4,7 +4,7 @@ use Rattle.std.specs.List.{All}
 use mathlib.Core.List.{reverse-cons}
 use Rattle.std.proofs.Common.{refl, sym, ap, ◌∙◌, subst, arith, take, drop, get_or}
 use Rattle.std.proofs.Math.Seq.{take-suc}
-use Rattle.std.proofs.lemmas.List.{take-append-drop, length-take-le, length_push, map-append, append-nil, append_assoc, reverse-append, length-map}
+use Rattle.std.proofs.lemmas.List.{take-append-drop, length-take-le, length_push, map-append, append-nil, append_assoc, reverse-append}
 use Rattle.std.proofs.lemmas.List.Elements.{All-nil, All-cons, All-head, All-tail}
 use Rattle.fat_monitor.specs.declared.actions.Reply.{Reply}
 use Rattle.fast_path.specs.Calls.{subject_of}
@@ -106,9 +106,6 @@ all_of_map f P [] ys e h = All-nil (λ x. P (f x))
 all_of_map f P (x ∷ xs) ys e h =
     let all : All P (f x ∷ map f xs) = subst (All P) (sym e) h in
     All-cons (λ x. P (f x)) x xs (All-head P (f x) (map f xs) all) (all_of_map f P xs (map f xs) refl (All-tail P (f x) (map f xs) all))
-
-pub length_of_map : {X Y : Type 0} (f : X → Y) (xs : List X) (ys : List Y) → map f xs ≡ ys → length xs ≡ length ys
-length_of_map f xs ys e = sym (length-map xs f) ∙ ap length e
 
 -- what holds of both holds of all
 pub all_of_two : {X : Type 0} (P : X → Type 0) (x y : X) (xs : List X) → xs ≡ x ∷ y ∷ [] → P x → P y → All P xs

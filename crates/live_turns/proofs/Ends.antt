@@ -17,7 +17,7 @@ use Rattle.live_book.specs.Book.{BookState}
 use Rattle.live_book.specs.Log.{Replays, nothing_bound}
 use Rattle.live_turns.specs.Numbers.{HasEach}
 use Rattle.live_turns.specs.Ways.{PassState, Belongs}
-use Rattle.live_turns.specs.Ends.{HasOwn, IsEnd, IsHandedBack, IsTorn, IsTornFrom, TellsEnd, count_of, numbers_of, words_of}
+use Rattle.live_turns.specs.Ends.{HasOwn, IsEnd, IsTorn, IsTornFrom, TellsEnd, count_of, numbers_of, words_of}
 
 pub missed : {X : Type 0} (f : X → ℕ) (xs : List X) (i n : ℕ) (x : X) → n < length xs → x ≡ get_or xs n x → f x ≢ i → ((k : ℕ) (d : ℕ) → k < n → get_or (map f xs) k d ≢ i)
     → (k : ℕ) (d : ℕ) → k < n + 1 → get_or (map f xs) k d ≢ i
@@ -72,11 +72,6 @@ torn_tells count ps Torn each torn = each
 pub torn_ends : {L : Type 0} (count : ℕ) (ps : List PassState) (r : Result Closed (TurnsClose L)) → HasEach count (numbers_of ps) → IfErr r IsTorn → IfErr r (TellsEnd count ps)
 torn_ends count ps (Ok c) each torn = tt
 torn_ends count ps (Err f) each torn = torn_tells count ps f each torn
-
-pub torn_back : {L : Type 0} (z : Opening) (ps : List PassState) (f : TurnsClose L) → IsTorn f → IsHandedBack z ps f
-torn_back z ps (WrongPass t p) torn = absurd torn
-torn_back z ps (Memory t p) torn = absurd torn
-torn_back z ps Torn torn = tt
 
 pub end_of : (z w : Opening) (limit : ℕ) (ps rs : List PassState) (row : List PassValue) (words : Vec Word Global) (counts : Vec ℕ Global) (b : BookState) (c : Closed)
     → w ≡ z → row ≡ map words_of ps → rs ≡ ps → b.passes ≡ z.count → b.fats.limit ≡ limit → IsClosed w row (map (λ x. x.0) words.items) (objects_of b.fats) → counts.items ≡ map count_of ps

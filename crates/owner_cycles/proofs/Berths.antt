@@ -24,9 +24,6 @@ use Rattle.owner_cycles.proofs.Positions.{in_contains, in_map, from_map, positio
 
 -- ---- the berths, one after the other
 
-pub berths_none : (berths : List (Option ThreadId)) → HaveBerths berths 0 []
-berths_none berths = record { berthed = λ n i. absurd i; all = λ k n below h. absurd (omega (arith, below)) }
-
 pub berths_more : (berths : List (Option ThreadId)) (k : ℕ) (numbers : List ℕ) (holder : Option ThreadId) → HaveBerths berths k numbers → holder ≡ holder_of berths (k + 1)
     → HaveBerths berths (k + 1) (with_holder numbers holder)
 berths_more berths k numbers holder h e = by_holder holder (e ∙ ap (holder_of berths) (add-one k))

@@ -1,9 +1,8 @@
 -- What walks leave of the numbers that were seen.
 use Rattle.std.specs.Prelude.{◌≡◌, ◌⊎◌, ℕ, ◌<◌, Bool, true, false, not, List, [], ◌∷◌, ◌++◌, Option, Some, length, slice_set, count_by}
-use Rattle.std.proofs.Common.{refl, inl, inr, sym, subst, ◌∙◌, arith, ◌+◌, cond}
+use Rattle.std.proofs.Common.{inl, inr, sym, subst, ◌∙◌, ◌+◌}
 use Rattle.std.proofs.lemmas.Bool.{cases_eq}
 use Rattle.std.proofs.lemmas.List.{get_or-set_same, get_or-set_other, length-set}
-use Rattle.std.proofs.lemmas.List.Sums.{sum_by-set}
 use Rattle.owner_cycles.specs.Rows.{IsIn, is_seen, IsWay}
 use Rattle.owner_cycles.proofs.Walks.{goes_push, distinct_push, in_push, in_end, in_front}
 
@@ -25,17 +24,6 @@ seen_only seen v u h = by_number (cases_eq u v)
     by_number : (u ≡ v) ⊎ (u ≡ v → ⊥) → (is_seen seen u ≡ true) ⊎ (u ≡ v)
     by_number (inl same) = inr same
     by_number (inr other) = inl (sym (get_or-set_other seen v u true false other) ∙ h)
-
-pub way_none : (f : ℕ → Option ℕ) (seen : List Bool) (from : Option ℕ) → IsWay f seen seen from [] from
-way_none f seen from = record {
-  goes = refl;
-  distinct = tt;
-  fresh = λ v i h. i;
-  marked = λ v i. absurd i;
-  grown = λ v h. h;
-  only = λ v h. inl h;
-  long = refl;
-}
 
 pub way_more : (f : ℕ → Option ℕ) (before seen : List Bool) (from : Option ℕ) (path : List ℕ) (v : ℕ) → IsWay f before seen from path (Some v) → v < length seen
     → (is_seen seen v ≡ true → ⊥) → IsWay f before (slice_set seen v true) from (path ++ v ∷ []) (f v)
@@ -68,9 +56,3 @@ way_more f before seen from path v w within new = record {
 -- how many are not seen
 abbrev pub unseen : List Bool → ℕ
 unseen seen = count_by not seen
-
-pub unseen_less : (seen : List Bool) (v : ℕ) → v < length seen → is_seen seen v ≡ false → unseen (slice_set seen v true) < unseen seen
-unseen_less seen v within new =
-    let moved : ◌≡◌ {A = ℕ} (unseen (slice_set seen v true) + cond (not (is_seen seen v)) 1 0) (unseen seen + cond (not true) 1 0) = sum_by-set (λ b. cond (not b) 1 0) seen v true false within in
-    let one : ◌≡◌ {A = ℕ} (cond (not (is_seen seen v)) 1 0) 1 = rw new refl in
-    omega (arith, moved, one)

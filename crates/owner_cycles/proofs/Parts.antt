@@ -1,13 +1,10 @@
 -- Parts of paths, and what is cleared of them.
 use Rattle.std.specs.Prelude.{◌≡◌, ◌⊎◌, ℕ, ◌<◌, Bool, true, false, List, [], ◌∷◌, ◌++◌, length, slice_set}
-use Rattle.std.proofs.Common.{refl, inl, inr, sym, ap, subst, ◌∙◌, arith, zero, suc, ◌+◌, get_or, take, drop, drop-cons, append-nil}
+use Rattle.std.proofs.Common.{refl, inl, inr, sym, ap, subst, ◌∙◌, arith, zero, suc, ◌+◌, get_or, take, drop, append-nil}
 use Rattle.std.proofs.lemmas.Bool.{cases_eq}
-use Rattle.std.proofs.lemmas.List.{get_or-set_same, get_or-set_other, length-set, take-append-drop, take_more, take_all, drop_all}
+use Rattle.std.proofs.lemmas.List.{get_or-set_same, get_or-set_other, length-set, take_more, take_all, drop_all}
 use Rattle.owner_cycles.specs.Rows.{IsIn, is_seen, IsPartFrom, AreCleared}
 use Rattle.owner_cycles.proofs.Walks.{in_push, in_end, in_front}
-
-pub cleared_none : (seen : List Bool) → AreCleared seen seen []
-cleared_none seen = record { cleared = λ v i h. i; kept = λ v other. refl; long = refl }
 
 pub cleared_more : (before seen : List Bool) (part : List ℕ) (v : ℕ) → AreCleared before seen part → v < length seen → AreCleared before (slice_set seen v false) (part ++ v ∷ [])
 cleared_more before seen part v c within = record {
@@ -42,11 +39,6 @@ not_yet path position v d within before other i = by_case (in_push v (get_or pat
     by_case : IsIn v (take position path) ⊎ (v ≡ get_or path position d) → ⊥
     by_case (inl j) = before j
     by_case (inr same) = other (sym same)
-
-pub part_here : (path : List ℕ) (position v d : ℕ) → position < length path → get_or path position d ≡ v → IsPartFrom v path (drop position path)
-part_here path position v d within is =
-    let rest : drop position path ≡ v ∷ drop (suc position) path = drop-cons path position d within ∙ ap (λ (x : ℕ). x ∷ drop (suc position) path) is in
-    inr (take position path, drop (suc position) path, rest, sym (take-append-drop position path) ∙ ap (λ (l : List ℕ). take position path ++ l) rest)
 
 pub part_none : (path : List ℕ) (position v : ℕ) → length path < position + 1 → (IsIn v (take position path) → ⊥) → IsPartFrom v path []
 part_none path position v all before = inl (refl, λ i. before (subst (IsIn v) (sym (take_all position path (omega (arith, all)))) i))

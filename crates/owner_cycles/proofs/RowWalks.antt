@@ -1,10 +1,10 @@
 -- The two walks over a row: which of its numbers are on no cycle, and which cycles there are.
-use Rattle.std.specs.Prelude.{◌≡◌, ◌⊎◌, ℕ, ◌<◌, ◌≤◌, Bool, true, false, List, [], ◌∷◌, ◌++◌, Option, Some, None, length, slice_index_or}
+use Rattle.std.specs.Prelude.{◌≡◌, ◌⊎◌, ℕ, ◌<◌, ◌≤◌, Bool, true, List, [], ◌∷◌, ◌++◌, Option, Some, None, length, slice_index_or}
 use Rattle.std.specs.List.{Contains}
-use Rattle.std.proofs.Common.{refl, inl, inr, sym, ap, subst, ◌∙◌, arith, zero, suc, ◌+◌, replicate}
+use Rattle.std.proofs.Common.{refl, inl, inr, sym, ap, subst, ◌∙◌, arith, zero, suc, ◌+◌}
 use Rattle.std.proofs.lemmas.Bool.{cases_eq}
 use Rattle.std.proofs.lemmas.Option.{same_Some}
-use Rattle.std.proofs.lemmas.List.{get_or-replicate, get_or_past, length-replicate}
+use Rattle.std.proofs.lemmas.List.{get_or_past}
 use Rattle.step_core.specs.Cycles.{AreDistinct, IsCycleOf, AscendByFirst, first_number}
 use Rattle.owner_cycles.specs.Rows.{leads_to, IsRow, IsIn, Goes, IsOnCycle, is_seen, IsWalk, IsRing, AreCleared, AreOffCycles, AreCyclesOfRow, with_path}
 use Rattle.owner_cycles.proofs.Walks.{in_right, in_cases, in_split, in_push, in_end, in_front, all_in, all_from, contains_in, forward, ring_entered, ring_on_cycle, ring_of_path, off_cycle, none_leads_back, beside_ring, cycle_from_ring, cycle_ring, one_cycle}
@@ -130,21 +130,6 @@ pub record AreJudged (row : List (Option ℕ)) (seen marks : List Bool) (i : ℕ
   pub off : (v : ℕ) → is_seen seen v ≡ true → is_seen marks v ≡ true → IsOnCycle (leads_to row) v → ⊥
   pub on : (v : ℕ) → v < length row → (is_seen marks v ≡ true → ⊥) → IsOnCycle (leads_to row) v
 
-unseen_all : (n v : ℕ) → is_seen (replicate n false) v ≡ true → ⊥
-unseen_all zero v h = absurd (cc)
-unseen_all (suc n) zero h = absurd (cc)
-unseen_all (suc n) (suc v) h = unseen_all n v h
-
-pub judged_none : (row : List (Option ℕ)) (seen off : List Bool) → seen ≡ replicate (length row) false → off ≡ replicate (length row) true → AreJudged row seen off 0
-judged_none row seen off e h = record {
-  seen_long = ap length e ∙ length-replicate (length row) false;
-  marks_long = ap length h ∙ length-replicate (length row) true;
-  before = λ v within. absurd (omega (arith, within));
-  entered = λ v u leads there on. absurd (unseen_all (length row) u (subst (λ (l : List Bool). is_seen l u ≡ true) e there));
-  off = λ v there off on. unseen_all (length row) v (subst (λ (l : List Bool). is_seen l v ≡ true) e there);
-  on = λ v within cleared. absurd (cleared (subst (λ (l : List Bool). is_seen l v ≡ true) (sym h) (get_or-replicate (length row) v true false within)));
-}
-
 pub judged_more : (row : List (Option ℕ)) (seen after off cleared : List Bool) (i : ℕ) (path ring : List ℕ) (to : Option ℕ) → AreJudged row seen off i → IsWalk (leads_to row) seen after i path to
     → IsRing to path ring → AreCleared off cleared ring → AreJudged row after cleared (i + 1)
 judged_more row seen after off cleared i path ring to j w r c = record {
@@ -170,13 +155,6 @@ judged_more row seen after off cleared i path ring to j w r c = record {
     by_on : (v : ℕ) → v < length row → (is_seen cleared v ≡ true → ⊥) → IsIn v ring ⊎ (IsIn v ring → ⊥) → IsOnCycle (leads_to row) v
     by_on v within h (inl part) = of.on v part
     by_on v within h (inr other) = j.on v within (λ there. h (c.kept v other ∙ there))
-
-pub judged_all : (row : List (Option ℕ)) (seen off : List Bool) (i : ℕ) → length row ≤ i → AreJudged row seen off i → AreOffCycles row off
-judged_all row seen off i all j = record {
-  long = j.marks_long;
-  off = λ v there on. j.off v (j.before v (let within : v < length row = on_within row v on in omega (arith, within, all))) there on;
-  on = j.on;
-}
 
 -- the part that is cleared is of the row
 pub ring_within : (row : List (Option ℕ)) → IsRow row → (before after : List Bool) (i : ℕ) (path ring : List ℕ) (to : Option ℕ) → i < length row → IsWalk (leads_to row) before after i path to

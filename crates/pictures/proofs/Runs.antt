@@ -40,9 +40,6 @@ pub record IsRunning (s : State) (done left : List Move) (now : State) : Type 0 
   pub run : Run s done now
   pub rest : CanRun now left
 
-pub running_begins : (s : State) (left : List Move) → CanRun s left → IsRunning s [] left s
-running_begins s left r = record { run = refl; rest = r }
-
 running_more : (s : State) (done part left : List Move) (now next : State) → IsRunning s done (part ++ left) now → Run now part next
     → IsRunning s (done ++ part) left next
 running_more s done part left now next p q = record {

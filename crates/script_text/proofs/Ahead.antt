@@ -27,9 +27,6 @@ closed_more : (came : List Line) (l : Line) → list_all is_object (drop 1 came)
 closed_more [] l h = absurd (cc)
 closed_more (first ∷ more) l h = all_part is_object more (l ∷ []) h
 
-pub ahead_here : (bytes : List ℕ) (came : List Line) (names : List (List ℕ)) (here : Position) → HasCome bytes came names here → IsAhead bytes names here here
-ahead_here bytes came names here come = record { came = came; come = come; closed = λ closed. closed }
-
 -- one line more
 pub ahead_more : (bytes : List ℕ) (names : List (List ℕ)) (here ahead next : Position) (l : Line) → (is : IsAhead bytes names here ahead)
     → HasCome bytes (is.came ++ l ∷ []) names next → IsAhead bytes names here next

@@ -1,5 +1,5 @@
 -- Lines that come one by one.
-use Rattle.std.proofs.Common.{◌≡◌, ◌≤◌, ◌<◌, ◌+◌, ℕ, List, [], ◌∷◌, ◌++◌, length, Bool, true, false, not, ◌&&◌, ◌||◌, ◌==◌, None, Some, refl, sym, ap, ◌∙◌, subst, arith, inl, inr, ◌⊎◌, append-nil, length-append}
+use Rattle.std.proofs.Common.{◌≡◌, ◌<◌, ◌+◌, ℕ, List, [], ◌∷◌, ◌++◌, length, Bool, true, false, not, ◌&&◌, ◌||◌, ◌==◌, None, Some, refl, sym, ap, ◌∙◌, subst, arith, inl, inr, ◌⊎◌, append-nil, length-append}
 use Rattle.std.proofs.lemmas.Bool.{eqb-true, ne_eqb}
 use Rattle.text_streams.specs.declared.faults.FileFault.TheVariants as faults
 use Rattle.script_text.specs.declared.lines.Line.{Line}
@@ -14,9 +14,6 @@ use Rattle.script_text.proofs.Beginnings.{IsStuck, right_more, text_more, stuck_
 use Rattle.script_text.proofs.LineLaws.{line_again}
 use Rattle.script_text.proofs.ScriptLaws.{parts_of_line}
 use Rattle.script_text.proofs.NotedLaws.{follows_note, next_is, next_none, next_refused, noted_more}
-
-pub come_first : (bytes : List ℕ) → length bytes ≤ 16777216 → HasCome bytes [] [] (record { count = 0; declaring = true; rest = bytes })
-come_first bytes few = record { few = few; right = tt; parts = refl; count = refl; noted = record { objects = refl; declared = refl } }
 
 follows_came : (bytes : List ℕ) (came : List Line) (names : List (List ℕ)) (position : Position) (l : Line) → HasCome bytes came names position
     → may_follow_by (position.count == 0) position.declaring names l ≡ may_follow came l

@@ -277,12 +277,3 @@ printed_step ls i x old new h is so_far e =
 nil_of : (ls : List Line) → length ls ≡ 0 → ls ≡ []
 nil_of [] h = refl
 nil_of (l ∷ ls) h = absurd (omega arith)
-
--- at the end with no line
-pub empty_end : (ls : List Line) (rest whole : List ℕ) → length ls ≡ 0 → parts_of rest ≡ rest ∷ [] → lines_from ls (parts_of rest) ≡ lines_from [] (parts_of whole) → lines_from [] (parts_of whole) ≡ Err 1
-empty_end ls rest whole none one same =
-    sym same ∙ ap (λ (l : List Line). lines_from l (parts_of rest)) (nil_of ls none) ∙ ap (lines_from []) one ∙ last_part [] rest ∙ rw (both_no (length rest == 0)) refl
-  where
-    both_no : (b : Bool) → (b && false) ≡ false
-    both_no true = refl
-    both_no false = refl

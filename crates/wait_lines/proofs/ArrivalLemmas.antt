@@ -7,10 +7,10 @@ use Rattle.std.proofs.lemmas.List.Elements.{filter-append}
 use Rattle.std.proofs.lemmas.List.Sums.{length-filter, count_by-le-length}
 use Rattle.lock_word.specs.declared.ThreadId.{ThreadId}
 use Rattle.wait_lines.specs.declared.Role.{Role}
-use Rattle.wait_lines.specs.Lines.{Key, key, role_number, line, StandsIn, Stands, StandsNowhere, is_thread, without, after_join, after_leave, total_count, IsFilled, IsOrderly}
+use Rattle.wait_lines.specs.Lines.{Key, key, role_number, line, StandsIn, Stands, is_thread, without, after_join, after_leave, total_count, IsFilled, IsOrderly}
 use Rattle.wait_lines.specs.Arrivals.{Arrival, is_in, threads_in, lines_of, standing_of}
 use Rattle.wait_lines.proofs.LineLemmas.{same_role, key-same, cases_key, line-key, line-empty, line-with_line_same, line-with_line_other, IsFilled-empty, IsFilled-with_line, same_lines, total_count-empty, total_count-with_line, IsOrderly-after_leave}
-use Rattle.wait_lines.proofs.ThreadLemmas.{same_thread, is_same, Contains-cons_cases, Contains-cons_first, Contains-cons_later, Contains-without_itself, without-absent}
+use Rattle.wait_lines.proofs.ThreadLemmas.{same_thread, is_same, Contains-cons_cases, Contains-cons_first, Contains-cons_later, without-absent}
 
 pub is_in-key : (m : ℕ) (r : Role) (a : Arrival) → is_in m r a ≡ true → key m r ≡ key a.monitor a.role
 is_in-key m r a e =
@@ -50,29 +50,6 @@ total_count-lines_of (a ∷ rest) =
 
 -- ---- one more
 
-threads_in-push : (arrivals : List Arrival) (a : Arrival) (m : ℕ) (r : Role) → threads_in (arrivals ++ a ∷ []) m r ≡ threads_in arrivals m r ++ threads_in (a ∷ []) m r
-threads_in-push arrivals a m r =
-    ap (list_map (λ (x : Arrival). x.thread)) (filter-append (is_in m r) arrivals (a ∷ []))
-    ∙ map-append (λ (x : Arrival). x.thread) (filter (is_in m r) arrivals) (filter (is_in m r) (a ∷ []))
-
--- one more arrival is a join
-pub lines_of-push : (arrivals : List Arrival) (a : Arrival) → lines_of (arrivals ++ a ∷ []) ≡ after_join (lines_of arrivals) a.thread a.monitor a.role
-lines_of-push arrivals a =
-    same_lines _ _ (IsFilled-lines_of (arrivals ++ a ∷ [])) (IsFilled-with_line (lines_of arrivals) a.monitor a.role _ (IsFilled-lines_of arrivals)) (λ m r.
-    line-lines_of (arrivals ++ a ∷ []) m r ∙ threads_in-push arrivals a m r ∙ ap (λ l. l ++ threads_in (a ∷ []) m r) (sym (line-lines_of arrivals m r))
-    ∙ at m r (is_in m r a) refl)
-  where
-    at : (m : ℕ) (r : Role) (b : Bool) → is_in m r a ≡ b
-        → line (lines_of arrivals) m r ++ list_map (λ (x : Arrival). x.thread) (cond b (a ∷ []) []) ≡ line (after_join (lines_of arrivals) a.thread a.monitor a.role) m r
-    at m r true e =
-        let same = is_in-key m r a e in
-        ap (λ l. l ++ a.thread ∷ []) (line-key (lines_of arrivals) a.monitor m a.role r same)
-        ∙ sym (line-key (after_join (lines_of arrivals) a.thread a.monitor a.role) a.monitor m a.role r same
-        ∙ line-with_line_same (lines_of arrivals) a.monitor a.role (line (lines_of arrivals) a.monitor a.role ++ a.thread ∷ []))
-    at m r false e =
-        append-nil (line (lines_of arrivals) m r)
-        ∙ sym (line-with_line_other (lines_of arrivals) a.monitor m a.role r (line (lines_of arrivals) a.monitor a.role ++ a.thread ∷ []) (λ same. let yes = is_in-itself m r a same in cc))
-
 -- ---- without those of a thread
 
 -- the arrivals of other threads
@@ -105,11 +82,6 @@ lines_of-others t arrivals reservations m r orderly stands =
     at n q (inr other) =
         without-absent t (line (lines_of arrivals) n q) (λ h. let there = orderly.one_line t n m q r h stands in other (key-same n m q r there.0 there.1))
         ∙ sym (line-with_line_other (lines_of arrivals) m n r q (without t (line (lines_of arrivals) m r)) other)
-
--- the thread stands nowhere then
-pub StandsNowhere-others : (t : ThreadId) (arrivals : List Arrival) → StandsNowhere (lines_of (others t arrivals)) t
-StandsNowhere-others t arrivals m r stands =
-    Contains-without_itself t (threads_in arrivals m r) (subst (λ l. Contains l t) (line-lines_of (others t arrivals) m r ∙ threads_in-others t arrivals m r) stands)
 
 length-others : (t : ThreadId) (arrivals : List Arrival) → length (others t arrivals) ≤ length arrivals
 length-others t arrivals =

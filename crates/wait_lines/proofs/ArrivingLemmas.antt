@@ -1,5 +1,5 @@
 -- Who stands in the lines after a thread came to a node, and after a node more.
-use Rattle.std.specs.Prelude.{◌≡◌, ◌≢◌, ◌⊎◌, ℕ, zero, suc, ◌+◌, ◌<◌, ◌≤◌, ◌==◌, not, Bool, true, false, cond, List, [], ◌∷◌, ◌++◌, length, map as list_map, filter, sum_by, count_by, slice_index_or, slice_set, Option, Some}
+use Rattle.std.specs.Prelude.{◌≡◌, ◌≢◌, ◌⊎◌, ℕ, zero, suc, ◌+◌, ◌<◌, ◌≤◌, ◌==◌, not, Bool, true, false, cond, List, [], ◌∷◌, ◌++◌, length, map as list_map, filter, sum_by, count_by, slice_index_or, slice_set, Some}
 use Rattle.std.specs.Ordering.{nat_cmp, eq_by_cmp}
 use Rattle.std.specs.Cmp.{nat_cmp_total}
 use Rattle.std.specs.FinMap as map
@@ -113,10 +113,6 @@ arrivals-joined ts (j ∷ ks) (r ∷ rs) n t (suc k) q out here l even fits none
     )
 
 -- ---- the nodes with one more
-
-some_once : (x y : Option ℕ) (b : Bool) → cond b x y ≡ cond b x (cond b x y)
-some_once x y true = refl
-some_once x y false = refl
 
 get-insert_between : (xs ys : List Arrival) (a : Arrival) → count_by (λ (x : Arrival). is_thread a.thread x.thread) (xs ++ ys) ≡ 0 → (q : ℕ)
     → map.get (nodes_of (xs ++ a ∷ ys)) q ≡ cond (eq_by_cmp nat_cmp q a.thread.0) (Some a.node) (map.get (nodes_of (xs ++ ys)) q)

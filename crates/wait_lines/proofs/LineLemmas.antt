@@ -44,9 +44,6 @@ key_cmp-IsAntisymmetric x y e =
     let both = both_tie (nat_cmp x.0 y.0) (nat_cmp (role_number x.1) (role_number y.1)) e in
     key-same x.0 y.0 x.1 y.1 (nat_cmp-IsAntisymmetric x.0 y.0 both.0) (same_role x.1 y.1 (nat_cmp-IsAntisymmetric (role_number x.1) (role_number y.1) both.1))
 
-pub key-other_monitor : (m n : ℕ) (r q : Role) → n ≢ m → key n q ≢ key m r
-key-other_monitor m n r q other e = other (ap (λ (k : Key). k.0) e)
-
 pub key-other_role : (m n : ℕ) (r q : Role) → q ≢ r → key n q ≢ key m r
 key-other_role m n r q other e = other (ap (λ (k : Key). k.1) e)
 

@@ -1,5 +1,5 @@
 -- Records that move from row to row of a table.
-use Rattle.std.specs.Prelude.{◌≡◌, ◌≢◌, ◌⊎◌, ℕ, zero, suc, ◌+◌, ◌<◌, ◌≤◌, ◌==◌, Bool, true, false, cond, List, [], ◌∷◌, ◌++◌, ◌-◌, length, map as list_map}
+use Rattle.std.specs.Prelude.{◌≡◌, ◌≢◌, ◌⊎◌, ℕ, zero, suc, ◌+◌, ◌<◌, ◌≤◌, ◌==◌, Bool, true, false, cond, List, [], ◌∷◌, ◌++◌, ◌-◌, length}
 use Rattle.std.proofs.Common.{refl, sym, ap, ◌∙◌, subst, inl, inr, arith, length-append}
 use Rattle.std.proofs.Math.ListN.{get_or-map as get_or-map_both}
 use Rattle.std.proofs.lemmas.Bool.{cases_eq, cases_lt, eq-eqb, eqb-true}
@@ -143,12 +143,6 @@ first-in_row f p (m ∷ ms) z n end w head =
     let e = times-cons n m ms ∙ ap (λ b. cond {A = ℕ} b 1 0 + times_number n ms) (eq-eqb m n same) in omega arith
 
 -- ---- a row, record by record
-
--- a row that a bucket does not have is empty
-pub row-past : (d : Chart) (b : ℕ) → length d.ends ≤ b → row_at (rows_of d) (suc b) ≡ []
-row-past d b past =
-    get_or_past (list_map (λ (e : Ends). nodes_from (length d.spots) (behind_of d) e.first) d.ends) b []
-    (let l = length-map d.ends (λ (e : Ends). nodes_from (length d.spots) (behind_of d) e.first) in omega arith)
 
 -- the row of a bucket is read from its first record on
 pub row-read : (d : Chart) (b : ℕ) → b < length d.ends → row_at (rows_of d) (suc b) ≡ nodes_from (length d.spots) (behind_of d) (behind_of d (End b))

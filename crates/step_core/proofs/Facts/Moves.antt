@@ -24,10 +24,6 @@ use Rattle.step_core.specs.Machine.{State, Thread, Monitor, Steps, Run, free, he
 pub one_object : (p o : ObjectId) → p.0 ≡ o.0 → p ≡ o
 one_object p o e = ap (λ (n : ℕ). let x : ObjectId = record { 0 = n } in x) e
 
-if_same : {A : Type 0} (b : Bool) (x : A) → (if b then x else x) ≡ x
-if_same true x = refl
-if_same false x = refl
-
 if_twice : {A : Type 0} (b : Bool) (y x z : A) → (if b then y else (if b then x else z)) ≡ (if b then y else z)
 if_twice true y x z = refl
 if_twice false y x z = refl
