@@ -281,6 +281,7 @@ fn first_world(alloc: Global, program: &Program) -> Result<World, Memory>
     )?;
     'attaching: for thread in 0..program.starts.len() {
         let thread = ThreadId(thread as u32);
+        // A program has no more threads than indices, and each number once: no other fault comes.
         match world.step(Step::Attach { thread }) {
             Ok(_) => {}
             Err(_) => return Err(Memory),

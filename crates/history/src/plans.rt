@@ -211,7 +211,7 @@ fn take_lines(plan: &mut Plan, lines: &[Line<'_>]) -> Result<(), Memory>
 }
 
 /// What the lines of a script play, with numbers for their names.
-pub fn plan_of(alloc: Global, lines: &[Line<'_>]) -> Result<Plan, Memory>
+pub(crate) fn plan_of(alloc: Global, lines: &[Line<'_>]) -> Result<Plan, Memory>
     requires { IsScript lines.now }
     ensures world { IfOk result
         (λ plan. IsWorldWith plan.monitors plan.indices plan.split lines.now) }

@@ -28,7 +28,7 @@ use step_core::{Atomic, Did, Doing, Fault, RelayoutFault, Request, Step, World};
 
 /// Plays a script and writes its report: a line for each step and relayout, then a line for each
 /// object.
-pub fn report_of(alloc: Global, plan: &Plan) -> Result<String, Memory>
+pub(crate) fn report_of(alloc: Global, plan: &Plan) -> Result<String, Memory>
     ensures { IfOk result (λ report. IsReportOf plan.now (string_bytes report)) }
 {
     let mut world = World::new(alloc, &plan.lows, plan.monitors, plan.indices, plan.split)?;

@@ -131,7 +131,7 @@ pub(crate) fn name_of_cause(cause: Cause) -> &'static str
     }
 }
 
-/// A move of which nothing is told but the thread.
+/// A move of which nothing is told but the thread. Long by its rows, one for each name.
 pub(crate) fn plain_named(name: &[u8], thread: ThreadId) -> Option<Move>
     ensures { result ≡ plain_from name.now thread }
 {

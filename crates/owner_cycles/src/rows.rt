@@ -14,7 +14,10 @@ struct Walk {
 }
 
 /// The cycles of a row, each from its lowest number on, by lowest number.
-pub fn cycles_of_row(alloc: Global, row: &[Option<usize>]) -> Result<Vec<Vec<usize>>, AllocError>
+pub(crate) fn cycles_of_row(
+    alloc: Global,
+    row: &[Option<usize>],
+) -> Result<Vec<Vec<usize>>, AllocError>
     requires { IsRow row.now }
     ensures { IfOk result (λ cycles. AreCyclesOfRow row.now (map vec_items cycles.items)) }
 {

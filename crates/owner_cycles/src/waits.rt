@@ -66,7 +66,7 @@ fn with_numbers(alloc: Global, numbers: &[u32]) -> Result<Vec<ThreadId>, AllocEr
 }
 
 /// For each of some threads, its next one.
-pub fn nexts_of(
+pub(crate) fn nexts_of(
     alloc: Global,
     world: &World,
     threads: &[ThreadId],
@@ -81,7 +81,7 @@ pub fn nexts_of(
 }
 
 /// For each of some threads, if it is there, its position among others by rising number.
-pub fn positions_of(
+pub(crate) fn positions_of(
     alloc: Global,
     threads: &[ThreadId],
     nexts: &[Option<ThreadId>],

@@ -14,6 +14,6 @@ cut room words =
 abbrev pub room_in : ℕ → ℕ
 room_in width = (width - 4) / 6
 
--- words at a place, left out where there is room for fewer than 3 characters
+-- words at a point, left out where there is room for fewer than 3 characters
 unfoldable pub cut_label : List ℕ → ℕ → ℕ → ℕ → List ℕ → Node
 cut_label look x y room words = if nat_lt room 3 then Nothing else label look x y (Words (cut room words))

@@ -38,12 +38,12 @@ line look x1 y1 x2 y2 inside = Element (codes "line") (line_attributes look x1 y
 unfoldable pub tick_node : ℕ → ℕ → ℕ → ℕ → Node
 tick_node x1 y1 x2 y2 = line (codes "tick") x1 y1 x2 y2 Nothing
 
-unfoldable pub place_attributes : List ℕ → ℕ → ℕ → List Attribute
-place_attributes look x y = word (codes "class") look ∷ number (codes "x") x ∷ number (codes "y") y ∷ []
+unfoldable pub point_attributes : List ℕ → ℕ → ℕ → List Attribute
+point_attributes look x y = word (codes "class") look ∷ number (codes "x") x ∷ number (codes "y") y ∷ []
 
--- words at a place
+-- words at a point
 abbrev pub label : List ℕ → ℕ → ℕ → Node → Node
-label look x y inside = Element (codes "text") (place_attributes look x y) inside
+label look x y inside = Element (codes "text") (point_attributes look x y) inside
 
 abbrev pub group : List ℕ → Node → Node
 group look inside = Element (codes "g") (word (codes "class") look ∷ []) inside

@@ -10,7 +10,7 @@ ghost use Rattle.picture_text.specs.Layout.{Fits};
 ghost use Rattle.picture_text.specs.Nodes.{node_text};
 ghost use Rattle.picture_text.specs.Positions.{position_in};
 
-use crate::elements::{Place, begin, begin_line, end};
+use crate::elements::{Point, begin, begin_line, end};
 use crate::escapes::{put_counted, put_escaped};
 use crate::layout::Layout;
 use crate::naming::{Naming, put_thread};
@@ -100,11 +100,11 @@ fn put_arrow(
     ensures { OnOk result (string_bytes text.new ≡ string_bytes text.old
         ++ node_text (arrow_node naming.now layout arrow from to)) }
 {
-    let start = Place {
+    let start = Point {
         x: layout.middle_at(u64::from(arrow.from_column)),
         y: leaves_at(layout, from, to),
     };
-    let stop = Place {
+    let stop = Point {
         x: layout.middle_at(u64::from(arrow.to_column)),
         y: ends_at(layout, from, to),
     };

@@ -8,7 +8,7 @@ ghost use Rattle.picture_text.specs.Axis.{step_of};
 ghost use Rattle.picture_text.specs.Layout.{Fits};
 ghost use Rattle.picture_text.specs.Nodes.{node_text};
 
-use crate::elements::{Place, begin, begin_group, begin_label, begin_line, end};
+use crate::elements::{Point, begin, begin_group, begin_label, begin_line, end};
 use crate::escapes::put_escaped;
 use crate::labels::{put_cut_label, room_in};
 use crate::layout::Layout;
@@ -40,13 +40,13 @@ fn put_number(text: &mut String, layout: Layout, column: u64) -> Result<(), Allo
         ≡ string_bytes text.old ++ node_text (number_node layout column)) }
 {
     let x = layout.middle_at(column);
-    let to = Place {
+    let to = Point {
         x,
         y: layout.lane_top(layout.lanes),
     };
-    begin_line(text, "grid", Place { x, y: 20 }, to)?;
+    begin_line(text, "grid", Point { x, y: 20 }, to)?;
     end(text, "line")?;
-    begin_label(text, "number", Place { x, y: 14 })?;
+    begin_label(text, "number", Point { x, y: 14 })?;
     let number = layout.first + column;
     write!(text, "{number}")?;
     end(text, "text")
@@ -118,9 +118,9 @@ fn put_moment(
     begin(text, "title")?;
     put_escaped(text, &words)?;
     end(text, "title")?;
-    put_tick(text, Place { x, y: 24 }, Place { x, y: 38 })?;
+    put_tick(text, Point { x, y: 24 }, Point { x, y: 38 })?;
     let room = room_in(limit.saturating_sub(x));
-    put_cut_label(text, "label", Place { x: x + 2, y: 34 }, room, &words)?;
+    put_cut_label(text, "label", Point { x: x + 2, y: 34 }, room, &words)?;
     end(text, "g")
 }
 

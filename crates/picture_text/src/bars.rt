@@ -7,7 +7,7 @@ ghost use Rattle.picture_text.specs.Nodes.{node_text};
 ghost use Rattle.picture_text.specs.Positions.{position_in, position_of};
 ghost use Rattle.picture_text.specs.Strips.{bar_node, bar_where, count_node, owns_title};
 
-use crate::elements::{Place, begin, begin_bar, begin_label, end};
+use crate::elements::{Point, begin, begin_bar, begin_label, end};
 use crate::escapes::{put_counted, put_escaped};
 use crate::layout::{Layout, Stretch};
 use crate::naming::{Naming, put_object, put_thread};
@@ -47,7 +47,7 @@ pub(crate) fn put_owns_title(
 
 /// Writes how many times an object is locked, where there is room for it.
 #[tactic(auto, unfolding(crate::specs::Strips::count_node))]
-fn put_count(text: &mut String, at: Place, width: u64, count: u16) -> Result<(), AllocError>
+fn put_count(text: &mut String, at: Point, width: u64, count: u16) -> Result<(), AllocError>
     ensures { OnOk result (string_bytes text.new ≡ string_bytes text.old
         ++ node_text (count_node at.x at.y width count)) }
 {
@@ -84,10 +84,10 @@ fn put_bar(
     let width = layout.width_of(stretch);
     let top = layout.lane_top(lane);
     let y = top + 40 + 8 * number;
-    begin_bar(text, number % 8, Place { x, y }, width, 7)?;
+    begin_bar(text, number % 8, Point { x, y }, width, 7)?;
     put_owns_title(text, naming, layout, object, thread, count, stretch)?;
     end(text, "rect")?;
-    let at = Place {
+    let at = Point {
         x: x + 2,
         y: top + 46 + 8 * number,
     };

@@ -11,7 +11,7 @@ ghost use Rattle.picture_text.specs.Layout.{Fits};
 ghost use Rattle.picture_text.specs.Nodes.{node_text};
 ghost use Rattle.picture_text.specs.Positions.{position_in};
 
-use crate::elements::{Place, begin_box, begin_label, end};
+use crate::elements::{Point, begin_box, begin_label, end};
 use crate::escapes::put_escaped;
 use crate::layout::Layout;
 use crate::naming::{Naming, put_thread};
@@ -63,7 +63,7 @@ fn put_cycle_line(
     ensures { OnOk result (string_bytes text.new
         ≡ string_bytes text.old ++ node_text (cycle_node naming.now y cycle.now)) }
 {
-    begin_label(text, "cycle", Place { x: 4, y })?;
+    begin_label(text, "cycle", Point { x: 4, y })?;
     put_escaped(text, "cycle")?;
     put_members(text, naming, cycle)?;
     end(text, "text")
@@ -77,7 +77,7 @@ fn put_stuck(text: &mut String, layout: Layout, lane: u64) -> Result<(), AllocEr
     ensures { OnOk result (string_bytes text.new
         ≡ string_bytes text.old ++ node_text (stuck_node layout lane)) }
 {
-    let corner = Place {
+    let corner = Point {
         x: layout.x_at(layout.columns.saturating_sub(1)),
         y: layout.lane_top(lane) + 12,
     };

@@ -3,16 +3,16 @@
 ghost use Rattle.std.specs.Prelude.{◌≡◌, ◌++◌, ◌∷◌, [], OnOk, codes, string_bytes};
 ghost use Rattle.picture_text.specs.Nodes.{escaped, opening, closing};
 ghost use Rattle.picture_text.specs.Pieces.{bar_attributes, box_attributes};
-ghost use Rattle.picture_text.specs.Pieces.{line_attributes, place_attributes};
+ghost use Rattle.picture_text.specs.Pieces.{line_attributes, point_attributes};
 ghost use Rattle.picture_text.specs.Pieces.{word};
 
 use crate::escapes::put_escaped;
 use std::alloc::AllocError;
 use std::fmt::Write;
 
-/// A place in a picture, in units from its left and top edges.
+/// A point in a picture, in units from its left and top edges.
 #[derive(Clone, Copy)]
-pub(crate) struct Place {
+pub(crate) struct Point {
     pub(crate) x: u64,
     pub(crate) y: u64,
 }
@@ -31,7 +31,7 @@ pub(crate) fn begin_look(text: &mut String, name: &str, look: &str) -> Result<()
 pub(crate) fn begin_box(
     text: &mut String,
     look: &str,
-    corner: Place,
+    corner: Point,
     width: u64,
     height: u64,
 ) -> Result<(), AllocError>
@@ -39,7 +39,7 @@ pub(crate) fn begin_box(
         ++ opening (codes "rect") (box_attributes look.now corner.x corner.y width height)) }
 {
     begin_look(text, "rect", look)?;
-    let Place { x, y } = corner;
+    let Point { x, y } = corner;
     write!(
         text,
         "\" x=\"{x}\" y=\"{y}\" width=\"{width}\" height=\"{height}\">"
@@ -51,7 +51,7 @@ pub(crate) fn begin_box(
 pub(crate) fn begin_bar(
     text: &mut String,
     pattern: u64,
-    corner: Place,
+    corner: Point,
     width: u64,
     height: u64,
 ) -> Result<(), AllocError>
@@ -59,20 +59,20 @@ pub(crate) fn begin_bar(
         ++ opening (codes "rect") (bar_attributes pattern corner.x corner.y width height)) }
 {
     write!(text, "<rect class=\"p{pattern}")?;
-    let Place { x, y } = corner;
+    let Point { x, y } = corner;
     write!(
         text,
         "\" x=\"{x}\" y=\"{y}\" width=\"{width}\" height=\"{height}\">"
     )
 }
 
-/// Begins a line from one place to another.
+/// Begins a line from one point to another.
 #[tactic(auto, unfolding(crate::specs::Nodes::opening, crate::specs::Pieces::line_attributes))]
 pub(crate) fn begin_line(
     text: &mut String,
     look: &str,
-    from: Place,
-    to: Place,
+    from: Point,
+    to: Point,
 ) -> Result<(), AllocError>
     ensures { OnOk result (string_bytes text.new ≡ string_bytes text.old
         ++ opening (codes "line") (line_attributes look.now from.x from.y to.x to.y)) }
@@ -85,11 +85,11 @@ pub(crate) fn begin_line(
     )
 }
 
-/// Begins words at a place.
-#[tactic(auto, unfolding(crate::specs::Nodes::opening, crate::specs::Pieces::place_attributes))]
-pub(crate) fn begin_label(text: &mut String, look: &str, at: Place) -> Result<(), AllocError>
+/// Begins words at a point.
+#[tactic(auto, unfolding(crate::specs::Nodes::opening, crate::specs::Pieces::point_attributes))]
+pub(crate) fn begin_label(text: &mut String, look: &str, at: Point) -> Result<(), AllocError>
     ensures { OnOk result (string_bytes text.new ≡ string_bytes text.old
-        ++ opening (codes "text") (place_attributes look.now at.x at.y)) }
+        ++ opening (codes "text") (point_attributes look.now at.x at.y)) }
 {
     begin_look(text, "text", look)?;
     write!(text, "\" x=\"{}\" y=\"{}\">", at.x, at.y)

@@ -17,7 +17,7 @@ ghost use Rattle.picture_text.specs.Nodes.{escaped, node_text, opening};
 use crate::arrows::put_arrows;
 use crate::axis::{put_moments, put_numbers};
 use crate::cycles::put_cycles;
-use crate::elements::{Place, begin, begin_box, begin_look, end};
+use crate::elements::{Point, begin, begin_box, begin_look, end};
 use crate::escapes::put_escaped;
 use crate::lanes::put_lanes;
 use crate::layout::{Layout, unit_of};
@@ -230,7 +230,7 @@ fn put_ground(text: &mut String, layout: Layout, cycles: u64) -> Result<(), Allo
     ensures { OnOk result (string_bytes text.new
         ≡ string_bytes text.old ++ node_text (ground_node layout cycles)) }
 {
-    let corner = Place { x: 0, y: 0 };
+    let corner = Point { x: 0, y: 0 };
     begin_box(
         text,
         "ground",

@@ -5,7 +5,7 @@ ghost use Rattle.std.specs.Str.{chars, encode_utf8_all};
 ghost use Rattle.picture_text.specs.Labels.{cut, cut_label, room_in};
 ghost use Rattle.picture_text.specs.Nodes.{escaped, node_text};
 
-use crate::elements::{Place, begin_label, end};
+use crate::elements::{Point, begin_label, end};
 use crate::escapes::{put_char, put_escaped};
 use std::alloc::AllocError;
 
@@ -16,13 +16,13 @@ pub(crate) fn room_in(width: u64) -> u64
     width.saturating_sub(4) / 6
 }
 
-/// Writes words at a place, cut to the room that they have, in characters. Where it is less than 3,
+/// Writes words at a point, cut to the room that they have, in characters. Where it is less than 3,
 /// nothing is written.
 #[tactic(auto, unfolding(crate::specs::Labels::cut_label))]
 pub(crate) fn put_cut_label(
     text: &mut String,
     look: &str,
-    at: Place,
+    at: Point,
     room: u64,
     words: &str,
 ) -> Result<(), AllocError>

@@ -5,7 +5,7 @@ ghost use Rattle.picture_text.specs.Layout.{Fits};
 ghost use Rattle.picture_text.specs.Lanes.{lane_at, lane_node, lanes_below};
 ghost use Rattle.picture_text.specs.Nodes.{node_text};
 
-use crate::elements::{Place, begin_group, end};
+use crate::elements::{Point, begin_group, end};
 use crate::labels::put_cut_label;
 use crate::layout::Layout;
 use crate::marks::{put_calls, put_replies};
@@ -31,7 +31,7 @@ fn put_lane(
 {
     begin_group(text, "lane")?;
     let name = thread_words(alloc, naming, lane.thread)?;
-    put_cut_label(text, "name", Place { x: 4, y: top + 27 }, 17, &name)?;
+    put_cut_label(text, "name", Point { x: 4, y: top + 27 }, 17, &name)?;
     put_spans(alloc, text, naming, layout, lane.thread, &lane.spans, top)?;
     put_calls(alloc, text, naming, layout, lane.thread, &lane.calls, top)?;
     let below = top + 40 + 8 * layout.strips;

@@ -11,7 +11,7 @@ ghost use Rattle.picture_text.specs.Nodes.{node_text};
 ghost use Rattle.picture_text.specs.Naming.{call_text};
 ghost use Rattle.picture_text.specs.Pieces.{tick_node};
 
-use crate::elements::{Place, begin, begin_group, begin_line, end};
+use crate::elements::{Point, begin, begin_group, begin_line, end};
 use crate::escapes::{put_counted, put_escaped};
 use crate::labels::{put_cut_label, room_in};
 use crate::layout::Layout;
@@ -33,9 +33,9 @@ pub(crate) fn put_column(text: &mut String, layout: Layout, column: u32) -> Resu
     put_counted(text, ", column ", number)
 }
 
-/// Writes a line from one place to another that says nothing of itself.
+/// Writes a line from one point to another that says nothing of itself.
 #[tactic(auto, unfolding(crate::specs::Pieces::tick_node))]
-pub(crate) fn put_tick(text: &mut String, from: Place, to: Place) -> Result<(), AllocError>
+pub(crate) fn put_tick(text: &mut String, from: Point, to: Point) -> Result<(), AllocError>
     ensures { OnOk result (string_bytes text.new ≡ string_bytes text.old
         ++ node_text (tick_node from.x from.y to.x to.y)) }
 {
@@ -99,8 +99,8 @@ fn put_call(
     let x = layout.x_at(u64::from(mark.column));
     begin_group(text, "call")?;
     put_call_title(text, naming, layout, thread, mark, &words)?;
-    put_tick(text, Place { x, y: top + 2 }, Place { x, y: top + 14 })?;
-    let at = Place {
+    put_tick(text, Point { x, y: top + 2 }, Point { x, y: top + 14 })?;
+    let at = Point {
         x: x + 2,
         y: top + 10,
     };
@@ -177,7 +177,7 @@ fn reply_words(alloc: Global, reply: Reply) -> Result<String, AllocError>
 
 /// Writes the cross of a refusal.
 #[tactic(auto, unfolding(crate::specs::Marks::cross_node))]
-fn put_cross(text: &mut String, reply: Reply, corner: Place) -> Result<(), AllocError>
+fn put_cross(text: &mut String, reply: Reply, corner: Point) -> Result<(), AllocError>
     requires x { corner.x ≤ 2_000_000 }
     requires y { corner.y ≤ 2_000_000 }
     ensures { OnOk result (string_bytes text.new ≡ string_bytes text.old
@@ -190,25 +190,25 @@ fn put_cross(text: &mut String, reply: Reply, corner: Place) -> Result<(), Alloc
 }
 
 /// Writes a cross.
-pub(crate) fn put_cross_lines(text: &mut String, corner: Place) -> Result<(), AllocError>
+pub(crate) fn put_cross_lines(text: &mut String, corner: Point) -> Result<(), AllocError>
     requires x { corner.x ≤ 2_000_000 }
     requires y { corner.y ≤ 2_000_000 }
     ensures { OnOk result (string_bytes text.new ≡ string_bytes text.old
         ++ node_text (cross_lines corner.x corner.y)) }
 {
-    let Place { x, y } = corner;
+    let Point { x, y } = corner;
     let (right, bottom) = (x + 8, y + 8);
     begin_line(
         text,
         "cross",
         corner,
-        Place {
+        Point {
             x: right,
             y: bottom,
         },
     )?;
     end(text, "line")?;
-    begin_line(text, "cross", Place { x, y: bottom }, Place { x: right, y })?;
+    begin_line(text, "cross", Point { x, y: bottom }, Point { x: right, y })?;
     end(text, "line")
 }
 
@@ -274,17 +274,17 @@ fn put_reply(
     let x = layout.x_at(u64::from(mark.column));
     begin_group(text, "reply")?;
     put_reply_title(text, naming, layout, thread, mark)?;
-    put_tick(text, Place { x, y: top }, Place { x, y: top + 12 })?;
+    put_tick(text, Point { x, y: top }, Point { x, y: top + 12 })?;
     put_cross(
         text,
         mark.reply,
-        Place {
+        Point {
             x: x + 1,
             y: top + 3,
         },
     )?;
     let left = x + indent_of(mark.reply);
-    let at = Place {
+    let at = Point {
         x: left,
         y: top + 10,
     };

@@ -8,7 +8,7 @@ ghost use Rattle.picture_text.specs.Refusals.{asked_node, fault_words, refusal_a
 ghost use Rattle.picture_text.specs.Refusals.{refusal_title, refusals_below, split_words, step_node};
 ghost use Rattle.picture_text.specs.Refusals.{told_node};
 
-use crate::elements::{Place, begin, begin_group, end};
+use crate::elements::{Point, begin, begin_group, end};
 use crate::escapes::{put_counted, put_escaped};
 use crate::layout::Layout;
 use crate::marks::{put_column, put_cross_lines};
@@ -158,7 +158,7 @@ fn put_refusal(
     let x = layout.x_at(u64::from(mark.column)) + 1;
     begin_group(text, "refusal")?;
     put_refusal_title(alloc, text, naming, layout, mark)?;
-    put_cross_lines(text, Place { x, y: 39 })?;
+    put_cross_lines(text, Point { x, y: 39 })?;
     end(text, "g")
 }
 

@@ -10,7 +10,7 @@ ghost use Rattle.picture_text.specs.Spans.{span_from, waits_node, wants_node};
 ghost use Rattle.picture_text.specs.Spans.{flag_mark, flag_node, idle_node, is_idle, span_node};
 ghost use Rattle.picture_text.specs.Spans.{span_title, spans_below, state_node, why_words};
 
-use crate::elements::{Place, begin, begin_box, begin_label, begin_line, end};
+use crate::elements::{Point, begin, begin_box, begin_label, begin_line, end};
 use crate::escapes::{put_counted, put_escaped};
 use crate::labels::{put_cut_label, room_in};
 use crate::layout::{Layout, Stretch};
@@ -223,11 +223,11 @@ fn put_idle(
         ++ node_text (idle_node naming.now layout thread doing stretch top)) }
 {
     let y = top + 23;
-    let from = Place {
+    let from = Point {
         x: layout.x_at(stretch.from),
         y,
     };
-    let to = Place {
+    let to = Point {
         x: layout.x_at(stretch.to),
         y,
     };
@@ -258,10 +258,10 @@ fn put_state(
     let x = layout.x_at(stretch.from);
     let width = layout.width_of(stretch);
     let look = doing_look(doing);
-    begin_box(text, look, Place { x, y: top + 14 }, width, 18)?;
+    begin_box(text, look, Point { x, y: top + 14 }, width, 18)?;
     put_span_title(alloc, text, naming, layout, thread, doing, stretch)?;
     end(text, "rect")?;
-    let at = Place {
+    let at = Point {
         x: x + 3,
         y: top + 27,
     };
@@ -313,16 +313,16 @@ fn put_flag(
     }
     let x = layout.x_at(stretch.from);
     let width = layout.width_of(stretch);
-    let corner = Place { x, y: top + 34 };
+    let corner = Point { x, y: top + 34 };
     begin_box(text, "flag", corner, width, 3)?;
     put_flag_title(text, naming, layout, thread, stretch)?;
     end(text, "rect")?;
-    put_flag_mark(text, Place { x, y: top + 31 }, width)
+    put_flag_mark(text, Point { x, y: top + 31 }, width)
 }
 
 /// Writes the mark of an interrupt, where there is room for it.
 #[tactic(auto, unfolding(crate::specs::Spans::flag_mark))]
-fn put_flag_mark(text: &mut String, at: Place, width: u64) -> Result<(), AllocError>
+fn put_flag_mark(text: &mut String, at: Point, width: u64) -> Result<(), AllocError>
     requires x { at.x ≤ 2_000_000 }
     requires width { width ≤ 2_000_000 }
     ensures { OnOk result (string_bytes text.new
@@ -331,7 +331,7 @@ fn put_flag_mark(text: &mut String, at: Place, width: u64) -> Result<(), AllocEr
     if width < 8 {
         return Ok(());
     }
-    let right = Place {
+    let right = Point {
         x: at.x + width - 8,
         y: at.y,
     };

@@ -12,7 +12,7 @@ ghost use Rattle.picture_text.specs.Strips.{strip_end, strip_from, strip_node, s
 ghost use Rattle.picture_text.specs.Strips.{strips_below};
 
 use crate::bars::{put_bar_where, put_owns_title};
-use crate::elements::{Place, begin, begin_bar, begin_group, begin_line, end};
+use crate::elements::{Point, begin, begin_bar, begin_group, begin_line, end};
 use crate::escapes::put_escaped;
 use crate::labels::{put_cut_label, room_in};
 use crate::layout::{Layout, Stretch};
@@ -63,11 +63,11 @@ fn put_owned(
     let x = layout.x_at(stretch.from);
     let width = layout.width_of(stretch);
     let y = layout.strip_top(number);
-    begin_bar(text, number % 8, Place { x, y }, width, 8)?;
+    begin_bar(text, number % 8, Point { x, y }, width, 8)?;
     put_owns_title(text, naming, layout, object, thread, count, stretch)?;
     end(text, "rect")?;
     let words = owner_words(alloc, naming, thread, count)?;
-    let at = Place {
+    let at = Point {
         x: x + 2,
         y: y + 18,
     };
@@ -116,14 +116,14 @@ fn put_free(
     let x = layout.x_at(stretch.from);
     let top = layout.strip_top(number);
     let y = top + 4;
-    let to = Place {
+    let to = Point {
         x: layout.x_at(stretch.to),
         y,
     };
-    begin_line(text, "free", Place { x, y }, to)?;
+    begin_line(text, "free", Point { x, y }, to)?;
     put_free_title(text, naming, layout, object, stretch)?;
     end(text, "line")?;
-    let at = Place {
+    let at = Point {
         x: x + 2,
         y: top + 18,
     };
@@ -299,13 +299,13 @@ fn put_legend(
         ++ node_text (legend_node naming.now layout number object)) }
 {
     let y = layout.strip_top(number);
-    begin_bar(text, number % 8, Place { x: 4, y }, 16, 8)?;
+    begin_bar(text, number % 8, Point { x: 4, y }, 16, 8)?;
     begin(text, "title")?;
     put_object(text, naming, object)?;
     end(text, "title")?;
     end(text, "rect")?;
     let words = object_words(alloc, naming, object)?;
-    put_cut_label(text, "name", Place { x: 24, y: y + 8 }, 14, &words)
+    put_cut_label(text, "name", Point { x: 24, y: y + 8 }, 14, &words)
 }
 
 /// Writes a strip.

@@ -5,7 +5,7 @@ ghost use Rattle.picture_text.specs.Layout.{Fits};
 ghost use Rattle.picture_text.specs.Nodes.{node_text};
 ghost use Rattle.picture_text.specs.Strips.{word_node, word_title, word_where, word_words};
 
-use crate::elements::{Place, begin, begin_group, end};
+use crate::elements::{Point, begin, begin_group, end};
 use crate::escapes::put_escaped;
 use crate::labels::{put_cut_label, room_in};
 use crate::layout::{Layout, Stretch};
@@ -81,7 +81,7 @@ fn put_word(
     let x = layout.x_at(stretch.from) + 2;
     let y = layout.strip_top(number) + 30;
     let room = room_in(layout.width_of(stretch));
-    put_cut_label(text, "word", Place { x, y }, room, &words)?;
+    put_cut_label(text, "word", Point { x, y }, room, &words)?;
     end(text, "g")
 }
 

@@ -8,7 +8,7 @@ use indexmap::IndexSet;
 use std::alloc::{AllocError, Global};
 
 /// Notes a name, and tells its number.
-pub fn number_of_name(
+pub(crate) fn number_of_name(
     alloc: Global,
     names: &mut IndexSet<String>,
     name: &Name<'_>,

@@ -129,7 +129,7 @@ fn put_line(out: &mut String, line: &Line<'_>) -> Result<(), AllocError>
 }
 
 /// The one text of the lines.
-pub fn print_lines(alloc: Global, lines: &[Line<'_>]) -> Result<String, AllocError>
+pub(crate) fn print_lines(alloc: Global, lines: &[Line<'_>]) -> Result<String, AllocError>
     ensures { IfOk result (λ text. string_bytes text ≡ script_text lines.now) }
 {
     let mut out = String::new(alloc);

@@ -314,7 +314,7 @@ fn line_of_text<'a>(alloc: Global, text: &'a str) -> Result<Option<Line<'a>>, Al
 /// The line that some bytes are, with no line feed.
 #[inline(always)]
 #[tactic(auto, using(crate::proofs::LineLaws::line_again))]
-pub fn line_of<'a>(alloc: Global, bytes: &'a [u8]) -> Result<Option<Line<'a>>, AllocError>
+pub(crate) fn line_of<'a>(alloc: Global, bytes: &'a [u8]) -> Result<Option<Line<'a>>, AllocError>
     ensures { IfOk result (λ line. line ≡ line_at bytes.now) }
 {
     match quick_line(bytes) {

@@ -13,11 +13,11 @@
 //! ```text
 //! use step_core::{Answer, Atomic, Call, Fault, Reply, Step, ThreadId, World};
 //!
-//! /// Begins a call, and lets the thread go. None: it is parked, or another thread owns the
-//! /// object.
+//! /// Begins a call, and lets the thread go. None: it is parked, another thread owns the object,
+//! /// or the call is an End that takes more Go steps.
 //! fn make_call(world: &mut World, thread: ThreadId, call: Call) -> Result<Option<Reply>, Fault> {
 //!     world.step(Step::Begin { thread, call })?;
-//!     // A call replies, parks or meets another thread within four Go steps; an End may take more.
+//!     // Any other call replies, parks or meets another thread within four Go steps.
 //!     for _ in 0..4 {
 //!         let did = world.step(Step::Go { thread })?;
 //!         if did.reply.is_some() {

@@ -1,6 +1,6 @@
-//! What a Go does at each stage of a call: one function for each kind of atomic step. Each writes
-//! where the thread stands then in its place, and hands out what it did: a pair of both would be
-//! made and copied at each step.
+//! What a Go does at each stage of a call: one function for each kind of atomic step. Each
+//! overwrites the thread's place, and hands out what it did: a pair of both would be made and
+//! copied at each step.
 
 ghost use Rattle.std.specs.Prelude.{◌≡◌, ◌+◌, ◌-◌, ◌<◌, ◌≤◌, List, length, Bool, true, None, Some};
 ghost use Rattle.lock_word.specs.declared.Word.{Word};

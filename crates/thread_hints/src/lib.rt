@@ -43,7 +43,7 @@ impl Model for Hints {
 }
 
 impl Hints {
-    /// Place 0 for each number. No memory is asked for.
+    /// Position 0 for each number. No memory is asked for.
     pub fn new(alloc: Global) -> Hints
         ensures { result ≡ replicate 64 0 }
     {

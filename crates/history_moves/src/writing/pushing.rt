@@ -125,7 +125,7 @@ fn push_wait(
     push_two(text, b",\"object\":", object.0, b",\"thread\":", thread.0)
 }
 
-/// Adds a call. Each has its own front: see above.
+/// Adds a call.
 fn push_call(text: &mut Vec<u8>, call: Call, thread: ThreadId) -> Result<(), AllocError>
     ensures told { OnOk result (text.new.items
         ≡ text.old.items ++ compact_text (data_of (move.Call thread call))) }

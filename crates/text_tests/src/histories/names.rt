@@ -42,25 +42,17 @@ fn name_of(alloc: Global, kind: Kind, number: u32) -> Result<String, Fail> {
     }
 }
 
-/// Declares so many objects in a script.
-fn put_objects(alloc: Global, kind: Kind, count: u32, script: &mut String) -> Result<(), Fail> {
-    for number in 0..count {
-        let name = name_of(alloc, kind, number)?;
-        write!(script, "object {name} A5\n")?;
-    }
-    Ok(())
-}
-
-/// Tells so many objects in a report.
-fn put_told_objects(
+/// Writes a line for each of so many objects, with this behind its name.
+fn put_objects(
     alloc: Global,
     kind: Kind,
     count: u32,
-    report: &mut String,
+    tail: &str,
+    text: &mut String,
 ) -> Result<(), Fail> {
     for number in 0..count {
         let name = name_of(alloc, kind, number)?;
-        write!(report, "object {name} 000000A5 owner - holds 0 waiting -\n")?;
+        write!(text, "object {name} {tail}\n")?;
     }
     Ok(())
 }
@@ -69,7 +61,7 @@ fn put_told_objects(
 fn told_names(alloc: Global, kind: Kind, count: u32) -> Result<(String, String), Fail> {
     let mut script = format!(in alloc; "world 1 {count}\n")?;
     let mut report = String::new(alloc);
-    put_objects(alloc, kind, count, &mut script)?;
+    put_objects(alloc, kind, count, "A5", &mut script)?;
     for number in 0..count {
         let name = name_of(alloc, kind, number)?;
         let index = u64::from(number) + 1;
@@ -80,7 +72,8 @@ fn told_names(alloc: Global, kind: Kind, count: u32) -> Result<(String, String),
         write!(report, "attach {name} index {index}\nbegin {name}\n")?;
         write!(report, "go {name} load {name} 000000A5 = No\n")?;
     }
-    put_told_objects(alloc, kind, count, &mut report)?;
+    let tail = "000000A5 owner - holds 0 waiting -";
+    put_objects(alloc, kind, count, tail, &mut report)?;
     Ok((script, report))
 }
 
@@ -102,7 +95,7 @@ fn names_of_each_kind(rt: HostRuntime) -> Result<(), Fail> {
 /// Some objects, and one of them again.
 fn with_one_again(alloc: Global, kind: Kind, count: u32, again: u32) -> Result<String, Fail> {
     let mut script = format!(in alloc; "world 1 1\n")?;
-    put_objects(alloc, kind, count, &mut script)?;
+    put_objects(alloc, kind, count, "A5", &mut script)?;
     let name = name_of(alloc, kind, again)?;
     write!(script, "object {name} A5\n")?;
     Ok(script)
