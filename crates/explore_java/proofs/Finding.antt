@@ -16,7 +16,7 @@ use Rattle.explore.specs.declared.programs.Program.{Program}
 use Rattle.step_core.specs.declared.machine.Move.{Move}
 use Rattle.explore_java.specs.declared.found.Node.{Node}
 use Rattle.explore_java.specs.JavaStates.{JavaProgramState, after, played, played_from, opening}
-use Rattle.explore_java.specs.JavaFound.{witness_at, witnesses, witnesses_from, grown, IsAt, IsEnd, AreEnds, AreStates, AreParents, FindsAll, HasMore, node_at}
+use Rattle.explore_java.specs.JavaFound.{witness_at, witnesses, witnesses_from, grown, IsAt, IsEnd, AreEnds, AreStates, AreParents, FindsAll, HasMore, HasParent, node_at}
 use Rattle.explore_java.specs.JavaStates.{code_of, IsProper}
 use Rattle.explore_java.specs.JavaSearches.{IsSearch, IsNear, StaysIn, IsClosed, IsVisited, AreFoundFrom, AllFoundFrom, AreTried, behind}
 use Rattle.explore_java.specs.JavaFound.{made_among, steps_before}
@@ -227,73 +227,6 @@ first_stays : (ws : List (List Move)) (ns : List Node) → StaysIn ws (witnesses
 first_stays ws [] = stays_still ws
 first_stays ws (n ∷ ns) = stays_then ws (grown ws n) (witnesses_from (grown ws n) ns) (stays_more ws _) (first_stays (grown ws n) ns)
 
--- what is known are states, no two the same
-pub are_states : (p : Program) (keys : List Code) (ws : List (List Move)) (queue : List JavaProgramState) (n : ℕ)
-    → IsSearch p keys ws queue n → AreStates p ws
-are_states p keys ws queue n h = record {
-  sound = λ k lt. (let r = h.known k lt in (r.0, r.1.leads, r.1.proper));
-  distinct = λ j k s below lt a b.
-      let x = h.known j (omega (arith, below, lt)) in
-      let y = h.known k lt in
-      let xs : x.0 ≡ s = ap (λ (o : Option JavaProgramState). unwrap_or o s) (sym x.1.leads ∙ a) in
-      let ys : y.0 ≡ s = ap (λ (o : Option JavaProgramState). unwrap_or o s) (sym y.1.leads ∙ b) in
-      let codes : code_of p x.0 ≡ code_of p y.0 = ap (λ (r : JavaProgramState). code_of p r) (xs ∙ sym ys) in
-      h.distinct j k x.1.keyed.0 y.1.keyed.0 below x.1.keyed.1 y.1.keyed.1 (x.1.keyed.2 ∙ codes ∙ sym y.1.keyed.2);
-}
-
--- more states were found than were visited, while some wait
-pub has_more : (p : Program) (keys : List Code) (ns : List Node) (queue : List JavaProgramState) (ends : List ℕ) (steps n : ℕ)
-    → IsVisited p keys (witnesses ns) queue ends steps n → 0 < length queue → HasMore p n
-has_more p keys ns queue ends steps n v some =
-    let w = v.search.waiting in
-    (witnesses ns, omega (arith, w, some), are_states p keys (witnesses ns) queue n v.search)
-
--- more states were found than were asked for
-pub over : (p : Program) (keys : List Code) (ns : List Node) (queue : List JavaProgramState) (ends : List ℕ) (steps n most : ℕ)
-    → IsVisited p keys (witnesses ns) queue ends steps n → most < length (witnesses ns) → HasMore p most
-over p keys ns queue ends steps n most v more = (witnesses ns, more, are_states p keys (witnesses ns) queue n v.search)
-
--- and no more, once no state waits to be visited
-pub few : (p : Program) (keys : List Code) (ns : List Node) (ends : List ℕ) (steps n most : ℕ)
-    → IsVisited p keys (witnesses ns) [] ends steps n → n ≤ most → length (witnesses ns) ≤ most
-few p keys ns ends steps n most v le = let w = v.search.waiting in omega (arith, w, le)
-
--- all is found once no state waits to be visited
-pub finds_all : (p : Program) (keys : List Code) (ns : List Node) (ends : List ℕ) (steps n : ℕ)
-    → IsVisited p keys (witnesses ns) [] ends steps n → FindsAll p (record { witnesses = witnesses ns; ends = ends; steps = steps })
-finds_all p keys ns ends steps n v =
-    let ws : List (List Move) = witnesses ns in
-    let w = v.search.waiting in
-    let all : n ≡ length ws = omega (arith, w) in
-    let first = first_stays ([] ∷ []) ns in
-    let x = first.more in
-    let begin : IsNear p ws (opening p) 0 =
-    (0, omega (arith, x), ap (λ (c : List Move). played p c) (first.same 0 (omega arith)), ap_le (ap (λ (c : List Move). length c) (first.same 0 (omega arith)))) in
-    let states = are_states p keys ws [] n v.search in
-    record {
-      states = states;
-      complete = λ cs s e. (let f = complete_from p ws n v.closed all cs (opening p) s 0 begin e in (f.0, f.1, f.2));
-      shortest = λ k cs s lt at e.
-          let f = complete_from p ws n v.closed all cs (opening p) s 0 begin e in
-          let near = f.3 in
-          let same = one_number f.0 k s states f.1 f.2 lt at in
-          subst (λ (j : ℕ). length (witness_at ws j) ≤ length cs) same (omega (arith, near));
-      rising = v.search.rising;
-      ends = subst (λ (m : ℕ). AreEnds p ws m ends) all v.noted;
-      steps = v.counted ∙ ap (λ (m : ℕ). steps_before p ws m) all;
-    }
-  where
-    ap_le : {m : ℕ} → m ≡ 0 → m ≤ 0
-    ap_le e = omega (arith, e)
-
-    one_number : (j k : ℕ) (s : JavaProgramState) → AreStates p (witnesses ns) → j < length (witnesses ns) → IsAt p (witnesses ns) j s → k < length (witnesses ns) → IsAt p (witnesses ns) k s → j ≡ k
-    one_number j k s states a b c d = by (cases_lt j k) (cases_lt k j)
-      where
-        by : (j < k) ⊎ (k ≤ j) → (k < j) ⊎ (j ≤ k) → j ≡ k
-        by (inl lt) other = absurd (states.distinct j k s lt c b d)
-        by (inr le) (inl lt) = absurd (states.distinct k j s lt a d b)
-        by (inr le) (inr ge) = omega (arith, le, ge)
-
 -- ---- the way back from a state
 
 length_from : (ws : List (List Move)) (ns : List Node) → length (witnesses_from ws ns) ≡ length ws + length ns
@@ -334,6 +267,94 @@ witness_back ns k parents lt =
 
 pub witness_first : (ns : List Node) → witness_at (witnesses ns) 0 ≡ []
 witness_first ns = (first_stays ([] ∷ []) ns).same 0 (omega arith)
+
+-- each witness but the first is behind an earlier one
+all_parents : (ns : List Node) → AreParents ns → (k : ℕ) → 0 < k → k < length (witnesses ns) → HasParent (witnesses ns) k
+all_parents ns parents k some within =
+    let l = length_witnesses ns in
+    let lt : k - 1 < length ns = omega (arith, l, some, within) in
+    let one : k - 1 + 1 ≡ k = omega (arith, some) in
+    let below = parents (k - 1) lt in
+    let node : Node = node_at ns (k - 1) in
+    record {
+      parent = node.parent;
+      made = node.made;
+      earlier = omega (arith, below, some);
+      moves = subst (λ (j : ℕ). witness_at (witnesses ns) j ≡ witness_at (witnesses ns) node.parent ++ node.made ∷ []) one
+          (witness_back ns (k - 1) parents lt);
+    }
+
+-- ---- what a search has found
+
+-- what is known are states, no two the same
+pub are_states : (p : Program) (keys : List Code) (ns : List Node) (queue : List JavaProgramState) (n : ℕ)
+    → AreParents ns → IsSearch p keys (witnesses ns) queue n → AreStates p (witnesses ns)
+are_states p keys ns queue n parents h = record {
+  first = witness_first ns;
+  parents = all_parents ns parents;
+  sound = λ k lt. (let r = h.known k lt in (r.0, r.1.leads, r.1.proper));
+  distinct = λ j k s below lt a b.
+      let x = h.known j (omega (arith, below, lt)) in
+      let y = h.known k lt in
+      let xs : x.0 ≡ s = ap (λ (o : Option JavaProgramState). unwrap_or o s) (sym x.1.leads ∙ a) in
+      let ys : y.0 ≡ s = ap (λ (o : Option JavaProgramState). unwrap_or o s) (sym y.1.leads ∙ b) in
+      let codes : code_of p x.0 ≡ code_of p y.0 = ap (λ (r : JavaProgramState). code_of p r) (xs ∙ sym ys) in
+      h.distinct j k x.1.keyed.0 y.1.keyed.0 below x.1.keyed.1 y.1.keyed.1 (x.1.keyed.2 ∙ codes ∙ sym y.1.keyed.2);
+}
+
+-- more states were found than were visited, while some wait
+pub has_more : (p : Program) (keys : List Code) (ns : List Node) (queue : List JavaProgramState) (ends : List ℕ) (steps n : ℕ)
+    → AreParents ns → IsVisited p keys (witnesses ns) queue ends steps n → 0 < length queue → HasMore p n
+has_more p keys ns queue ends steps n parents v some =
+    let w = v.search.waiting in
+    (witnesses ns, omega (arith, w, some), are_states p keys ns queue n parents v.search)
+
+-- more states were found than were asked for
+pub over : (p : Program) (keys : List Code) (ns : List Node) (queue : List JavaProgramState) (ends : List ℕ) (steps n most : ℕ)
+    → AreParents ns → IsVisited p keys (witnesses ns) queue ends steps n → most < length (witnesses ns) → HasMore p most
+over p keys ns queue ends steps n most parents v more = (witnesses ns, more, are_states p keys ns queue n parents v.search)
+
+-- and no more, once no state waits to be visited
+pub few : (p : Program) (keys : List Code) (ns : List Node) (ends : List ℕ) (steps n most : ℕ)
+    → IsVisited p keys (witnesses ns) [] ends steps n → n ≤ most → length (witnesses ns) ≤ most
+few p keys ns ends steps n most v le = let w = v.search.waiting in omega (arith, w, le)
+
+-- all is found once no state waits to be visited
+pub finds_all : (p : Program) (keys : List Code) (ns : List Node) (ends : List ℕ) (steps n : ℕ)
+    → AreParents ns → IsVisited p keys (witnesses ns) [] ends steps n
+    → FindsAll p (record { witnesses = witnesses ns; ends = ends; steps = steps })
+finds_all p keys ns ends steps n parents v =
+    let ws : List (List Move) = witnesses ns in
+    let w = v.search.waiting in
+    let all : n ≡ length ws = omega (arith, w) in
+    let first = first_stays ([] ∷ []) ns in
+    let x = first.more in
+    let begin : IsNear p ws (opening p) 0 =
+    (0, omega (arith, x), ap (λ (c : List Move). played p c) (first.same 0 (omega arith)), ap_le (ap (λ (c : List Move). length c) (first.same 0 (omega arith)))) in
+    let states = are_states p keys ns [] n parents v.search in
+    record {
+      states = states;
+      complete = λ cs s e. (let f = complete_from p ws n v.closed all cs (opening p) s 0 begin e in (f.0, f.1, f.2));
+      shortest = λ k cs s lt at e.
+          let f = complete_from p ws n v.closed all cs (opening p) s 0 begin e in
+          let near = f.3 in
+          let same = one_number f.0 k s states f.1 f.2 lt at in
+          subst (λ (j : ℕ). length (witness_at ws j) ≤ length cs) same (omega (arith, near));
+      rising = v.search.rising;
+      ends = subst (λ (m : ℕ). AreEnds p ws m ends) all v.noted;
+      steps = v.counted ∙ ap (λ (m : ℕ). steps_before p ws m) all;
+    }
+  where
+    ap_le : {m : ℕ} → m ≡ 0 → m ≤ 0
+    ap_le e = omega (arith, e)
+
+    one_number : (j k : ℕ) (s : JavaProgramState) → AreStates p (witnesses ns) → j < length (witnesses ns) → IsAt p (witnesses ns) j s → k < length (witnesses ns) → IsAt p (witnesses ns) k s → j ≡ k
+    one_number j k s states a b c d = by (cases_lt j k) (cases_lt k j)
+      where
+        by : (j < k) ⊎ (k ≤ j) → (k < j) ⊎ (j ≤ k) → j ≡ k
+        by (inl lt) other = absurd (states.distinct j k s lt c b d)
+        by (inr le) (inl lt) = absurd (states.distinct k j s lt a d b)
+        by (inr le) (inr ge) = omega (arith, le, ge)
 
 -- a node more, whose parent was there
 pub parents_more : (ns : List Node) (n : Node) → AreParents ns → n.parent ≤ length ns → AreParents (ns ++ n ∷ [])

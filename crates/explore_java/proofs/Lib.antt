@@ -11,5 +11,6 @@ pub mod CallFronts
 mod Returning
 mod Playing
 mod Leaving
+mod ProperPlays
 mod Replying
 pub mod Running

@@ -27,6 +27,7 @@ use Rattle.explore_java.proofs.Making.{noted_machine}
 use Rattle.explore_java.proofs.Returning.{AreReturned, next_of}
 use Rattle.explore_java.proofs.Playing.{IsPlay, attaches_run, attaches_want, begin_play, not_for_want, play_next, told_behind}
 use Rattle.explore_java.proofs.Leaving.{KeepsTo, behind_left, left_behind, left_next, leads_on}
+use Rattle.explore_java.proofs.ProperPlays.{AreProper, all_proper, found_proper}
 use Rattle.explore_java.proofs.Replying.{begin_returned, returned_next}
 
 no_lead : (p : Program) (ms : List Move) (t : JavaProgramState) → played_from p ms None ≡ Some t → ⊥
@@ -48,57 +49,55 @@ want_behind : (ts : List ThreadId) (ms : List Move) → NoneForWant (map (λ (t 
 want_behind [] ms h = h
 want_behind (t ∷ ts) ms h = want_behind ts ms h.1
 
-module _ (p : Program) (f : FoundJavaStates) (finds : FindsAll p f) where
-  -- what is played is found, so it is proper
-  proper_of : (ms : List Move) (s : JavaProgramState) → played p ms ≡ Some s → IsProper p s
-  proper_of ms s e =
-      let k = finds.complete ms s e in
-      let r = finds.states.sound k.0 k.1 in
-      let same : r.0 ≡ s = ap (λ (o : Option JavaProgramState). unwrap_or o s) (sym r.1 ∙ k.2) in
-      subst (λ (t : JavaProgramState). IsProper p t) same r.2
-
+module _ (p : Program) where
   -- ---- a play is a run
   record IsRunTo (done todo : List Move) (s t : JavaProgramState) : Type 0 where
     play : IsPlay p (done ++ todo) t
     returned : AreReturned p (done ++ todo) t
+    proper : IsProper p t
     run : Run (state s.machine) todo (state t.machine)
 
-  run_from : (todo done : List Move) (s t : JavaProgramState) → IsPlay p done s → AreReturned p done s → played_from p todo (Some s) ≡ Some t → IsRunTo done todo s t
-  run_from [] done s t play returned e =
+  run_from : (todo done : List Move) (s t : JavaProgramState) → IsPlay p done s → AreReturned p done s → AreProper p s todo → played_from p todo (Some s) ≡ Some t
+      → IsRunTo done todo s t
+  run_from [] done s t play returned right e =
       let same : s ≡ t = ap (λ (o : Option JavaProgramState). unwrap_or o t) e in
       record {
         play = subst (λ (ms : List Move). IsPlay p ms t) (sym (append-nil done)) (subst (λ (u : JavaProgramState). IsPlay p done u) same play);
         returned = subst (λ (ms : List Move). AreReturned p ms t) (sym (append-nil done)) (subst (λ (u : JavaProgramState). AreReturned p done u) same returned);
+        proper = subst (λ (u : JavaProgramState). IsProper p u) same right;
         run = ap (λ (u : JavaProgramState). state u.machine) (sym same);
       }
-  run_from (m ∷ todo) done s t play returned e = by (after p s m) refl e (λ u next back g. run_from todo (done ++ m ∷ []) u t next back g)
+  run_from (m ∷ todo) done s t play returned right e =
+      by (after p s m) refl e (λ u next back h g. run_from todo (done ++ m ∷ []) u t next back (right.1 u h) g)
     where
       by : (o : Option JavaProgramState) → after p s m ≡ o → played_from p todo o ≡ Some t
-          → ((u : JavaProgramState) → IsPlay p (done ++ m ∷ []) u → AreReturned p (done ++ m ∷ []) u → played_from p todo (Some u) ≡ Some t → IsRunTo (done ++ m ∷ []) todo u t)
+          → ((u : JavaProgramState) → IsPlay p (done ++ m ∷ []) u → AreReturned p (done ++ m ∷ []) u → after p s m ≡ Some u → played_from p todo (Some u) ≡ Some t
+          → IsRunTo (done ++ m ∷ []) todo u t)
           → IsRunTo done (m ∷ todo) s t
       by None h g rest = absurd (no_lead p todo t g)
       by (Some u) h g rest =
           let x = after_taken p s m u h in
-          let proper = proper_of done s play.leads in
+          let proper = right.0 in
           let back = subst (λ (q : JavaProgramState). AreReturned p (done ++ m ∷ []) q) (sym x.noted)
           (returned_next p done s play proper returned m x.machine x.left (takes_right s.machine m x.machine proper.sound x.takes)) in
-          let more = rest u (play_next p done s u m play h) back g in
+          let more = rest u (play_next p done s u m play h) back h g in
           let step : Steps (state s.machine) m (state u.machine) =
           subst (λ (v : State). Steps (state s.machine) m v) (sym (ap (λ (q : JavaProgramState). state q.machine) x.noted ∙ ap state (noted_machine s m x.machine)))
           (takes_right s.machine m x.machine proper.sound x.takes) in
           record {
             play = subst (λ (ms : List Move). IsPlay p ms t) (append_assoc done (m ∷ []) todo) more.play;
             returned = subst (λ (ms : List Move). AreReturned p ms t) (append_assoc done (m ∷ []) todo) more.returned;
+            proper = more.proper;
             run = (state u.machine, step, more.run);
           }
 
-  played_run : (ms : List Move) (t : JavaProgramState) → played p ms ≡ Some t → IsRunTo [] ms (opening p) t
-  played_run ms t e = run_from ms [] (opening p) t (begin_play p) (begin_returned p) e
+  played_run : (ms : List Move) (t : JavaProgramState) → AreProper p (opening p) ms → played p ms ≡ Some t → IsRunTo [] ms (opening p) t
+  played_run ms t right e = run_from ms [] (opening p) t (begin_play p) (begin_returned p) right e
 
   -- The moves that lead to a state are a run that the program may make, behind the attaches.
-  pub play_is_run : (ms : List Move) (t : JavaProgramState) → played p ms ≡ Some t → IsRunOf p (attaches_of p ++ ms) (state t.machine)
-  play_is_run ms t e =
-      let r = played_run ms t e in
+  pub play_is_run : (ms : List Move) (t : JavaProgramState) → AreProper p (opening p) ms → played p ms ≡ Some t → IsRunOf p (attaches_of p ++ ms) (state t.machine)
+  play_is_run ms t right e =
+      let r = played_run ms t right e in
       let play = r.play in
       record {
         run = Run-append (opening_state (length p.lows.items)) (attaches_of p) (state (opening p).machine) ms (state t.machine) (attaches_run p (count_of p)) r.run;
@@ -110,39 +109,44 @@ module _ (p : Program) (f : FoundJavaStates) (finds : FindsAll p f) where
         woken = λ never. told_behind woken_by (λ u. refl) p ms ∙ play.woken never;
       }
 
-  pub play_wants : (ms : List Move) (t : JavaProgramState) → played p ms ≡ Some t → NoneForWant (attaches_of p ++ ms)
-  play_wants ms t e = attaches_want (threads_below (count_of p)) ms (played_run ms t e).play.wants
+  pub play_wants : (ms : List Move) (t : JavaProgramState) → AreProper p (opening p) ms → played p ms ≡ Some t → NoneForWant (attaches_of p ++ ms)
+  play_wants ms t right e = attaches_want (threads_below (count_of p)) ms (played_run ms t right e).play.wants
 
   -- in which the calls of each thread return with the replies of the state
-  pub play_returns : (ms : List Move) (t : JavaProgramState) (k : ℕ) → played p ms ≡ Some t → k < count_of p → returns_in (thread_of k) (attaches_of p ++ ms) ≡ replies_of p t k
-  play_returns ms t k e lt = told_behind (returned_by (thread_of k)) (λ u. refl) p ms ∙ ((played_run ms t e).returned.threads k lt).said
+  pub play_returns : (ms : List Move) (t : JavaProgramState) (k : ℕ) → AreProper p (opening p) ms → played p ms ≡ Some t → k < count_of p
+      → returns_in (thread_of k) (attaches_of p ++ ms) ≡ replies_of p t k
+  play_returns ms t k right e lt = told_behind (returned_by (thread_of k)) (λ u. refl) p ms ∙ ((played_run ms t right e).returned.threads k lt).said
 
   -- Behind it each move can be made that the machine may make and the program leaves to it, but for refusals for want,
-  pub lawful_is_made : (ms : List Move) (t : JavaProgramState) → played p ms ≡ Some t → (m : Move) (y : State)
+  pub lawful_is_made : (ms : List Move) (t : JavaProgramState) → AreProper p (opening p) ms → played p ms ≡ Some t → (m : Move) (y : State)
       → IsLeft p (attaches_of p ++ ms) m → is_for_want m ≡ false → Steps (state t.machine) m y → (u : JavaProgramState) × (after p t m ≡ Some u) × (state u.machine ≡ y)
-  lawful_is_made ms t e m y left want h =
-      let play = (played_run ms t e).play in
-      let proper = proper_of ms t e in
-      leads_on p ms t play proper m y (behind_left p ms t play proper m left want) h
+  lawful_is_made ms t right e m y left want h =
+      let r = played_run ms t right e in
+      leads_on p ms t r.play r.proper m y (behind_left p ms t r.play r.proper m left want) h
 
   -- and no other.
-  pub made_is_lawful : (ms : List Move) (t u : JavaProgramState) → played p ms ≡ Some t → (m : Move) → after p t m ≡ Some u
+  pub made_is_lawful : (ms : List Move) (t u : JavaProgramState) → AreProper p (opening p) ms → played p ms ≡ Some t → (m : Move) → after p t m ≡ Some u
       → IsLeft p (attaches_of p ++ ms) m × (is_for_want m ≡ false) × Steps (state t.machine) m (state u.machine)
-  made_is_lawful ms t u e m made =
-      let play = (played_run ms t e).play in
-      let proper = proper_of ms t e in
+  made_is_lawful ms t u right e m made =
+      let r = played_run ms t right e in
       let x = after_taken p t m u made in (
-        left_behind p ms t play proper m x.left,
+        left_behind p ms t r.play r.proper m x.left,
         not_for_want p t m x.left,
         subst (λ (v : State). Steps (state t.machine) m v) (sym (ap (λ (q : JavaProgramState). state q.machine) x.noted ∙ ap state (noted_machine t m x.machine)))
-            (takes_right t.machine m x.machine proper.sound x.takes),
+            (takes_right t.machine m x.machine r.proper.sound x.takes),
       )
 
-  -- and where it is an end, the machine can do nothing more that the program leaves to it
-  pub end_is_stuck : (ms : List Move) (t : JavaProgramState) → played p ms ≡ Some t → IsEnd p t
-      → (m : Move) (y : State) → IsLeft p (attaches_of p ++ ms) m → is_for_want m ≡ false → Steps (state t.machine) m y → ⊥
-  end_is_stuck ms t e end m y left want h = let u = lawful_is_made ms t e m y left want h in end m u.0 u.1
+  -- Each is among those that are counted there.
+  pub move_is_counted : (ms : List Move) (t u : JavaProgramState) (m : Move) → AreProper p (opening p) ms → played p ms ≡ Some t → after p t m ≡ Some u
+      → HasMove (moves_in p t) m
+  move_is_counted ms t u m right here e = covers p t m u (played_run ms t right here).proper e
 
+  -- and where it is an end, the machine can do nothing more that the program leaves to it
+  pub end_is_stuck : (ms : List Move) (t : JavaProgramState) → AreProper p (opening p) ms → played p ms ≡ Some t → IsEnd p t
+      → (m : Move) (y : State) → IsLeft p (attaches_of p ++ ms) m → is_for_want m ≡ false → Steps (state t.machine) m y → ⊥
+  end_is_stuck ms t right e end m y left want h = let u = lawful_is_made ms t right e m y left want h in end m u.0 u.1
+
+module _ (p : Program) (f : FoundJavaStates) (finds : FindsAll p f) where
   -- ---- a run is played
   record IsPlayed (done todo : List Move) (x : State) : Type 0 where
     to : JavaProgramState
@@ -157,7 +161,7 @@ module _ (p : Program) (f : FoundJavaStates) (finds : FindsAll p f) where
     shows = sym r;
   }
   play_from (m ∷ todo) done s x play keeps wants r =
-      let proper = proper_of done s play.leads in
+      let proper = found_proper p f finds done s play.leads in
       let left = left_next p done s play proper m todo r.0 keeps wants.0 r.1 in
       let u = leads_on p done s play proper m r.0 left r.1 in
       let assoc = append_assoc done (m ∷ []) todo in
@@ -194,7 +198,7 @@ module _ (p : Program) (f : FoundJavaStates) (finds : FindsAll p f) where
   shows_run : (ms : List Move) (x : State) (r : (rest : List Move) × (ms ≡ attaches_of p ++ rest) × IsPlayed [] rest x) → Shows p ms x r.2.to
   shows_run ms x r = record {
     machine = r.2.shows;
-    replies = λ k lt. ap (returns_in (thread_of k)) r.1 ∙ play_returns r.0 r.2.to k r.2.play.leads lt;
+    replies = λ k lt. ap (returns_in (thread_of k)) r.1 ∙ play_returns p r.0 r.2.to k (all_proper p f finds r.0) r.2.play.leads lt;
   }
 
   -- what is found is found with no more moves
@@ -223,7 +227,7 @@ module _ (p : Program) (f : FoundJavaStates) (finds : FindsAll p f) where
       let r = run_played ms x out.of wants in
       let to = r.2.to in
       let play = r.2.play in
-      let proper = proper_of r.0 to play.leads in
+      let proper = found_proper p f finds r.0 to play.leads in
       let k = finds.complete r.0 to play.leads in
       let end : IsEnd p to = (λ m u e.
       let taken_so = after_taken p to m u e in
@@ -239,10 +243,6 @@ module _ (p : Program) (f : FoundJavaStates) (finds : FindsAll p f) where
         subst (λ (n : ℕ). length (attaches_of p ++ witness_at f.witnesses n) ≤ length ms) (sym i.2) le,
       )
 
-  -- a move that can be made in a state is among those that are counted there
-  pub move_is_counted : (ms : List Move) (t u : JavaProgramState) (m : Move) → played p ms ≡ Some t → after p t m ≡ Some u → HasMove (moves_in p t) m
-  move_is_counted ms t u m here e = covers p t m u (proper_of ms t here) e
-
   -- an end that was found is an outcome, also where the machine may refuse calls for want
   module _ (i : ℕ) (t : JavaProgramState) (lt : i < length f.ends) (here : IsAt p f.witnesses (end_at f i) t) where
     abbrev pub ms : List Move
@@ -256,22 +256,25 @@ module _ (p : Program) (f : FoundJavaStates) (finds : FindsAll p f) where
         let each = finds.ends.each i lt in
         subst (λ (u : JavaProgramState). IsEnd p u) (ap (λ (o : Option JavaProgramState). unwrap_or o t) (sym each.1 ∙ here)) each.2
 
-    of : IsRunOf p (attaches_of p ++ ms) x
-    of = play_is_run ms t here
+    right : AreProper p (opening p) ms
+    right = all_proper p f finds ms
 
-    right : AreRight x
-    right = run_right (attaches_of p ++ ms) (opening_state (length p.lows.items)) x (opening_right (length p.lows.items)) of.run
+    of : IsRunOf p (attaches_of p ++ ms) x
+    of = play_is_run p ms t right here
+
+    lawful : AreRight x
+    lawful = run_right (attaches_of p ++ ms) (opening_state (length p.lows.items)) x (opening_right (length p.lows.items)) of.run
 
     none : (m : Move) (y : State) → IsOwn m → Steps x m y → ⊥
-    none m y own h = end_is_stuck ms t here end m y (own.1 p (attaches_of p ++ ms)) own.0 h
+    none m y own h = end_is_stuck p ms t right here end m y (own.1 p (attaches_of p ++ ms)) own.0 h
 
     pub found_end_is_outcome : IsOutcomeOf p (attaches_of p ++ ms) x
     found_end_is_outcome = record { of = of; stuck = λ m y left h. by m y left h (is_for_want m) refl }
       where
         by : (m : Move) (y : State) → IsLeft p (attaches_of p ++ ms) m → Steps x m y → (b : Bool) → is_for_want m ≡ b → ⊥
-        by m y left h false want = end_is_stuck ms t here end m y left want h
-        by m y left h true want = no_want x y m right none want h
+        by m y left h false want = end_is_stuck p ms t right here end m y left want h
+        by m y left h true want = no_want x y m lawful none want h
 
     -- and so who is stuck there is stuck by the rules
     pub found_end_rests : (u : ThreadId) (flag : Bool) (d : Doing) → Is x u flag d → Rests p x u d
-    found_end_rests u flag d is = at_rest x right none u flag p d (λ y may h. end_is_stuck ms t here end (move.Spurious u) y may refl h) is
+    found_end_rests u flag d is = at_rest x lawful none u flag p d (λ y may h. end_is_stuck p ms t right here end (move.Spurious u) y may refl h) is

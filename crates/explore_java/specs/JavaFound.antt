@@ -69,8 +69,18 @@ pub record AreEnds (p : Program) (ws : List (List Move)) (n : ℕ) (ends : List 
   pub every : (k : ℕ) (s : JavaProgramState) → k < n → IsAt p ws k s → IsEnd p s
       → (i : ℕ) × (i < length ends) × (slice_index_or ends i 0 ≡ k)
 
--- Each witness leads to a proper state, and no two to the same one.
+-- The moves that lead to state k are those that lead to an earlier one, and one behind them.
+pub record HasParent (ws : List (List Move)) (k : ℕ) : Type 0 where
+  pub parent : ℕ
+  pub made : Move
+  pub earlier : parent < k
+  pub moves : witness_at ws k ≡ witness_at ws parent ++ made ∷ []
+
+-- Each witness leads to a proper state, and no two to the same one. The first has no move, each other one a move behind
+-- those of an earlier one.
 pub record AreStates (p : Program) (ws : List (List Move)) : Type 0 where
+  pub first : witness_at ws 0 ≡ []
+  pub parents : (k : ℕ) → 0 < k → k < length ws → HasParent ws k
   pub sound : (k : ℕ) → k < length ws → (s : JavaProgramState) × IsAt p ws k s × IsProper p s
   pub distinct : (j k : ℕ) (s : JavaProgramState) → j < k → k < length ws → IsAt p ws j s → IsAt p ws k s → ⊥
 
