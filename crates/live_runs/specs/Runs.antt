@@ -1,6 +1,7 @@
 -- What a run of a live script came to.
-use Rattle.std.specs.Prelude.{◌≡◌, ◌<◌, ℕ, Bool, false, true, List, length, map, vec_items, Result}
+use Rattle.std.specs.Prelude.{◌≡◌, ◌<◌, ℕ, Bool, false, true, List, length, map, Vec, vec_items, Result}
 use Rattle.std.specs.List.{All}
+use Rattle.std.specs.declared.alloc.Global.{Global}
 use Rattle.fat_monitor.specs.declared.actions.Reply.{Reply}
 use Rattle.fast_path.specs.declared.calls.Call.{Call}
 use Rattle.script_text.specs.declared.lines.Line.{Line}
@@ -38,6 +39,10 @@ told_of w = (w.answers, w.stopped)
 -- the same of what a worker gave back
 abbrev pub told_in : {L : Type 0} → Worked L → List (Result Reply LiveFault) × Bool
 told_in d = (vec_items d.answers, d.stopped)
+
+-- and of a row in which it was kept
+abbrev pub told_in_row : Vec (Result Reply LiveFault) Global × Bool → List (Result Reply LiveFault) × Bool
+told_in_row w = (vec_items w.0, w.1)
 
 -- What the threads of these lines did: they made their calls on a service with their objects, each on a pass of its own
 -- from thread 1 on.

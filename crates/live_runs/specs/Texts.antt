@@ -1,5 +1,5 @@
 -- The text of a live script that was run.
-use Rattle.std.specs.Prelude.{ℕ, Bool, true, false, List, [], ◌∷◌, ◌++◌, Result, Ok, Err, codes, decimal, map, sum, vec_items}
+use Rattle.std.specs.Prelude.{ℕ, Bool, true, false, List, [], ◌∷◌, ◌++◌, Result, Ok, Err, codes, decimal, map, sum}
 use Rattle.std.specs.List.{flat_map}
 use Rattle.lock_word.specs.Names.{word_text}
 use Rattle.fat_monitor.specs.declared.actions.Reply.{Reply}
@@ -11,7 +11,6 @@ use Rattle.live_scripts.specs.Plans.{objects_of}
 use Rattle.live_turns.specs.declared.closed.Closed.{Closed}
 use Rattle.live_book.specs.declared.faults.LiveFault.{LiveFault}
 use Rattle.live_book.specs.Names.{live_fault_name, live_fault_number}
-use Rattle.live_runs.specs.declared.texts.Told.{Told}
 
 -- a reply is one word
 abbrev pub reply_word : Reply → List ℕ
@@ -39,10 +38,6 @@ answers_text answers = flat_map answer_text answers
 abbrev pub stop_text : Bool → List ℕ
 stop_text true = codes " stopped"
 stop_text false = []
-
--- what is told of a worker, as a list
-abbrev pub told_in_row : Told → List (Result Reply LiveFault) × Bool
-told_in_row t = (vec_items t.answers, t.stopped)
 
 -- the line of a thread with this name: what its calls came to, and whether it was stopped
 abbrev pub thread_text : List ℕ → List (Result Reply LiveFault) × Bool → List ℕ

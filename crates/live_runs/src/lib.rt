@@ -13,4 +13,4 @@ mod works;
 pub use faults::RunFault;
 pub use playing::run_script;
 pub use running::run_live;
-pub use texts::{Told, live_text};
+pub use texts::live_text;

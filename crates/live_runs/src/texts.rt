@@ -1,12 +1,11 @@
 //! The text of a live script that was run.
 
 ghost use Rattle.std.specs.Prelude.{◌≡◌, ◌<◌, ◌^◌, ◌++◌, ◌∷◌, [], IfOk, OnOk, length, map};
-ghost use Rattle.std.specs.Prelude.{string_bytes, sum};
+ghost use Rattle.std.specs.Prelude.{string_bytes, sum, vec_items};
 ghost use Rattle.live_scripts.specs.Plans.{objects_of};
 ghost use Rattle.live_scripts.specs.Rules.{attached_threads};
 ghost use Rattle.live_runs.specs.Texts.{answer_text, answers_text, deeds_text, each_text};
 ghost use Rattle.live_runs.specs.Texts.{live_text, object_text, stop_text, thread_text};
-ghost use Rattle.live_runs.specs.Texts.{told_in_row};
 
 use fat_monitor::Reply;
 use live_scripts::{LiveScript, plan_of};
@@ -14,13 +13,6 @@ use live_turns::{Closed, LiveFault};
 use lock_word::{Memory, Word};
 use std::alloc::{AllocError, Global};
 use std::fmt::Write;
-
-/// What the calls of a worker came to, and whether it was stopped.
-#[derive(Drop)]
-pub struct Told {
-    pub answers: Vec<Result<Reply, LiveFault>>,
-    pub stopped: bool,
-}
 
 /// The text of a live script that was run: a line for each thread, with what its calls came to; a
 /// line for each object, with its word; and how many deeds the record has.
@@ -30,14 +22,14 @@ pub struct Told {
 pub fn live_text(
     alloc: Global,
     script: &LiveScript<'_>,
-    workers: &[Told],
+    workers: &[(Vec<Result<Reply, LiveFault>>, bool)],
     closed: &Closed,
 ) -> Result<String, Memory>
     requires threads { length workers.now ≡ length (attached_threads script.now) }
     requires objects { length closed.now.words.items ≡ length (objects_of script.now) }
     requires deeds { sum closed.now.counts.items < 2 ^ 64 }
     ensures { IfOk result (λ text. string_bytes text ≡ live_text script.now
-        (map told_in_row workers.now) closed.now) }
+        (map (λ w. (vec_items w.0, w.1)) workers.now) closed.now) }
 {
     let plan = plan_of(alloc, script)?;
     let mut text = String::new(alloc);
@@ -48,11 +40,15 @@ pub fn live_text(
 }
 
 /// Writes a line for each thread.
-fn put_threads(text: &mut String, names: &[&str], workers: &[Told]) -> Result<(), AllocError>
+fn put_threads(
+    text: &mut String,
+    names: &[&str],
+    workers: &[(Vec<Result<Reply, LiveFault>>, bool)],
+) -> Result<(), AllocError>
     requires { length workers.now ≡ length names.now }
     ensures { OnOk result (string_bytes text.new ≡ string_bytes text.old
         ++ each_text thread_text (map (λ t. t.now) names.now)
-        (map told_in_row workers.now)) }
+        (map (λ w. (vec_items w.0, w.1)) workers.now)) }
 {
     'threads: for (position, name) in names.iter().enumerate() {
         put_thread(text, name, &workers[position])?;
@@ -61,13 +57,17 @@ fn put_threads(text: &mut String, names: &[&str], workers: &[Told]) -> Result<()
 }
 
 /// Writes the line of a thread.
-fn put_thread(text: &mut String, name: &str, worker: &Told) -> Result<(), AllocError>
+fn put_thread(
+    text: &mut String,
+    name: &str,
+    worker: &(Vec<Result<Reply, LiveFault>>, bool),
+) -> Result<(), AllocError>
     ensures { OnOk result (string_bytes text.new
-        ≡ string_bytes text.old ++ thread_text name.now (told_in_row worker.now)) }
+        ≡ string_bytes text.old ++ thread_text name.now (vec_items worker.now.0, worker.now.1)) }
 {
     write!(text, "thread {name}")?;
-    put_answers(text, &worker.answers)?;
-    let stop = stop_word(worker.stopped);
+    put_answers(text, &worker.0)?;
+    let stop = stop_word(worker.1);
     writeln!(text, "{stop}")
 }
 

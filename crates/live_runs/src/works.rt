@@ -2,15 +2,17 @@
 
 ghost use Rattle.std.specs.Prelude.{◌≡◌, ◌≤◌, ◌++◌, ◌∷◌, [], IfOk, IfSome, IfNone, length, map};
 ghost use Rattle.std.specs.Prelude.{vec_capacity};
-ghost use Rattle.live_runs.specs.Runs.{told_in};
-ghost use Rattle.live_runs.specs.Texts.{told_in_row};
+ghost use Rattle.live_runs.specs.Runs.{told_in, told_in_row};
 
-use crate::texts::Told;
 use fast_path::Call;
+use fat_monitor::Reply;
 use live_threads::{LivePass, Work, Worked};
-use live_turns::Crew;
+use live_turns::{Crew, LiveFault};
 use lock_word::Memory;
 use std::alloc::Global;
+
+/// What the calls of a worker came to, and whether it was stopped.
+pub(crate) type Told = (Vec<Result<Reply, LiveFault>>, bool);
 
 /// A work for each pass, with the calls at its position.
 #[tactic(auto, using(live_threads::proofs::Drives::moved_on))]
@@ -61,7 +63,7 @@ pub(crate) fn taken_apart<L: Crew>(
             stopped,
         } = worked;
         passes.push_reserved(pass);
-        told.push_reserved(Told { answers, stopped });
+        told.push_reserved((answers, stopped));
     }
     passes.reverse();
     told.reverse();

@@ -9,8 +9,8 @@ use Rattle.live_threads.specs.Ends.{at_rest}
 use Rattle.live_threads.proofs.Ends.{each_is_back}
 use Rattle.live_scripts.specs.Rules.{attached_threads}
 use Rattle.live_scripts.specs.Plans.{calls_of, monitors_in, objects_of}
-use Rattle.live_runs.specs.Texts.{live_text, told_in_row}
-use Rattle.live_runs.specs.Runs.{told_in}
+use Rattle.live_runs.specs.Texts.{live_text}
+use Rattle.live_runs.specs.Runs.{told_in, told_in_row}
 use Rattle.live_runs.proofs.Plans.{as_many_lows, rows_are, rows_live}
 use Rattle.live_runs.proofs.Workers.{as_many, can_drive, have_run, of_run, passes_after, passes_belong, workers_of, workers_told}
 use Rattle.live_runs.proofs.playing.drive_all.Goals as goal

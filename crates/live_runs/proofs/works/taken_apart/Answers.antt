@@ -1,7 +1,6 @@
 use Rattle.std.proofs.Common.{arith, ap, map}
 use Rattle.std.proofs.lemmas.Grind.{common_steps}
-use Rattle.live_runs.specs.Runs.{told_in}
-use Rattle.live_runs.specs.Texts.{told_in_row}
+use Rattle.live_runs.specs.Runs.{told_in, told_in_row}
 use Rattle.live_runs.proofs.Workers.{all_moved, none_left}
 use Rattle.live_runs.proofs.works.taken_apart.Goals as goal
 

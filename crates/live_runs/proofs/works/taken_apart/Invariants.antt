@@ -1,6 +1,5 @@
 use Rattle.std.proofs.Common.{◌≡◌, ◌≤◌, ◌+◌, ◌++◌, length, map, reverse, vec_capacity}
-use Rattle.live_runs.specs.Runs.{told_in}
-use Rattle.live_runs.specs.Texts.{told_in_row}
+use Rattle.live_runs.specs.Runs.{told_in, told_in_row}
 use Rattle.live_runs.proofs.works.taken_apart.Given as goal
 
 abbrev pub invariant-loop-worked : goal.invariant-loop-worked
