@@ -22,7 +22,7 @@ style_words = STYLE.now
 unfoldable pub description_words : List ℕ
 description_words = DESCRIPTION.now
 
-abbrev pub root_attributes : ℕ → ℕ → List Attribute
+unfoldable pub root_attributes : ℕ → ℕ → List Attribute
 root_attributes width height =
     word (codes "xmlns") (codes "http://www.w3.org/2000/svg") ∷ word (codes "version") (codes "1.1")
     ∷ number (codes "width") width
@@ -32,7 +32,7 @@ unfoldable pub path_attributes : List ℕ → List ℕ → List Attribute
 path_attributes look path = word (codes "class") look ∷ word (codes "d") path ∷ []
 
 -- a tile of 6 by 6 units
-abbrev pub pattern_attributes : ℕ → List Attribute
+unfoldable pub pattern_attributes : ℕ → List Attribute
 pattern_attributes n =
     record { name = codes "id"; value = Numbered (codes "p") n } ∷ word (codes "patternUnits") (codes "userSpaceOnUse")
     ∷ number (codes "width") 6 ∷ number (codes "height") 6 ∷ []
@@ -43,7 +43,7 @@ pattern_node n path =
     (Element (codes "path") (path_attributes (codes "hatch") path) Nothing)
 
 -- the head of an arrow, in a box of 10 by 10
-abbrev pub marker_attributes : ℕ → List Attribute
+unfoldable pub marker_attributes : ℕ → List Attribute
 marker_attributes n =
     record { name = codes "id"; value = Numbered (codes "a") n } ∷ word (codes "viewBox") (codes "0 0 10 10")
     ∷ word (codes "refX") (codes "9") ∷ word (codes "refY") (codes "5") ∷ word (codes "markerWidth") (codes "7")

@@ -73,7 +73,7 @@ fn put_style(text: &mut String) -> Result<(), AllocError>
 }
 
 /// Begins a picture of this width and height.
-#[tactic(auto, unfolding(crate::specs::Nodes::opening, crate::specs::Nodes::escaped))]
+#[tactic(auto, unfolding(crate::specs::Nodes::opening, crate::specs::Nodes::escaped, crate::specs::Frame::root_attributes))]
 fn begin_root(text: &mut String, width: u64, height: u64) -> Result<(), AllocError>
     ensures { OnOk result (string_bytes text.new
         ≡ string_bytes text.old ++ opening (codes "svg") (root_attributes width height)) }
@@ -99,7 +99,7 @@ fn begin_path(text: &mut String, look: &str, path: &str) -> Result<(), AllocErro
 }
 
 /// Begins a pattern.
-#[tactic(auto, unfolding(crate::specs::Nodes::opening, crate::specs::Nodes::escaped))]
+#[tactic(auto, unfolding(crate::specs::Nodes::opening, crate::specs::Nodes::escaped, crate::specs::Frame::pattern_attributes))]
 fn begin_pattern(text: &mut String, number: u64) -> Result<(), AllocError>
     ensures { OnOk result (string_bytes text.new
         ≡ string_bytes text.old ++ opening (codes "pattern") (pattern_attributes number)) }
@@ -149,7 +149,7 @@ fn put_last_patterns(text: &mut String) -> Result<(), AllocError>
 }
 
 /// Begins the head of an arrow.
-#[tactic(auto, unfolding(crate::specs::Nodes::opening, crate::specs::Nodes::escaped))]
+#[tactic(auto, unfolding(crate::specs::Nodes::opening, crate::specs::Nodes::escaped, crate::specs::Frame::marker_attributes))]
 fn begin_marker(text: &mut String, number: u64) -> Result<(), AllocError>
     ensures { OnOk result (string_bytes text.new
         ≡ string_bytes text.old ++ opening (codes "marker") (marker_attributes number)) }
