@@ -8,8 +8,8 @@ use std::alloc::AllocError;
 pub enum PictureFault {
     /// There are more columns than [`MOST_COLUMNS`](crate::MOST_COLUMNS).
     TooManyColumns,
-    /// There are more threads, more objects, or more cycles of owners before or behind a column,
-    /// than [`MOST_LANES`](crate::MOST_LANES).
+    /// There are more threads, more objects, or more cycles of owners behind the last column, than
+    /// [`MOST_LANES`](crate::MOST_LANES).
     TooManyLanes,
     /// The system refused memory.
     Memory,
